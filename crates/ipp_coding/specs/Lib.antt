@@ -1,0 +1,6 @@
+pub mod Plain
+pub mod Spelling
+pub mod Reading
+pub mod Places
+pub mod Writing
+pub mod Values

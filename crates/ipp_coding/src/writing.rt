@@ -1,0 +1,93 @@
+ghost use Rattle.std.specs.Prelude.{◌≡◌, ◌++◌, ◌∷◌, [], None, OnOk, OnErr};
+ghost use Rattle.ipp_coding.specs.Spelling.{header_spelling, first_spelling, further_spelling};
+ghost use Rattle.ipp_coding.specs.Writing.{AnswersBy, group_refusal, attribute_refusal, further_refusal};
+
+use crate::fault::PutFault;
+use crate::message::Header;
+use crate::reading::{LONGEST, is_group_tag};
+
+const FIRST_VALUE_TAG: u8 = 0x10;
+
+/// Appends a header (RFC 8010 section 3.1.1). `Memory` is its only fault.
+pub fn put_header(out: &mut Vec<u8>, h: Header) -> Result<(), PutFault>
+    ensures appended { OnOk result (out.new.items ≡ out.old.items ++ header_spelling h) }
+    ensures answer { AnswersBy None result }
+    ensures unchanged { OnErr result (out.new.items ≡ out.old.items) }
+{
+    let [code_high, code_low] = h.code.to_be_bytes();
+    let [id_0, id_1, id_2, id_3] = h.request_id.to_be_bytes();
+    out.extend_from_slice(&[
+        h.major, h.minor, code_high, code_low, id_0, id_1, id_2, id_3,
+    ])?;
+    Ok(())
+}
+
+/// Appends the tag that begins a group (RFC 8010 section 3.1.2). `BadTag` where the tag is not 0x01,
+/// 0x02 or 0x04 to 0x0F.
+pub fn put_group(out: &mut Vec<u8>, tag: u8) -> Result<(), PutFault>
+    ensures appended { OnOk result (out.new.items ≡ out.old.items ++ tag ∷ []) }
+    ensures answer { AnswersBy (group_refusal tag) result }
+    ensures unchanged { OnErr result (out.new.items ≡ out.old.items) }
+{
+    if !is_group_tag(tag) {
+        return Err(PutFault::BadTag);
+    }
+    out.push(tag)?;
+    Ok(())
+}
+
+/// Appends an attribute with its first value (RFC 8010 section 3.1.4). `TooLong` where the name or
+/// the value has over 32767 bytes, then `EmptyName`, then `BadTag` where the tag is below 0x10.
+pub fn put_attribute(out: &mut Vec<u8>, tag: u8, name: &[u8], value: &[u8]) -> Result<(), PutFault>
+    ensures appended { OnOk result (out.new.items ≡ out.old.items ++ first_spelling name.now (record { tag = tag; bytes = value.now })) }
+    ensures answer { AnswersBy (attribute_refusal tag name.now value.now) result }
+    ensures unchanged { OnErr result (out.new.items ≡ out.old.items) }
+{
+    if name.len() > LONGEST || value.len() > LONGEST {
+        return Err(PutFault::TooLong);
+    }
+    if name.is_empty() {
+        return Err(PutFault::EmptyName);
+    }
+    if tag < FIRST_VALUE_TAG {
+        return Err(PutFault::BadTag);
+    }
+    // One reservation for all that follows, so that a refusal leaves nothing half written.
+    out.reserve(5 + name.len() + value.len())?;
+    let [high, low] = (name.len() as u16).to_be_bytes();
+    out.extend_from_slice(&[tag, high, low])?;
+    out.extend_from_slice(name)?;
+    out.extend_from_slice(&(value.len() as u16).to_be_bytes())?;
+    out.extend_from_slice(value)?;
+    Ok(())
+}
+
+/// Appends a further value of the attribute before it (RFC 8010 section 3.1.5). `TooLong` where the
+/// value has over 32767 bytes, then `BadTag` where the tag is below 0x10.
+pub fn put_more(out: &mut Vec<u8>, tag: u8, value: &[u8]) -> Result<(), PutFault>
+    ensures appended { OnOk result (out.new.items ≡ out.old.items ++ further_spelling (record { tag = tag; bytes = value.now })) }
+    ensures answer { AnswersBy (further_refusal tag value.now) result }
+    ensures unchanged { OnErr result (out.new.items ≡ out.old.items) }
+{
+    if value.len() > LONGEST {
+        return Err(PutFault::TooLong);
+    }
+    if tag < FIRST_VALUE_TAG {
+        return Err(PutFault::BadTag);
+    }
+    out.reserve(5 + value.len())?;
+    let [high, low] = (value.len() as u16).to_be_bytes();
+    out.extend_from_slice(&[tag, 0, 0, high, low])?;
+    out.extend_from_slice(value)?;
+    Ok(())
+}
+
+/// Appends the tag that ends the groups (RFC 8010 section 3.5.1). `Memory` is its only fault.
+pub fn put_end(out: &mut Vec<u8>) -> Result<(), PutFault>
+    ensures appended { OnOk result (out.new.items ≡ out.old.items ++ 3 ∷ []) }
+    ensures answer { AnswersBy None result }
+    ensures unchanged { OnErr result (out.new.items ≡ out.old.items) }
+{
+    out.push(0x03)?;
+    Ok(())
+}

@@ -1,0 +1,3 @@
+pub mod NameLemmas
+pub mod Lookups
+pub mod Schemes

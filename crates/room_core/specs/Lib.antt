@@ -1,0 +1,11 @@
+pub mod Limits
+pub mod Names
+pub mod NameCells
+pub mod Rooms
+pub mod Requests
+pub mod Targets
+pub mod Refusals
+pub mod Checks
+pub mod Texts
+pub mod Asks
+pub mod Machine
