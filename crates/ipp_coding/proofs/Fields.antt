@@ -7,7 +7,7 @@ use Rattle.byteorder.specs.Endian.{big_number, big_bytes}
 use Rattle.byteorder.specs.Numbers.{big_number-reads_back}
 use Rattle.ipp_coding.specs.declared.message.Header.{Header}
 use Rattle.ipp_coding.specs.Spelling.{field_spelling, header_spelling, IsHeader, Fits}
-use Rattle.ipp_coding.specs.Reading.{◌>>=◌, sized, prefixed_at, field_at, header_at}
+use Rattle.ipp_coding.specs.Reading.{sized, prefixed_at, field_at, header_at}
 use Rattle.ipp_coding.proofs.Steps.{guard_gave, guard_passes, bind_gave, from_some}
 
 abbrev pub IsBytes : List ℕ → Type 0

@@ -1,5 +1,5 @@
 -- The bytes of a reply.
-use Rattle.std.specs.Prelude.{ℕ, ◌==◌, ◌||◌, if◌then◌else◌, List, [], ◌∷◌, ◌++◌, Option, Some, None, codes}
+use Rattle.std.specs.Prelude.{ℕ, ◌==◌, ◌||◌, if◌then◌else◌, List, [], ◌∷◌, Option, Some, None, codes}
 use Rattle.ipp_coding.specs.declared.message.Header.{Header}
 use Rattle.ipp_coding.specs.Plain.{PlainAttribute, PlainGroup, PlainMessage}
 use Rattle.ipp_coding.specs.Spelling.{message_spelling}

@@ -24,12 +24,198 @@ fn a_good_request_is_an_ask(rt: HostRuntime) -> Result<(), Fail> {
 
 const UTF_8: &[u8] = b"\x47\x00\x12attributes-charset\x00\x05utf-8";
 
+const LATIN_1: &[u8] = b"\x47\x00\x12attributes-charset\x00\x0aiso-8859-1";
+
 const ENGLISH: &[u8] = b"\x48\x00\x1battributes-natural-language\x00\x02en";
 
 const ALICE: &[u8] = b"\x45\x00\x0bprinter-uri\x00\x1fipp://localhost/ipp/print/alice";
 
-/// The status and the word of the refusal of a body, or 0 and None where it is not refused.
-fn refusal_of(alloc: Global, parts: &[&[u8]]) -> Result<(u16, Option<Word>), Fail> {
+const BOB: &[u8] = b"\x45\x00\x0bprinter-uri\x00\x1dipp://localhost/ipp/print/bob";
+
+const NO_URI: &[u8] = b"\x44\x00\x0bprinter-uri\x00\x1fipp://localhost/ipp/print/alice";
+
+const MORE: &[u8] = b"\x45\x00\x00\x00\x01x";
+
+const END: &[u8] = b"\x03";
+
+const NOTHING: &[u8] = b"";
+
+/// Version 1.1, Validate-Job, request-id 1 and the operation group's tag.
+const VALIDATE: &[u8] = b"\x01\x01\x00\x04\x00\x00\x00\x01\x01";
+
+/// A body in parts, and the status and word that it is refused with.
+#[derive(Drop)]
+struct Case {
+    what: &'static str,
+    status: u16,
+    word: Option<Word>,
+    parts: [&'static [u8]; 6],
+}
+
+fn cases() -> [Case; 18] {
+    [
+        Case {
+            what: "all is well",
+            status: 0,
+            word: None,
+            parts: [VALIDATE, UTF_8, ENGLISH, ALICE, END, NOTHING],
+        },
+        Case {
+            what: "version 2.1",
+            status: 0,
+            word: None,
+            parts: [
+                b"\x02\x01\x00\x04\x00\x00\x00\x01\x01",
+                UTF_8,
+                ENGLISH,
+                ALICE,
+                END,
+                NOTHING,
+            ],
+        },
+        Case {
+            what: "data that nobody reads",
+            status: 0,
+            word: None,
+            parts: [VALIDATE, UTF_8, ENGLISH, ALICE, END, b"data"],
+        },
+        Case {
+            what: "the first target counts",
+            status: 0,
+            word: None,
+            parts: [VALIDATE, UTF_8, ENGLISH, ALICE, BOB, END],
+        },
+        Case {
+            what: "version 0.9",
+            status: 0x0503,
+            word: Some(Word::Version),
+            parts: [
+                b"\x00\x09\x00\x04\x00\x00\x00\x01\x01",
+                UTF_8,
+                ENGLISH,
+                ALICE,
+                END,
+                NOTHING,
+            ],
+        },
+        Case {
+            what: "version 3.0 of no message",
+            status: 0x0503,
+            word: Some(Word::Version),
+            parts: [
+                b"\x03\x00\x00\x04\x00\x00\x00\x01",
+                NOTHING,
+                NOTHING,
+                NOTHING,
+                NOTHING,
+                NOTHING,
+            ],
+        },
+        Case {
+            what: "Print-URI",
+            status: 0x0501,
+            word: Some(Word::Operation),
+            parts: [
+                b"\x01\x01\x00\x03\x00\x00\x00\x01\x01",
+                UTF_8,
+                ENGLISH,
+                ALICE,
+                END,
+                NOTHING,
+            ],
+        },
+        Case {
+            what: "an operation of no message",
+            status: 0x0501,
+            word: Some(Word::Operation),
+            parts: [
+                b"\x01\x01\x40\x01\x00\x00\x00\x01",
+                NOTHING,
+                NOTHING,
+                NOTHING,
+                NOTHING,
+                NOTHING,
+            ],
+        },
+        Case {
+            what: "no end",
+            status: 0x0400,
+            word: Some(Word::Malformed),
+            parts: [VALIDATE, UTF_8, ENGLISH, ALICE, NOTHING, NOTHING],
+        },
+        Case {
+            what: "no group",
+            status: 0x0400,
+            word: Some(Word::CharsetAndLanguage),
+            parts: [
+                b"\x01\x01\x00\x04\x00\x00\x00\x01",
+                END,
+                NOTHING,
+                NOTHING,
+                NOTHING,
+                NOTHING,
+            ],
+        },
+        Case {
+            what: "group 0x0f first",
+            status: 0x0400,
+            word: Some(Word::CharsetAndLanguage),
+            parts: [
+                b"\x01\x01\x00\x04\x00\x00\x00\x01\x0f",
+                b"\x44\x00\x01a\x00\x00",
+                END,
+                NOTHING,
+                NOTHING,
+                NOTHING,
+            ],
+        },
+        Case {
+            what: "no language",
+            status: 0x0400,
+            word: Some(Word::CharsetAndLanguage),
+            parts: [VALIDATE, UTF_8, ALICE, END, NOTHING, NOTHING],
+        },
+        Case {
+            what: "the language first",
+            status: 0x0400,
+            word: Some(Word::CharsetAndLanguage),
+            parts: [VALIDATE, ENGLISH, UTF_8, ALICE, END, NOTHING],
+        },
+        Case {
+            what: "another charset",
+            status: 0x040d,
+            word: Some(Word::Charset),
+            parts: [VALIDATE, LATIN_1, ENGLISH, BOB, END, NOTHING],
+        },
+        Case {
+            what: "no target",
+            status: 0x0400,
+            word: Some(Word::Target),
+            parts: [VALIDATE, UTF_8, ENGLISH, END, NOTHING, NOTHING],
+        },
+        Case {
+            what: "a target that is no uri",
+            status: 0x0400,
+            word: Some(Word::Target),
+            parts: [VALIDATE, UTF_8, ENGLISH, NO_URI, END, NOTHING],
+        },
+        Case {
+            what: "a target of two values",
+            status: 0x0400,
+            word: Some(Word::Target),
+            parts: [VALIDATE, UTF_8, ENGLISH, ALICE, MORE, END],
+        },
+        Case {
+            what: "the queue of bob",
+            status: 0x0406,
+            word: Some(Word::NotThisQueue),
+            parts: [VALIDATE, UTF_8, ENGLISH, BOB, END, NOTHING],
+        },
+    ]
+}
+
+/// The status and the word of the refusal, or 0 and None where the request is not refused.
+fn refusal_of(alloc: Global, parts: &[&'static [u8]; 6]) -> Result<(u16, Option<Word>), Fail> {
     let mut body = Vec::new(alloc);
     for part in parts {
         body.extend_from_slice(part)?;
@@ -47,207 +233,12 @@ fn refusal_of(alloc: Global, parts: &[&[u8]]) -> Result<(u16, Option<Word>), Fai
 
 #[test]
 fn each_check_alone(rt: HostRuntime) -> Result<(), Fail> {
-    let bob: &[u8] = b"\x45\x00\x0bprinter-uri\x00\x1dipp://localhost/ipp/print/bob";
-    let latin: &[u8] = b"\x47\x00\x12attributes-charset\x00\x0aiso-8859-1";
-    let no_uri: &[u8] = b"\x44\x00\x0bprinter-uri\x00\x1fipp://localhost/ipp/print/alice";
-    let two: &[u8] = b"\x45\x00\x00\x00\x01x";
-    let cases: [(&str, u16, Option<Word>, &[&[u8]]); 18] = [
-        (
-            "none",
-            0,
-            None,
-            &[
-                b"\x01\x01\x00\x04\x00\x00\x00\x01\x01",
-                UTF_8,
-                ENGLISH,
-                ALICE,
-                b"\x03",
-            ],
-        ),
-        (
-            "2.1 is served",
-            0,
-            None,
-            &[
-                b"\x02\x01\x00\x04\x00\x00\x00\x01\x01",
-                UTF_8,
-                ENGLISH,
-                ALICE,
-                b"\x03",
-            ],
-        ),
-        (
-            "data is ignored",
-            0,
-            None,
-            &[
-                b"\x01\x00\x00\x04\x00\x00\x00\x01\x01",
-                UTF_8,
-                ENGLISH,
-                ALICE,
-                b"\x03data",
-            ],
-        ),
-        (
-            "version",
-            0x0503,
-            Some(Word::Version),
-            &[
-                b"\x00\x09\x00\x04\x00\x00\x00\x01\x01",
-                UTF_8,
-                ENGLISH,
-                ALICE,
-                b"\x03",
-            ],
-        ),
-        (
-            "version of no message",
-            0x0503,
-            Some(Word::Version),
-            &[b"\x03\x00\x00\x04\x00\x00\x00\x01"],
-        ),
-        (
-            "operation",
-            0x0501,
-            Some(Word::Operation),
-            &[
-                b"\x01\x01\x00\x03\x00\x00\x00\x01\x01",
-                UTF_8,
-                ENGLISH,
-                ALICE,
-                b"\x03",
-            ],
-        ),
-        (
-            "operation of no message",
-            0x0501,
-            Some(Word::Operation),
-            &[b"\x01\x01\x40\x01\x00\x00\x00\x01"],
-        ),
-        (
-            "no message",
-            0x0400,
-            Some(Word::Malformed),
-            &[
-                b"\x01\x01\x00\x04\x00\x00\x00\x01\x01",
-                UTF_8,
-                ENGLISH,
-                ALICE,
-            ],
-        ),
-        (
-            "no group",
-            0x0400,
-            Some(Word::CharsetAndLanguage),
-            &[b"\x01\x01\x00\x04\x00\x00\x00\x01\x03"],
-        ),
-        (
-            "group 0x0f",
-            0x0400,
-            Some(Word::CharsetAndLanguage),
-            &[b"\x01\x01\x00\x04\x00\x00\x00\x01\x0f\x44\x00\x01a\x00\x00\x03"],
-        ),
-        (
-            "no language",
-            0x0400,
-            Some(Word::CharsetAndLanguage),
-            &[
-                b"\x01\x01\x00\x04\x00\x00\x00\x01\x01",
-                UTF_8,
-                ALICE,
-                b"\x03",
-            ],
-        ),
-        (
-            "language first",
-            0x0400,
-            Some(Word::CharsetAndLanguage),
-            &[
-                b"\x01\x01\x00\x04\x00\x00\x00\x01\x01",
-                ENGLISH,
-                UTF_8,
-                ALICE,
-                b"\x03",
-            ],
-        ),
-        (
-            "charset",
-            0x040d,
-            Some(Word::Charset),
-            &[
-                b"\x01\x01\x00\x04\x00\x00\x00\x01\x01",
-                latin,
-                ENGLISH,
-                bob,
-                b"\x03",
-            ],
-        ),
-        (
-            "no target",
-            0x0400,
-            Some(Word::Target),
-            &[
-                b"\x01\x01\x00\x04\x00\x00\x00\x01\x01",
-                UTF_8,
-                ENGLISH,
-                b"\x03",
-            ],
-        ),
-        (
-            "a target that is no uri",
-            0x0400,
-            Some(Word::Target),
-            &[
-                b"\x01\x01\x00\x04\x00\x00\x00\x01\x01",
-                UTF_8,
-                ENGLISH,
-                no_uri,
-                b"\x03",
-            ],
-        ),
-        (
-            "a target of two values",
-            0x0400,
-            Some(Word::Target),
-            &[
-                b"\x01\x01\x00\x04\x00\x00\x00\x01\x01",
-                UTF_8,
-                ENGLISH,
-                ALICE,
-                two,
-                b"\x03",
-            ],
-        ),
-        (
-            "the first target counts",
-            0,
-            None,
-            &[
-                b"\x01\x01\x00\x04\x00\x00\x00\x01\x01",
-                UTF_8,
-                ENGLISH,
-                ALICE,
-                bob,
-                b"\x03",
-            ],
-        ),
-        (
-            "the queue of bob",
-            0x0406,
-            Some(Word::NotThisQueue),
-            &[
-                b"\x01\x01\x00\x04\x00\x00\x00\x01\x01",
-                UTF_8,
-                ENGLISH,
-                bob,
-                b"\x03",
-            ],
-        ),
-    ];
-    for (what, status, word, parts) in cases {
-        let (found_status, found_word) = refusal_of(rt.alloc(), parts)?;
-        assert_eq!(rt; found_status, status, "{what}");
-        assert!(rt; found_word == word, "{what}");
+    let cases = cases();
+    for case in &cases {
+        let (status, word) = refusal_of(rt.alloc(), &case.parts)?;
+        let is_wanted = status == case.status && word == case.word;
+        let what = case.what;
+        assert!(rt; is_wanted, "{what}");
     }
     Ok(())
 }

@@ -1,0 +1,45 @@
+//! What the program prints for each event, with no memory taken.
+ghost use Rattle.std.specs.Prelude.{◌≤◌, ◌*◌, length};
+
+use room_core::{CoreFault, Reply};
+use std::io;
+use std::io::Write;
+
+// How many bytes are turned into digits at once.
+const CHUNK: usize = 512;
+
+const DIGITS: usize = 2 * CHUNK;
+
+/// Writes what an event came to, as a line.
+pub fn print_outcome<W: Write>(
+    output: &mut W,
+    outcome: &Result<Reply, CoreFault>,
+) -> io::Result<()> {
+    match outcome {
+        Ok(Reply::Ipp(message)) => {
+            output.write_all(b"ipp ")?;
+            print_hex(output, message.items.as_slice())?;
+        }
+        Ok(Reply::Line(text)) => output.write_all(text.items.as_slice())?,
+        Ok(Reply::NoAccount) => output.write_all(b"no-account")?,
+        Ok(Reply::Short) => output.write_all(b"short")?,
+        Err(_) => output.write_all(b"failed")?,
+    }
+    output.write_all(b"\n")
+}
+
+fn print_hex<W: Write>(output: &mut W, bytes: &[u8]) -> io::Result<()> {
+    for chunk in bytes.chunks(CHUNK) {
+        print_chunk(output, chunk)?;
+    }
+    Ok(())
+}
+
+fn print_chunk<W: Write>(output: &mut W, chunk: &[u8]) -> io::Result<()>
+    requires { length chunk.now ≤ CHUNK }
+{
+    let mut buffer = [0; DIGITS];
+    let digits = &mut buffer[..2 * chunk.len()];
+    hex::encode_to_slice(chunk, digits).unwrap();
+    output.write_all(digits)
+}
