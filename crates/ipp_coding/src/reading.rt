@@ -15,7 +15,7 @@ use std::alloc::Global;
 /// The longest name or value, in bytes.
 pub(crate) const LONGEST: usize = 32767;
 
-const HEADER_LENGTH: usize = 8;
+pub(crate) const HEADER_LENGTH: usize = 8;
 
 const END_OF_ATTRIBUTES: u8 = 0x03;
 

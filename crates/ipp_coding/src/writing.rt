@@ -1,10 +1,12 @@
 ghost use Rattle.std.specs.Prelude.{◌≡◌, ◌++◌, ◌∷◌, [], None, OnOk, OnErr};
+ghost use Rattle.byteorder.specs.Endian.{big_bytes};
 ghost use Rattle.ipp_coding.specs.Spelling.{header_spelling, first_spelling, further_spelling};
 ghost use Rattle.ipp_coding.specs.Writing.{AnswersBy, group_refusal, attribute_refusal, further_refusal};
 
 use crate::fault::PutFault;
 use crate::message::Header;
-use crate::reading::{LONGEST, is_group_tag};
+use crate::reading::{HEADER_LENGTH, LONGEST, is_group_tag};
+use byteorder::{BigEndian, ByteOrder};
 
 const FIRST_VALUE_TAG: u8 = 0x10;
 
@@ -14,11 +16,7 @@ pub fn put_header(out: &mut Vec<u8>, h: Header) -> Result<(), PutFault>
     ensures answer { AnswersBy None result }
     ensures unchanged { OnErr result (out.new.items ≡ out.old.items) }
 {
-    let [code_high, code_low] = h.code.to_be_bytes();
-    let [id_0, id_1, id_2, id_3] = h.request_id.to_be_bytes();
-    out.extend_from_slice(&[
-        h.major, h.minor, code_high, code_low, id_0, id_1, id_2, id_3,
-    ])?;
+    out.extend_from_slice(&header_bytes(h))?;
     Ok(())
 }
 
@@ -54,10 +52,10 @@ pub fn put_attribute(out: &mut Vec<u8>, tag: u8, name: &[u8], value: &[u8]) -> R
     }
     // One reservation for all that follows, so that a refusal leaves nothing half written.
     out.reserve(5 + name.len() + value.len())?;
-    let [high, low] = (name.len() as u16).to_be_bytes();
-    out.extend_from_slice(&[tag, high, low])?;
+    out.push(tag)?;
+    out.extend_from_slice(&length_bytes(name.len() as u16))?;
     out.extend_from_slice(name)?;
-    out.extend_from_slice(&(value.len() as u16).to_be_bytes())?;
+    out.extend_from_slice(&length_bytes(value.len() as u16))?;
     out.extend_from_slice(value)?;
     Ok(())
 }
@@ -76,8 +74,8 @@ pub fn put_more(out: &mut Vec<u8>, tag: u8, value: &[u8]) -> Result<(), PutFault
         return Err(PutFault::BadTag);
     }
     out.reserve(5 + value.len())?;
-    let [high, low] = (value.len() as u16).to_be_bytes();
-    out.extend_from_slice(&[tag, 0, 0, high, low])?;
+    out.extend_from_slice(&[tag, 0, 0])?;
+    out.extend_from_slice(&length_bytes(value.len() as u16))?;
     out.extend_from_slice(value)?;
     Ok(())
 }
@@ -90,4 +88,21 @@ pub fn put_end(out: &mut Vec<u8>) -> Result<(), PutFault>
 {
     out.push(0x03)?;
     Ok(())
+}
+
+fn header_bytes(h: Header) -> [u8; HEADER_LENGTH]
+    ensures { result ≡ header_spelling h }
+{
+    let mut bytes = [h.major, h.minor, 0, 0, 0, 0, 0, 0];
+    BigEndian::write_u16(&mut bytes[2..], h.code);
+    BigEndian::write_u32(&mut bytes[4..], h.request_id);
+    bytes
+}
+
+fn length_bytes(length: u16) -> [u8; 2]
+    ensures { result ≡ big_bytes 2 length }
+{
+    let mut bytes = [0; 2];
+    BigEndian::write_u16(&mut bytes, length);
+    bytes
 }
