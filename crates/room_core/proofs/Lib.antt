@@ -1,3 +1,3 @@
-pub mod NameLemmas
 pub mod Lookups
 pub mod Schemes
+pub mod RoomLemmas

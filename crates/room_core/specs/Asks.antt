@@ -5,7 +5,7 @@ use Rattle.ipp_coding.specs.Plain.{PlainMessage}
 use Rattle.ipp_coding.specs.Reading.{header_in, message_of}
 use Rattle.room_core.specs.declared.operation.Operation.{Operation}
 use Rattle.room_core.specs.declared.operation.Operation.TheVariants.{ValidateJob}
-use Rattle.room_core.specs.declared.refusal.Refusal.{Refusal}
+use Rattle.room_rules.specs.declared.refusal.Refusal.{Refusal}
 use Rattle.room_core.specs.declared.ask.Ask.{Ask}
 use Rattle.room_core.specs.declared.ask.AskFault.{AskFault}
 use Rattle.room_core.specs.declared.ask.AskFault.TheVariants.{Refused, Memory}

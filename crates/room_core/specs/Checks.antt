@@ -3,7 +3,7 @@ use Rattle.std.specs.Prelude.{ℕ, Bool, not, if◌then◌else◌, nat_lt, List,
 use Rattle.std.specs.Str.{str_eq_ignore_ascii_case}
 use Rattle.ipp_coding.specs.declared.message.Header.{Header}
 use Rattle.ipp_coding.specs.Plain.{PlainAttribute, PlainMessage}
-use Rattle.room_core.specs.declared.refusal.Word.TheVariants.{Version, Operation, Malformed, CharsetAndLanguage, Charset, Target, TargetTooLong, NotThisQueue}
+use Rattle.room_rules.specs.declared.refusal.Word.TheVariants.{Version, Operation, Malformed, CharsetAndLanguage, Charset, Target, TargetTooLong, NotThisQueue}
 use Rattle.room_core.specs.Limits.{longest_uri}
 use Rattle.room_core.specs.Requests.{is_served_version, operation_with, operation_attributes_of, charset_first, language_second, printer_uri}
 use Rattle.room_core.specs.Targets.{names_queue}

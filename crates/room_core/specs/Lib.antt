@@ -1,7 +1,6 @@
 pub mod Limits
-pub mod Names
-pub mod NameCells
 pub mod Rooms
+pub mod RoomRules
 pub mod Requests
 pub mod Targets
 pub mod Refusals

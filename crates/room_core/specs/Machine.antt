@@ -5,7 +5,7 @@ use Rattle.room_core.specs.declared.event.Event.{Event}
 use Rattle.room_core.specs.declared.event.Event.TheVariants as event
 use Rattle.room_core.specs.declared.event.Reply.{Reply}
 use Rattle.room_core.specs.declared.event.Reply.TheVariants as reply
-use Rattle.room_core.specs.declared.refusal.Refusal.{Refusal}
+use Rattle.room_rules.specs.declared.refusal.Refusal.{Refusal}
 use Rattle.room_core.specs.Rooms.{RoomValue, empty_room}
 use Rattle.room_core.specs.Asks.{PlainAsk, ask_of}
 use Rattle.room_core.specs.Texts.{answer_text}

@@ -1,8 +1,8 @@
 -- Checks, of which the first that fails is the answer.
 use Rattle.std.specs.Prelude.{ℕ, Result, Ok, Err, Bool, if◌then◌else◌, List, [], ◌∷◌, Option, Some, None}
 use Rattle.std.specs.Borrow.{Bor}
-use Rattle.room_core.specs.declared.refusal.Refusal.{Refusal}
-use Rattle.room_core.specs.declared.refusal.Word.{Word}
+use Rattle.room_rules.specs.declared.refusal.Refusal.{Refusal}
+use Rattle.room_rules.specs.declared.refusal.Word.{Word}
 
 pub record Check : Type 0 where
   pub refused : Bool

@@ -2,11 +2,10 @@ ghost use Rattle.std.specs.Prelude.{◌≡◌, ◌≤◌, length};
 ghost use Rattle.ipp_coding.specs.Reading.{header_in};
 ghost use Rattle.room_core.specs.Asks.{ask_of, AsksAs};
 
-use crate::name::Name;
 use crate::operation::Operation;
-use crate::refusal::Refusal;
 use crate::{checks, target};
 use ipp_coding::{Header, ReadFault, read_header, read_message};
+use room_rules::{Name, Refusal};
 use std::alloc::Global;
 
 /// A request whose every field is known to be good. It borrows from the body that it was read from.

@@ -4,17 +4,16 @@
 ghost use Rattle.std.specs.Prelude.{◌≡◌, Some, None, unwrap_or, option_map};
 ghost use Rattle.ipp_coding.specs.Plain.{plain_message};
 ghost use Rattle.room_core.specs.declared.operation.Operation.TheVariants.{ValidateJob};
-ghost use Rattle.room_core.specs.declared.refusal.Refusal.{Refusal};
+ghost use Rattle.room_rules.specs.declared.refusal.Refusal.{Refusal};
 ghost use Rattle.room_core.specs.Requests.{is_served_version, operation_with};
 ghost use Rattle.room_core.specs.Targets.{base_of};
 ghost use Rattle.room_core.specs.Refusals.{refusal_of, checked, lent};
 ghost use Rattle.room_core.specs.Checks.{charset_beside_language, charset_of, target_in, target_of, version_check, operation_check, malformed_check, charset_and_language_check, charset_check, target_check, target_length_check, queue_check};
 
-use crate::name::Name;
 use crate::operation::Operation;
-use crate::refusal::{Refusal, Word};
 use crate::{request, target};
 use ipp_coding::{Header, Message};
+use room_rules::{Name, Refusal, Word};
 
 const LONGEST_TARGET: usize = 1023;
 

@@ -1,5 +1,5 @@
-use crate::name::Name;
 use ipp_coding::List;
+use room_rules::Name;
 
 /// What may happen to an account.
 #[derive(Clone, Copy, Debug)]

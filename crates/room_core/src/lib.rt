@@ -4,27 +4,28 @@
 
 mod ask;
 mod checks;
-mod device;
 mod event;
-mod fault;
 mod machine;
-mod name;
 mod operation;
-mod refusal;
 mod request;
 mod room;
 mod target;
 mod text;
 
 pub use ask::{Ask, AskFault, read_ask};
-pub use device::Device;
 pub use event::{Event, Reply};
-pub use fault::CoreFault;
-pub use machine::{LAST_MOMENT, answer};
-pub use name::Name;
+pub use machine::answer;
 pub use operation::Operation;
-pub use refusal::{Refusal, Word};
-pub use room::{Account, Room};
+pub use room::Room;
+pub use room_rules::{
+    Account, CoreFault, Device, Document, Format, Grant, Job, JobState, LAST_MOMENT, Name, Refusal,
+    Standing, Word, add_document, cancel, hold, left, month_of, release_at_station,
+    release_by_owner, set_device, set_rate, settle, start,
+};
+pub use room_texts::{
+    Place, PrinterNow, Success, internal_error, put_job, put_line, put_printer, put_reply,
+    put_success,
+};
 
 #[cfg(test)]
 mod tests;

@@ -1,20 +1,15 @@
 ghost use Rattle.std.specs.Prelude.{◌≡◌, ◌↔◌, ◌<◌, ◌≤◌, IfOk, IfErr, OnErr, IsErrOf, length};
-ghost use Rattle.room_core.specs.Limits.{last_moment};
+ghost use Rattle.room_rules.specs.Limits.{last_moment};
 ghost use Rattle.room_core.specs.Machine.{answered, opened, ipp_reply, ipp_text};
 ghost use Rattle.room_core.specs.Asks.{ask_of};
 
 use crate::ask::{AskFault, header_of, read_ask};
-use crate::device::Device;
 use crate::event::{Event, Reply};
-use crate::fault::CoreFault;
-use crate::name::Name;
 use crate::room::Room;
 use crate::text::{answer_text, line};
 use ipp_coding::List;
+use room_rules::{CoreFault, Device, LAST_MOMENT, Name};
 use std::alloc::Global;
-
-/// The last second of 2099, in seconds since 1970: no event is answered at a later moment.
-pub const LAST_MOMENT: u64 = 4102444799;
 
 const HEADER_LENGTH: usize = 8;
 
@@ -55,7 +50,7 @@ fn open(alloc: Global, room: &mut Option<Room>, now: u64) -> Result<Reply, CoreF
         return Ok(Reply::Line(line(alloc, b"exists")?));
     }
     let reply = Reply::Line(line(alloc, b"ok")?);
-    *room = Some(Room::new(now));
+    *room = Some(Room::new(alloc, now));
     Ok(reply)
 }
 

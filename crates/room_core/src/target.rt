@@ -2,7 +2,7 @@ ghost use Rattle.std.specs.Prelude.{◌≡◌, ◌==◌, ◌<◌, ◌≤◌, IfS
 ghost use Rattle.std.specs.Cmp.Lexicographic.{pointwise};
 ghost use Rattle.room_core.specs.Targets.{behind_scheme, from_slash, from_path, ends_path, before_query, path_of, base_of, queue_path, names_queue};
 
-use crate::name::Name;
+use room_rules::Name;
 
 const QUEUES: &[u8] = b"/ipp/print/";
 

@@ -1,7 +1,6 @@
 mod asks;
 mod machine;
 mod memory;
-mod names;
 
 /// Validate-Job for the queue of alice: 119 bytes.
 const REQUEST: &[u8] = b"\x01\x01\x00\x04\x00\x00\x00\x01\x01\

@@ -1,0 +1,3 @@
+pub mod NameLemmas
+pub mod DeviceLemmas
+pub mod MonthLemmas

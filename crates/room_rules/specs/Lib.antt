@@ -1,0 +1,11 @@
+pub mod Names
+pub mod NameCells
+pub mod Limits
+pub mod Standings
+pub mod Quota
+pub mod Acts
+pub mod Effects
+pub mod Moves
+pub mod NewJobs
+pub mod Devices
+pub mod Months

@@ -1,0 +1,31 @@
+-- A job as it is made (RFC 8011 sections 4.2.1 and 4.2.4; that it waits to be released is this
+-- project's own).
+use Rattle.std.specs.Prelude.{ℕ, ◌≤◌, Bool, not, if◌then◌else◌, false, None}
+use Rattle.room_rules.specs.Limits.{most_copies, most_impressions, last_moment}
+use Rattle.room_rules.specs.declared.job.JobState.TheVariants.{Held}
+use Rattle.room_rules.specs.declared.job.Standing.{Standing}
+
+-- Print-Job brings the job's one document, Create-Job leaves the job open for some
+abbrev pub fresh : Bool → ℕ → ℕ → ℕ → Standing
+fresh is_print_job copies impressions now = record {
+  state = Held;
+  is_open = not is_print_job;
+  stopping = false;
+  copies = copies;
+  impressions = impressions;
+  reserved = 0;
+  charged = 0;
+  documents = if is_print_job then 1 else 0;
+  rate = 1;
+  device = None;
+  created = now;
+  started = None;
+  ended = None;
+}
+
+-- what a request may ask for, at a moment in range
+pub record CanMake (copies impressions now : ℕ) : Type 0 where
+  pub copies_from_one : 1 ≤ copies
+  pub copies_at_most : copies ≤ most_copies
+  pub impressions_at_most : impressions ≤ most_impressions
+  pub now_in_range : now ≤ last_moment

@@ -1,0 +1,16 @@
+-- What a release needs of the quota, and what is left of it, in units (all this project's own). An
+-- impression at rate 1 is one unit.
+use Rattle.std.specs.Prelude.{ℕ, ◌*◌, ℤ, pos, negsuc, ◌-ℤ◌, Bool, true, nat_lt}
+
+-- `copies` of a document of so many impressions, on a device with this rate
+abbrev pub need_of : ℕ → ℕ → ℕ → ℕ
+need_of impressions copies rate = impressions * copies * rate
+
+-- negative where more was charged than granted
+abbrev pub left_of : ℤ → ℤ → ℤ → ℤ
+left_of granted reserved charged = (granted -ℤ reserved) -ℤ charged
+
+-- more is needed than what is left
+abbrev pub exceeds : ℕ → ℤ → Bool
+exceeds need (pos left) = nat_lt left need
+exceeds need (negsuc _) = true

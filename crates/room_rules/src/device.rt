@@ -1,0 +1,64 @@
+ghost use Rattle.std.specs.Prelude.{◌≡◌, ◌≤◌, false, position, is_some, IsTrue, OnOk, OnErr, IsOkUnless};
+ghost use Rattle.room_rules.specs.Limits.{most_rate};
+ghost use Rattle.room_rules.specs.Devices.{is_of_name, device_at, SetsDevice, turned_at, rated_at};
+
+use crate::fault::CoreFault;
+use crate::name::Name;
+
+/// A device that prints released jobs.
+#[derive(Clone, Copy, Debug, PartialEq, Eq)]
+pub struct Device {
+    pub name: Name,
+    /// Whether it takes jobs now.
+    pub on: bool,
+    /// The units that an impression counts on it, 1 to 100.
+    pub rate: u32,
+}
+
+/// Sets whether the device with the name takes jobs. A new one is added, at rate 1; one that is
+/// known keeps its rate. Every other device is as before. It can fail for want of memory alone, and
+/// then changes nothing.
+pub fn set_device(devices: &mut Vec<Device>, name: Name, on: bool) -> Result<(), CoreFault>
+    ensures ok { OnOk result
+        (SetsDevice devices.old.items devices.new.items (turned_at devices.old.items name on)) }
+    ensures fault { IsOkUnless result CoreFault.Memory }
+    ensures err { OnErr result (devices.new.items ≡ devices.old.items) }
+{
+    match place_of(devices.as_slice(), name) {
+        Some(place) => devices[place].on = on,
+        None => devices.push(Device { name, on, rate: 1 })?,
+    }
+    Ok(())
+}
+
+/// Sets the units that an impression counts on the device with the name, 1 to 100. Every other
+/// device is as before. Where the name is unknown, it answers false and changes nothing. It takes no
+/// memory.
+pub fn set_rate(devices: &mut [Device], name: Name, units: u32) -> bool
+    requires { (1 ≤ units) × (units ≤ most_rate) }
+    ensures known { result ≡ is_some (device_at devices.old name) }
+    ensures set { IsTrue result →
+        SetsDevice devices.old devices.new (rated_at devices.old name units) }
+    ensures unknown { result ≡ false → devices.new ≡ devices.old }
+{
+    match place_of(devices, name) {
+        Some(place) => {
+            devices[place].rate = units;
+            true
+        }
+        None => false,
+    }
+}
+
+/// Where the first record of the name stands.
+fn place_of(devices: &[Device], name: Name) -> Option<usize>
+    ensures { result ≡ position (is_of_name name) devices.now }
+{
+    devices.iter().position(|device| is_of_name(device, name))
+}
+
+fn is_of_name(device: &Device, name: Name) -> bool
+    ensures { result ≡ is_of_name name device.now }
+{
+    device.name.bytes() == name.bytes()
+}

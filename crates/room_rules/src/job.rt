@@ -1,0 +1,94 @@
+ghost use Rattle.std.specs.Prelude.{◌≡◌};
+ghost use Rattle.room_rules.specs.Standings.{IsStanding};
+ghost use Rattle.room_rules.specs.NewJobs.{fresh, CanMake};
+
+use crate::format::Format;
+use crate::name::Name;
+use ipp_coding::List;
+
+/// The state of a job (RFC 8011 section 5.3.7).
+#[derive(Clone, Copy, Debug, PartialEq, Eq)]
+pub enum JobState {
+    /// pending-held: it waits to be released.
+    Held,
+    /// It was released, and waits for a device.
+    Pending,
+    Processing,
+    Canceled,
+    Aborted,
+    Completed,
+}
+
+/// All of a job but its number, its texts and its documents.
+#[derive(Clone, Copy, Debug, PartialEq, Eq)]
+pub struct Standing {
+    pub state: JobState,
+    /// Whether it still takes documents.
+    pub is_open: bool,
+    /// Whether it was canceled while it was processing.
+    pub stopping: bool,
+    /// 1 to 999.
+    pub copies: u32,
+    /// Impressions of one copy, up to 2147483647; 0 where unknown.
+    pub impressions: u32,
+    /// Units of the quota that its release took.
+    pub reserved: u64,
+    /// Units of the quota that were charged when it ended.
+    pub charged: u64,
+    /// How many documents it was given, up to 8.
+    pub documents: u32,
+    /// Units that an impression counts, 1 to 100.
+    pub rate: u32,
+    /// The device that it is bound to.
+    pub device: Option<Name>,
+    /// Moments, in seconds since 1970-01-01T00:00:00Z.
+    pub created: u64,
+    pub started: Option<u64>,
+    pub ended: Option<u64>,
+}
+
+/// A job. Its texts are kept as bytes.
+#[derive(Debug, Drop)]
+pub struct Job {
+    /// Its number in its account, 1 to 999999.
+    pub job: u32,
+    pub name: List<u8>,
+    /// Empty where it has none.
+    pub password: List<u8>,
+    pub standing: Standing,
+}
+
+/// A document of a job.
+#[derive(Debug, Drop)]
+pub struct Document {
+    pub job: u32,
+    /// Its number in its job, 1 to 8.
+    pub number: u32,
+    pub format: Format,
+    pub bytes: List<u8>,
+}
+
+/// A job as Print-Job (closed, with its one document) or Create-Job (open) makes it at the moment
+/// `now`: held, with the copies and the impressions of one copy that the request gives, 0 where
+/// these are unknown.
+pub fn fresh(is_print_job: bool, copies: u32, impressions: u32, now: u64) -> Standing
+    ensures made { result ≡ fresh is_print_job copies impressions now }
+    // What a request may give, at a moment in range, makes a standing within the ranges.
+    ensures standing { CanMake copies impressions now → IsStanding result }
+{
+    Standing {
+        state: JobState::Held,
+        is_open: !is_print_job,
+        stopping: false,
+        copies,
+        impressions,
+        reserved: 0,
+        charged: 0,
+        documents: if is_print_job { 1 } else { 0 },
+        rate: 1,
+        device: None,
+        created: now,
+        started: None,
+        ended: None,
+    }
+}

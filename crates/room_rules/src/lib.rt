@@ -1,0 +1,31 @@
+//! The rules of one account that need no message and no table.
+#![tactic(auto)]
+
+mod account;
+mod acts;
+mod device;
+mod effects;
+mod fault;
+mod format;
+mod job;
+mod limits;
+mod month;
+mod name;
+mod quota;
+mod ranges;
+mod refusal;
+
+pub use account::{Account, Grant};
+pub use acts::{add_document, cancel, hold, release_at_station, release_by_owner, settle, start};
+pub use device::{Device, set_device, set_rate};
+pub use fault::CoreFault;
+pub use format::Format;
+pub use job::{Document, Job, JobState, Standing, fresh};
+pub use limits::{LAST_MOMENT, MOST_COPIES, MOST_DOCUMENTS, MOST_IMPRESSIONS, MOST_RATE};
+pub use month::month_of;
+pub use name::Name;
+pub use quota::{exceeds, left, need};
+pub use refusal::{Refusal, Word};
+
+#[cfg(test)]
+mod tests;

@@ -1,0 +1,46 @@
+ghost use Rattle.std.specs.Prelude.{◌≡◌, ◌*◌, ◌%◌, ◌^◌, ◌≤◌, pos, ◌≤ℤ◌};
+ghost use Rattle.room_rules.specs.Limits.{most_impressions, most_copies, most_rate};
+ghost use Rattle.room_rules.specs.Quota.{need_of, left_of, exceeds};
+
+/// What is left of an account's quota, in units: what it was granted, less what its jobs reserve and
+/// what they were charged. Each is from 0 to 10^18. It is negative where the charges went past the
+/// grants.
+pub fn left(granted: i64, reserved: i64, charged: i64) -> i64
+    requires granted { (pos 0 ≤ℤ granted) × (granted ≤ℤ pos (10 ^ 18)) }
+    requires reserved { (pos 0 ≤ℤ reserved) × (reserved ≤ℤ pos (10 ^ 18)) }
+    requires charged { (pos 0 ≤ℤ charged) × (charged ≤ℤ pos (10 ^ 18)) }
+    ensures { result ≡ left_of granted reserved charged }
+{
+    granted - reserved - charged
+}
+
+/// The units that a release needs: the impressions of one copy (up to 2147483647), times the copies
+/// (up to 999), times the units that an impression counts (up to 100).
+pub fn need(impressions: u32, copies: u32, rate: u32) -> u64
+    requires impressions { impressions ≤ most_impressions }
+    requires copies { copies ≤ most_copies }
+    requires rate { rate ≤ most_rate }
+    ensures need { result ≡ need_of impressions copies rate }
+    ensures bound { result ≤ most_impressions * most_copies * most_rate }
+{
+    impressions as u64 * copies as u64 * rate as u64
+}
+
+/// The units that are charged for the impressions that a device completed (up to 2147483647), at the
+/// job's rate (1 to 100).
+pub(crate) fn charge(completed: u32, rate: u32) -> u64
+    requires completed { completed ≤ most_impressions }
+    requires rate { (1 ≤ rate) × (rate ≤ most_rate) }
+    ensures charge { result ≡ completed * rate }
+    ensures whole { result % rate ≡ 0 }
+    ensures bound { result ≤ most_impressions * rate }
+{
+    completed as u64 * rate as u64
+}
+
+/// Whether a release needs more units than are left, which may be fewer than none.
+pub fn exceeds(need: u64, left: i64) -> bool
+    ensures { result ≡ exceeds need left }
+{
+    left < 0 || (left as u64) < need
+}

@@ -1,0 +1,5 @@
+pub mod Fronts
+pub mod Values
+pub mod Rows
+pub mod JobRows
+pub mod PrinterRows

@@ -1,0 +1,11 @@
+pub mod Formats
+pub mod Words
+pub mod Lines
+pub mod Attributes
+pub mod Replies
+pub mod Places
+pub mod Limits
+pub mod Times
+pub mod Tables
+pub mod JobAttributes
+pub mod PrinterAttributes

@@ -1,0 +1,152 @@
+//! Attributes of a group.
+
+ghost use Rattle.std.specs.Prelude.{◌≡◌, ◌++◌, ◌<◌, IfErr, OnOk, OnErr, map, take, length};
+ghost use Rattle.std.specs.List.{flat_map, AllByRecursion};
+ghost use Rattle.ipp_coding.specs.Plain.{plain_value, plain_attribute};
+ghost use Rattle.ipp_coding.specs.Spelling.{attribute_spelling, further_spelling, IsAttribute};
+ghost use Rattle.room_texts.specs.Attributes.{attribute_with, boolean, number};
+ghost use Rattle.room_texts.specs.Places.{printer_uri};
+ghost use Rattle.room_texts.specs.Times.{moment_values};
+
+use crate::place::Place;
+use ipp_coding::{Attribute, Value, put_attribute, put_more};
+use room_rules::CoreFault;
+
+// Tags of values (RFC 8010 section 3.5.2).
+pub(crate) const UNKNOWN: u8 = 0x12;
+
+pub(crate) const NO_VALUE: u8 = 0x13;
+
+pub(crate) const INTEGER: u8 = 0x21;
+
+pub(crate) const BOOLEAN: u8 = 0x22;
+
+pub(crate) const ENUM: u8 = 0x23;
+
+pub(crate) const RANGE: u8 = 0x33;
+
+pub(crate) const NAME: u8 = 0x42;
+
+pub(crate) const KEYWORD: u8 = 0x44;
+
+pub(crate) const URI: u8 = 0x45;
+
+pub(crate) const CHARSET: u8 = 0x47;
+
+pub(crate) const LANGUAGE: u8 = 0x48;
+
+pub(crate) const MEDIA_TYPE: u8 = 0x49;
+
+/// Appends an attribute of one value.
+pub(crate) fn put_single(
+    out: &mut Vec<u8>,
+    tag: u8,
+    name: &[u8],
+    value: &[u8],
+) -> Result<(), CoreFault>
+    ensures appended { OnOk result (out.new.items ≡ out.old.items ++ attribute_spelling (attribute_with name.now tag value.now)) }
+    ensures memory { IfErr result (λ fault. fault ≡ CoreFault.Memory) }
+    ensures unchanged { OnErr result (out.new.items ≡ out.old.items) }
+{
+    put_attribute(out, tag, name, value)?;
+    Ok(())
+}
+
+/// Appends an attribute of one integer or enum.
+pub(crate) fn put_number(
+    out: &mut Vec<u8>,
+    tag: u8,
+    name: &[u8],
+    value: u32,
+) -> Result<(), CoreFault>
+    ensures appended { OnOk result (out.new.items ≡ out.old.items ++ attribute_spelling (attribute_with name.now tag (number value))) }
+    ensures memory { IfErr result (λ fault. fault ≡ CoreFault.Memory) }
+    ensures unchanged { OnErr result (out.new.items ≡ out.old.items) }
+{
+    put_single(out, tag, name, &value.to_be_bytes())
+}
+
+/// Appends an attribute of one boolean.
+pub(crate) fn put_boolean(out: &mut Vec<u8>, name: &[u8], value: bool) -> Result<(), CoreFault>
+    ensures appended { OnOk result (out.new.items ≡ out.old.items ++ attribute_spelling (attribute_with name.now 0x22 (boolean value))) }
+    ensures memory { IfErr result (λ fault. fault ≡ CoreFault.Memory) }
+    ensures unchanged { OnErr result (out.new.items ≡ out.old.items) }
+{
+    if value {
+        return put_single(out, BOOLEAN, name, b"\x01");
+    }
+    put_single(out, BOOLEAN, name, b"\x00")
+}
+
+/// Appends a moment, also one that has not come.
+pub(crate) fn put_moment(
+    out: &mut Vec<u8>,
+    name: &[u8],
+    at: &Place<'_>,
+    moment: Option<u64>,
+) -> Result<(), CoreFault>
+    ensures appended { OnOk result (out.new.items ≡ out.old.items ++ attribute_spelling (record { name = name.now; values = moment_values at.entry.now moment })) }
+    ensures memory { IfErr result (λ fault. fault ≡ CoreFault.Memory) }
+    ensures unchanged { OnErr result (out.new.items ≡ out.old.items) }
+{
+    match moment {
+        None => put_single(out, NO_VALUE, name, b""),
+        Some(moment) => put_number(out, INTEGER, name, at.up(moment)),
+    }
+}
+
+/// Appends the URI of the printer.
+pub(crate) fn put_printer_uri(
+    out: &mut Vec<u8>,
+    name: &[u8],
+    at: &Place<'_>,
+) -> Result<(), CoreFault>
+    ensures appended { OnOk result (out.new.items ≡ out.old.items ++ attribute_spelling (attribute_with name.now 0x45 (printer_uri at.entry.now))) }
+    ensures memory { IfErr result (λ fault. fault ≡ CoreFault.Memory) }
+    ensures unchanged { OnErr result (out.new.items ≡ out.old.items) }
+{
+    let uri = at.printer_uri(*out.allocator())?;
+    put_single(out, URI, name, &uri)
+}
+
+/// Appends attributes, each with its values.
+pub(crate) fn put_attributes(
+    out: &mut Vec<u8>,
+    attributes: &[Attribute<'_>],
+) -> Result<(), CoreFault>
+    requires { AllByRecursion IsAttribute (map plain_attribute attributes.now) }
+    ensures appended { OnOk result (out.new.items ≡ out.old.items ++ flat_map attribute_spelling (map plain_attribute attributes.now)) }
+    ensures memory { IfErr result (λ fault. fault ≡ CoreFault.Memory) }
+    ensures front { take (length out.old.items) out.new.items ≡ out.old.items }
+{
+    for attribute in attributes {
+        put_values(out, attribute.name, attribute.values.as_slice())?;
+    }
+    Ok(())
+}
+
+/// Appends an attribute of one or more values.
+pub(crate) fn put_values(
+    out: &mut Vec<u8>,
+    name: &[u8],
+    values: &[Value<'_>],
+) -> Result<(), CoreFault>
+    requires { 0 < length values.now }
+    ensures appended { OnOk result (out.new.items ≡ out.old.items ++ attribute_spelling (record { name = name.now; values = map plain_value values.now })) }
+    ensures memory { IfErr result (λ fault. fault ≡ CoreFault.Memory) }
+    ensures front { take (length out.old.items) out.new.items ≡ out.old.items }
+{
+    put_attribute(out, values[0].tag, name, values[0].bytes)?;
+    put_further(out, &values[1..])
+}
+
+fn put_further(out: &mut Vec<u8>, values: &[Value<'_>]) -> Result<(), CoreFault>
+    ensures appended { OnOk result (out.new.items ≡ out.old.items ++ flat_map further_spelling (map plain_value values.now)) }
+    ensures memory { IfErr result (λ fault. fault ≡ CoreFault.Memory) }
+    ensures front { take (length out.old.items) out.new.items ≡ out.old.items }
+{
+    for value in values {
+        put_more(out, value.tag, value.bytes)?;
+    }
+    Ok(())
+}

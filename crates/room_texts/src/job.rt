@@ -1,0 +1,276 @@
+//! The group of a job.
+
+ghost use Rattle.std.specs.Prelude.{◌≡◌, ◌++◌, ◌≤◌, ◌*◌, ◌/◌, IfErr, OnOk, OnErr, map, take, length};
+ghost use Rattle.std.specs.List.{flat_map};
+ghost use Rattle.ipp_coding.specs.Spelling.{attribute_spelling, group_spelling};
+ghost use Rattle.room_texts.specs.Attributes.{attribute_with};
+ghost use Rattle.room_texts.specs.JobAttributes.{job_group, job_row, impressions_values, state_number, state_reason};
+ghost use Rattle.room_texts.specs.Limits.{IsPlace, IsShowable};
+ghost use Rattle.room_texts.specs.Places.{job_uri};
+ghost use Rattle.room_texts.specs.Tables.{asked_names, row_attribute, row_text};
+
+use crate::attribute::{
+    CHARSET, ENUM, INTEGER, KEYWORD, LANGUAGE, NAME, UNKNOWN, URI, put_moment, put_number,
+    put_printer_uri, put_single,
+};
+use crate::place::Place;
+use crate::selection::is_wanted;
+use ipp_coding::put_group;
+use room_rules::{CoreFault, Job, JobState, Standing};
+
+/// An attribute that a job shows.
+#[derive(Clone, Copy)]
+pub(crate) enum JobAttribute {
+    Uri,
+    Id,
+    PrinterUri,
+    Name,
+    UserName,
+    State,
+    StateReasons,
+    Documents,
+    Impressions,
+    ImpressionsCompleted,
+    Created,
+    Started,
+    Ended,
+    UpTime,
+    Charset,
+    NaturalLanguage,
+    Copies,
+    HoldUntil,
+}
+
+/// In the order in which they are shown.
+const JOB_ATTRIBUTES: [JobAttribute; 18] = [
+    JobAttribute::Uri,
+    JobAttribute::Id,
+    JobAttribute::PrinterUri,
+    JobAttribute::Name,
+    JobAttribute::UserName,
+    JobAttribute::State,
+    JobAttribute::StateReasons,
+    JobAttribute::Documents,
+    JobAttribute::Impressions,
+    JobAttribute::ImpressionsCompleted,
+    JobAttribute::Created,
+    JobAttribute::Started,
+    JobAttribute::Ended,
+    JobAttribute::UpTime,
+    JobAttribute::Charset,
+    JobAttribute::NaturalLanguage,
+    JobAttribute::Copies,
+    JobAttribute::HoldUntil,
+];
+
+impl JobAttribute {
+    #[tactic(auto, unfolding(crate::specs::JobAttributes::job_attributes))]
+    fn name(self) -> &'static [u8]
+        ensures { result.now ≡ (job_row self).name }
+    {
+        match self {
+            JobAttribute::Uri => b"job-uri",
+            JobAttribute::Id => b"job-id",
+            JobAttribute::PrinterUri => b"job-printer-uri",
+            JobAttribute::Name => b"job-name",
+            JobAttribute::UserName => b"job-originating-user-name",
+            JobAttribute::State => b"job-state",
+            JobAttribute::StateReasons => b"job-state-reasons",
+            JobAttribute::Documents => b"number-of-documents",
+            JobAttribute::Impressions => b"job-impressions",
+            JobAttribute::ImpressionsCompleted => b"job-impressions-completed",
+            JobAttribute::Created => b"time-at-creation",
+            JobAttribute::Started => b"time-at-processing",
+            JobAttribute::Ended => b"time-at-completed",
+            JobAttribute::UpTime => b"job-printer-up-time",
+            JobAttribute::Charset => b"attributes-charset",
+            JobAttribute::NaturalLanguage => b"attributes-natural-language",
+            JobAttribute::Copies => b"copies",
+            JobAttribute::HoldUntil => b"job-hold-until",
+        }
+    }
+
+    /// The group of names that it is in.
+    #[tactic(auto, unfolding(crate::specs::JobAttributes::job_attributes))]
+    fn group(self) -> &'static [u8]
+        ensures { result.now ≡ (job_row self).group }
+    {
+        match self {
+            JobAttribute::Copies | JobAttribute::HoldUntil => b"job-template",
+            _ => b"job-description",
+        }
+    }
+}
+
+/// Appends the group of a job, with the attributes that are wanted.
+pub fn put_job(
+    out: &mut Vec<u8>,
+    at: &Place<'_>,
+    job: &Job,
+    wanted: Option<&[&[u8]]>,
+) -> Result<(), CoreFault>
+    requires place { IsPlace at.now }
+    requires job { IsShowable job.now }
+    ensures appended { OnOk result (out.new.items ≡ out.old.items ++ group_spelling (job_group at.entry.now job.now (asked_names wanted.entry))) }
+    ensures memory { IfErr result (λ fault. fault ≡ CoreFault.Memory) }
+    ensures unchanged { OnErr result (out.new.items ≡ out.old.items) }
+{
+    let start = out.len();
+    let answer = append_job(out, at, job, wanted);
+    if answer.is_err() {
+        out.truncate(start);
+    }
+    answer
+}
+
+fn append_job(
+    out: &mut Vec<u8>,
+    at: &Place<'_>,
+    job: &Job,
+    wanted: Option<&[&[u8]]>,
+) -> Result<(), CoreFault>
+    requires job { IsShowable job.now }
+    ensures appended { OnOk result (out.new.items ≡ out.old.items ++ group_spelling (job_group at.entry.now job.now (asked_names wanted.entry))) }
+    ensures memory { IfErr result (λ fault. fault ≡ CoreFault.Memory) }
+    ensures front { take (length out.old.items) out.new.items ≡ out.old.items }
+{
+    put_group(out, 0x02)?;
+    put_job_attributes(out, at, job, wanted, &JOB_ATTRIBUTES)?;
+    Ok(())
+}
+
+/// Appends those of the attributes that are wanted.
+fn put_job_attributes(
+    out: &mut Vec<u8>,
+    at: &Place<'_>,
+    job: &Job,
+    wanted: Option<&[&[u8]]>,
+    attributes: &[JobAttribute],
+) -> Result<(), CoreFault>
+    requires job { IsShowable job.now }
+    ensures appended { OnOk result (out.new.items ≡ out.old.items ++ flat_map (row_text (asked_names wanted.entry) at.entry.now job.now) (map job_row attributes.now)) }
+    ensures memory { IfErr result (λ fault. fault ≡ CoreFault.Memory) }
+    ensures front { take (length out.old.items) out.new.items ≡ out.old.items }
+{
+    for attribute in attributes {
+        put_where_wanted(out, at, job, wanted, *attribute)?;
+    }
+    Ok(())
+}
+
+fn put_where_wanted(
+    out: &mut Vec<u8>,
+    at: &Place<'_>,
+    job: &Job,
+    wanted: Option<&[&[u8]]>,
+    attribute: JobAttribute,
+) -> Result<(), CoreFault>
+    requires job { IsShowable job.now }
+    ensures appended { OnOk result (out.new.items ≡ out.old.items ++ row_text (asked_names wanted.entry) at.entry.now job.now (job_row attribute)) }
+    ensures memory { IfErr result (λ fault. fault ≡ CoreFault.Memory) }
+    ensures unchanged { OnErr result (out.new.items ≡ out.old.items) }
+{
+    if !is_wanted(wanted, attribute.name(), attribute.group()) {
+        return Ok(());
+    }
+    put_job_attribute(out, at, job, attribute)
+}
+
+#[tactic(auto, unfolding(crate::specs::JobAttributes::job_attributes))]
+fn put_job_attribute(
+    out: &mut Vec<u8>,
+    at: &Place<'_>,
+    job: &Job,
+    attribute: JobAttribute,
+) -> Result<(), CoreFault>
+    requires job { IsShowable job.now }
+    ensures appended { OnOk result (out.new.items ≡ out.old.items ++ attribute_spelling (row_attribute at.entry.now job.now (job_row attribute))) }
+    ensures memory { IfErr result (λ fault. fault ≡ CoreFault.Memory) }
+    ensures unchanged { OnErr result (out.new.items ≡ out.old.items) }
+{
+    let name = attribute.name();
+    let standing = &job.standing;
+    match attribute {
+        JobAttribute::Uri => put_job_uri(out, name, at, job.job),
+        JobAttribute::Id => put_number(out, INTEGER, name, job.job),
+        JobAttribute::PrinterUri => put_printer_uri(out, name, at),
+        JobAttribute::Name => put_single(out, NAME, name, job.name.as_slice()),
+        JobAttribute::UserName => put_single(out, NAME, name, at.name.bytes()),
+        JobAttribute::State => put_number(out, ENUM, name, state_number(standing.state)),
+        JobAttribute::StateReasons => put_single(out, KEYWORD, name, state_reason(standing)),
+        JobAttribute::Documents => put_number(out, INTEGER, name, standing.documents),
+        JobAttribute::Impressions => put_impressions(out, name, standing.impressions),
+        JobAttribute::ImpressionsCompleted => put_number(
+            out,
+            INTEGER,
+            name,
+            impressions_completed(standing),
+        ),
+        JobAttribute::Created => put_number(out, INTEGER, name, at.up(standing.created)),
+        JobAttribute::Started => put_moment(out, name, at, standing.started),
+        JobAttribute::Ended => put_moment(out, name, at, standing.ended),
+        JobAttribute::UpTime => put_number(out, INTEGER, name, at.up(at.now)),
+        JobAttribute::Charset => put_single(out, CHARSET, name, b"utf-8"),
+        JobAttribute::NaturalLanguage => put_single(out, LANGUAGE, name, b"en"),
+        JobAttribute::Copies => put_number(out, INTEGER, name, standing.copies),
+        JobAttribute::HoldUntil => put_single(out, KEYWORD, name, b"indefinite"),
+    }
+}
+
+/// The job-state as an enum (RFC 8011 section 5.3.7).
+fn state_number(state: JobState) -> u32
+    ensures { result ≡ state_number state }
+{
+    match state {
+        JobState::Pending => 3,
+        JobState::Held => 4,
+        JobState::Processing => 5,
+        JobState::Canceled => 7,
+        JobState::Aborted => 8,
+        JobState::Completed => 9,
+    }
+}
+
+fn state_reason(standing: &Standing) -> &'static [u8]
+    ensures { result.now ≡ state_reason standing.now.state standing.now.is_open standing.now.stopping }
+{
+    match standing.state {
+        JobState::Held if standing.is_open => b"job-incoming",
+        JobState::Held => b"job-hold-until-specified",
+        JobState::Pending => b"none",
+        JobState::Processing if standing.stopping => b"processing-to-stop-point",
+        JobState::Processing => b"job-printing",
+        JobState::Canceled => b"job-canceled-by-user",
+        JobState::Aborted => b"aborted-by-system",
+        JobState::Completed => b"job-completed-successfully",
+    }
+}
+
+/// The impressions that were charged, at so many units each.
+fn impressions_completed(standing: &Standing) -> u32
+    requires rate { 1 ≤ standing.now.rate }
+    requires charged { standing.now.charged ≤ 2147483647 * standing.now.rate }
+    ensures { result ≡ standing.now.charged / standing.now.rate }
+{
+    (standing.charged / u64::from(standing.rate)) as u32
+}
+
+fn put_impressions(out: &mut Vec<u8>, name: &[u8], impressions: u32) -> Result<(), CoreFault>
+    ensures appended { OnOk result (out.new.items ≡ out.old.items ++ attribute_spelling (record { name = name.now; values = impressions_values impressions })) }
+    ensures memory { IfErr result (λ fault. fault ≡ CoreFault.Memory) }
+    ensures unchanged { OnErr result (out.new.items ≡ out.old.items) }
+{
+    if impressions == 0 {
+        return put_single(out, UNKNOWN, name, b"");
+    }
+    put_number(out, INTEGER, name, impressions)
+}
+
+fn put_job_uri(out: &mut Vec<u8>, name: &[u8], at: &Place<'_>, job: u32) -> Result<(), CoreFault>
+    ensures appended { OnOk result (out.new.items ≡ out.old.items ++ attribute_spelling (attribute_with name.now 0x45 (job_uri at.entry.now job))) }
+    ensures memory { IfErr result (λ fault. fault ≡ CoreFault.Memory) }
+    ensures unchanged { OnErr result (out.new.items ≡ out.old.items) }
+{
+    let uri = at.job_uri(*out.allocator(), job)?;
+    put_single(out, URI, name, &uri)
+}

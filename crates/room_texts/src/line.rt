@@ -1,0 +1,90 @@
+//! The lines that a station is told.
+
+ghost use Rattle.std.specs.Prelude.{◌≡◌, ◌++◌, IfOk, IfErr, OnOk, OnErr, string_bytes};
+ghost use Rattle.room_texts.specs.Lines.{success_text};
+ghost use Rattle.room_texts.specs.Words.{word_numbers, word_text};
+
+use crate::names::{media_type, word_name};
+use room_rules::{CoreFault, Format, Word};
+use std::alloc::{AllocError, Global};
+
+/// What a station's act came to.
+#[derive(Clone, Copy, Debug, PartialEq, Eq)]
+pub enum Success {
+    Ok,
+    /// The units that a job reserves, and what is left of the quota.
+    Released {
+        reserved: u64,
+        left: i64,
+    },
+    /// The units that a job was charged, and what is left of the quota.
+    Settled {
+        charged: u64,
+        left: i64,
+    },
+    /// A document of a job that is started: in how many copies, its format and its length in bytes.
+    Started {
+        job: u32,
+        copies: u32,
+        format: Format,
+        length: u64,
+    },
+}
+
+/// Appends the text of a word.
+pub fn put_line(out: &mut Vec<u8>, word: Word) -> Result<(), CoreFault>
+    ensures appended { OnOk result (out.new.items ≡ out.old.items ++ word_text word) }
+    ensures memory { IfErr result (λ fault. fault ≡ CoreFault.Memory) }
+    ensures unchanged { OnErr result (out.new.items ≡ out.old.items) }
+{
+    let name = word_name(word);
+    let numbers = word_numbers(*out.allocator(), word)?;
+    // One reservation for both, so that a refusal leaves nothing half written.
+    out.reserve(name.len() + numbers.len())?;
+    out.extend_from_slice(name)?;
+    out.extend_from_slice(numbers.as_bytes())?;
+    Ok(())
+}
+
+/// What follows a word; nothing for most, which takes no memory.
+fn word_numbers(alloc: Global, word: Word) -> Result<String, AllocError>
+    ensures { IfOk result (λ text. string_bytes text ≡ word_numbers word) }
+{
+    match word {
+        Word::Quota { need, left } => format!(in alloc; " {need} {left}"),
+        Word::Conflict { held } => format!(in alloc; " {held}"),
+        _ => Ok(String::new(alloc)),
+    }
+}
+
+/// Appends the line that tells a success.
+pub fn put_success(out: &mut Vec<u8>, s: Success) -> Result<(), CoreFault>
+    ensures appended { OnOk result (out.new.items ≡ out.old.items ++ success_text s) }
+    ensures memory { IfErr result (λ fault. fault ≡ CoreFault.Memory) }
+    ensures unchanged { OnErr result (out.new.items ≡ out.old.items) }
+{
+    let text = success_text(*out.allocator(), s)?;
+    out.extend_from_slice(text.as_bytes())?;
+    Ok(())
+}
+
+fn success_text(alloc: Global, s: Success) -> Result<String, AllocError>
+    ensures { IfOk result (λ text. string_bytes text ≡ success_text s) }
+{
+    match s {
+        Success::Ok => String::from_str(alloc, "ok"),
+        Success::Released { reserved, left } => {
+            format!(in alloc; "ok reserved {reserved} left {left}")
+        }
+        Success::Settled { charged, left } => format!(in alloc; "ok charged {charged} left {left}"),
+        Success::Started {
+            job,
+            copies,
+            format,
+            length,
+        } => {
+            let kind = media_type(format);
+            format!(in alloc; "document {job} {copies} {kind} {length}")
+        }
+    }
+}

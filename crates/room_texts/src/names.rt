@@ -1,0 +1,70 @@
+//! The words and formats as texts.
+
+ghost use Rattle.std.specs.Prelude.{◌≡◌};
+ghost use Rattle.room_texts.specs.Formats.{media_type};
+ghost use Rattle.room_texts.specs.Words.{word_name};
+
+use room_rules::{Format, Word};
+
+/// The media type of a format.
+pub(crate) fn media_type(format: Format) -> &'static str
+    ensures { result.now ≡ media_type format }
+{
+    match format {
+        Format::OctetStream => "application/octet-stream",
+        Format::Pdf => "application/pdf",
+        Format::PostScript => "application/postscript",
+        Format::Jpeg => "image/jpeg",
+        Format::PwgRaster => "image/pwg-raster",
+        Format::Urf => "image/urf",
+        Format::Plain => "text/plain",
+    }
+}
+
+/// The word without its numbers.
+pub(crate) fn word_name(word: Word) -> &'static [u8]
+    ensures { result.now ≡ word_name word }
+{
+    match word {
+        Word::Version => b"version",
+        Word::Operation => b"operation",
+        Word::Malformed => b"malformed",
+        Word::CharsetAndLanguage => b"charset-and-language",
+        Word::Charset => b"charset",
+        Word::Target => b"target",
+        Word::TargetTooLong => b"target-too-long",
+        Word::NotThisQueue => b"not-this-queue",
+        Word::Syntax => b"syntax",
+        Word::Compression => b"compression",
+        Word::DocumentFormat => b"document-format",
+        Word::WhichJobs => b"which-jobs",
+        Word::PasswordEncryptionMissing => b"password-encryption-missing",
+        Word::PasswordEncryption => b"password-encryption",
+        Word::PasswordTooLong => b"password-too-long",
+        Word::JobNameTooLong => b"job-name-too-long",
+        Word::Template => b"template",
+        Word::DocumentTooLarge => b"document-too-large",
+        Word::NoJob => b"no-job",
+        Word::NotAccepting => b"not-accepting",
+        Word::Closed => b"closed",
+        Word::TooManyDocuments => b"too-many-documents",
+        Word::Stopping => b"stopping",
+        Word::Ended => b"ended",
+        Word::Printing => b"printing",
+        Word::Incomplete => b"incomplete",
+        Word::Password => b"password",
+        Word::ImpressionsUnknown => b"impressions-unknown",
+        Word::Quota { .. } => b"quota",
+        Word::NotHeld => b"not-held",
+        Word::NotPending => b"not-pending",
+        Word::NotProcessing => b"not-processing",
+        Word::OtherDevice => b"other-device",
+        Word::Rate => b"rate",
+        Word::NoAccount => b"no-account",
+        Word::NoDevice => b"no-device",
+        Word::DeviceOff => b"device-off",
+        Word::Exists => b"exists",
+        Word::Same => b"same",
+        Word::Conflict { .. } => b"conflict",
+    }
+}

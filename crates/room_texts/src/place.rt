@@ -1,0 +1,52 @@
+ghost use Rattle.std.specs.Prelude.{◌≡◌, IfOk};
+ghost use Rattle.room_texts.specs.Places.{printer_uri, job_uri};
+ghost use Rattle.room_texts.specs.Times.{up};
+
+use room_rules::Name;
+use std::alloc::{AllocError, Global};
+
+/// The greatest integer that a message can carry.
+const GREATEST: u64 = 2147483647;
+
+/// Where and when a job or a printer is shown.
+#[derive(Clone, Copy, Debug)]
+pub struct Place<'a> {
+    /// The part of the target URI before its path.
+    pub base: &'a [u8],
+    /// The name of the account.
+    pub name: Name,
+    /// The moment that the account was opened at.
+    pub opened: u64,
+    /// The moment of the request.
+    pub now: u64,
+}
+
+impl<'a> Place<'a> {
+    /// The URI of the account's queue.
+    pub(crate) fn printer_uri(&self, alloc: Global) -> Result<Vec<u8>, AllocError>
+        ensures { IfOk result (λ uri. uri.items ≡ printer_uri self.entry.now) }
+    {
+        let mut uri = Vec::new(alloc);
+        uri.extend_from_slice(self.base)?;
+        uri.extend_from_slice(b"/ipp/print/")?;
+        uri.extend_from_slice(self.name.bytes())?;
+        Ok(uri)
+    }
+
+    /// The URI of a job in it.
+    pub(crate) fn job_uri(&self, alloc: Global, job: u32) -> Result<Vec<u8>, AllocError>
+        ensures { IfOk result (λ uri. uri.items ≡ job_uri self.entry.now job) }
+    {
+        let mut uri = self.printer_uri(alloc)?;
+        let number = format!(in alloc; "/{job}")?;
+        uri.extend_from_slice(number.as_bytes())?;
+        Ok(uri)
+    }
+
+    /// A moment as the printer tells it: in seconds since the account was opened, counted from 1.
+    pub(crate) fn up(&self, moment: u64) -> u32
+        ensures { result ≡ up self.entry.now moment }
+    {
+        (moment.saturating_sub(self.opened).min(GREATEST - 1) + 1) as u32
+    }
+}

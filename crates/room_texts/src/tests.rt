@@ -1,0 +1,5 @@
+mod jobs;
+mod lines;
+mod memory;
+mod printers;
+mod replies;
