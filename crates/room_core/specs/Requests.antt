@@ -15,7 +15,7 @@ same_bytes a b = pointwise nat_eq a b
 abbrev pub is_served_version : Header → Bool
 is_served_version h = h.major == 1 || h.major == 2
 
--- operation-ids (RFC 8011 section 5.4.15)
+-- operation-ids (RFC 8011 section 5.4.15); so far Validate-Job alone is served
 abbrev pub operation_with : ℕ → Option Operation
 operation_with id = if id == 4 then Some ValidateJob else None
 

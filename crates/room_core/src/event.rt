@@ -22,3 +22,11 @@ pub enum Reply {
     /// The body of an IPP request has fewer than 8 bytes.
     Short,
 }
+
+/// A document that is handed to a device.
+#[derive(Debug, Drop)]
+pub struct Part {
+    /// The line that tells its job, copies, format and length, without its end.
+    pub line: List<u8>,
+    pub bytes: List<u8>,
+}

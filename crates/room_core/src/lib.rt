@@ -13,7 +13,7 @@ mod target;
 mod text;
 
 pub use ask::{Ask, AskFault, read_ask};
-pub use event::{Event, Reply};
+pub use event::{Event, Part, Reply};
 pub use machine::answer;
 pub use operation::Operation;
 pub use room::Room;

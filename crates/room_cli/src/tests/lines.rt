@@ -124,7 +124,7 @@ const BAD_LINES: [&str; 68] = [
     "1000 open abcdefghijklmnopqrstuvwxyz0123456",
     "1000 device d1",
     "1000 device d1 ON",
-    "1000 device D1 on",
+    "1000 device Desk on",
     "1000 rate d1 0",
     "1000 rate d1 101",
     "1000 rate d1 07",

@@ -65,7 +65,7 @@ fn bad_names(rt: HostRuntime) -> Result<(), Fail> {
         ("open :memory: al_ice", ""),
         ("open :memory: ", ""),
         ("open :memory: abcdefghijklmnopqrstuvwxyz0123456", ""),
-        ("device :memory: D1 on", ""),
+        ("device :memory: Desk on", ""),
         ("device a.db é off", ""),
         ("rate a.db d.1 100", ""),
     ];
@@ -98,11 +98,11 @@ fn commands_that_have_no_tables_yet(rt: HostRuntime) -> Result<(), Fail> {
 
 #[test]
 fn earlier_faults_come_first(rt: HostRuntime) -> Result<(), Fail> {
-    for words in ["rate :memory: D1 0", "device :memory: D1 no"] {
+    for words in ["rate :memory: Desk 0", "device :memory: Desk no"] {
         let found = finish(rt.alloc(), words, Failing { good: 0 }, None)?;
         assert!(rt; found.is_usage_fault(), "{words:?}: {found:?}");
     }
-    for words in ["rate :memory: D1 1", "open a.db Alice"] {
+    for words in ["rate :memory: Desk 1", "open a.db Alice"] {
         let found = finish(rt.alloc(), words, Failing { good: 0 }, None)?;
         assert!(rt; found.is(2, "", NAME), "{words:?}: {found:?}");
     }
