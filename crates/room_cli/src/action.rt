@@ -54,16 +54,73 @@ pub enum Action {
 }
 
 impl Action {
-    /// The event that the rooms answer, or `None` for an action that only a store with devices and
-    /// grants can take.
-    pub fn event(&self) -> Option<Event<'_>> {
+    ghost use Rattle.std.specs.Prelude.{IsTrue};
+    ghost use Rattle.room_core.specs.Fits.{fits};
+    ghost use Rattle.room_cli.specs.Actions.{is_in_range};
+
+    /// The event that it is. A release without impressions leaves those of the job.
+    pub fn event(&self) -> Event<'_>
+        requires { IsTrue (is_in_range self.now) }
+        ensures { IsTrue (fits result) }
+    {
         match self {
-            Action::Open { account } => Some(Event::Open { account: *account }),
-            Action::Ipp { account, body } => Some(Event::Ipp {
+            Action::Open { account } => Event::Open { account: *account },
+            Action::Device { name, on } => Event::Device {
+                name: *name,
+                on: *on,
+            },
+            Action::Rate { name, units } => Event::Rate {
+                name: *name,
+                units: *units,
+            },
+            Action::Grant {
+                account,
+                month,
+                pages,
+            } => Event::Grant {
+                account: *account,
+                month: *month,
+                pages: *pages,
+            },
+            Action::Ipp { account, body } => Event::Ipp {
                 account: *account,
                 body: body.as_slice(),
-            }),
-            _ => None,
+            },
+            Action::Release {
+                device,
+                account,
+                job,
+                password,
+                impressions,
+            } => Event::Release {
+                device: *device,
+                account: *account,
+                job: *job,
+                password: password.as_slice(),
+                impressions: impressions.unwrap_or(0),
+            },
+            Action::Start {
+                device,
+                account,
+                job,
+            } => Event::Start {
+                device: *device,
+                account: *account,
+                job: *job,
+            },
+            Action::Settle {
+                device,
+                account,
+                job,
+                impressions,
+                failed,
+            } => Event::Settle {
+                device: *device,
+                account: *account,
+                job: *job,
+                impressions: *impressions,
+                failed: *failed,
+            },
         }
     }
 }

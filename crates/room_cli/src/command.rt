@@ -1,11 +1,12 @@
 //! The command line: its commands, their words, and what each word may be.
+ghost use Rattle.std.specs.Prelude.{◌≤◌, IfOk, IsTrue};
+ghost use Rattle.room_cli.specs.Commands.{is_rated_in_range};
+
 use crate::fault::Fault;
-use crate::fields;
-use crate::lines::MOST_UNITS;
 use clap::builder::ValueParser;
 use clap::error::ErrorKind;
 use clap::{Arg, ArgMatches};
-use room_core::Name;
+use room_core::{MOST_RATE, Name};
 use std::alloc::{AllocError, Global};
 
 const PROGRAM: &str = "ipp-room";
@@ -94,7 +95,9 @@ impl Unfit {
 impl<'a> Command<'a> {
     /// Reads the words after the program's name. A command, a count of words, a number or a switch
     /// that is not in the table comes before a bad name.
-    pub fn read(alloc: Global, words: &'a [&'a str]) -> Result<Command<'a>, Fault> {
+    pub fn read(alloc: Global, words: &'a [&'a str]) -> Result<Command<'a>, Fault>
+        ensures { IfOk result (λ command. IsTrue (is_rated_in_range command)) }
+    {
         let mut program = program(alloc)?;
         let matches = match program.try_get_matches_from_mut(words) {
             Ok(matches) => matches,
@@ -114,7 +117,9 @@ impl<'a> Command<'a> {
     }
 }
 
-fn of_matches<'a>(matches: &ArgMatches<'a>) -> Result<Command<'a>, Unfit> {
+fn of_matches<'a>(matches: &ArgMatches<'a>) -> Result<Command<'a>, Unfit>
+    ensures { IfOk result (λ command. IsTrue (is_rated_in_range command)) }
+{
     let Some((command, words)) = matches.subcommand() else {
         return Err(Unfit::Missing);
     };
@@ -133,7 +138,7 @@ fn of_matches<'a>(matches: &ArgMatches<'a>) -> Result<Command<'a>, Unfit> {
         }),
         "rate" => Ok(Command::Rate {
             database,
-            units: number(words, "UNITS", 1, MOST_UNITS, Unfit::Units)?,
+            units: number(words, "UNITS", 1, MOST_RATE, Unfit::Units)?,
             name: name(words, "NAME")?,
         }),
         "grants" => Ok(Command::Grants { database }),
@@ -162,8 +167,10 @@ fn number(
     least: u32,
     most: u32,
     unfit: Unfit,
-) -> Result<u32, Unfit> {
-    fields::number(word(words, id)?.as_bytes(), least, most).ok_or(unfit)
+) -> Result<u32, Unfit>
+    ensures { IfOk result (λ number. (least ≤ number) × (number ≤ most)) }
+{
+    room_fields::number(word(words, id)?.as_bytes(), least, most).ok_or(unfit)
 }
 
 fn program<'a>(alloc: Global) -> Result<clap::Command<'a>, AllocError> {

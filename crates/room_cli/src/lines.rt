@@ -1,21 +1,14 @@
 //! The grammar of lines: fields parted by one space, lines ended by a line feed, the last of which may
 //! be missing. Nothing is trimmed, so a carriage return, a tab or a further space makes a line bad.
-ghost use Rattle.std.specs.Prelude.{◌≤◌, IfOk};
+ghost use Rattle.std.specs.Prelude.{◌≤◌, IfOk, IsTrue};
+ghost use Rattle.room_rules.specs.Limits.{first_month, last_month};
+ghost use Rattle.room_cli.specs.Actions.{is_in_range, are_impressions};
 
 use crate::action::Action;
 use crate::fault::Fault;
-use crate::fields::{self, FieldFault};
-use room_core::{LAST_MOMENT, Name};
+use room_core::{LAST_JOB, LAST_MOMENT, MOST_IMPRESSIONS, MOST_PAGES, MOST_RATE, Name};
+use room_fields::FieldFault;
 use std::alloc::Global;
-
-const LAST_JOB: u32 = 999_999;
-
-const MOST_IMPRESSIONS: u32 = 2_147_483_647;
-
-const MOST_PAGES: u32 = 1_000_000_000;
-
-/// The most units that a device counts for an impression.
-pub const MOST_UNITS: u32 = 100;
 
 /// A line that was read: what to do, and the moment at which it counts as done, in seconds since
 /// 1970-01-01T00:00:00Z.
@@ -23,6 +16,7 @@ pub const MOST_UNITS: u32 = 100;
 pub struct Line {
     pub moment: u64,
     pub action: Action,
+    ghost in_range: { IsTrue (is_in_range action) },
 }
 
 /// Which lines an input may have.
@@ -71,7 +65,9 @@ impl Grammar {
     }
 }
 
-fn script_action(alloc: Global, fields: &mut Fields<'_>) -> Result<Action, FieldFault> {
+fn script_action(alloc: Global, fields: &mut Fields<'_>) -> Result<Action, FieldFault>
+    ensures { IfOk result (λ action. IsTrue (is_in_range action)) }
+{
     match fields.take()? {
         b"open" => Ok(Action::Open {
             account: fields.name()?,
@@ -82,7 +78,7 @@ fn script_action(alloc: Global, fields: &mut Fields<'_>) -> Result<Action, Field
         }),
         b"rate" => Ok(Action::Rate {
             name: fields.name()?,
-            units: fields.number(1, MOST_UNITS)?,
+            units: fields.number(1, MOST_RATE)?,
         }),
         b"grant" => Ok(Action::Grant {
             account: fields.name()?,
@@ -97,11 +93,9 @@ fn script_action(alloc: Global, fields: &mut Fields<'_>) -> Result<Action, Field
     }
 }
 
-fn station_action(
-    alloc: Global,
-    kind: &[u8],
-    fields: &mut Fields<'_>,
-) -> Result<Action, FieldFault> {
+fn station_action(alloc: Global, kind: &[u8], fields: &mut Fields<'_>) -> Result<Action, FieldFault>
+    ensures { IfOk result (λ action. IsTrue (is_in_range action)) }
+{
     match kind {
         b"release" => Ok(Action::Release {
             device: fields.name()?,
@@ -157,7 +151,7 @@ impl<'a> Fields<'a> {
     fn moment(&mut self) -> Result<u64, FieldFault>
         ensures { IfOk result (λ moment. moment ≤ 4102444799) }
     {
-        match fields::decimal(self.take()?) {
+        match room_fields::decimal(self.take()?) {
             Some(moment) if moment <= LAST_MOMENT => Ok(moment),
             _ => Err(FieldFault::Malformed),
         }
@@ -167,33 +161,39 @@ impl<'a> Fields<'a> {
         Name::read(self.take()?).ok_or(FieldFault::Malformed)
     }
 
-    fn number(&mut self, least: u32, most: u32) -> Result<u32, FieldFault> {
-        fields::number(self.take()?, least, most).ok_or(FieldFault::Malformed)
+    fn number(&mut self, least: u32, most: u32) -> Result<u32, FieldFault>
+        ensures { IfOk result (λ number. (least ≤ number) × (number ≤ most)) }
+    {
+        room_fields::number(self.take()?, least, most).ok_or(FieldFault::Malformed)
     }
 
-    fn month(&mut self) -> Result<u32, FieldFault> {
-        fields::month(self.take()?).ok_or(FieldFault::Malformed)
+    fn month(&mut self) -> Result<u32, FieldFault>
+        ensures { IfOk result (λ month. (first_month ≤ month) × (month ≤ last_month)) }
+    {
+        room_fields::month(self.take()?).ok_or(FieldFault::Malformed)
     }
 
     fn choice(&mut self, yes: &[u8], no: &[u8]) -> Result<bool, FieldFault> {
-        fields::choice(self.take()?, yes, no).ok_or(FieldFault::Malformed)
+        room_fields::choice(self.take()?, yes, no).ok_or(FieldFault::Malformed)
     }
 
     fn bytes(&mut self, alloc: Global) -> Result<Vec<u8>, FieldFault> {
-        fields::bytes(alloc, self.take()?)
+        room_fields::bytes(alloc, self.take()?)
     }
 
     fn password(&mut self, alloc: Global) -> Result<Vec<u8>, FieldFault> {
         match self.take()? {
             b"-" => Ok(Vec::new(alloc)),
-            digits => fields::bytes(alloc, digits),
+            digits => room_fields::bytes(alloc, digits),
         }
     }
 
-    fn impressions(&mut self) -> Result<Option<u32>, FieldFault> {
+    fn impressions(&mut self) -> Result<Option<u32>, FieldFault>
+        ensures { IfOk result (λ impressions. IsTrue (are_impressions impressions)) }
+    {
         match self.take()? {
             b"-" => Ok(None),
-            digits => match fields::number(digits, 1, MOST_IMPRESSIONS) {
+            digits => match room_fields::number(digits, 1, MOST_IMPRESSIONS) {
                 Some(impressions) => Ok(Some(impressions)),
                 None => Err(FieldFault::Malformed),
             },

@@ -1,7 +1,7 @@
 //! What the program prints for each event, with no memory taken.
 ghost use Rattle.std.specs.Prelude.{◌≤◌, ◌*◌, length};
 
-use room_core::{CoreFault, Reply};
+use room_core::{CoreFault, Part, Reply};
 use std::io;
 use std::io::Write;
 
@@ -10,7 +10,7 @@ const CHUNK: usize = 512;
 
 const DIGITS: usize = 2 * CHUNK;
 
-/// Writes what an event came to, as a line.
+/// Writes what an event came to, as a line, and of each document its line and a line of its bytes.
 pub fn print_outcome<W: Write>(
     output: &mut W,
     outcome: &Result<Reply, CoreFault>,
@@ -21,11 +21,22 @@ pub fn print_outcome<W: Write>(
             print_hex(output, message.items.as_slice())?;
         }
         Ok(Reply::Line(text)) => output.write_all(text.items.as_slice())?,
+        Ok(Reply::Documents(parts)) => return print_parts(output, parts.items.as_slice()),
         Ok(Reply::NoAccount) => output.write_all(b"no-account")?,
         Ok(Reply::Short) => output.write_all(b"short")?,
         Err(_) => output.write_all(b"failed")?,
     }
     output.write_all(b"\n")
+}
+
+fn print_parts<W: Write>(output: &mut W, parts: &[Part]) -> io::Result<()> {
+    for part in parts {
+        output.write_all(part.line.items.as_slice())?;
+        output.write_all(b"\n")?;
+        print_hex(output, part.bytes.items.as_slice())?;
+        output.write_all(b"\n")?;
+    }
+    Ok(())
 }
 
 fn print_hex<W: Write>(output: &mut W, bytes: &[u8]) -> io::Result<()> {

@@ -1,11 +1,14 @@
 //! One run of the program, over any reader and writers.
+ghost use Rattle.std.specs.Prelude.{IsTrue};
+ghost use Rattle.room_cli.specs.Actions.{is_in_range};
+
 use crate::action::Action;
 use crate::command::Command;
 use crate::fault::Fault;
 use crate::lines::{Grammar, Line};
 use crate::printing::print_outcome;
 use crate::rooms::Rooms;
-use room_core::{CoreFault, Event, Reply};
+use room_core::{CoreFault, Reply};
 use std::alloc::{AllocError, Global};
 use std::io::{Read, Write};
 
@@ -17,8 +20,8 @@ const INPUT_LIMIT: u64 = 67_108_864;
 /// wrong is found in this order: the words, the names among them, the clock, reading, the input, the
 /// store, writing. Where the status is not 0, `errors` gets the fault's text.
 ///
-/// The one store is a database of accounts that lives in memory for the run. A file, and a command
-/// or a line about tables, devices, grants or jobs, is a fault of the store with nothing run.
+/// The one store is a database that lives in memory for the run. A file, and a command about tables,
+/// grant files or connections, is a fault of the store with nothing run.
 pub fn run<R: Read + Drop, W: Write, E: Write>(
     alloc: Global,
     words: &[&str],
@@ -47,26 +50,28 @@ fn perform<R: Read + Drop, W: Write>(
     match Command::read(alloc, words)? {
         Command::Help { text } => print_text(output, text.as_str()),
         Command::Open { database, account } => {
-            let moment = now.ok_or(Fault::Io)?;
-            let action = Action::Open { account };
-            run_lines(alloc, database, &[Line { moment, action }], output)
+            run_now(alloc, database, now, Action::Open { account }, output)
         }
+        Command::Device { database, name, on } => {
+            run_now(alloc, database, now, Action::Device { name, on }, output)
+        }
+        Command::Rate {
+            database,
+            name,
+            units,
+        } => run_now(alloc, database, now, Action::Rate { name, units }, output),
         Command::Script { database } => {
             let lines = read_lines(alloc, input, Grammar::Script)?;
             run_lines(alloc, database, lines.as_slice(), output)
         }
-        Command::Station { database: _ } => {
+        Command::Station { database } => {
             let moment = now.ok_or(Fault::Io)?;
-            read_lines(alloc, input, Grammar::Station { moment })?;
-            Err(Fault::Store)
+            let lines = read_lines(alloc, input, Grammar::Station { moment })?;
+            run_lines(alloc, database, lines.as_slice(), output)
         }
         Command::Grants { database: _ } => {
             now.ok_or(Fault::Io)?;
             read_whole(alloc, input)?;
-            Err(Fault::Store)
-        }
-        Command::Device { .. } | Command::Rate { .. } => {
-            now.ok_or(Fault::Io)?;
             Err(Fault::Store)
         }
         Command::Create { .. } | Command::Migrate { .. } | Command::Listen { .. } => {
@@ -99,7 +104,21 @@ fn read_whole<R: Read + Drop>(alloc: Global, input: R) -> Result<Vec<u8>, Fault>
     Ok(bytes)
 }
 
-// Runs all lines and then prints all outcomes, so that a line that nothing can run leaves no output.
+// One action at the clock's moment.
+fn run_now<W: Write>(
+    alloc: Global,
+    database: &str,
+    now: Option<u64>,
+    action: Action,
+    output: &mut W,
+) -> Result<(), Fault>
+    requires { IsTrue (is_in_range action) }
+{
+    let moment = now.ok_or(Fault::Io)?;
+    run_lines(alloc, database, &[Line { moment, action }], output)
+}
+
+// Runs all lines and then prints all outcomes.
 fn run_lines<W: Write>(
     alloc: Global,
     database: &str,
@@ -109,8 +128,7 @@ fn run_lines<W: Write>(
     if database != ":memory:" {
         return Err(Fault::Store);
     }
-    let events = events_of(alloc, lines)?;
-    let outcomes = run_events(alloc, &mut Rooms::new(alloc), events.as_slice())?;
+    let outcomes = outcomes_of(alloc, &mut Rooms::new(alloc), lines)?;
     let printed = print_outcomes(output, outcomes.as_slice());
     match first_failure(outcomes.as_slice()) {
         Some(fault) => Err(fault),
@@ -118,26 +136,15 @@ fn run_lines<W: Write>(
     }
 }
 
-fn events_of(alloc: Global, lines: &[Line]) -> Result<Vec<(u64, Event<'_>)>, Fault> {
-    lines.iter().map(timed_event).try_collect(alloc)
-}
-
-fn timed_event(line: &Line) -> Result<(u64, Event<'_>), Fault> {
-    match line.action.event() {
-        Some(event) => Ok((line.moment, event)),
-        None => Err(Fault::Store),
-    }
-}
-
-// Room for every outcome is taken before the first event is run.
-fn run_events(
+// Room for every outcome is taken before the first line is run.
+fn outcomes_of(
     alloc: Global,
     rooms: &mut Rooms,
-    events: &[(u64, Event<'_>)],
+    lines: &[Line],
 ) -> Result<Vec<Result<Reply, CoreFault>>, AllocError> {
-    let mut outcomes = Vec::with_capacity(alloc, events.len())?;
-    for (moment, event) in events {
-        outcomes.push(rooms.answer(*moment, event))?;
+    let mut outcomes = Vec::with_capacity(alloc, lines.len())?;
+    for line in lines {
+        outcomes.push(rooms.answer(line.moment, &line.action.event()))?;
     }
     Ok(outcomes)
 }

@@ -1,3 +1,4 @@
-pub mod Lookups
-pub mod Schemes
-pub mod RoomLemmas
+pub mod Lists
+pub mod Sums
+pub mod Orders
+pub mod Rates

@@ -1,40 +1,89 @@
 -- One account's answer to one event, and its room afterwards.
-use Rattle.std.specs.Prelude.{ℕ, nat_lt, if◌then◌else◌, List, length, Option, Some, None, Result, Ok, Err, is_none, codes}
+use Rattle.std.specs.Prelude.{ℕ, nat_lt, if◌then◌else◌, List, length, Option, Some, None, Result, Ok, Err, codes}
+use Rattle.ipp_coding.specs.declared.message.Header.{Header}
 use Rattle.ipp_coding.specs.Reading.{header_in}
+use Rattle.room_answers.specs.Responses.{refused_text}
+use Rattle.room_asks.specs.declared.operation.Operation.{Operation}
+use Rattle.room_asks.specs.declared.operation.Operation.TheVariants.{PrintJob, ValidateJob, CreateJob, SendDocument, CancelJob, GetJobAttributes, GetJobs, GetPrinterAttributes, HoldJob, ReleaseJob}
+use Rattle.room_asks.specs.Asks.{PlainAsk, PlainRefusal, ask_of}
 use Rattle.room_core.specs.declared.event.Event.{Event}
 use Rattle.room_core.specs.declared.event.Event.TheVariants as event
 use Rattle.room_core.specs.declared.event.Reply.{Reply}
 use Rattle.room_core.specs.declared.event.Reply.TheVariants as reply
-use Rattle.room_rules.specs.declared.refusal.Refusal.{Refusal}
-use Rattle.room_core.specs.Rooms.{RoomValue, empty_room}
-use Rattle.room_core.specs.Asks.{PlainAsk, ask_of}
-use Rattle.room_core.specs.Texts.{answer_text}
-
-pub record Step : Type 0 where
-  pub reply : Reply
-  pub room : Option RoomValue
-
--- ---- Open
-
-abbrev pub opened : Option RoomValue → ℕ → Step
-opened None now = record { reply = reply.Line (codes "ok"); room = Some (empty_room now) }
-opened (Some room) now = record { reply = reply.Line (codes "exists"); room = Some room }
+use Rattle.room_core.specs.Grants.{granted}
+use Rattle.room_core.specs.JobRequests.{described, cancel_of, hold_of, release_of, acted, sent}
+use Rattle.room_core.specs.NewJobs.{made, validated}
+use Rattle.room_core.specs.Printers.{shown}
+use Rattle.room_core.specs.Queues.{listed}
+use Rattle.room_core.specs.Requests.{Response, asked_job}
+use Rattle.room_core.specs.Stations as station
+use Rattle.room_core.specs.Steps.{Step, refusing}
+use Rattle.room_rules.specs.declared.device.Device.{Device}
+use Rattle.room_rules.specs.declared.refusal.Word.TheVariants.{NoAccount, Exists}
+use Rattle.room_state.specs.Rooms.{RoomValue, empty_room}
+use Rattle.room_texts.specs.Words.{word_text}
 
 -- ---- an IPP request
 
-abbrev pub ipp_text : List ℕ → Result PlainAsk Refusal → List ℕ
-ipp_text body (Ok ask) = answer_text ask.header 0x0000 None
-ipp_text body (Err refusal) = answer_text (header_in body) refusal.status (Some refusal.word)
+abbrev pub responded : RoomValue → List Device → List ℕ → ℕ → PlainAsk → Operation → Response
+responded room devices account now ask PrintJob = made room account now ask
+responded room devices account now ask ValidateJob = validated room ask
+responded room devices account now ask CreateJob = made room account now ask
+responded room devices account now ask SendDocument = sent room account now ask
+responded room devices account now ask CancelJob = acted room ask (cancel_of room now ask)
+responded room devices account now ask GetJobAttributes = described room account now ask (asked_job room ask)
+responded room devices account now ask GetJobs = listed room account now ask
+responded room devices account now ask GetPrinterAttributes = shown room devices account now ask
+responded room devices account now ask HoldJob = acted room ask (hold_of room ask)
+responded room devices account now ask ReleaseJob = acted room ask (release_of room now ask)
 
--- first the length of the body, then whether the account is open, then the checks
-abbrev pub ipp_reply : Option RoomValue → List ℕ → List ℕ → Reply
-ipp_reply room account body =
-    if nat_lt (length body) 8 then reply.Short
-    else if is_none room then reply.NoAccount
-    else reply.Ipp (ipp_text body (ask_of account body))
+-- the checks that need no room come first
+abbrev pub responded_to : RoomValue → List Device → List ℕ → ℕ → Header → Result PlainAsk PlainRefusal → Response
+responded_to room devices account now header (Err refused) = record { text = refused_text header refused.refusal refused.unsupported; room = room }
+responded_to room devices account now header (Ok ask) = responded room devices account now ask ask.operation
+
+abbrev pub requested : RoomValue → List Device → ℕ → List ℕ → List ℕ → Step
+requested room devices now account body =
+    if nat_lt (length body) 8 then record { reply = reply.Short; room = room }
+    else (let response = responded_to room devices account now (header_in body) (ask_of account body) in record { reply = reply.Ipp response.text; room = response.room })
+
+-- ---- an account that is open. A device's own event is of no account
+
+abbrev pub answered_open : RoomValue → List Device → ℕ → Event → Step
+answered_open room devices now (event.Open account) = refusing room Exists
+answered_open room devices now (event.Ipp account body) = requested room devices now account body.now
+answered_open room devices now (event.Release device account job password impressions) =
+    station.released room now job (station.release_of room devices now device job password.now impressions)
+answered_open room devices now (event.Start device account job) = station.started room job (station.start_of room devices now device job)
+answered_open room devices now (event.Settle device account job impressions failed) =
+    station.settled room now job (station.settle_of room devices now device job impressions failed)
+answered_open room devices now (event.Grant account month pages) = granted room month pages
+answered_open room devices now (event.Device name on) = record { reply = reply.NoAccount; room = room }
+answered_open room devices now (event.Rate name units) = record { reply = reply.NoAccount; room = room }
+
+-- ---- an account that is not
+
+abbrev pub reply_unopened : Event → Reply
+reply_unopened (event.Open account) = reply.Line (codes "ok")
+reply_unopened (event.Ipp account body) = if nat_lt (length body.now) 8 then reply.Short else reply.NoAccount
+reply_unopened (event.Release device account job password impressions) = reply.Line (word_text NoAccount)
+reply_unopened (event.Start device account job) = reply.Line (word_text NoAccount)
+reply_unopened (event.Settle device account job impressions failed) = reply.Line (word_text NoAccount)
+reply_unopened (event.Grant account month pages) = reply.Line (word_text NoAccount)
+reply_unopened (event.Device name on) = reply.NoAccount
+reply_unopened (event.Rate name units) = reply.NoAccount
+
+abbrev pub room_unopened : ℕ → Event → Option RoomValue
+room_unopened now (event.Open account) = Some (empty_room now)
+room_unopened now _ = None
 
 -- ---- the machine
 
-abbrev pub answered : Option RoomValue → ℕ → Event → Step
-answered room now (event.Open account) = opened room now
-answered room now (event.Ipp account body) = record { reply = ipp_reply room account body.now; room = room }
+-- a reply, and what room there is after it
+pub record Answer : Type 0 where
+  pub reply : Reply
+  pub room : Option RoomValue
+
+abbrev pub answered : Option RoomValue → List Device → ℕ → Event → Answer
+answered None devices now e = record { reply = reply_unopened e; room = room_unopened now e }
+answered (Some room) devices now e = record { reply = (answered_open room devices now e).reply; room = Some (answered_open room devices now e).room }

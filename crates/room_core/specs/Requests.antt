@@ -1,59 +1,35 @@
--- The parts of a request that the checks look at. A message that no bytes spell has none of them.
-use Rattle.std.specs.Prelude.{ℕ, Bool, ◌||◌, ◌==◌, if◌then◌else◌, List, [], ◌∷◌, Option, Some, None, codes, find, option_and_then, slice_get}
-use Rattle.std.specs.Cmp.Lexicographic.{pointwise}
-use Rattle.std.specs.Prelude.{nat_eq}
-use Rattle.ipp_coding.specs.declared.message.Header.{Header}
-use Rattle.ipp_coding.specs.Plain.{PlainValue, PlainAttribute, PlainGroup, PlainMessage}
-use Rattle.room_core.specs.declared.operation.Operation.{Operation}
-use Rattle.room_core.specs.declared.operation.Operation.TheVariants.{ValidateJob}
+-- What every request shares: a response, and the room after it.
+use Rattle.std.specs.Prelude.{ℕ, List, Option, Some, None, Result, Ok, Err}
+use Rattle.std.specs.FinMap.{get}
+use Rattle.ipp_coding.specs.Plain.{PlainGroup}
+use Rattle.room_answers.specs.Responses.{refused_text, done_text}
+use Rattle.room_asks.specs.Asks.{PlainAsk}
+use Rattle.room_rules.specs.declared.job.Job.{Job}
+use Rattle.room_rules.specs.declared.refusal.Refusal.{Refusal}
+use Rattle.room_rules.specs.declared.refusal.Word.TheVariants.{NoJob}
+use Rattle.room_state.specs.Rooms.{RoomValue}
+use Rattle.room_texts.specs.Places.{PlainPlace}
 
--- two lists of bytes are the same
-abbrev pub same_bytes : List ℕ → List ℕ → Bool
-same_bytes a b = pointwise nat_eq a b
+pub record Response : Type 0 where
+  pub text : List ℕ
+  pub room : RoomValue
 
--- versions 1.x and 2.x are served (RFC 8011 section 5.3.14)
-abbrev pub is_served_version : Header → Bool
-is_served_version h = h.major == 1 || h.major == 2
+-- the request is refused, and nothing changes
+abbrev pub refusing_ask : RoomValue → PlainAsk → Refusal → Response
+refusing_ask room ask refusal = record { text = refused_text ask.header refusal ask.unsupported; room = room }
 
--- operation-ids (RFC 8011 section 5.4.15); so far Validate-Job alone is served
-abbrev pub operation_with : ℕ → Option Operation
-operation_with id = if id == 4 then Some ValidateJob else None
+-- the request is done, with these groups
+abbrev pub doing_ask : RoomValue → PlainAsk → List PlainGroup → Response
+doing_ask room ask groups = record { text = done_text ask.header ask.unsupported groups; room = room }
 
--- the bytes of an attribute that has just one value, under that tag
-abbrev pub single_under : ℕ → List PlainValue → Option (List ℕ)
-single_under tag [] = None
-single_under tag (value ∷ []) = if value.tag == tag then Some value.bytes else None
-single_under tag (value ∷ other ∷ more) = None
+-- where and when the request is answered
+abbrev pub asked_at : ℕ → List ℕ → ℕ → PlainAsk → PlainPlace
+asked_at opened account now ask = record { base = ask.base; name = account; opened = opened; now = now }
 
-abbrev pub is_named : List ℕ → PlainAttribute → Bool
-is_named name a = same_bytes a.name name
+-- client-error-not-found (RFC 8011 section B.1.4.7) where the account has no such job
+abbrev pub job_or_refusal : Option Job → Result Job Refusal
+job_or_refusal None = Err (record { status = 0x0406; word = NoJob })
+job_or_refusal (Some job) = Ok job
 
--- the first attribute with the name counts
-abbrev pub single_named : List ℕ → ℕ → List PlainAttribute → Option (List ℕ)
-single_named name tag attributes = option_and_then (λ (a : PlainAttribute). single_under tag a.values) (find (is_named name) attributes)
-
--- an attribute with that name and one value under that tag
-abbrev pub single_if_named : List ℕ → ℕ → PlainAttribute → Option (List ℕ)
-single_if_named name tag a = if is_named name a then single_under tag a.values else None
-
--- the attributes of the first group, where it is an operation attributes group 0x01 (RFC 8011 section 4.1.1)
-abbrev pub if_operation_group : PlainGroup → Option (List PlainAttribute)
-if_operation_group group = if group.tag == 1 then Some group.attributes else None
-
-abbrev pub operation_attributes : List PlainGroup → Option (List PlainAttribute)
-operation_attributes groups = option_and_then if_operation_group (slice_get groups 0)
-
-abbrev pub operation_attributes_of : Option PlainMessage → Option (List PlainAttribute)
-operation_attributes_of message = option_and_then (λ (m : PlainMessage). operation_attributes m.groups) message
-
--- attributes-charset, the first attribute, of one value 0x47 (RFC 8011 section 4.1.4)
-abbrev pub charset_first : List PlainAttribute → Option (List ℕ)
-charset_first attributes = option_and_then (single_if_named (codes "attributes-charset") 0x47) (slice_get attributes 0)
-
--- attributes-natural-language, the second, of one value 0x48 (RFC 8011 section 4.1.4)
-abbrev pub language_second : List PlainAttribute → Option (List ℕ)
-language_second attributes = option_and_then (single_if_named (codes "attributes-natural-language") 0x48) (slice_get attributes 1)
-
--- printer-uri, one value 0x45 (RFC 8011 section 4.1.5)
-abbrev pub printer_uri : List PlainAttribute → Option (List ℕ)
-printer_uri attributes = single_named (codes "printer-uri") 0x45 attributes
+abbrev pub asked_job : RoomValue → PlainAsk → Result Job Refusal
+asked_job room ask = job_or_refusal (get room.jobs ask.job)

@@ -1,88 +1,209 @@
-ghost use Rattle.std.specs.Prelude.{◌≡◌, ◌↔◌, ◌<◌, ◌≤◌, IfOk, IfErr, OnErr, IsErrOf, length};
+ghost use Rattle.std.specs.Prelude.{◌≡◌, ◌≢◌, ◌↔◌, ◌<◌, ◌≤◌, IsTrue, IfOk, IfErr, OnOk, OnErr, IsErrOf, None, length};
+ghost use Rattle.ipp_coding.specs.Reading.{header_in};
+ghost use Rattle.room_asks.specs.Asks.{IsAsk, ask_of, plain_ask};
+ghost use Rattle.room_core.specs.Fits.{fits};
+ghost use Rattle.room_core.specs.Machine.{answered, answered_open, reply_unopened, room_unopened, requested, responded, responded_to};
+ghost use Rattle.room_core.specs.Rates.{AreRated};
 ghost use Rattle.room_rules.specs.Limits.{last_moment};
-ghost use Rattle.room_core.specs.Machine.{answered, opened, ipp_reply, ipp_text};
-ghost use Rattle.room_core.specs.Asks.{ask_of};
 
-use crate::ask::{AskFault, header_of, read_ask};
 use crate::event::{Event, Reply};
-use crate::room::Room;
-use crate::text::{answer_text, line};
-use ipp_coding::List;
-use room_rules::{CoreFault, Device, LAST_MOMENT, Name};
+use crate::granting::grant;
+use crate::job_requests::{act, cancel_of, describe, hold_of, release_of, send};
+use crate::making::{make, validate};
+use crate::stations::{self, Station};
+use crate::{printer, queue};
+use ipp_coding::{Header, List, read_header};
+use room_answers::{line, refused, success};
+use room_asks::{Ask, AskFault, Operation, read_ask};
+use room_rules::{CoreFault, Device, LAST_MOMENT, Name, Word};
+use room_state::Room;
+use room_texts::Success;
 use std::alloc::Global;
 
-const HEADER_LENGTH: usize = 8;
-
-/// What one account answers to one event at the moment `now`. The room is None until it is opened;
-/// it changes last. No event that is here yet asks the devices.
+/// What one account answers to one event at the moment `now`, among these devices. The room is None
+/// until the account is opened; it changes last. A `Device` or a `Rate` event is of no account, and is
+/// answered `NoAccount`.
 ///
 /// `Moment` where `now` is past `LAST_MOMENT`, which is looked at first, and `Memory` where there was
-/// none for the reply: then nothing has changed.
+/// none for the reply or for what is kept: then nothing has changed.
 pub fn answer(
     alloc: Global,
     room: &mut Option<Room>,
-    _devices: &[Device],
+    devices: &[Device],
     now: u64,
     e: &Event<'_>,
 ) -> Result<Reply, CoreFault>
-    ensures reply { IfOk result (λ reply. reply ≡ (answered room.old now e.now).reply) }
-    ensures room { IfOk result (λ _. room.new ≡ (answered room.old now e.now).room) }
+    requires fits { IsTrue (fits e.now) }
+    requires rates { AreRated devices.now }
+    ensures reply { IfOk result (λ reply. reply ≡ (answered room.old devices.now now e.entry.now).reply) }
+    ensures room { OnOk result (room.new ≡ (answered room.old devices.now now e.entry.now).room) }
     ensures moment { IsErrOf result CoreFault.Moment ↔ (last_moment < now) }
     ensures unchanged { OnErr result (room.new ≡ room.old) }
 {
     if now > LAST_MOMENT {
         return Err(CoreFault::Moment);
     }
-    match e {
-        Event::Open { account: _ } => open(alloc, room, now),
-        Event::Ipp { account, body } => answer_request(alloc, room, *account, body),
+    match room {
+        Some(room) => answer_open(alloc, room, devices, now, e),
+        None => answer_unopened(alloc, room, now, e),
     }
 }
 
-fn open(alloc: Global, room: &mut Option<Room>, now: u64) -> Result<Reply, CoreFault>
-    requires { now ≤ last_moment }
-    ensures reply { IfOk result (λ reply. reply ≡ (opened room.old now).reply) }
-    ensures room { IfOk result (λ _. room.new ≡ (opened room.old now).room) }
+fn answer_unopened(
+    alloc: Global,
+    room: &mut Option<Room>,
+    now: u64,
+    e: &Event<'_>,
+) -> Result<Reply, CoreFault>
+    requires moment { now ≤ last_moment }
+    requires unopened { room.old ≡ None }
+    ensures reply { IfOk result (λ reply. reply ≡ reply_unopened e.entry.now) }
+    ensures room { OnOk result (room.new ≡ room_unopened now e.entry.now) }
     ensures memory { IfErr result (λ fault. fault ≡ CoreFault.Memory) }
     ensures unchanged { OnErr result (room.new ≡ room.old) }
 {
-    if room.is_some() {
-        return Ok(Reply::Line(line(alloc, b"exists")?));
+    match *e {
+        Event::Open { .. } => {
+            let reply = Reply::Line(success(alloc, Success::Ok)?);
+            *room = Some(Room::new(alloc, now));
+            Ok(reply)
+        }
+        Event::Ipp { body, .. } if body.len() < 8 => Ok(Reply::Short),
+        Event::Ipp { .. } | Event::Device { .. } | Event::Rate { .. } => Ok(Reply::NoAccount),
+        Event::Release { .. } | Event::Start { .. } | Event::Settle { .. } | Event::Grant { .. } =>
+            { Ok(Reply::Line(line(alloc, Word::NoAccount)?)) }
     }
-    let reply = Reply::Line(line(alloc, b"ok")?);
-    *room = Some(Room::new(alloc, now));
-    Ok(reply)
+}
+
+fn answer_open(
+    alloc: Global,
+    room: &mut Room,
+    devices: &[Device],
+    now: u64,
+    e: &Event<'_>,
+) -> Result<Reply, CoreFault>
+    requires moment { now ≤ last_moment }
+    requires fits { IsTrue (fits e.now) }
+    requires rates { AreRated devices.now }
+    ensures reply { IfOk result (λ reply. reply ≡ (answered_open room.old devices.now now e.entry.now).reply) }
+    ensures room { OnOk result (room.new ≡ (answered_open room.old devices.now now e.entry.now).room) }
+    ensures memory { IfErr result (λ fault. fault ≡ CoreFault.Memory) }
+    ensures unchanged { OnErr result (room.new ≡ room.old) }
+{
+    match *e {
+        Event::Open { .. } => Ok(Reply::Line(line(alloc, Word::Exists)?)),
+        Event::Ipp { account, body } => answer_request(alloc, room, devices, now, account, body),
+        Event::Release {
+            device,
+            job,
+            password,
+            impressions,
+            ..
+        } => {
+            let at = Station::new(devices, device, now);
+            stations::release(alloc, room, &at, job, password, impressions)
+        }
+        Event::Start { device, job, .. } => {
+            stations::start(alloc, room, &Station::new(devices, device, now), job)
+        }
+        Event::Settle {
+            device,
+            job,
+            impressions,
+            failed,
+            ..
+        } => {
+            let at = Station::new(devices, device, now);
+            stations::settle(alloc, room, &at, job, impressions, failed)
+        }
+        Event::Grant { month, pages, .. } => grant(alloc, room, month, pages),
+        Event::Device { .. } | Event::Rate { .. } => Ok(Reply::NoAccount),
+    }
 }
 
 fn answer_request(
     alloc: Global,
-    room: &Option<Room>,
+    room: &mut Room,
+    devices: &[Device],
+    now: u64,
     account: Name,
     body: &[u8],
 ) -> Result<Reply, CoreFault>
-    ensures reply { IfOk result (λ reply. reply ≡ ipp_reply room.now account body.now) }
+    requires moment { now ≤ last_moment }
+    ensures reply { IfOk result (λ reply. reply ≡ (requested room.old devices.now now account body.now).reply) }
+    ensures room { OnOk result (room.new ≡ (requested room.old devices.now now account body.now).room) }
     ensures memory { IfErr result (λ fault. fault ≡ CoreFault.Memory) }
+    ensures unchanged { OnErr result (room.new ≡ room.old) }
 {
-    if body.len() < HEADER_LENGTH {
+    let Some(header) = read_header(body) else {
         return Ok(Reply::Short);
-    }
-    if room.is_none() {
-        return Ok(Reply::NoAccount);
-    }
-    Ok(Reply::Ipp(response(alloc, account, body)?))
+    };
+    Ok(Reply::Ipp(response(alloc, room, devices, now, account, header, body)?))
 }
 
-/// The IPP response to a body of at least 8 bytes.
-fn response(alloc: Global, account: Name, body: &[u8]) -> Result<List<u8>, CoreFault>
-    requires { 8 ≤ length body.now }
-    ensures text { IfOk result (λ text. text ≡ ipp_text body.now (ask_of account body.now)) }
+/// The response to a body that begins with the header.
+fn response(
+    alloc: Global,
+    room: &mut Room,
+    devices: &[Device],
+    now: u64,
+    account: Name,
+    header: Header,
+    body: &[u8],
+) -> Result<List<u8>, CoreFault>
+    requires moment { now ≤ last_moment }
+    requires length { 8 ≤ length body.now }
+    ensures text { IfOk result (λ text. text ≡ (responded_to room.old devices.now account now header (ask_of account body.now)).text) }
+    ensures room { OnOk result (room.new ≡ (responded_to room.old devices.now account now header (ask_of account body.now)).room) }
     ensures memory { IfErr result (λ fault. fault ≡ CoreFault.Memory) }
+    ensures unchanged { OnErr result (room.new ≡ room.old) }
 {
     match read_ask(alloc, body, account) {
-        Ok(ask) => answer_text(alloc, ask.header, 0x0000, None),
-        Err(AskFault::Refused { refusal }) => {
-            answer_text(alloc, header_of(body), refusal.status, Some(refusal.word))
-        }
+        Ok(ask) => respond(alloc, room, devices, account, now, &ask),
+        Err(
+            AskFault::Refused {
+                refusal,
+                unsupported,
+            },
+        ) => refused(alloc, header, refusal, unsupported.as_slice()),
         Err(AskFault::Memory) => Err(CoreFault::Memory),
+    }
+}
+
+/// The response to what a request asks.
+fn respond(
+    alloc: Global,
+    room: &mut Room,
+    devices: &[Device],
+    account: Name,
+    now: u64,
+    ask: &Ask<'_>,
+) -> Result<List<u8>, CoreFault>
+    requires ask { IsAsk (plain_ask ask.now) }
+    requires moment { now ≤ last_moment }
+    ensures text { IfOk result (λ text. text ≡ (responded room.old devices.now account now (plain_ask ask.entry.now) ask.entry.now.operation).text) }
+    ensures room { OnOk result (room.new ≡ (responded room.old devices.now account now (plain_ask ask.entry.now) ask.entry.now.operation).room) }
+    ensures memory { IfErr result (λ fault. fault ≡ CoreFault.Memory) }
+    ensures unchanged { OnErr result (room.new ≡ room.old) }
+{
+    match ask.operation {
+        Operation::PrintJob | Operation::CreateJob => make(alloc, room, account, now, ask),
+        Operation::ValidateJob => validate(alloc, room, ask),
+        Operation::SendDocument => send(alloc, room, account, now, ask),
+        Operation::CancelJob => {
+            let decided = cancel_of(room, now, ask);
+            act(alloc, room, ask, decided)
+        }
+        Operation::GetJobAttributes => describe(alloc, room, account, now, ask),
+        Operation::GetJobs => queue::list(alloc, room, account, now, ask),
+        Operation::GetPrinterAttributes => printer::show(alloc, room, devices, account, now, ask),
+        Operation::HoldJob => {
+            let decided = hold_of(room, ask);
+            act(alloc, room, ask, decided)
+        }
+        Operation::ReleaseJob => {
+            let decided = release_of(room, now, ask);
+            act(alloc, room, ask, decided)
+        }
     }
 }

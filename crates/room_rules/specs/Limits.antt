@@ -28,3 +28,27 @@ first_month = 23640
 -- to December 2099
 abbrev pub last_month : ℕ
 last_month = 25199
+
+-- bytes of a job's name
+abbrev pub longest_job_name : ℕ
+longest_job_name = 255
+
+-- bytes of a job's password
+abbrev pub longest_password : ℕ
+longest_password = 32
+
+-- bytes of a document
+abbrev pub longest_document : ℕ
+longest_document = 16777216
+
+-- jobs are numbered 1 to 999999, so that the next number is at most this
+abbrev pub last_next_job : ℕ
+last_next_job = 1000000
+
+-- jobs of an account that have not ended
+abbrev pub most_unfinished : ℕ
+most_unfinished = 100
+
+-- pages of one grant
+abbrev pub most_pages : ℕ
+most_pages = 1000000000

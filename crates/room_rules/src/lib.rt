@@ -21,7 +21,11 @@ pub use device::{Device, set_device, set_rate};
 pub use fault::CoreFault;
 pub use format::Format;
 pub use job::{Document, Job, JobState, Standing, fresh};
-pub use limits::{LAST_MOMENT, MOST_COPIES, MOST_DOCUMENTS, MOST_IMPRESSIONS, MOST_RATE};
+pub use limits::{
+    FIRST_MONTH, LAST_JOB, LAST_MOMENT, LAST_MONTH, LONGEST_DOCUMENT, LONGEST_JOB_NAME,
+    LONGEST_PASSWORD, MOST_COPIES, MOST_DOCUMENTS, MOST_IMPRESSIONS, MOST_PAGES, MOST_RATE,
+    MOST_UNFINISHED,
+};
 pub use month::month_of;
 pub use name::Name;
 pub use quota::{exceeds, left, need};

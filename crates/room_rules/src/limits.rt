@@ -12,3 +12,27 @@ pub const MOST_DOCUMENTS: u32 = 8;
 
 /// The last moment that the rules know, 2099-12-31T23:59:59Z, in seconds since 1970-01-01T00:00:00Z.
 pub const LAST_MOMENT: u64 = 4_102_444_799;
+
+/// Of a job's name, in bytes.
+pub const LONGEST_JOB_NAME: usize = 255;
+
+/// Of a job's password, in bytes.
+pub const LONGEST_PASSWORD: usize = 32;
+
+/// Of a document, in bytes.
+pub const LONGEST_DOCUMENT: usize = 16_777_216;
+
+/// The last number that a job may have.
+pub const LAST_JOB: u32 = 999_999;
+
+/// Of an account: jobs that have not ended.
+pub const MOST_UNFINISHED: u32 = 100;
+
+/// Of one grant.
+pub const MOST_PAGES: u32 = 1_000_000_000;
+
+/// The first month of grants, January 1970: the year times 12, and 0 for January to 11 for December.
+pub const FIRST_MONTH: u32 = 23_640;
+
+/// The last month of grants, December 2099.
+pub const LAST_MONTH: u32 = 25_199;

@@ -2,15 +2,15 @@
 use Rattle.std.proofs.Common.{◌≡◌, Bool, true, false, cond, ◌||◌, List, [], ◌∷◌, ◌++◌, map, filter, Option, ℕ, append_assoc, refl, sym, ap, ◌∙◌, Bor}
 use Rattle.std.specs.List.{flat_map, list_any}
 use Rattle.ipp_coding.specs.Spelling.{attribute_spelling}
-use Rattle.room_texts.specs.declared.place.Place.{Place}
 use Rattle.room_texts.specs.Tables.{Row, asks_for, is_wanted, row_attribute, row_text, shown}
+use Rattle.room_texts.specs.Places.{PlainPlace}
 
-one_row : {Thing : Type 0} (at : Place) (thing : Thing) (row : Row Thing) (rows : List (Row Thing)) (test : Bool) →
+one_row : {Thing : Type 0} (at : PlainPlace) (thing : Thing) (row : Row Thing) (rows : List (Row Thing)) (test : Bool) →
     flat_map attribute_spelling (map (row_attribute at thing) (cond test (row ∷ rows) rows)) ≡ cond test (attribute_spelling (row_attribute at thing row)) [] ++ flat_map attribute_spelling (map (row_attribute at thing) rows)
 one_row at thing row rows true = refl
 one_row at thing row rows false = refl
 
-pub rows_shown : {Thing : Type 0} (wanted : Option (List (List ℕ))) (at : Place) (thing : Thing) (rows : List (Row Thing)) → flat_map attribute_spelling (shown rows wanted at thing) ≡ flat_map (row_text wanted at thing) rows
+pub rows_shown : {Thing : Type 0} (wanted : Option (List (List ℕ))) (at : PlainPlace) (thing : Thing) (rows : List (Row Thing)) → flat_map attribute_spelling (shown rows wanted at thing) ≡ flat_map (row_text wanted at thing) rows
 rows_shown wanted at thing [] = refl
 rows_shown {Thing} wanted at thing (row ∷ rows) =
     one_row at thing row (filter (λ (r : Row Thing). is_wanted wanted r.name r.group) rows) (is_wanted wanted row.name row.group) ∙ ap (λ text. row_text wanted at thing row ++ text) (rows_shown wanted at thing rows)
@@ -21,7 +21,7 @@ any_asked name group [] = refl
 any_asked name group (asked ∷ names) = ap (λ rest. asks_for name group asked.now || rest) (any_asked name group names)
 
 -- the group's tag, then the rows that the program writes, which are those of the table
-pub group_shown : {Thing : Type 0} (tag : ℕ) (old tagged new : List ℕ) (wanted : Option (List (List ℕ))) (at : Place) (thing : Thing) (written rows : List (Row Thing)) →
+pub group_shown : {Thing : Type 0} (tag : ℕ) (old tagged new : List ℕ) (wanted : Option (List (List ℕ))) (at : PlainPlace) (thing : Thing) (written rows : List (Row Thing)) →
     written ≡ rows → tagged ≡ old ++ tag ∷ [] → new ≡ tagged ++ flat_map (row_text wanted at thing) written → new ≡ old ++ tag ∷ flat_map attribute_spelling (shown rows wanted at thing)
 group_shown {Thing} tag old tagged new wanted at thing written rows same begun appended =
     appended ∙ (ap (λ x. x ++ flat_map (row_text wanted at thing) written) begun

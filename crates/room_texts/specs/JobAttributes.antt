@@ -4,11 +4,10 @@ use Rattle.room_rules.specs.declared.job.Job.{Job}
 use Rattle.room_rules.specs.declared.job.JobState.{JobState}
 use Rattle.room_rules.specs.declared.job.JobState.TheVariants.{Held, Pending, Processing, Canceled, Aborted, Completed}
 use Rattle.ipp_coding.specs.Plain.{PlainValue, PlainGroup}
-use Rattle.room_texts.specs.declared.place.Place.{Place}
 use Rattle.room_texts.specs.declared.job.JobAttribute.{JobAttribute}
 use Rattle.room_texts.specs.declared.job.JobAttribute.TheVariants as attribute
 use Rattle.room_texts.specs.Attributes.{single, number, unknown}
-use Rattle.room_texts.specs.Places.{printer_uri, job_uri}
+use Rattle.room_texts.specs.Places.{PlainPlace, printer_uri, job_uri}
 use Rattle.room_texts.specs.Times.{up, moment_values}
 use Rattle.room_texts.specs.Tables.{Row, shown}
 
@@ -34,10 +33,10 @@ state_reason Completed is_open stopping = codes "job-completed-successfully"
 abbrev pub impressions_values : ℕ → List PlainValue
 impressions_values impressions = if impressions == 0 then unknown else single 0x21 (number impressions)
 
-abbrev pub described : List ℕ → (Place → Job → List PlainValue) → Row Job
+abbrev pub described : List ℕ → (PlainPlace → Job → List PlainValue) → Row Job
 described name values = record { name = name; group = codes "job-description"; values = values }
 
-abbrev pub templated : List ℕ → (Place → Job → List PlainValue) → Row Job
+abbrev pub templated : List ℕ → (PlainPlace → Job → List PlainValue) → Row Job
 templated name values = record { name = name; group = codes "job-template"; values = values }
 
 unfoldable pub job_attributes : List (Row Job)
@@ -63,7 +62,7 @@ job_attributes =
     ∷ []
 
 -- the group of a job, with the attributes of it that are wanted
-abbrev pub job_group : Place → Job → Option (List (List ℕ)) → PlainGroup
+abbrev pub job_group : PlainPlace → Job → Option (List (List ℕ)) → PlainGroup
 job_group at job wanted = record { tag = 0x02; attributes = shown job_attributes wanted at job }
 
 -- ---- where in the table an attribute of the program stands

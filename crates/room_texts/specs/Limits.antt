@@ -1,16 +1,16 @@
 -- Which places, jobs and printers can be shown (limits of this project's own).
 use Rattle.std.specs.Prelude.{ℕ, ◌*◌, ◌≤◌, length, IfSome}
 use Rattle.room_rules.specs.declared.job.Job.{Job}
-use Rattle.room_texts.specs.declared.place.Place.{Place}
+use Rattle.room_rules.specs.Limits.{last_moment}
 use Rattle.room_texts.specs.declared.printer.PrinterNow.{PrinterNow}
+use Rattle.room_texts.specs.Places.{PlainPlace}
 
--- seconds since 1970-01-01T00:00:00Z, up to the end of the year 2099
 abbrev pub IsMoment : ℕ → Type 0
-IsMoment t = t ≤ 4102444799
+IsMoment t = t ≤ last_moment
 
 -- the part of a target before its path is no longer than a target may be
-pub record IsPlace (at : Place) : Type 0 where
-  pub base : length at.base.now ≤ 1023
+pub record IsPlace (at : PlainPlace) : Type 0 where
+  pub base : length at.base ≤ 1023
   pub opened : IsMoment at.opened
   pub moment : IsMoment at.now
 

@@ -3,13 +3,12 @@ use Rattle.std.specs.Prelude.{ℕ, true, ◌==◌, if◌then◌else◌, List, []
 use Rattle.room_rules.specs.declared.format.Format.{Format}
 use Rattle.room_rules.specs.declared.format.Format.TheVariants.{OctetStream, Pdf, PostScript, Jpeg, PwgRaster, Urf, Plain}
 use Rattle.ipp_coding.specs.Plain.{PlainValue, PlainGroup}
-use Rattle.room_texts.specs.declared.place.Place.{Place}
 use Rattle.room_texts.specs.declared.printer.PrinterNow.{PrinterNow}
 use Rattle.room_texts.specs.declared.printer.PrinterAttribute.{PrinterAttribute}
 use Rattle.room_texts.specs.declared.printer.PrinterAttribute.TheVariants as attribute
 use Rattle.room_texts.specs.Attributes.{value_with, single, number, boolean}
 use Rattle.room_texts.specs.Formats.{media_type}
-use Rattle.room_texts.specs.Places.{printer_uri}
+use Rattle.room_texts.specs.Places.{PlainPlace, printer_uri}
 use Rattle.room_texts.specs.Times.{up}
 use Rattle.room_texts.specs.Tables.{Row, shown}
 
@@ -21,10 +20,10 @@ operations = 2 ∷ 4 ∷ 5 ∷ 6 ∷ 8 ∷ 9 ∷ 10 ∷ 11 ∷ 12 ∷ 13 ∷ []
 abbrev pub formats : List Format
 formats = OctetStream ∷ Pdf ∷ PostScript ∷ Jpeg ∷ PwgRaster ∷ Urf ∷ Plain ∷ []
 
-abbrev pub described : List ℕ → (Place → PrinterNow → List PlainValue) → Row PrinterNow
+abbrev pub described : List ℕ → (PlainPlace → PrinterNow → List PlainValue) → Row PrinterNow
 described name values = record { name = name; group = codes "printer-description"; values = values }
 
-abbrev pub templated : List ℕ → (Place → PrinterNow → List PlainValue) → Row PrinterNow
+abbrev pub templated : List ℕ → (PlainPlace → PrinterNow → List PlainValue) → Row PrinterNow
 templated name values = record { name = name; group = codes "job-template"; values = values }
 
 -- printer-state: 3 idle, 4 processing, 5 stopped (RFC 8011 section 5.4.11)
@@ -59,7 +58,7 @@ printer_attributes =
     ∷ []
 
 -- the group of the printer, with the attributes of it that are wanted
-abbrev pub printer_group : Place → PrinterNow → Option (List (List ℕ)) → PlainGroup
+abbrev pub printer_group : PlainPlace → PrinterNow → Option (List (List ℕ)) → PlainGroup
 printer_group at printer wanted = record { tag = 0x04; attributes = shown printer_attributes wanted at printer }
 
 -- ---- where in the table an attribute of the program stands

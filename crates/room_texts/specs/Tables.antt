@@ -5,13 +5,13 @@ use Rattle.std.specs.Cmp.Lexicographic.{pointwise}
 use Rattle.std.specs.List.{list_any}
 use Rattle.ipp_coding.specs.Plain.{PlainValue, PlainAttribute}
 use Rattle.ipp_coding.specs.Spelling.{attribute_spelling}
-use Rattle.room_texts.specs.declared.place.Place.{Place}
+use Rattle.room_texts.specs.Places.{PlainPlace}
 
 -- an attribute: its name, the group of names that it is in, and its values for what is shown
 pub record Row (Thing : Type 0) : Type 0 where
   pub name : List ℕ
   pub group : List ℕ
-  pub values : Place → Thing → List PlainValue
+  pub values : PlainPlace → Thing → List PlainValue
 
 abbrev pub same_bytes : List ℕ → List ℕ → Bool
 same_bytes a b = pointwise nat_eq a b
@@ -25,11 +25,11 @@ abbrev pub is_wanted : Option (List (List ℕ)) → List ℕ → List ℕ → Bo
 is_wanted None name group = true
 is_wanted (Some names) name group = list_any (asks_for name group) names
 
-abbrev pub row_attribute : {Thing : Type 0} → Place → Thing → Row Thing → PlainAttribute
+abbrev pub row_attribute : {Thing : Type 0} → PlainPlace → Thing → Row Thing → PlainAttribute
 row_attribute at thing row = record { name = row.name; values = row.values at thing }
 
 -- the attributes that are wanted, in the order of the table
-abbrev pub shown : {Thing : Type 0} → List (Row Thing) → Option (List (List ℕ)) → Place → Thing → List PlainAttribute
+abbrev pub shown : {Thing : Type 0} → List (Row Thing) → Option (List (List ℕ)) → PlainPlace → Thing → List PlainAttribute
 shown {Thing} rows wanted at thing = map (row_attribute at thing) (filter (λ (row : Row Thing). is_wanted wanted row.name row.group) rows)
 
 -- the names that are asked for
@@ -39,5 +39,5 @@ asked_names (Some names) = Some (map (λ (name : Bor (List ℕ)). name.now) name
 
 -- ---- the same, row by row
 
-abbrev pub row_text : {Thing : Type 0} → Option (List (List ℕ)) → Place → Thing → Row Thing → List ℕ
+abbrev pub row_text : {Thing : Type 0} → Option (List (List ℕ)) → PlainPlace → Thing → Row Thing → List ℕ
 row_text wanted at thing row = if is_wanted wanted row.name row.group then attribute_spelling (row_attribute at thing row) else []

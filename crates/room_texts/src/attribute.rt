@@ -5,7 +5,7 @@ ghost use Rattle.std.specs.List.{flat_map, AllByRecursion};
 ghost use Rattle.ipp_coding.specs.Plain.{plain_value, plain_attribute};
 ghost use Rattle.ipp_coding.specs.Spelling.{attribute_spelling, further_spelling, IsAttribute};
 ghost use Rattle.room_texts.specs.Attributes.{attribute_with, boolean, number};
-ghost use Rattle.room_texts.specs.Places.{printer_uri};
+ghost use Rattle.room_texts.specs.Places.{plain_place, printer_uri};
 ghost use Rattle.room_texts.specs.Times.{moment_values};
 
 use crate::place::Place;
@@ -85,7 +85,7 @@ pub(crate) fn put_moment(
     at: &Place<'_>,
     moment: Option<u64>,
 ) -> Result<(), CoreFault>
-    ensures appended { OnOk result (out.new.items ≡ out.old.items ++ attribute_spelling (record { name = name.now; values = moment_values at.entry.now moment })) }
+    ensures appended { OnOk result (out.new.items ≡ out.old.items ++ attribute_spelling (record { name = name.now; values = moment_values (plain_place at.entry.now) moment })) }
     ensures memory { IfErr result (λ fault. fault ≡ CoreFault.Memory) }
     ensures unchanged { OnErr result (out.new.items ≡ out.old.items) }
 {
@@ -101,7 +101,7 @@ pub(crate) fn put_printer_uri(
     name: &[u8],
     at: &Place<'_>,
 ) -> Result<(), CoreFault>
-    ensures appended { OnOk result (out.new.items ≡ out.old.items ++ attribute_spelling (attribute_with name.now 0x45 (printer_uri at.entry.now))) }
+    ensures appended { OnOk result (out.new.items ≡ out.old.items ++ attribute_spelling (attribute_with name.now 0x45 (printer_uri (plain_place at.entry.now)))) }
     ensures memory { IfErr result (λ fault. fault ≡ CoreFault.Memory) }
     ensures unchanged { OnErr result (out.new.items ≡ out.old.items) }
 {

@@ -6,7 +6,7 @@ ghost use Rattle.ipp_coding.specs.Spelling.{attribute_spelling, group_spelling};
 ghost use Rattle.room_texts.specs.Attributes.{attribute_with};
 ghost use Rattle.room_texts.specs.JobAttributes.{job_group, job_row, impressions_values, state_number, state_reason};
 ghost use Rattle.room_texts.specs.Limits.{IsPlace, IsShowable};
-ghost use Rattle.room_texts.specs.Places.{job_uri};
+ghost use Rattle.room_texts.specs.Places.{plain_place, job_uri};
 ghost use Rattle.room_texts.specs.Tables.{asked_names, row_attribute, row_text};
 
 use crate::attribute::{
@@ -109,9 +109,9 @@ pub fn put_job(
     job: &Job,
     wanted: Option<&[&[u8]]>,
 ) -> Result<(), CoreFault>
-    requires place { IsPlace at.now }
+    requires place { IsPlace (plain_place at.now) }
     requires job { IsShowable job.now }
-    ensures appended { OnOk result (out.new.items ≡ out.old.items ++ group_spelling (job_group at.entry.now job.now (asked_names wanted.entry))) }
+    ensures appended { OnOk result (out.new.items ≡ out.old.items ++ group_spelling (job_group (plain_place at.entry.now) job.now (asked_names wanted.entry))) }
     ensures memory { IfErr result (λ fault. fault ≡ CoreFault.Memory) }
     ensures unchanged { OnErr result (out.new.items ≡ out.old.items) }
 {
@@ -130,7 +130,7 @@ fn append_job(
     wanted: Option<&[&[u8]]>,
 ) -> Result<(), CoreFault>
     requires job { IsShowable job.now }
-    ensures appended { OnOk result (out.new.items ≡ out.old.items ++ group_spelling (job_group at.entry.now job.now (asked_names wanted.entry))) }
+    ensures appended { OnOk result (out.new.items ≡ out.old.items ++ group_spelling (job_group (plain_place at.entry.now) job.now (asked_names wanted.entry))) }
     ensures memory { IfErr result (λ fault. fault ≡ CoreFault.Memory) }
     ensures front { take (length out.old.items) out.new.items ≡ out.old.items }
 {
@@ -148,7 +148,7 @@ fn put_job_attributes(
     attributes: &[JobAttribute],
 ) -> Result<(), CoreFault>
     requires job { IsShowable job.now }
-    ensures appended { OnOk result (out.new.items ≡ out.old.items ++ flat_map (row_text (asked_names wanted.entry) at.entry.now job.now) (map job_row attributes.now)) }
+    ensures appended { OnOk result (out.new.items ≡ out.old.items ++ flat_map (row_text (asked_names wanted.entry) (plain_place at.entry.now) job.now) (map job_row attributes.now)) }
     ensures memory { IfErr result (λ fault. fault ≡ CoreFault.Memory) }
     ensures front { take (length out.old.items) out.new.items ≡ out.old.items }
 {
@@ -166,7 +166,7 @@ fn put_where_wanted(
     attribute: JobAttribute,
 ) -> Result<(), CoreFault>
     requires job { IsShowable job.now }
-    ensures appended { OnOk result (out.new.items ≡ out.old.items ++ row_text (asked_names wanted.entry) at.entry.now job.now (job_row attribute)) }
+    ensures appended { OnOk result (out.new.items ≡ out.old.items ++ row_text (asked_names wanted.entry) (plain_place at.entry.now) job.now (job_row attribute)) }
     ensures memory { IfErr result (λ fault. fault ≡ CoreFault.Memory) }
     ensures unchanged { OnErr result (out.new.items ≡ out.old.items) }
 {
@@ -184,7 +184,7 @@ fn put_job_attribute(
     attribute: JobAttribute,
 ) -> Result<(), CoreFault>
     requires job { IsShowable job.now }
-    ensures appended { OnOk result (out.new.items ≡ out.old.items ++ attribute_spelling (row_attribute at.entry.now job.now (job_row attribute))) }
+    ensures appended { OnOk result (out.new.items ≡ out.old.items ++ attribute_spelling (row_attribute (plain_place at.entry.now) job.now (job_row attribute))) }
     ensures memory { IfErr result (λ fault. fault ≡ CoreFault.Memory) }
     ensures unchanged { OnErr result (out.new.items ≡ out.old.items) }
 {
@@ -267,7 +267,7 @@ fn put_impressions(out: &mut Vec<u8>, name: &[u8], impressions: u32) -> Result<(
 }
 
 fn put_job_uri(out: &mut Vec<u8>, name: &[u8], at: &Place<'_>, job: u32) -> Result<(), CoreFault>
-    ensures appended { OnOk result (out.new.items ≡ out.old.items ++ attribute_spelling (attribute_with name.now 0x45 (job_uri at.entry.now job))) }
+    ensures appended { OnOk result (out.new.items ≡ out.old.items ++ attribute_spelling (attribute_with name.now 0x45 (job_uri (plain_place at.entry.now) job))) }
     ensures memory { IfErr result (λ fault. fault ≡ CoreFault.Memory) }
     ensures unchanged { OnErr result (out.new.items ≡ out.old.items) }
 {

@@ -1,5 +1,5 @@
 ghost use Rattle.std.specs.Prelude.{◌≡◌, IfOk};
-ghost use Rattle.room_texts.specs.Places.{printer_uri, job_uri};
+ghost use Rattle.room_texts.specs.Places.{plain_place, printer_uri, job_uri};
 ghost use Rattle.room_texts.specs.Times.{up};
 
 use room_rules::Name;
@@ -24,7 +24,7 @@ pub struct Place<'a> {
 impl<'a> Place<'a> {
     /// The URI of the account's queue.
     pub(crate) fn printer_uri(&self, alloc: Global) -> Result<Vec<u8>, AllocError>
-        ensures { IfOk result (λ uri. uri.items ≡ printer_uri self.entry.now) }
+        ensures { IfOk result (λ uri. uri.items ≡ printer_uri (plain_place self.entry.now)) }
     {
         let mut uri = Vec::new(alloc);
         uri.extend_from_slice(self.base)?;
@@ -35,7 +35,7 @@ impl<'a> Place<'a> {
 
     /// The URI of a job in it.
     pub(crate) fn job_uri(&self, alloc: Global, job: u32) -> Result<Vec<u8>, AllocError>
-        ensures { IfOk result (λ uri. uri.items ≡ job_uri self.entry.now job) }
+        ensures { IfOk result (λ uri. uri.items ≡ job_uri (plain_place self.entry.now) job) }
     {
         let mut uri = self.printer_uri(alloc)?;
         let number = format!(in alloc; "/{job}")?;
@@ -45,7 +45,7 @@ impl<'a> Place<'a> {
 
     /// A moment as the printer tells it: in seconds since the account was opened, counted from 1.
     pub(crate) fn up(&self, moment: u64) -> u32
-        ensures { result ≡ up self.entry.now moment }
+        ensures { result ≡ up (plain_place self.entry.now) moment }
     {
         (moment.saturating_sub(self.opened).min(GREATEST - 1) + 1) as u32
     }

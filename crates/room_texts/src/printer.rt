@@ -8,6 +8,7 @@ ghost use Rattle.room_rules.specs.declared.format.Format.{Format};
 ghost use Rattle.room_texts.specs.Attributes.{number, value_with};
 ghost use Rattle.room_texts.specs.Formats.{media_type};
 ghost use Rattle.room_texts.specs.Limits.{IsPlace, IsPrinter};
+ghost use Rattle.room_texts.specs.Places.{plain_place};
 ghost use Rattle.room_texts.specs.PrinterAttributes.{formats, operations, printer_group, printer_row};
 ghost use Rattle.room_texts.specs.Tables.{asked_names, row_attribute, row_text};
 
@@ -150,9 +151,9 @@ pub fn put_printer(
     now: PrinterNow,
     wanted: Option<&[&[u8]]>,
 ) -> Result<(), CoreFault>
-    requires place { IsPlace at.now }
+    requires place { IsPlace (plain_place at.now) }
     requires printer { IsPrinter now }
-    ensures appended { OnOk result (out.new.items ≡ out.old.items ++ group_spelling (printer_group at.entry.now now (asked_names wanted.entry))) }
+    ensures appended { OnOk result (out.new.items ≡ out.old.items ++ group_spelling (printer_group (plain_place at.entry.now) now (asked_names wanted.entry))) }
     ensures memory { IfErr result (λ fault. fault ≡ CoreFault.Memory) }
     ensures unchanged { OnErr result (out.new.items ≡ out.old.items) }
 {
@@ -170,7 +171,7 @@ fn append_printer(
     now: PrinterNow,
     wanted: Option<&[&[u8]]>,
 ) -> Result<(), CoreFault>
-    ensures appended { OnOk result (out.new.items ≡ out.old.items ++ group_spelling (printer_group at.entry.now now (asked_names wanted.entry))) }
+    ensures appended { OnOk result (out.new.items ≡ out.old.items ++ group_spelling (printer_group (plain_place at.entry.now) now (asked_names wanted.entry))) }
     ensures memory { IfErr result (λ fault. fault ≡ CoreFault.Memory) }
     ensures front { take (length out.old.items) out.new.items ≡ out.old.items }
 {
@@ -187,7 +188,7 @@ fn put_printer_attributes(
     wanted: Option<&[&[u8]]>,
     attributes: &[PrinterAttribute],
 ) -> Result<(), CoreFault>
-    ensures appended { OnOk result (out.new.items ≡ out.old.items ++ flat_map (row_text (asked_names wanted.entry) at.entry.now now) (map printer_row attributes.now)) }
+    ensures appended { OnOk result (out.new.items ≡ out.old.items ++ flat_map (row_text (asked_names wanted.entry) (plain_place at.entry.now) now) (map printer_row attributes.now)) }
     ensures memory { IfErr result (λ fault. fault ≡ CoreFault.Memory) }
     ensures front { take (length out.old.items) out.new.items ≡ out.old.items }
 {
@@ -204,7 +205,7 @@ fn put_where_wanted(
     wanted: Option<&[&[u8]]>,
     attribute: PrinterAttribute,
 ) -> Result<(), CoreFault>
-    ensures appended { OnOk result (out.new.items ≡ out.old.items ++ row_text (asked_names wanted.entry) at.entry.now now (printer_row attribute)) }
+    ensures appended { OnOk result (out.new.items ≡ out.old.items ++ row_text (asked_names wanted.entry) (plain_place at.entry.now) now (printer_row attribute)) }
     ensures memory { IfErr result (λ fault. fault ≡ CoreFault.Memory) }
     ensures front { take (length out.old.items) out.new.items ≡ out.old.items }
 {
@@ -221,7 +222,7 @@ fn put_printer_attribute(
     now: PrinterNow,
     attribute: PrinterAttribute,
 ) -> Result<(), CoreFault>
-    ensures appended { OnOk result (out.new.items ≡ out.old.items ++ attribute_spelling (row_attribute at.entry.now now (printer_row attribute))) }
+    ensures appended { OnOk result (out.new.items ≡ out.old.items ++ attribute_spelling (row_attribute (plain_place at.entry.now) now (printer_row attribute))) }
     ensures memory { IfErr result (λ fault. fault ≡ CoreFault.Memory) }
     ensures front { take (length out.old.items) out.new.items ≡ out.old.items }
 {

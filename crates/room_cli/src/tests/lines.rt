@@ -1,38 +1,6 @@
 //! Lines: what they print, and which are bad.
-use super::{LINE_2, NOW, STORE, all_end, finish, outcome};
+use super::{LINE_2, NOW, all_end, finish, outcome};
 use std::test::Fail;
-
-// A Validate-Job for alice, 119 bytes.
-const REQUEST: &str =
-    "010100040000000101470012617474726962757465732d6368617273657400057574662d3848001b617474726962757465732d6e61747572616c2d6c616e67756167650002656e45000b7072696e7465722d757269001f6970703a2f2f6c6f63616c686f73742f6970702f7072696e742f616c69636503";
-
-// Its answer, 72 bytes.
-const ANSWER: &str =
-    "010100000000000101470012617474726962757465732d6368617273657400057574662d3848001b617474726962757465732d6e61747572616c2d6c616e67756167650002656e03";
-
-// The answer to a body of 8 bytes that no message spells, 100 bytes.
-const MALFORMED: &str =
-    "010104000000000101470012617474726962757465732d6368617273657400057574662d3848001b617474726962757465732d6e61747572616c2d6c616e67756167650002656e41000e7374617475732d6d65737361676500096d616c666f726d656403";
-
-#[test]
-fn first_answer(rt: HostRuntime) -> Result<(), Fail> {
-    let input = format!(in rt.alloc(); "1000 open alice\n1000 ipp alice {REQUEST}\n")?;
-    let printed = format!(in rt.alloc(); "ok\nipp {ANSWER}\n")?;
-    let found = outcome(rt.alloc(), "script :memory:", input.as_str())?;
-    assert!(rt; found.is(0, printed.as_str(), ""), "{found:?}");
-    Ok(())
-}
-
-#[test]
-fn malformed_and_short_bodies(rt: HostRuntime) -> Result<(), Fail> {
-    let input = format!(in rt.alloc();
-        "1000 open alice\n1000 ipp alice {REQUEST}\n1000 ipp alice 0101000400000001\n1000 ipp alice 01010004000000\n"
-    )?;
-    let printed = format!(in rt.alloc(); "ok\nipp {ANSWER}\nipp {MALFORMED}\nshort\n")?;
-    let found = outcome(rt.alloc(), "script :memory:", input.as_str())?;
-    assert!(rt; found.is(0, printed.as_str(), ""), "{found:?}");
-    Ok(())
-}
 
 #[test]
 fn a_bad_line(rt: HostRuntime) -> Result<(), Fail> {
@@ -66,26 +34,38 @@ fn scripts_that_run(rt: HostRuntime) -> Result<(), Fail> {
 }
 
 #[test]
-fn lines_that_need_tables(rt: HostRuntime) -> Result<(), Fail> {
+fn lines_of_every_kind(rt: HostRuntime) -> Result<(), Fail> {
     let lines = [
-        "1000 device d1 on",
-        "1000 device d1 off",
-        "1000 rate d1 1",
-        "1000 rate d1 100",
-        "1000 grant alice 1970-01 0",
-        "1000 grant alice 2099-12 1000000000",
-        "1000 release d1 alice 1 - -",
-        "1000 release d1 alice 999999 6aF0 2147483647",
-        "1000 start d1 alice 1",
-        "1000 settle d1 alice 1 0 done",
-        "1000 settle d1 alice 1 2147483647 failed",
+        ("1000 device d1 on", "ok"),
+        ("1000 device d1 off", "ok"),
+        ("1000 rate d1 1", "no-device"),
+        ("1000 rate d1 100", "no-device"),
+        ("1000 grant alice 1970-01 0", "ok"),
+        ("1000 grant alice 2099-12 1000000000", "ok"),
+        ("1000 release d1 alice 1 - -", "no-device"),
+        ("1000 release d1 alice 999999 6aF0 2147483647", "no-device"),
+        ("1000 start d1 alice 1", "no-device"),
+        ("1000 settle d1 alice 1 0 done", "no-device"),
+        ("1000 settle d1 alice 1 2147483647 failed", "no-device"),
     ];
-    for line in lines {
+    for (line, answer) in lines {
         let input = format!(in rt.alloc(); "1000 open alice\n{line}\n")?;
-        all_end(&rt, &[("script :memory:", input.as_str())], 3, STORE)?;
+        let printed = format!(in rt.alloc(); "ok\n{answer}\n")?;
+        let found = outcome(rt.alloc(), "script :memory:", input.as_str())?;
+        assert!(rt; found.is(0, printed.as_str(), ""), "{line:?}: {found:?}");
     }
-    let station = "release d1 alice 1 6a 1\nstart d1 alice 1\nsettle d1 alice 1 0 done";
-    all_end(&rt, &[("station :memory:", station)], 3, STORE)
+    Ok(())
+}
+
+#[test]
+fn lines_of_a_station(rt: HostRuntime) -> Result<(), Fail> {
+    let input = "release d1 alice 1 6a 1\nstart d1 alice 1\nsettle d1 alice 1 0 done";
+    let found = outcome(rt.alloc(), "station :memory:", input)?;
+    assert!(rt;
+        found.is(0, "no-account\nno-account\nno-account\n", ""),
+        "{found:?}"
+    );
+    Ok(())
 }
 
 // What no second line of a script may be.

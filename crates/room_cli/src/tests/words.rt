@@ -80,13 +80,10 @@ fn commands_that_have_no_tables_yet(rt: HostRuntime) -> Result<(), Fail> {
         ("migrate a.db", ""),
         ("open a.db alice", ""),
         ("open a.db abcdefghijklmnopqrstuvwxyz012345", ""),
-        ("device :memory: d1 on", ""),
         ("device a.db d-- off", ""),
-        ("rate :memory: d1 1", ""),
         ("rate a.db d1 100", ""),
         ("grants :memory:", "alice,2026-09,100\n"),
         ("grants a.db", ""),
-        ("station :memory:", "start d1 alice 1"),
         ("station a.db", ""),
         ("script a.db", "1000 open alice\n"),
         ("script a.db", ""),
@@ -163,5 +160,21 @@ fn opening_an_account(rt: HostRuntime) -> Result<(), Fail> {
         Some(4_102_444_800),
     )?;
     assert!(rt; found.is(3, "failed\n", STORE), "{found:?}");
+    Ok(())
+}
+
+#[test]
+fn devices_of_the_command_line(rt: HostRuntime) -> Result<(), Fail> {
+    for (words, printed) in [
+        ("device :memory: d1 on", "ok\n"),
+        ("device :memory: d1 off", "ok\n"),
+        ("rate :memory: d1 1", "no-device\n"),
+    ] {
+        let found = outcome(rt.alloc(), words, "")?;
+        assert!(rt; found.is(0, printed, ""), "{words:?}: {found:?}");
+        let late = Some(4_102_444_800);
+        let found = finish(rt.alloc(), words, b"".as_slice(), late)?;
+        assert!(rt; found.is(3, "failed\n", STORE), "{words:?}: {found:?}");
+    }
     Ok(())
 }

@@ -1,60 +1,111 @@
-//! Each call where a request for memory is refused: it answers its fault for memory, the room is as
+//! Each event where a request for memory is refused: it answers its fault for memory, the room is as
 //! before, and made again it gives the usual answer. Run as they are, these tests meet no refusal;
 //! `tools/refuse-memory` runs them once for each request that they make.
 
-use super::{ANSWER, REQUEST};
-use crate::{AskFault, CoreFault, Event, Name, Operation, Reply, answer, read_ask};
-use std::test::Fail;
+use super::{
+    CANCEL, CLOSE, CREATE, DESCRIBE, HOLD, LIST, MONTH, NOW, PRINT, PRINTER, RELEASE, REQUEST,
+    SEND, again, alice, d1, device, opened, responds, tells,
+};
+use crate::{Event, Reply};
 
 #[test]
-fn read_ask_again(rt: HostRuntime) -> Result<(), Fail> {
-    let alice = Name::read(b"alice").ok_or("a name")?;
-    let mut ask = read_ask(rt.alloc(), REQUEST, alice);
-    if matches!(&ask, Err(AskFault::Memory)) {
-        ask = read_ask(rt.alloc(), REQUEST, alice);
-    }
-    assert!(rt; ask?.operation == Operation::ValidateJob);
-    Ok(())
-}
-
-#[test]
-fn open_again(rt: HostRuntime) -> Result<(), Fail> {
-    let account = Name::read(b"alice").ok_or("a name")?;
-    let open = Event::Open { account };
-    let mut room = None;
-    let mut reply = answer(rt.alloc(), &mut room, &[], 1000, &open);
-    if matches!(&reply, Err(CoreFault::Memory)) {
-        assert!(rt; room.is_none());
-        reply = answer(rt.alloc(), &mut room, &[], 1000, &open);
-    }
-    match reply? {
-        Reply::Line(text) => assert_eq!(rt; text.items.as_slice(), b"ok".as_slice()),
-        _ => return Err(Fail::from("not a line")),
-    }
-    assert!(rt; room.is_some());
-    Ok(())
-}
-
-#[test]
-fn request_again(rt: HostRuntime) -> Result<(), Fail> {
-    let account = Name::read(b"alice").ok_or("a name")?;
-    let open = Event::Open { account };
-    let request = Event::Ipp {
+fn accounts_again(rt: HostRuntime) {
+    let account = alice(&rt);
+    let mut room = opened(&rt);
+    tells(&rt, &mut room, &[], &Event::Open { account }, b"exists");
+    let grant = Event::Grant {
         account,
-        body: REQUEST,
+        month: MONTH,
+        pages: 120,
     };
-    let mut room = None;
-    if answer(rt.alloc(), &mut room, &[], 1000, &open).is_err() {
-        answer(rt.alloc(), &mut room, &[], 1000, &open)?;
+    tells(&rt, &mut room, &[], &grant, b"conflict 100");
+}
+
+#[test]
+fn requests_again(rt: HostRuntime) {
+    let mut room = opened(&rt);
+    responds(&rt, &mut room, NOW, REQUEST, [0, 0], b"en\x03");
+    responds(&rt, &mut room, NOW, CREATE, [0, 0], b"job-incoming\x03");
+    responds(&rt, &mut room, NOW, SEND, [0, 0], b"job-incoming\x03");
+    responds(
+        &rt,
+        &mut room,
+        NOW,
+        CLOSE,
+        [0, 0],
+        b"job-hold-until-specified\x03",
+    );
+    responds(
+        &rt,
+        &mut room,
+        NOW,
+        DESCRIBE,
+        [0, 0],
+        b"\x00\x00\x00\x01\x03",
+    );
+    responds(&rt, &mut room, NOW, LIST, [0, 0], b"\x00\x00\x00\x01\x03");
+    responds(
+        &rt,
+        &mut room,
+        NOW,
+        PRINTER,
+        [0, 0],
+        b"\x00\x00\x00\x05\x03",
+    );
+    responds(&rt, &mut room, NOW, HOLD, [0, 0], b"en\x03");
+    responds(
+        &rt,
+        &mut room,
+        NOW,
+        RELEASE,
+        [4, 4],
+        b"impressions-unknown\x03",
+    );
+    responds(&rt, &mut room, NOW, CANCEL, [0, 0], b"en\x03");
+}
+
+#[test]
+fn stations_again(rt: HostRuntime) {
+    let account = alice(&rt);
+    let devices = [device(&rt, true, 5)];
+    let mut room = opened(&rt);
+    responds(
+        &rt,
+        &mut room,
+        NOW,
+        PRINT,
+        [0, 0],
+        b"job-hold-until-specified\x03",
+    );
+    let release = Event::Release {
+        device: d1(&rt),
+        account,
+        job: 1,
+        password: b"",
+        impressions: 2,
+    };
+    tells(
+        &rt,
+        &mut room,
+        &devices,
+        &release,
+        b"ok reserved 30 left 70",
+    );
+    let start = Event::Start {
+        device: d1(&rt),
+        account,
+        job: 1,
+    };
+    match again(&rt, &mut room, &devices, NOW, &start) {
+        Reply::Documents(parts) => assert_eq!(rt; parts.items.len(), 1),
+        _ => assert!(rt; false),
     }
-    let mut reply = answer(rt.alloc(), &mut room, &[], 1000, &request);
-    if matches!(&reply, Err(CoreFault::Memory)) {
-        assert!(rt; room.is_some());
-        reply = answer(rt.alloc(), &mut room, &[], 1000, &request);
-    }
-    match reply? {
-        Reply::Ipp(bytes) => assert_eq!(rt; bytes.items.as_slice(), ANSWER),
-        _ => return Err(Fail::from("not an IPP reply")),
-    }
-    Ok(())
+    let settle = Event::Settle {
+        device: d1(&rt),
+        account,
+        job: 1,
+        impressions: 3,
+        failed: true,
+    };
+    tells(&rt, &mut room, &devices, &settle, b"ok charged 15 left 85");
 }

@@ -1,5 +1,6 @@
 ghost use Rattle.std.specs.Prelude.{◌≡◌, IfOk, codes};
 ghost use Rattle.room_texts.specs.Limits.{IsPlace, IsShowable};
+ghost use Rattle.room_texts.specs.Places.{plain_place};
 
 use crate::{Place, put_job, put_reply};
 use ipp_coding::{Header, List, put_end};
@@ -44,7 +45,7 @@ const DONE: Standing = Standing {
 
 /// Job 1 of alice, which was opened at 1000, at the moment 2000.
 fn alice(rt: &impl Abort) -> Place<'static>
-    ensures { IsPlace result }
+    ensures { IsPlace (plain_place result) }
 {
     let name = Name::read(b"alice").expect(rt, "a name");
     Place {

@@ -3,6 +3,7 @@
 //! refusal; `tools/refuse-memory` runs them once for each request that they make.
 
 ghost use Rattle.room_texts.specs.Limits.{IsPlace};
+ghost use Rattle.room_texts.specs.Places.{plain_place};
 
 use crate::{Place, PrinterNow, Success, put_job, put_line, put_printer, put_reply, put_success};
 use ipp_coding::{Attribute, Header, List, Value};
@@ -85,7 +86,7 @@ fn reply_again(rt: HostRuntime) {
 }
 
 fn alice(rt: &impl Abort) -> Place<'static>
-    ensures { IsPlace result }
+    ensures { IsPlace (plain_place result) }
 {
     let name = Name::read(b"alice").expect(rt, "a name");
     Place {

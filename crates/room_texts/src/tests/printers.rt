@@ -1,4 +1,5 @@
 ghost use Rattle.room_texts.specs.Limits.{IsPlace};
+ghost use Rattle.room_texts.specs.Places.{plain_place};
 
 use crate::{Place, PrinterNow, put_printer};
 use room_rules::Name;
@@ -19,7 +20,7 @@ const BUSY: PrinterNow = PrinterNow {
 
 /// alice, which was opened at 1000, at the moment 500.
 fn alice(rt: &impl Abort) -> Place<'static>
-    ensures { IsPlace result }
+    ensures { IsPlace (plain_place result) }
 {
     let name = Name::read(b"alice").expect(rt, "a name");
     Place {

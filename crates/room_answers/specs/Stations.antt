@@ -1,0 +1,25 @@
+-- What a station may do (all this project's own).
+use Rattle.std.specs.Prelude.{ℕ, ◌+◌, ℤ, pos, ◌+ℤ◌, ◌-ℤ◌, if◌then◌else◌, Option, Some, None, Result, Ok, Err}
+use Rattle.room_rules.specs.declared.device.Device.{Device}
+use Rattle.room_rules.specs.declared.job.Standing.{Standing}
+use Rattle.room_rules.specs.declared.refusal.Word.{Word}
+use Rattle.room_rules.specs.declared.refusal.Word.TheVariants.{NoDevice, DeviceOff}
+
+-- a station speaks for a device that is known
+abbrev pub known_device : Option Device → Result Device Word
+known_device None = Err NoDevice
+known_device (Some device) = Ok device
+
+-- and releases and starts jobs only while the device takes them
+abbrev pub ready_device : Option Device → Result Device Word
+ready_device None = Err NoDevice
+ready_device (Some device) = if device.on then Ok device else Err DeviceOff
+
+-- ---- what is left of the quota as one job stands otherwise
+
+-- the units that a job takes
+abbrev pub units_of : Standing → ℕ
+units_of standing = standing.reserved + standing.charged
+
+abbrev pub left_after : ℤ → Standing → Standing → ℤ
+left_after left before after = (left +ℤ pos (units_of before)) -ℤ pos (units_of after)

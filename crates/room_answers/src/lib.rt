@@ -1,0 +1,20 @@
+//! What an account answers, decided on values that were looked up, and the bytes of whole answers. No
+//! room and no table.
+#![tactic(auto)]
+
+mod accepting;
+mod granting;
+mod part;
+mod response;
+mod station;
+mod text;
+
+pub use accepting::{check_accepting, is_accepting, printer_now, printer_state};
+pub use granting::check_grant;
+pub use part::{Part, handed};
+pub use response::{begun, done, ended, refused, with_job, with_jobs, with_printer};
+pub use station::{known_device, left_after, ready_device};
+pub use text::{line, success};
+
+#[cfg(test)]
+mod tests;

@@ -1,0 +1,39 @@
+ghost use Rattle.std.specs.Prelude.{◌≡◌, IfOk, IfErr};
+ghost use Rattle.room_answers.specs.Parts.{part_of};
+
+use crate::text::success;
+use ipp_coding::List;
+use room_rules::{CoreFault, Document};
+use room_texts::Success;
+use std::alloc::Global;
+
+/// A document that is handed to a device.
+#[derive(Debug, Drop)]
+pub struct Part {
+    /// The line that tells its job, copies, format and length, without its end.
+    pub line: List<u8>,
+    pub bytes: List<u8>,
+}
+
+/// A document of a job of so many copies, as it is handed to a device: a copy of its bytes behind its
+/// line. `Memory` is its only fault.
+pub fn handed(alloc: Global, copies: u32, document: &Document) -> Result<Part, CoreFault>
+    ensures part { IfOk result (λ part. part ≡ part_of copies document.now) }
+    ensures memory { IfErr result (λ fault. fault ≡ CoreFault.Memory) }
+{
+    let bytes = document.bytes.as_slice();
+    let line = success(
+        alloc,
+        Success::Started {
+            job: document.job,
+            copies,
+            format: document.format,
+            length: bytes.len() as u64,
+        },
+    )?;
+    let items = Vec::from_slice(alloc, bytes)?;
+    Ok(Part {
+        line,
+        bytes: List { items },
+    })
+}

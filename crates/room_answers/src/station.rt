@@ -1,0 +1,46 @@
+//! What a station is answered, decided on its device and the job.
+
+ghost use Rattle.std.specs.Prelude.{◌≡◌, ◌+◌, ◌*◌, ◌^◌, ◌≤◌, pos, neg_ℤ, ◌≤ℤ◌, option_copied, IfOk, IfErr, option_map};
+ghost use Rattle.room_answers.specs.Stations.{known_device, ready_device, left_after, units_of};
+ghost use Rattle.room_rules.specs.Standings.{IsStanding};
+
+use room_rules::{Device, Standing, Word};
+
+/// The device that a station speaks for. Refused as `NoDevice` where there is none of its name.
+pub fn known_device(device: Option<Device>) -> Result<Device, Word>
+    ensures { result ≡ known_device device }
+{
+    device.ok_or(Word::NoDevice)
+}
+
+/// The device, where it takes jobs. Refused as `NoDevice`, and as `DeviceOff` where it is off.
+pub fn ready_device(device: Option<Device>) -> Result<Device, Word>
+    ensures { result ≡ ready_device device }
+{
+    match device {
+        None => Err(Word::NoDevice),
+        Some(device) if device.on => Ok(device),
+        Some(_) => Err(Word::DeviceOff),
+    }
+}
+
+/// What is left of the quota once a job stands otherwise, of what was left before, which is from
+/// -2 * 10^18 to 10^18.
+pub fn left_after(left: i64, before: &Standing, after: &Standing) -> i64
+    requires low { neg_ℤ (pos (2 * 10 ^ 18)) ≤ℤ left }
+    requires high { left ≤ℤ pos (10 ^ 18) }
+    requires before { IsStanding before.now }
+    requires after { IsStanding after.now }
+    ensures { result ≡ left_after left before.now after.now }
+{
+    left + units(before) - units(after)
+}
+
+/// The units that a job takes of the quota.
+fn units(standing: &Standing) -> i64
+    requires { IsStanding standing.now }
+    ensures units { result ≡ pos (units_of standing.now) }
+    ensures bound { units_of standing.now ≤ 10 ^ 15 }
+{
+    (standing.reserved + standing.charged) as i64
+}

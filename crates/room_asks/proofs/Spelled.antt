@@ -1,0 +1,60 @@
+-- What is answered of a request can be spelled, since the request was.
+use Rattle.std.proofs.Common.{Bool, true, false, cond, ◌==◌, ◌||◌, if◌then◌else◌, List, [], ◌∷◌, ◌++◌, Option, Some, unwrap_or, lit≤}
+use Rattle.std.specs.Option.{option_map}
+use Rattle.std.specs.List.{AllByRecursion, find}
+use Rattle.ipp_coding.specs.Plain.{PlainAttribute, PlainGroup, PlainMessage}
+use Rattle.ipp_coding.specs.Spelling.{IsAttribute, IsGroup, IsValue}
+use Rattle.room_asks.specs.declared.operation.Operation.{Operation}
+use Rattle.room_asks.specs.Operations.{makes_job}
+use Rattle.room_asks.specs.Requests.{job_group}
+use Rattle.room_asks.specs.Templates.{template_attributes, is_known, unknown, returned, is_repeated, is_supported, unsupported_behind, unsupported}
+
+abbrev pub AreSpelled : List PlainAttribute → Type 0
+AreSpelled attributes = AllByRecursion IsAttribute attributes
+
+-- ---- the job group
+
+picked_spelled : (here : Bool) (group : PlainGroup) (found : Option PlainGroup) → AreSpelled group.attributes →
+    AreSpelled (unwrap_or (option_map (λ g. g.attributes) found) []) → AreSpelled (unwrap_or (option_map (λ g. g.attributes) (cond here (Some group) found)) [])
+picked_spelled true group found own later = own
+picked_spelled false group found own later = later
+
+job_group_spelled : (groups : List PlainGroup) → AllByRecursion IsGroup groups → AreSpelled (unwrap_or (job_group groups) [])
+job_group_spelled [] all = tt
+job_group_spelled (group ∷ groups) all =
+    picked_spelled (group.tag == 2) group (find (λ g. g.tag == 2) groups) all.0.attributes (job_group_spelled groups all.1)
+
+where_read : (reads : Bool) (attributes : List PlainAttribute) → AreSpelled attributes → AreSpelled (if reads then attributes else [])
+where_read true attributes all = all
+where_read false attributes all = tt
+
+templates_spelled : (operation : Operation) (m : PlainMessage) → AllByRecursion IsGroup m.groups → AreSpelled (template_attributes operation m)
+unfolding template_attributes
+templates_spelled operation m all = where_read (makes_job operation) (unwrap_or (job_group m.groups) []) (job_group_spelled m.groups all)
+
+-- ---- those that are returned
+
+unknown_spelled : IsValue (record { tag = 0x10; bytes = [] })
+unknown_spelled = record { tag = lit≤ tt; bytes = lit≤ tt }
+
+known_or_unknown : (known : Bool) (attribute : PlainAttribute) → IsAttribute attribute → IsAttribute (if known then attribute else record { name = attribute.name; values = unknown })
+known_or_unknown true attribute spelled = spelled
+known_or_unknown false attribute spelled = record { named = spelled.named; name = spelled.name; values = (unknown_spelled, tt) }
+
+returned_spelled : (attribute : PlainAttribute) → IsAttribute attribute → IsAttribute (returned attribute)
+returned_spelled attribute spelled = known_or_unknown (is_known attribute) attribute spelled
+
+one_or_none : (none : Bool) (attribute : PlainAttribute) (later : List PlainAttribute) → IsAttribute attribute → AreSpelled later →
+    AreSpelled ((if none then [] else attribute ∷ []) ++ later)
+one_or_none true attribute later here all = all
+one_or_none false attribute later here all = (here, all)
+
+unsupported_behind_spelled : (before attributes : List PlainAttribute) → AreSpelled attributes → AreSpelled (unsupported_behind before attributes)
+unsupported_behind_spelled before [] all = tt
+unsupported_behind_spelled before (attribute ∷ later) all =
+    one_or_none (is_repeated before attribute || is_supported attribute) (returned attribute) (unsupported_behind (before ++ attribute ∷ []) later)
+    (returned_spelled attribute all.0) (unsupported_behind_spelled (before ++ attribute ∷ []) later all.1)
+
+pub unsupported_spelled : (operation : Operation) (m : PlainMessage) → AllByRecursion IsGroup m.groups → AreSpelled (unsupported (template_attributes operation m))
+unfolding unsupported
+unsupported_spelled operation m all = unsupported_behind_spelled [] (template_attributes operation m) (templates_spelled operation m all)

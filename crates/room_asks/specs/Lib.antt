@@ -1,0 +1,11 @@
+pub mod Limits
+pub mod Operations
+pub mod Requests
+pub mod Syntaxes
+pub mod Fields
+pub mod Targets
+pub mod Templates
+pub mod Refusals
+pub mod Checks
+pub mod PlainParts
+pub mod Asks

@@ -1,0 +1,315 @@
+//! The checks of a request in their order, one function each. A check that passes hands on what it
+//! looked at, for those that follow.
+
+ghost use Rattle.std.specs.Prelude.{◌≡◌, ◌<◌, ◌≤◌, ◌∷◌, ◌&&◌, [], IfOk, Ok, Err, Some, None, if◌then◌else◌, length, map, nat_lt, option_map, unwrap_or};
+ghost use Rattle.ipp_coding.specs.Plain.{plain_attribute, plain_message};
+ghost use Rattle.room_rules.specs.Limits.{longest_job_name, longest_password, longest_document, last_next_job};
+ghost use Rattle.room_rules.specs.declared.refusal.Word.TheVariants.{Template, DocumentTooLarge};
+ghost use Rattle.room_rules.specs.declared.format.Format.TheVariants.{OctetStream};
+ghost use Rattle.room_asks.specs.declared.ask.Which.TheVariants.{NotCompleted};
+ghost use Rattle.room_asks.specs.Asks.{HasDocument};
+ghost use Rattle.room_asks.specs.Checks as checks;
+ghost use Rattle.room_asks.specs.Fields.{document_format, which_jobs, password, job_name};
+ghost use Rattle.room_asks.specs.Limits.{longest_uri};
+ghost use Rattle.room_asks.specs.Operations.{operation_of, hands_in_document};
+ghost use Rattle.room_asks.specs.PlainParts.{plain_named, plain_target};
+ghost use Rattle.room_asks.specs.Refusals.{checked, refusal_of, told, told_with};
+ghost use Rattle.room_asks.specs.Requests.{operation_attributes};
+ghost use Rattle.room_asks.specs.Targets.{HasNumber, target_in, uri_of, reached};
+
+use crate::ask::Which;
+use crate::field::{Field, any_is_wrong};
+use crate::operation::Operation;
+use crate::target::{Target, TargetUri};
+use crate::{fields, request};
+use ipp_coding::{Attribute, Header, Message};
+use room_rules::{
+    Format, LONGEST_DOCUMENT, LONGEST_JOB_NAME, LONGEST_PASSWORD, Name, Refusal, Word,
+};
+
+const LONGEST_TARGET: usize = 1023;
+
+/// The major version is 1 or 2.
+pub(crate) fn version(header: Header) -> Result<(), Refusal>
+    ensures { told (λ x. x) result ≡ checked (checks.version_check header ∷ []) tt }
+{
+    if header.major == 1 || header.major == 2 {
+        Ok(())
+    } else {
+        Err(Refusal {
+            status: 0x0503,
+            word: Word::Version,
+        })
+    }
+}
+
+/// The operation is one of the profile.
+pub(crate) fn operation(header: Header) -> Result<Operation, Refusal>
+    ensures { told (λ x. x) result ≡ checked (checks.operation_check header ∷ []) (operation_of header) }
+{
+    Operation::with_id(header.code).ok_or(Refusal {
+        status: 0x0501,
+        word: Word::Operation,
+    })
+}
+
+/// Why a body is refused that no message spells.
+pub(crate) fn malformed() -> Refusal
+    ensures { record { refusal = result; unsupported = [] } ≡ refusal_of (checks.malformed_check None) }
+{
+    Refusal {
+        status: 0x0400,
+        word: Word::Malformed,
+    }
+}
+
+/// The message begins with an operation group, and this with a charset and a natural language. Hands
+/// on the attributes of the group.
+pub(crate) fn charset_and_language<'m, 'a>(
+    message: &'m Message<'a>,
+) -> Result<&'m [Attribute<'a>], Refusal>
+    ensures { told (λ attributes. map plain_attribute attributes.now) result ≡ checked (checks.charset_and_language_check (operation_attributes (plain_message message.now)) ∷ []) (operation_attributes (plain_message message.now)) }
+{
+    match opened(message) {
+        Some(attributes) => Ok(attributes),
+        None => Err(Refusal {
+            status: 0x0400,
+            word: Word::CharsetAndLanguage,
+        }),
+    }
+}
+
+/// The charset is `utf-8`, letters without case.
+pub(crate) fn charset(attributes: &[Attribute<'_>]) -> Result<(), Refusal>
+    ensures { told (λ x. x) result ≡ checked (checks.charset_check (map plain_attribute attributes.now) ∷ []) tt }
+{
+    match request::charset_first(attributes) {
+        Some(charset) if charset.eq_ignore_ascii_case(b"utf-8") => Ok(()),
+        _ => Err(Refusal {
+            status: 0x040d,
+            word: Word::Charset,
+        }),
+    }
+}
+
+/// There is a target. Hands it on.
+pub(crate) fn target<'a>(
+    operation: Operation,
+    attributes: &[Attribute<'a>],
+) -> Result<TargetUri<'a>, Refusal>
+    ensures told { told plain_named result ≡ checked (checks.target_check (target_in operation (map plain_attribute attributes.now)) ∷ []) (checks.named_target operation (map plain_attribute attributes.now)) }
+    ensures number { IfOk result (λ target. HasNumber (plain_named target)) }
+{
+    match TargetUri::read(operation, attributes) {
+        Some(target) => Ok(target),
+        None => Err(Refusal {
+            status: 0x0400,
+            word: Word::Target,
+        }),
+    }
+}
+
+/// The target's URI is no longer than a URI may be.
+pub(crate) fn target_length(target: TargetUri<'_>) -> Result<(), Refusal>
+    ensures told { told (λ x. x) result ≡ checked (checks.target_length_check (plain_named target.entry) ∷ []) tt }
+    ensures length { IfOk result (λ x. length (uri_of (plain_named target.entry)) ≤ longest_uri) }
+{
+    if target.uri().len() > LONGEST_TARGET {
+        return Err(Refusal {
+            status: 0x0409,
+            word: Word::TargetTooLong,
+        });
+    }
+    Ok(())
+}
+
+/// The target leads to the account's queue. Hands on where.
+pub(crate) fn queue<'a>(target: TargetUri<'a>, account: Name) -> Result<Target<'a>, Refusal>
+    requires { HasNumber (plain_named target) }
+    ensures told { told plain_target result ≡ checked (checks.queue_check (reached account (plain_named target.entry)) ∷ []) (unwrap_or (reached account (plain_named target.entry)) (record { base = []; job = 0 })) }
+    ensures base { IfOk result (λ reached. length reached.base.now ≤ length (uri_of (plain_named target.entry))) }
+    ensures job { IfOk result (λ reached. reached.job < last_next_job) }
+{
+    match target.reach(account) {
+        Some(target) => Ok(target),
+        None => Err(Refusal {
+            status: 0x0406,
+            word: Word::NotThisQueue,
+        }),
+    }
+}
+
+/// Each attribute that the operation reads is of its syntax.
+pub(crate) fn syntax(operation: Operation, attributes: &[Attribute<'_>]) -> Result<(), Refusal>
+    ensures { told (λ x. x) result ≡ checked (checks.syntax_check operation (map plain_attribute attributes.now) ∷ []) tt }
+{
+    if any_is_wrong(operation, attributes) {
+        return Err(Refusal {
+            status: 0x0400,
+            word: Word::Syntax,
+        });
+    }
+    Ok(())
+}
+
+/// Nothing is compressed.
+pub(crate) fn compression(operation: Operation, attributes: &[Attribute<'_>]) -> Result<(), Refusal>
+    ensures { told (λ x. x) result ≡ checked (checks.compression_check operation (map plain_attribute attributes.now) ∷ []) tt }
+{
+    if fields::is_none_if_said(Field::Compression.bytes(operation, attributes)) {
+        Ok(())
+    } else {
+        Err(Refusal {
+            status: 0x040f,
+            word: Word::Compression,
+        })
+    }
+}
+
+/// The format of the document is known. Hands it on.
+pub(crate) fn document_format(
+    operation: Operation,
+    attributes: &[Attribute<'_>],
+) -> Result<Format, Refusal>
+    ensures { told (λ x. x) result ≡ checked (checks.document_format_check operation (map plain_attribute attributes.now) ∷ []) (unwrap_or (document_format operation (map plain_attribute attributes.now)) OctetStream) }
+{
+    fields::document_format(operation, attributes).ok_or(Refusal {
+        status: 0x040a,
+        word: Word::DocumentFormat,
+    })
+}
+
+/// Jobs are asked for that have ended or that have not. Hands on which.
+pub(crate) fn which_jobs(
+    operation: Operation,
+    attributes: &[Attribute<'_>],
+) -> Result<Which, Refusal>
+    ensures { told (λ x. x) result ≡ checked (checks.which_jobs_check operation (map plain_attribute attributes.now) ∷ []) (unwrap_or (which_jobs operation (map plain_attribute attributes.now)) NotCompleted) }
+{
+    fields::which_jobs(operation, attributes).ok_or(Refusal {
+        status: 0x040b,
+        word: Word::WhichJobs,
+    })
+}
+
+/// Where there is a password, its encryption is told.
+pub(crate) fn password_encryption_missing(
+    operation: Operation,
+    attributes: &[Attribute<'_>],
+) -> Result<(), Refusal>
+    ensures { told (λ x. x) result ≡ checked (checks.password_encryption_missing_check operation (map plain_attribute attributes.now) ∷ []) tt }
+{
+    let encryption = Field::PasswordEncryption.bytes(operation, attributes);
+    if !fields::password(operation, attributes).is_empty() && encryption.is_none() {
+        return Err(Refusal {
+            status: 0x0400,
+            word: Word::PasswordEncryptionMissing,
+        });
+    }
+    Ok(())
+}
+
+/// No password is encrypted.
+pub(crate) fn password_encryption(
+    operation: Operation,
+    attributes: &[Attribute<'_>],
+) -> Result<(), Refusal>
+    ensures { told (λ x. x) result ≡ checked (checks.password_encryption_check operation (map plain_attribute attributes.now) ∷ []) tt }
+{
+    if fields::is_none_if_said(Field::PasswordEncryption.bytes(operation, attributes)) {
+        Ok(())
+    } else {
+        Err(Refusal {
+            status: 0x040b,
+            word: Word::PasswordEncryption,
+        })
+    }
+}
+
+/// The password is short enough. Hands it on.
+pub(crate) fn password_length<'a>(
+    operation: Operation,
+    attributes: &[Attribute<'a>],
+) -> Result<&'a [u8], Refusal>
+    ensures told { told (λ password. password.now) result ≡ checked (checks.password_length_check operation (map plain_attribute attributes.now) ∷ []) (password operation (map plain_attribute attributes.now)) }
+    ensures length { IfOk result (λ password. length password.now ≤ longest_password) }
+{
+    let password = fields::password(operation, attributes);
+    if password.len() > LONGEST_PASSWORD {
+        return Err(Refusal {
+            status: 0x0409,
+            word: Word::PasswordTooLong,
+        });
+    }
+    Ok(password)
+}
+
+/// The name of the job is short enough. Hands it on.
+pub(crate) fn job_name_length<'a>(
+    operation: Operation,
+    attributes: &[Attribute<'a>],
+) -> Result<&'a [u8], Refusal>
+    ensures told { told (λ name. name.now) result ≡ checked (checks.job_name_length_check operation (map plain_attribute attributes.now) ∷ []) (job_name operation (map plain_attribute attributes.now)) }
+    ensures length { IfOk result (λ name. length name.now ≤ longest_job_name) }
+{
+    let name = fields::job_name(operation, attributes);
+    if name.len() > LONGEST_JOB_NAME {
+        return Err(Refusal {
+            status: 0x0409,
+            word: Word::JobNameTooLong,
+        });
+    }
+    Ok(name)
+}
+
+/// The requester does not insist on what is not supported.
+fn template(insists: bool, unsupported: &[Attribute<'_>]) -> Result<(), Refusal>
+    ensures { result ≡ (if insists && checks.some_attribute (map plain_attribute unsupported.now) then Err (record { status = 0x040B; word = Template }) else Ok tt) }
+{
+    if insists && !unsupported.is_empty() {
+        return Err(Refusal {
+            status: 0x040b,
+            word: Word::Template,
+        });
+    }
+    Ok(())
+}
+
+/// The document is short enough.
+fn document_length(operation: Operation, payload: &[u8]) -> Result<(), Refusal>
+    ensures fits { IfOk result (λ x. HasDocument operation → length payload.now ≤ longest_document) }
+    ensures told { result ≡ (if hands_in_document operation && nat_lt longest_document (length payload.now) then Err (record { status = 0x0408; word = DocumentTooLarge }) else Ok tt) }
+{
+    if operation.hands_in_document() && payload.len() > LONGEST_DOCUMENT {
+        return Err(Refusal {
+            status: 0x0408,
+            word: Word::DocumentTooLarge,
+        });
+    }
+    Ok(())
+}
+
+/// The checks of what is known once the job template attributes are.
+#[tactic(auto, unfolding(crate::specs::Checks::document_checks))]
+pub(crate) fn template_and_document(
+    operation: Operation,
+    insists: bool,
+    unsupported: &[Attribute<'_>],
+    payload: &[u8],
+) -> Result<(), Refusal>
+    ensures told { told_with (map plain_attribute unsupported.now) result ≡ checked (checks.document_checks operation insists (map plain_attribute unsupported.now) payload.now) tt }
+    ensures fits { IfOk result (λ x. HasDocument operation → length payload.now ≤ longest_document) }
+{
+    template(insists, unsupported)?;
+    document_length(operation, payload)
+}
+
+/// The attributes of the operation group, where it begins with a charset and a natural language.
+fn opened<'m, 'a>(message: &'m Message<'a>) -> Option<&'m [Attribute<'a>]>
+    ensures { option_map (λ attributes. map plain_attribute attributes.now) result ≡ (if checks.begins_well (operation_attributes (plain_message message.now)) then Some (operation_attributes (plain_message message.now)) else None) }
+{
+    let attributes = request::operation_group(message.groups.as_slice())?;
+    request::charset_first(attributes)?;
+    request::language_second(attributes)?;
+    Some(attributes)
+}

@@ -1,0 +1,54 @@
+ghost use Rattle.std.specs.Prelude.{◌≡◌, ◌<◌, ◌≤◌, IfOk, IfSome, length, map};
+ghost use Rattle.ipp_coding.specs.Plain.{plain_attribute, plain_message};
+ghost use Rattle.room_rules.specs.Limits.{longest_job_name, longest_password, most_impressions, last_next_job};
+ghost use Rattle.room_asks.specs.Asks.{ask_parts, plain_parts, IsParts};
+ghost use Rattle.room_asks.specs.Checks.{attribute_checks, opening_checks};
+ghost use Rattle.room_asks.specs.Limits.{longest_uri};
+ghost use Rattle.room_asks.specs.Refusals.{checked, told};
+ghost use Rattle.room_asks.specs.Requests.{operation_attributes};
+
+use crate::checks;
+use crate::fields::Fields;
+use crate::operation::Operation;
+use crate::target::Target;
+use ipp_coding::{Attribute, Message};
+use room_rules::{Name, Refusal};
+
+/// The operation attributes of a request, where it leads and what they say.
+#[derive(Clone, Copy, Debug)]
+pub(crate) struct Parts<'m, 'a> {
+    pub(crate) attributes: &'m [Attribute<'a>],
+    pub(crate) target: Target<'a>,
+    pub(crate) fields: Fields<'a>,
+}
+
+impl<'m, 'a> Parts<'m, 'a> {
+    /// Those of the message, or the first check that its operation attributes fail.
+    pub(crate) fn read(
+        operation: Operation,
+        message: &'m Message<'a>,
+        account: Name,
+    ) -> Result<Parts<'m, 'a>, Refusal>
+        ensures told { told plain_parts result ≡ checked (attribute_checks account operation (operation_attributes (plain_message message.now))) (ask_parts account operation (operation_attributes (plain_message message.now))) }
+        ensures within { IfOk result (λ parts. IsParts (plain_parts parts)) }
+    {
+        let attributes = opened(message)?;
+        let target = Target::read(operation, attributes, account)?;
+        let fields = Fields::read(operation, attributes)?;
+        Ok(Parts {
+            attributes,
+            target,
+            fields,
+        })
+    }
+}
+
+/// The operation attributes, which begin with a charset that is known and a language.
+#[tactic(auto, unfolding(crate::specs::Checks::opening_checks))]
+fn opened<'m, 'a>(message: &'m Message<'a>) -> Result<&'m [Attribute<'a>], Refusal>
+    ensures { told (λ attributes. map plain_attribute attributes.now) result ≡ checked (opening_checks (operation_attributes (plain_message message.now))) (operation_attributes (plain_message message.now)) }
+{
+    let attributes = checks::charset_and_language(message)?;
+    checks::charset(attributes)?;
+    Ok(attributes)
+}

@@ -1,0 +1,80 @@
+-- The jobs that Get-Jobs gives, their order, and that they can be shown.
+use Rattle.std.proofs.Common.{◌≡◌, ℕ, suc, ◌+◌, ◌*◌, arith, ◌≤◌, true, false, cond, not, List, [], ◌∷◌, map, Option, Some, None, Bor, refl, ap, ◌∙◌}
+use Rattle.std.specs.List.{AllByRecursion, insert, position_or_len, prefix_len}
+use Rattle.room_asks.specs.Asks.{PlainAsk}
+use Rattle.room_asks.specs.declared.ask.Which.{Which}
+use Rattle.room_asks.specs.declared.ask.Which.TheVariants.{NotCompleted, Completed}
+use Rattle.room_core.specs.Queues.{is_later, put_by_end, chosen, at_most, asked_jobs}
+use Rattle.room_core.proofs.Lists.{all_filtered, all_taken, all_folded}
+use Rattle.room_rules.specs.declared.job.Job.{Job}
+use Rattle.room_rules.specs.declared.job.JobState.{JobState}
+use Rattle.room_rules.specs.declared.job.JobState.TheVariants.{Held, Pending, Processing, Canceled, Aborted, Completed}
+use Rattle.room_rules.specs.declared.job.Standing.{Standing}
+use Rattle.room_rules.specs.Limits.{last_next_job}
+use Rattle.room_rules.specs.Standings.{IsStanding, KeepsToState}
+use Rattle.room_texts.specs.Limits.{IsShowable}
+use Rattle.room_state.specs.RoomRules.{is_unfinished, IsJobAt}
+
+charged_at_most : (s : Standing) → IsStanding s → s.charged ≤ 2147483647 * s.rate
+charged_at_most s h = by_state s.state h.by_state
+  where
+    none : s.charged ≡ 0 → s.charged ≤ 2147483647 * s.rate
+    none is = rw is (omega arith)
+
+    by_state : (state : JobState) → KeepsToState state s → s.charged ≤ 2147483647 * s.rate
+    by_state Held k = none k.unfinished.charges_nothing
+    by_state Pending k = none k.released.unfinished.charges_nothing
+    by_state Processing k = none k.released.unfinished.charges_nothing
+    by_state Canceled k = k.charges_at_most
+    by_state Aborted k = k.charges_at_most
+    by_state Completed k = k.charges_at_most
+
+showable : (next : ℕ) (job : Job) → next ≤ last_next_job → IsJobAt next job.job job → IsShowable job
+showable next job few at = record {
+  number = at.from_one;
+  numbered = omega (arith, few, at.below_next);
+  name = at.name_fits;
+  copies = at.standing.ranges.copies_at_most;
+  impressions = at.standing.ranges.impressions_at_most;
+  rate = at.standing.ranges.rate_from_one;
+  charged = charged_at_most job.standing at.standing;
+  documents = at.standing.ranges.documents_at_most;
+  created = at.standing.ranges.created_in_range;
+  started = at.standing.ranges.started_in_range;
+  ended = at.standing.ranges.ended_in_range;
+}
+
+after_one : (n : ℕ) → 1 + n ≡ suc n
+after_one n = omega arith
+
+-- a job is put before the first that it is later than
+pub put_there : (job : Bor Job) (jobs : List (Bor Job)) →
+    map (λ (j : Bor Job). j.now) (insert jobs (position_or_len (λ (other : Bor Job). is_later job.now other.now) jobs) job) ≡ put_by_end (map (λ (j : Bor Job). j.now) jobs) job.now
+put_there job [] = refl
+put_there job (other ∷ jobs) =
+    elim (is_later job.now other.now) as (λ b.
+    map (λ (j : Bor Job). j.now) (insert (other ∷ jobs) (cond (not b) (1 + prefix_len (λ (o : Bor Job). not (is_later job.now o.now)) jobs) 0) job)
+    ≡ cond b (job.now ∷ other.now ∷ map (λ (j : Bor Job). j.now) jobs) (other.now ∷ put_by_end (map (λ (j : Bor Job). j.now) jobs) job.now))
+    [ true ↦ refl | false ↦ ap (λ place. map (λ (j : Bor Job). j.now) (insert (other ∷ jobs) place job)) (after_one (prefix_len (λ (o : Bor Job). not (is_later job.now o.now)) jobs)) ∙ ap (λ rest. other.now ∷ rest) (put_there job jobs) ]
+
+all_put : (P : Job → Type 0) (jobs : List Job) (job : Job) → AllByRecursion P jobs → P job → AllByRecursion P (put_by_end jobs job)
+all_put P [] job all here = (here, tt)
+all_put P (other ∷ jobs) job all here =
+    elim (is_later job other) as (λ b. AllByRecursion P (cond b (job ∷ other ∷ jobs) (other ∷ put_by_end jobs job)))
+    [ true ↦ (here, all) | false ↦ (all.0, all_put P jobs job all.1 here) ]
+
+all_chosen : (P : Job → Type 0) (which : Which) (jobs : List Job) → AllByRecursion P jobs → AllByRecursion P (chosen which jobs)
+all_chosen P NotCompleted jobs all = all_filtered P (λ (job : Job). is_unfinished job.standing.state) jobs all
+all_chosen P Completed jobs all = all_folded P put_by_end (all_put P) [] _ tt (all_filtered P (λ (job : Job). not (is_unfinished job.standing.state)) jobs all)
+
+all_at_most : (P : Job → Type 0) (limit : Option ℕ) (jobs : List Job) → AllByRecursion P jobs → AllByRecursion P (at_most limit jobs)
+all_at_most P None jobs all = all
+all_at_most P (Some limit) jobs all = all_taken P limit jobs all
+
+pub all_asked : (P : Job → Type 0) (ask : PlainAsk) (jobs : List Job) → AllByRecursion P jobs → AllByRecursion P (asked_jobs ask jobs)
+all_asked P ask jobs all = all_at_most P ask.limit (chosen ask.which jobs) (all_chosen P ask.which jobs all)
+
+-- the jobs of a room can be shown
+pub all_showable : (next : ℕ) (jobs : List Job) → next ≤ last_next_job → AllByRecursion (λ job. IsJobAt next job.job job) jobs → AllByRecursion IsShowable jobs
+all_showable next [] few all = tt
+all_showable next (job ∷ jobs) few all = (showable next job few all.0, all_showable next jobs few all.1)

@@ -1,0 +1,52 @@
+-- Print-Job and Create-Job, and Validate-Job, which makes no job (RFC 8011 sections 4.2.1, 4.2.4 and 4.2.3).
+use Rattle.std.specs.Prelude.{ℕ, if◌then◌else◌, List, [], ◌∷◌, Option, Some, None, Result, Ok, Err, codes}
+use Rattle.room_answers.specs.Queues.{accepting_refusal}
+use Rattle.room_asks.specs.Asks.{PlainAsk}
+use Rattle.room_asks.specs.Operations.{is_print_job}
+use Rattle.room_core.specs.Requests.{Response, refusing_ask, doing_ask, asked_at}
+use Rattle.room_rules.specs.declared.job.Document.{Document}
+use Rattle.room_rules.specs.declared.job.Job.{Job}
+use Rattle.room_rules.specs.declared.refusal.Refusal.{Refusal}
+use Rattle.room_rules.specs.NewJobs.{fresh}
+use Rattle.room_state.specs.Changes.{with_new_job}
+use Rattle.room_state.specs.RoomRules.{unfinished_count}
+use Rattle.room_state.specs.Rooms.{RoomValue}
+use Rattle.room_texts.specs.JobAttributes.{job_group}
+
+-- the job under its number
+abbrev pub new_job : ℕ → PlainAsk → ℕ → Job
+new_job number ask now = record {
+  job = number;
+  name = ask.name;
+  password = ask.password;
+  standing = fresh (is_print_job ask.operation) ask.copies ask.impressions now;
+}
+
+-- a Print-Job brings its one document, also an empty one
+abbrev pub new_document : ℕ → PlainAsk → Option Document
+new_document number ask =
+    if is_print_job ask.operation then Some (record { job = number; number = 1; format = ask.format; bytes = ask.payload }) else None
+
+-- what is told of a job that was made (RFC 8011 section 4.2.1.2)
+abbrev pub made_names : Option (List (List ℕ))
+made_names = Some (codes "job-uri" ∷ codes "job-id" ∷ codes "job-state" ∷ codes "job-state-reasons" ∷ [])
+
+-- whether the account takes a job now
+abbrev pub accepts : RoomValue → Result (Unit {0}) Refusal
+accepts room = accepting_refusal (unfinished_count room) room.next
+
+-- the job has the account's next number
+abbrev pub made_if : RoomValue → List ℕ → ℕ → PlainAsk → Result (Unit {0}) Refusal → Response
+made_if room account now ask (Err refusal) = refusing_ask room ask refusal
+made_if room account now ask (Ok _) =
+    doing_ask (with_new_job room (new_job room.next ask now) (new_document room.next ask)) ask (job_group (asked_at room.opened account now ask) (new_job room.next ask now) made_names ∷ [])
+
+abbrev pub made : RoomValue → List ℕ → ℕ → PlainAsk → Response
+made room account now ask = made_if room account now ask (accepts room)
+
+abbrev pub validated_if : RoomValue → PlainAsk → Result (Unit {0}) Refusal → Response
+validated_if room ask (Err refusal) = refusing_ask room ask refusal
+validated_if room ask (Ok _) = doing_ask room ask []
+
+abbrev pub validated : RoomValue → PlainAsk → Response
+validated room ask = validated_if room ask (accepts room)

@@ -1,0 +1,88 @@
+-- What a station is answered (all this project's own). Its device is looked at first, then the job,
+-- then the table of states (Moves of room_rules).
+use Rattle.std.specs.Prelude.{ℕ, Bool, List, [], ◌∷◌, map, Option, Some, None, Result, Ok, Err}
+use Rattle.std.specs.List.{flat_map}
+use Rattle.std.specs.Option.{option_to_list}
+use Rattle.std.specs.FinMap.{get}
+use Rattle.room_answers.specs.Parts.{part_of}
+use Rattle.room_answers.specs.Stations.{known_device, ready_device}
+use Rattle.room_core.specs.declared.event.Reply.TheVariants as reply
+use Rattle.room_core.specs.Steps.{Step, refusing, telling, and_then, with_moved}
+use Rattle.room_rules.specs.Acts.{StationRelease, StationStart, StationSettle}
+use Rattle.room_rules.specs.declared.device.Device.{Device}
+use Rattle.room_rules.specs.declared.job.Document.{Document}
+use Rattle.room_rules.specs.declared.job.Job.{Job}
+use Rattle.room_rules.specs.declared.job.Standing.{Standing}
+use Rattle.room_rules.specs.declared.refusal.Refusal.{Refusal}
+use Rattle.room_rules.specs.declared.refusal.Word.{Word}
+use Rattle.room_rules.specs.declared.refusal.Word.TheVariants.{NoJob}
+use Rattle.room_rules.specs.Devices.{device_at}
+use Rattle.room_rules.specs.Moves.{move}
+use Rattle.room_state.specs.Rooms.{RoomValue}
+use Rattle.room_state.specs.Sums.{left_in}
+use Rattle.room_texts.specs.declared.line.Success.TheVariants.{Released, Settled}
+
+-- the job that a station names
+abbrev pub job_or_word : Option Job → Result Job Word
+job_or_word None = Err NoJob
+job_or_word (Some job) = Ok job
+
+abbrev pub named_job : RoomValue → ℕ → Result Job Word
+named_job room number = job_or_word (get room.jobs number)
+
+-- a station is told the word of a refusal alone
+abbrev pub by_word : Result Standing Refusal → Result Standing Word
+by_word (Ok standing) = Ok standing
+by_word (Err refusal) = Err refusal.word
+
+-- ---- release
+
+abbrev pub release_of : RoomValue → List Device → ℕ → List ℕ → ℕ → List ℕ → ℕ → Result Standing Word
+release_of room devices now device number password impressions =
+    and_then (ready_device (device_at devices device)) (λ (ready : Device).
+    and_then (named_job room number) (λ (job : Job).
+    by_word (move (StationRelease job.password device password impressions ready.rate (left_in room now)) job.standing)))
+
+-- what the job reserves, and what is left then
+abbrev pub released : RoomValue → ℕ → ℕ → Result Standing Word → Step
+released room now number (Err word) = refusing room word
+released room now number (Ok standing) =
+    telling (with_moved room number standing) (Released standing.reserved (left_in (with_moved room number standing) now))
+
+-- ---- start
+
+abbrev pub start_of : RoomValue → List Device → ℕ → List ℕ → ℕ → Result Standing Word
+start_of room devices now device number =
+    and_then (ready_device (device_at devices device)) (λ (ready : Device).
+    and_then (named_job room number) (λ (job : Job).
+    by_word (move (StationStart device ready.rate now) job.standing)))
+
+-- the numbers that a document may have
+abbrev pub document_numbers : List ℕ
+document_numbers = 1 ∷ 2 ∷ 3 ∷ 4 ∷ 5 ∷ 6 ∷ 7 ∷ 8 ∷ []
+
+-- the documents of a job, by rising number
+abbrev pub documents_of : RoomValue → ℕ → List Document
+documents_of room number = flat_map (λ document. option_to_list (get room.documents (number, document))) document_numbers
+
+-- each document of the job, as it is handed to the device
+abbrev pub started : RoomValue → ℕ → Result Standing Word → Step
+started room number (Err word) = refusing room word
+started room number (Ok standing) = record {
+  reply = reply.Documents (map (part_of standing.copies) (documents_of room number));
+  room = with_moved room number standing;
+}
+
+-- ---- settle
+
+abbrev pub settle_of : RoomValue → List Device → ℕ → List ℕ → ℕ → ℕ → Bool → Result Standing Word
+settle_of room devices now device number impressions failed =
+    and_then (known_device (device_at devices device)) (λ (known : Device).
+    and_then (named_job room number) (λ (job : Job).
+    by_word (move (StationSettle device impressions failed now) job.standing)))
+
+-- what the job was charged, and what is left then
+abbrev pub settled : RoomValue → ℕ → ℕ → Result Standing Word → Step
+settled room now number (Err word) = refusing room word
+settled room now number (Ok standing) =
+    telling (with_moved room number standing) (Settled standing.charged (left_in (with_moved room number standing) now))

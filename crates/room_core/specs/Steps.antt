@@ -1,0 +1,35 @@
+-- What an event comes to in an open account: a reply, and the room after it.
+use Rattle.std.specs.Prelude.{ℕ, if◌then◌else◌, None, Result, Ok, Err}
+use Rattle.room_core.specs.declared.event.Reply.{Reply}
+use Rattle.room_core.specs.declared.event.Reply.TheVariants as reply
+use Rattle.room_rules.specs.declared.job.Standing.{Standing}
+use Rattle.room_rules.specs.declared.refusal.Word.{Word}
+use Rattle.room_state.specs.Changes.{with_standing, with_ended}
+use Rattle.room_state.specs.RoomRules.{is_unfinished}
+use Rattle.room_state.specs.Rooms.{RoomValue}
+use Rattle.room_texts.specs.declared.line.Success.{Success}
+use Rattle.room_texts.specs.Lines.{success_text}
+use Rattle.room_texts.specs.Words.{word_text}
+
+pub record Step : Type 0 where
+  pub reply : Reply
+  pub room : RoomValue
+
+-- a line that tells why, and nothing changes
+abbrev pub refusing : RoomValue → Word → Step
+refusing room word = record { reply = reply.Line (word_text word); room = room }
+
+-- a line that tells what was done
+abbrev pub telling : RoomValue → Success → Step
+telling room success = record { reply = reply.Line (success_text success); room = room }
+
+-- one check after another: the first that fails is the answer
+abbrev pub and_then : {A B E : Type 0} → Result A E → (A → Result B E) → Result B E
+and_then (Err e) next = Err e
+and_then (Ok x) next = next x
+
+-- an act on a job gives it another standing, and a job that ends loses its documents (RFC 8011 section
+-- 5.3.7; that documents go at once is this project's own)
+abbrev pub with_moved : RoomValue → ℕ → Standing → RoomValue
+with_moved room number standing =
+    if is_unfinished standing.state then with_standing room number standing None else with_ended room number standing

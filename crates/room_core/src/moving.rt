@@ -1,0 +1,142 @@
+//! The acts on a job, and what becomes of the room.
+
+ghost use Rattle.std.specs.Prelude.{◌≡◌, ◌≤◌, IfOk, IfErr, OnOk, OnErr};
+ghost use Rattle.room_core.specs.Moving.{Keeps, CanMove};
+ghost use Rattle.room_core.specs.Stations.{by_word};
+ghost use Rattle.room_core.specs.Steps.{with_moved};
+ghost use Rattle.room_rules.specs.Acts.{CancelJob, HoldJob, ReleaseJob, StationRelease, StationStart, StationSettle};
+ghost use Rattle.room_rules.specs.Limits.{most_impressions, most_rate, last_moment};
+ghost use Rattle.room_rules.specs.Moves.{move};
+ghost use Rattle.room_rules.specs.Standings.{IsStanding};
+ghost use Rattle.room_state.specs.RoomRules.{is_unfinished};
+
+use room_rules::{
+    CoreFault, Job, JobState, Name, Refusal, Standing, Word, cancel, hold, release_at_station,
+    release_by_owner, settle, start,
+};
+use room_state::Room;
+
+/// Gives the job its next standing; one that ends loses its documents.
+pub(crate) fn stand(room: &mut Room, number: u32, standing: &Standing) -> Result<(), CoreFault>
+    requires { CanMove room.old number standing.now }
+    ensures changed { OnOk result (room.new ≡ with_moved room.old number standing.now) }
+    ensures memory { IfErr result (λ fault. fault ≡ CoreFault.Memory) }
+    ensures unchanged { OnErr result (room.new ≡ room.old) }
+{
+    if is_unfinished(standing.state) {
+        return room.restand(number, *standing, None);
+    }
+    room.finish(number, *standing);
+    Ok(())
+}
+
+/// Whether a job in the state has not ended.
+pub fn is_unfinished(state: JobState) -> bool
+    ensures { result ≡ is_unfinished state }
+{
+    match state {
+        JobState::Held | JobState::Pending | JobState::Processing => true,
+        JobState::Canceled | JobState::Aborted | JobState::Completed => false,
+    }
+}
+
+/// What Cancel-Job makes of a job: `cancel`, and what it keeps of the job.
+pub fn canceled(standing: Standing, now: u64) -> Result<Standing, Refusal>
+    requires standing { IsStanding standing }
+    requires moment { now ≤ last_moment }
+    ensures moved { result ≡ move (CancelJob now) standing }
+    ensures in_range { IfOk result IsStanding }
+    ensures kept { IfOk result (Keeps standing) }
+{
+    cancel(standing, now)
+}
+
+/// What Hold-Job makes of a job: `hold`, and what it keeps of the job.
+pub fn held(standing: Standing) -> Result<Standing, Refusal>
+    requires { IsStanding standing }
+    ensures moved { result ≡ move HoldJob standing }
+    ensures in_range { IfOk result IsStanding }
+    ensures kept { IfOk result (Keeps standing) }
+{
+    hold(standing)
+}
+
+/// What Release-Job makes of a job: `release_by_owner`, and what it keeps of the job.
+pub fn released(standing: Standing, has_password: bool, left: i64) -> Result<Standing, Refusal>
+    requires { IsStanding standing }
+    ensures moved { result ≡ move (ReleaseJob has_password left) standing }
+    ensures in_range { IfOk result IsStanding }
+    ensures kept { IfOk result (Keeps standing) }
+{
+    release_by_owner(standing, has_password, left)
+}
+
+/// What a release at the station of a device with this rate makes of a job: `release_at_station`, where
+/// the word alone tells why it is refused.
+pub fn released_at(
+    job: &Job,
+    device: Name,
+    rate: u32,
+    password: &[u8],
+    impressions: u32,
+    left: i64,
+) -> Result<Standing, Word>
+    requires standing { IsStanding job.now.standing }
+    requires impressions { impressions ≤ most_impressions }
+    requires rate { (1 ≤ rate) × (rate ≤ most_rate) }
+    ensures moved { result ≡ by_word (move (StationRelease job.now.password device password.now impressions rate left) job.now.standing) }
+    ensures in_range { IfOk result IsStanding }
+    ensures kept { IfOk result (Keeps job.now.standing) }
+{
+    let kept = job.password.as_slice();
+    by_word(release_at_station(
+        job.standing,
+        kept,
+        device,
+        password,
+        impressions,
+        rate,
+        left,
+    ))
+}
+
+/// What becomes of a job as a device starts it: `start`, where the word alone tells why it is refused.
+pub fn started(standing: Standing, device: Name, rate: u32, now: u64) -> Result<Standing, Word>
+    requires standing { IsStanding standing }
+    requires rate { (1 ≤ rate) × (rate ≤ most_rate) }
+    requires moment { now ≤ last_moment }
+    ensures moved { result ≡ by_word (move (StationStart device rate now) standing) }
+    ensures in_range { IfOk result IsStanding }
+    ensures kept { IfOk result (Keeps standing) }
+{
+    by_word(start(standing, device, rate, now))
+}
+
+/// What becomes of a job as its device is done with it: `settle`, where the word alone tells why it is
+/// refused.
+pub fn settled(
+    standing: Standing,
+    device: Name,
+    impressions: u32,
+    failed: bool,
+    now: u64,
+) -> Result<Standing, Word>
+    requires standing { IsStanding standing }
+    requires impressions { impressions ≤ most_impressions }
+    requires moment { now ≤ last_moment }
+    ensures moved { result ≡ by_word (move (StationSettle device impressions failed now) standing) }
+    ensures in_range { IfOk result IsStanding }
+    ensures kept { IfOk result (Keeps standing) }
+{
+    by_word(settle(standing, device, impressions, failed, now))
+}
+
+/// A station is told the word of a refusal alone.
+fn by_word(moved: Result<Standing, Refusal>) -> Result<Standing, Word>
+    ensures { result ≡ by_word moved }
+{
+    match moved {
+        Ok(standing) => Ok(standing),
+        Err(refusal) => Err(refusal.word),
+    }
+}

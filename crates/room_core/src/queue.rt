@@ -1,0 +1,154 @@
+//! Get-Jobs.
+
+ghost use Rattle.std.specs.Prelude.{◌≡◌, ◌≤◌, ◌∷◌, [], not, map, filter, fold, take, position, None, Some, ℕ, List, IfOk, IfErr, OnOk};
+ghost use Rattle.std.specs.Borrow.{Bor};
+ghost use Rattle.std.specs.FinMap.{values};
+ghost use Rattle.std.specs.List.{AllByRecursion, position_or_len};
+ghost use Rattle.room_asks.specs.Asks.{IsAsk, plain_ask};
+ghost use Rattle.room_core.specs.Queues.{is_later, put_by_end, chosen, at_most, asked_jobs, listed, listed_names};
+ghost use Rattle.room_rules.specs.declared.job.Job.{Job};
+ghost use Rattle.room_rules.specs.Limits.{last_moment, last_next_job};
+ghost use Rattle.room_state.specs.RoomRules.{is_unfinished};
+ghost use Rattle.room_texts.specs.Limits.{IsShowable};
+
+use crate::moving::is_unfinished;
+use crate::respond::{asked_at, wanted_names};
+use ipp_coding::List;
+use room_answers::with_jobs;
+use room_asks::{Ask, Which};
+use room_rules::{CoreFault, Job, Name};
+use room_state::Room;
+use std::alloc::Global;
+
+/// Lists the jobs that the request asks for, job-uri and job-id alone where it names no attributes.
+pub(crate) fn list(
+    alloc: Global,
+    room: &Room,
+    account: Name,
+    now: u64,
+    ask: &Ask<'_>,
+) -> Result<List<u8>, CoreFault>
+    requires ask { IsAsk (plain_ask ask.now) }
+    requires moment { now ≤ last_moment }
+    ensures text { IfOk result (λ text. text ≡ (listed room.now account now (plain_ask ask.entry.now)).text) }
+    ensures memory { IfErr result (λ fault. fault ≡ CoreFault.Memory) }
+{
+    let unsupported = ask.unsupported.as_slice();
+    let at = asked_at(room.account().opened, account, now, ask);
+    let jobs = asked_jobs(alloc, room, ask)?;
+    match wanted_names(ask) {
+        Some(names) => with_jobs(alloc, ask.header, unsupported, &at, &jobs, Some(names)),
+        None => with_jobs(
+            alloc,
+            ask.header,
+            unsupported,
+            &at,
+            &jobs,
+            Some(&listed_names()),
+        ),
+    }
+}
+
+/// What is told of a job where the request names no attributes.
+pub fn listed_names() -> [&'static [u8]; 2]
+    ensures { Some (map (λ (name : Bor (List ℕ)). name.now) result) ≡ listed_names None }
+{
+    [b"job-uri", b"job-id"]
+}
+
+/// The jobs that the request asks for, in the order of the answer.
+fn asked_jobs<'r>(alloc: Global, room: &'r Room, ask: &Ask<'_>) -> Result<Vec<&'r Job>, CoreFault>
+    requires { room.now.next ≤ last_next_job }
+    ensures asked { IfOk result (λ asked. map (λ (job : Bor Job). job.now) asked.items ≡ asked_jobs (plain_ask ask.entry.now) (values room.entry.now.jobs)) }
+    ensures showable { IfOk result (λ asked. AllByRecursion (λ (job : Bor Job). IsShowable job.now) asked.items) }
+    ensures memory { IfErr result (λ fault. fault ≡ CoreFault.Memory) }
+{
+    let jobs = chosen(alloc, room.jobs(), ask.which)?;
+    Ok(at_most(jobs, ask.limit))
+}
+
+/// The first so many.
+fn at_most<'r>(jobs: Vec<&'r Job>, limit: Option<u32>) -> Vec<&'r Job>
+    ensures { map (λ (job : Bor Job). job.now) result.items ≡ at_most limit (map (λ (job : Bor Job). job.now) jobs.entry.items) }
+{
+    match limit {
+        None => jobs,
+        Some(limit) => first_of(jobs, limit as usize),
+    }
+}
+
+fn first_of<'r>(jobs: Vec<&'r Job>, count: usize) -> Vec<&'r Job>
+    ensures { map (λ (job : Bor Job). job.now) result.items ≡ take count (map (λ (job : Bor Job). job.now) jobs.entry.items) }
+{
+    let mut first = jobs;
+    first.truncate(count);
+    first
+}
+
+fn chosen<'r>(alloc: Global, jobs: &'r [Job], which: Which) -> Result<Vec<&'r Job>, CoreFault>
+    ensures chosen { IfOk result (λ asked. map (λ (job : Bor Job). job.now) asked.items ≡ chosen which jobs.now) }
+    ensures memory { IfErr result (λ fault. fault ≡ CoreFault.Memory) }
+{
+    match which {
+        Which::NotCompleted => not_completed(alloc, jobs),
+        Which::Completed => completed(alloc, jobs),
+    }
+}
+
+fn not_completed<'r>(alloc: Global, jobs: &'r [Job]) -> Result<Vec<&'r Job>, CoreFault>
+    ensures chosen { IfOk result (λ asked. map (λ (job : Bor Job). job.now) asked.items ≡ filter (λ (job : Job). is_unfinished job.standing.state) jobs.now) }
+    ensures memory { IfErr result (λ fault. fault ≡ CoreFault.Memory) }
+{
+    let mut asked = Vec::new(alloc);
+    for job in jobs {
+        if is_unfinished(job.standing.state) {
+            asked.push(job)?;
+        }
+    }
+    Ok(asked)
+}
+
+/// By falling moment of ending, and where that is the same by falling number.
+fn completed<'r>(alloc: Global, jobs: &'r [Job]) -> Result<Vec<&'r Job>, CoreFault>
+    ensures chosen { IfOk result (λ asked. map (λ (job : Bor Job). job.now) asked.items ≡ fold put_by_end [] (filter (λ (job : Job). not (is_unfinished job.standing.state)) jobs.now)) }
+    ensures memory { IfErr result (λ fault. fault ≡ CoreFault.Memory) }
+{
+    let mut asked = Vec::new(alloc);
+    for job in jobs {
+        if !is_unfinished(job.standing.state) {
+            put_by_end(&mut asked, job)?;
+        }
+    }
+    Ok(asked)
+}
+
+/// Puts the job before the first that it is later than.
+fn put_by_end<'r>(asked: &mut Vec<&'r Job>, job: &'r Job) -> Result<(), CoreFault>
+    ensures put { OnOk result (map (λ (job : Bor Job). job.now) asked.new.items ≡ put_by_end (map (λ (job : Bor Job). job.now) asked.old.items) job.now) }
+    ensures memory { IfErr result (λ fault. fault ≡ CoreFault.Memory) }
+{
+    let place = place_by_end(asked, job);
+    asked.insert(place, job)?;
+    Ok(())
+}
+
+fn place_by_end(asked: &[&Job], job: &Job) -> usize
+    ensures { result ≡ position_or_len (λ (other : Bor Job). is_later job.now other.now) asked.now }
+{
+    first_earlier(asked, job).unwrap_or(asked.len())
+}
+
+fn first_earlier(asked: &[&Job], job: &Job) -> Option<usize>
+    ensures { result ≡ position (λ (other : Bor Job). is_later job.now other.now) asked.now }
+{
+    asked.iter().position(|other| is_later(job, other))
+}
+
+/// Whether the job has ended later than the other, or with it and is the later made.
+pub fn is_later(job: &Job, other: &Job) -> bool
+    ensures { result ≡ is_later job.now other.now }
+{
+    let ended = job.standing.ended.unwrap_or(0);
+    let other_ended = other.standing.ended.unwrap_or(0);
+    other_ended < ended || (ended == other_ended && other.job < job.job)
+}

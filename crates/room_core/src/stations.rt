@@ -1,0 +1,267 @@
+//! What a station is answered.
+
+ghost use Rattle.std.specs.Prelude.{◌≡◌, ◌≤◌, IfOk, IfErr, OnOk, OnErr, map};
+ghost use Rattle.std.specs.List.{flat_map};
+ghost use Rattle.std.specs.Option.{option_to_list};
+ghost use Rattle.std.specs.FinMap.{get};
+ghost use Rattle.room_answers.specs.Parts.{part_of};
+ghost use Rattle.room_core.specs.Moving.{CanMove};
+ghost use Rattle.room_core.specs.Rates.{AreRated};
+ghost use Rattle.room_core.specs.Stations.{release_of, released, start_of, started, settle_of, settled, documents_of};
+ghost use Rattle.room_rules.specs.Limits.{most_impressions, last_moment};
+
+use crate::devices::device_at;
+use crate::event::Reply;
+use crate::moving::{self, stand};
+use crate::quota::{left_now, left_once};
+use ipp_coding::List;
+use room_answers::{Part, handed, known_device, line, ready_device, success};
+use room_rules::{CoreFault, Device, Name, Standing, Word};
+use room_state::Room;
+use room_texts::Success;
+use std::alloc::Global;
+
+/// A station: the name of its device, among all devices, at a moment.
+#[derive(Clone, Copy)]
+pub(crate) struct Station<'d> {
+    pub devices: &'d [Device],
+    pub device: Name,
+    pub now: u64,
+}
+
+impl<'d> Station<'d> {
+    pub(crate) fn new(devices: &'d [Device], device: Name, now: u64) -> Station<'d>
+        ensures devices { result.devices.now ≡ devices.now }
+        ensures device { result.device ≡ device }
+        ensures moment { result.now ≡ now }
+    {
+        Station {
+            devices,
+            device,
+            now,
+        }
+    }
+}
+
+/// Releases the job at the station, and tells what it reserves. `Memory` is its only fault.
+pub(crate) fn release(
+    alloc: Global,
+    room: &mut Room,
+    at: &Station<'_>,
+    number: u32,
+    password: &[u8],
+    impressions: u32,
+) -> Result<Reply, CoreFault>
+    requires moment { at.now.now ≤ last_moment }
+    requires rates { AreRated at.now.devices.now }
+    requires impressions { impressions ≤ most_impressions }
+    ensures reply { IfOk result (λ reply. reply ≡ (released room.old at.entry.now.now number (release_of room.old at.entry.now.devices.now at.entry.now.now at.entry.now.device number password.now impressions)).reply) }
+    ensures room { OnOk result (room.new ≡ (released room.old at.entry.now.now number (release_of room.old at.entry.now.devices.now at.entry.now.now at.entry.now.device number password.now impressions)).room) }
+    ensures memory { IfErr result (λ fault. fault ≡ CoreFault.Memory) }
+    ensures unchanged { OnErr result (room.new ≡ room.old) }
+{
+    let decided = release_of(room, at, number, password, impressions);
+    tell_released(alloc, room, at.now, number, decided)
+}
+
+/// The device of the station takes the job: hands its documents over. `Memory` is its only fault.
+pub(crate) fn start(
+    alloc: Global,
+    room: &mut Room,
+    at: &Station<'_>,
+    number: u32,
+) -> Result<Reply, CoreFault>
+    requires moment { at.now.now ≤ last_moment }
+    requires rates { AreRated at.now.devices.now }
+    ensures reply { IfOk result (λ reply. reply ≡ (started room.old number (start_of room.old at.entry.now.devices.now at.entry.now.now at.entry.now.device number)).reply) }
+    ensures room { OnOk result (room.new ≡ (started room.old number (start_of room.old at.entry.now.devices.now at.entry.now.now at.entry.now.device number)).room) }
+    ensures memory { IfErr result (λ fault. fault ≡ CoreFault.Memory) }
+    ensures unchanged { OnErr result (room.new ≡ room.old) }
+{
+    let decided = start_of(room, at, number);
+    hand_over(alloc, room, number, decided)
+}
+
+/// The device of the station is done with the job: tells what it was charged. `Memory` is its only
+/// fault.
+pub(crate) fn settle(
+    alloc: Global,
+    room: &mut Room,
+    at: &Station<'_>,
+    number: u32,
+    impressions: u32,
+    failed: bool,
+) -> Result<Reply, CoreFault>
+    requires moment { at.now.now ≤ last_moment }
+    requires rates { AreRated at.now.devices.now }
+    requires impressions { impressions ≤ most_impressions }
+    ensures reply { IfOk result (λ reply. reply ≡ (settled room.old at.entry.now.now number (settle_of room.old at.entry.now.devices.now at.entry.now.now at.entry.now.device number impressions failed)).reply) }
+    ensures room { OnOk result (room.new ≡ (settled room.old at.entry.now.now number (settle_of room.old at.entry.now.devices.now at.entry.now.now at.entry.now.device number impressions failed)).room) }
+    ensures memory { IfErr result (λ fault. fault ≡ CoreFault.Memory) }
+    ensures unchanged { OnErr result (room.new ≡ room.old) }
+{
+    let decided = settle_of(room, at, number, impressions, failed);
+    tell_settled(alloc, room, at.now, number, decided)
+}
+
+/// What becomes of the job as the station releases it, with the password and the impressions that are handed in there.
+fn release_of(
+    room: &Room,
+    at: &Station<'_>,
+    number: u32,
+    password: &[u8],
+    impressions: u32,
+) -> Result<Standing, Word>
+    requires moment { at.now.now ≤ last_moment }
+    requires rates { AreRated at.now.devices.now }
+    requires impressions { impressions ≤ most_impressions }
+    ensures standing { result ≡ release_of room.now at.entry.now.devices.now at.entry.now.now at.entry.now.device number password.now impressions }
+    ensures can_move { IfOk result (CanMove room.now number) }
+{
+    let ready = ready_device(device_at(at.devices, at.device))?;
+    let Some(job) = room.job(number) else {
+        return Err(Word::NoJob);
+    };
+    let left = left_now(room, at.now);
+    moving::released_at(job, at.device, ready.rate, password, impressions, left)
+}
+
+/// Tells what the job reserves, and gives it its standing.
+fn tell_released(
+    alloc: Global,
+    room: &mut Room,
+    now: u64,
+    number: u32,
+    decided: Result<Standing, Word>,
+) -> Result<Reply, CoreFault>
+    requires moment { now ≤ last_moment }
+    requires can_move { IfOk decided (CanMove room.old number) }
+    ensures reply { IfOk result (λ reply. reply ≡ (released room.old now number decided).reply) }
+    ensures room { OnOk result (room.new ≡ (released room.old now number decided).room) }
+    ensures memory { IfErr result (λ fault. fault ≡ CoreFault.Memory) }
+    ensures unchanged { OnErr result (room.new ≡ room.old) }
+{
+    let standing = match decided {
+        Ok(standing) => standing,
+        Err(word) => return Ok(Reply::Line(line(alloc, word)?)),
+    };
+    let told = Success::Released {
+        reserved: standing.reserved,
+        left: left_once(room, now, number, &standing),
+    };
+    let reply = Reply::Line(success(alloc, told)?);
+    stand(room, number, &standing)?;
+    Ok(reply)
+}
+
+/// What becomes of the job as the device of the station takes it.
+fn start_of(room: &Room, at: &Station<'_>, number: u32) -> Result<Standing, Word>
+    requires moment { at.now.now ≤ last_moment }
+    requires rates { AreRated at.now.devices.now }
+    ensures standing { result ≡ start_of room.now at.entry.now.devices.now at.entry.now.now at.entry.now.device number }
+    ensures can_move { IfOk result (CanMove room.now number) }
+{
+    let ready = ready_device(device_at(at.devices, at.device))?;
+    let Some(job) = room.job(number) else {
+        return Err(Word::NoJob);
+    };
+    moving::started(job.standing, at.device, ready.rate, at.now)
+}
+
+/// Hands the job's documents to the device, and gives it its standing.
+fn hand_over(
+    alloc: Global,
+    room: &mut Room,
+    number: u32,
+    decided: Result<Standing, Word>,
+) -> Result<Reply, CoreFault>
+    requires { IfOk decided (CanMove room.old number) }
+    ensures reply { IfOk result (λ reply. reply ≡ (started room.old number decided).reply) }
+    ensures room { OnOk result (room.new ≡ (started room.old number decided).room) }
+    ensures memory { IfErr result (λ fault. fault ≡ CoreFault.Memory) }
+    ensures unchanged { OnErr result (room.new ≡ room.old) }
+{
+    let standing = match decided {
+        Ok(standing) => standing,
+        Err(word) => return Ok(Reply::Line(line(alloc, word)?)),
+    };
+    let items = parts(
+        alloc,
+        room,
+        number,
+        standing.copies,
+        &[1, 2, 3, 4, 5, 6, 7, 8],
+    )?;
+    let reply = Reply::Documents(List { items });
+    stand(room, number, &standing)?;
+    Ok(reply)
+}
+
+/// Those of the job's documents that have one of the numbers, in the order of these.
+fn parts(
+    alloc: Global,
+    room: &Room,
+    job: u32,
+    copies: u32,
+    numbers: &[u32],
+) -> Result<Vec<Part>, CoreFault>
+    ensures parts { IfOk result (λ parts. parts.items ≡ map (part_of copies) (flat_map (λ number. option_to_list (get room.now.documents (job, number))) numbers.now)) }
+    ensures memory { IfErr result (λ fault. fault ≡ CoreFault.Memory) }
+{
+    let mut parts = Vec::new(alloc);
+    for number in numbers {
+        if let Some(document) = room.document(job, *number) {
+            parts.push(handed(alloc, copies, document)?)?;
+        }
+    }
+    Ok(parts)
+}
+
+/// What becomes of the job as the device of the station is done with it.
+fn settle_of(
+    room: &Room,
+    at: &Station<'_>,
+    number: u32,
+    impressions: u32,
+    failed: bool,
+) -> Result<Standing, Word>
+    requires moment { at.now.now ≤ last_moment }
+    requires rates { AreRated at.now.devices.now }
+    requires impressions { impressions ≤ most_impressions }
+    ensures standing { result ≡ settle_of room.now at.entry.now.devices.now at.entry.now.now at.entry.now.device number impressions failed }
+    ensures can_move { IfOk result (CanMove room.now number) }
+{
+    known_device(device_at(at.devices, at.device))?;
+    let Some(job) = room.job(number) else {
+        return Err(Word::NoJob);
+    };
+    moving::settled(job.standing, at.device, impressions, failed, at.now)
+}
+
+/// Tells what the job was charged, and gives it its standing.
+fn tell_settled(
+    alloc: Global,
+    room: &mut Room,
+    now: u64,
+    number: u32,
+    decided: Result<Standing, Word>,
+) -> Result<Reply, CoreFault>
+    requires moment { now ≤ last_moment }
+    requires can_move { IfOk decided (CanMove room.old number) }
+    ensures reply { IfOk result (λ reply. reply ≡ (settled room.old now number decided).reply) }
+    ensures room { OnOk result (room.new ≡ (settled room.old now number decided).room) }
+    ensures memory { IfErr result (λ fault. fault ≡ CoreFault.Memory) }
+    ensures unchanged { OnErr result (room.new ≡ room.old) }
+{
+    let standing = match decided {
+        Ok(standing) => standing,
+        Err(word) => return Ok(Reply::Line(line(alloc, word)?)),
+    };
+    let told = Success::Settled {
+        charged: standing.charged,
+        left: left_once(room, now, number, &standing),
+    };
+    let reply = Reply::Line(success(alloc, told)?);
+    stand(room, number, &standing)?;
+    Ok(reply)
+}

@@ -1,0 +1,9 @@
+//! What one field says: of a line, of a record, or of the command line.
+#![tactic(auto)]
+
+mod fields;
+
+pub use fields::{FieldFault, bytes, choice, decimal, month, number};
+
+#[cfg(test)]
+mod tests;

@@ -1,0 +1,14 @@
+pub mod FiniteMaps
+pub mod JobMaps
+pub mod DocumentMaps
+pub mod GrantMaps
+pub mod KeptJobs
+pub mod KeptDocuments
+pub mod KeptGrants
+pub mod KeptRooms
+pub mod RoomChanges
+pub mod Bounds
+pub mod TallyLemmas
+pub mod Lookups
+pub mod RoomLemmas
+pub mod FirstJobs

@@ -1,0 +1,50 @@
+-- What is counted of the jobs of a list, one after another.
+use Rattle.std.proofs.Common.{◌≡◌, ℕ, ◌+◌, ◌<◌, ◌≤◌, cond, ◌&&◌, ◌||◌, nat_le, List, [], ◌∷◌, ◌++◌, length, get_or, take, Some, None, IsTrue, sym, ap, ◌∙◌, arith}
+use Rattle.std.specs.List.{list_any}
+use Rattle.std.proofs.lemmas.Bool.Decides.{nat_tests}
+use Rattle.std.proofs.lemmas.List.{take_more}
+use Rattle.std.proofs.lemmas.List.Sums.{sum_by_push, sum_by-take-le}
+use Rattle.std.proofs.lemmas.List.Folds.{list_any-append}
+use Rattle.std.proofs.Math.Bool.{or-false}
+use Rattle.room_rules.specs.declared.job.Job.{Job}
+use Rattle.room_rules.specs.declared.job.Standing.{Standing}
+use Rattle.room_state.specs.declared.tally.Tally.{Tally}
+use Rattle.std.specs.FinMap.{values}
+use Rattle.room_rules.specs.Limits.{most_unfinished}
+use Rattle.room_state.specs.Rooms.{RoomValue}
+use Rattle.room_state.specs.RoomRules.{IsRoom, is_unfinished, unfinished_count}
+use Rattle.room_state.specs.Sums.{is_processing, reserved_in, charged_in}
+use Rattle.room_state.proofs.Bounds.{reserved_bound, charged_bound}
+use Rattle.room_state.specs.Tallies.{tally_of, counted, counted_in_bounds, is_in_bounds, most_counted, most_units}
+
+pub tally_push : (jobs : List Job) (job : Job) → tally_of (jobs ++ job ∷ []) ≡ counted (tally_of jobs) job.standing
+tally_push jobs job =
+    let unfinished = sum_by_push (λ (job : Job). cond (is_unfinished job.standing.state) 1 0) jobs job in
+    let processing = list_any-append (λ (job : Job). is_processing job.standing.state) jobs (job ∷ []) ∙ ap (λ b. list_any (λ (job : Job). is_processing job.standing.state) jobs || b) (or-false (is_processing job.standing.state)) in
+    let reserved = sum_by_push (λ (job : Job). job.standing.reserved) jobs job in
+    let charged = sum_by_push (λ (job : Job). job.standing.charged) jobs job in
+    λ i. record { unfinished = unfinished i; is_processing = processing i; reserved = reserved i; charged = charged i }
+
+pub tally_more : (jobs : List Job) (i : ℕ) (job : Job) → i < length jobs → job ≡ get_or jobs i job → tally_of (take (i + 1) jobs) ≡ counted (tally_of (take i jobs)) job.standing
+tally_more jobs i job h is = ap tally_of (take_more jobs i job h ∙ ap (λ (last : Job). take i jobs ++ last ∷ []) (sym is)) ∙ tally_push (take i jobs) job
+
+three_lower : (a b c x y z : ℕ) → a ≤ x → b ≤ y → c ≤ z →
+    IsTrue (nat_le x most_counted && nat_le y most_units && nat_le z most_units) → IsTrue (nat_le a most_counted && nat_le b most_units && nat_le c most_units)
+three_lower a b c x y z h i j within = grind (arith, nat_tests)
+
+pub in_bounds_before : (jobs : List Job) (i : ℕ) → IsTrue (is_in_bounds (tally_of jobs)) → IsTrue (is_in_bounds (tally_of (take i jobs)))
+in_bounds_before jobs i within =
+    let unfinished = sum_by-take-le (λ (job : Job). cond (is_unfinished job.standing.state) 1 0) jobs i in
+    let reserved = sum_by-take-le (λ (job : Job). job.standing.reserved) jobs i in
+    let charged = sum_by-take-le (λ (job : Job). job.standing.charged) jobs i in
+    three_lower _ _ _ _ _ _ unfinished reserved charged within
+
+pub counted_some : (tally : Tally) (standing : Standing) → IsTrue (is_in_bounds (counted tally standing)) → counted_in_bounds tally standing ≡ Some (counted tally standing)
+counted_some tally standing within = ap (λ b. cond b (Some (counted tally standing)) None) within
+
+three_within : (a b c : ℕ) → a ≤ most_unfinished → b ≤ most_units → c ≤ most_units → IsTrue (nat_le a most_counted && nat_le b most_units && nat_le c most_units)
+three_within a b c h i j = grind (arith, nat_tests)
+
+-- what is counted of a room's jobs is within the bounds
+pub room_in_bounds : (room : RoomValue) → IsRoom room → IsTrue (is_in_bounds (tally_of (values room.jobs)))
+room_in_bounds room rules = three_within (unfinished_count room) (reserved_in room) (charged_in room) rules.few_unfinished (reserved_bound room rules) (charged_bound room rules)

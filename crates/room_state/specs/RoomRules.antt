@@ -1,0 +1,74 @@
+-- The rules that each room keeps (all this project's own, but the states of a job).
+use Rattle.std.specs.Prelude.{◌≡◌, ◌≢◌, ℕ, ◌<◌, ◌≤◌, Bool, true, false, ◌&&◌, nat_le, List, [], ◌∷◌, length, count_by, Option, Some, None, is_some}
+use Rattle.std.specs.List.{AllByRecursion}
+use Rattle.std.specs.FinMap.{get, values}
+use Rattle.room_rules.specs.declared.account.Grant.{Grant}
+use Rattle.room_rules.specs.declared.job.Job.{Job}
+use Rattle.room_rules.specs.declared.job.Document.{Document}
+use Rattle.room_rules.specs.declared.job.JobState.{JobState}
+use Rattle.room_rules.specs.declared.job.JobState.TheVariants.{Held, Pending, Processing, Canceled, Aborted, Completed}
+use Rattle.room_rules.specs.Limits.{last_moment, first_month, last_month, last_next_job, most_unfinished, most_pages, longest_job_name, longest_password, longest_document}
+use Rattle.room_rules.specs.Standings.{IsStanding}
+use Rattle.room_state.specs.Rooms.{RoomValue}
+
+-- a job that has not ended (RFC 8011 section 5.3.7)
+abbrev pub is_unfinished : JobState → Bool
+is_unfinished Held = true
+is_unfinished Pending = true
+is_unfinished Processing = true
+is_unfinished Canceled = false
+is_unfinished Aborted = false
+is_unfinished Completed = false
+
+abbrev pub unfinished_count : RoomValue → ℕ
+unfinished_count room = count_by (λ job. is_unfinished job.standing.state) (values room.jobs)
+
+-- a job under its number, which is below the next
+pub record IsJobAt (next number : ℕ) (job : Job) : Type 0 where
+  pub numbered : job.job ≡ number
+  pub from_one : 1 ≤ number
+  pub below_next : number < next
+  pub name_fits : length job.name ≤ longest_job_name
+  pub password_fits : length job.password ≤ longest_password
+  pub standing : IsStanding job.standing
+
+-- a document at its place
+pub record IsDocumentAt (place : ℕ × ℕ) (document : Document) : Type 0 where
+  pub of_job : document.job ≡ place.0
+  pub numbered : document.number ≡ place.1
+  pub fits : length document.bytes ≤ longest_document
+
+-- an unfinished job has its documents 1 to n, n being how many it was given, and no other job has any
+abbrev pub has_document : Option Job → ℕ → Bool
+has_document None number = false
+has_document (Some job) number = is_unfinished job.standing.state && nat_le 1 number && nat_le number job.standing.documents
+
+pub record IsGrant (month pages : ℕ) : Type 0 where
+  pub from_first : first_month ≤ month
+  pub to_last : month ≤ last_month
+  pub pages_fit : pages ≤ most_pages
+
+pub record IsRoom (room : RoomValue) : Type 0 where
+  pub opened_in_range : room.opened ≤ last_moment
+  pub next_from_one : 1 ≤ room.next
+  pub next_in_range : room.next ≤ last_next_job
+  pub jobs : (number : ℕ) (job : Job) → get room.jobs number ≡ Some job → IsJobAt room.next number job
+  pub few_unfinished : unfinished_count room ≤ most_unfinished
+  pub documents : (place : ℕ × ℕ) (document : Document) → get room.documents place ≡ Some document → IsDocumentAt place document
+  pub all_documents : (job number : ℕ) → is_some (get room.documents (job, number)) ≡ has_document (get room.jobs job) number
+  pub grants : (month pages : ℕ) → get room.grants month ≡ Some pages → IsGrant month pages
+
+-- ---- each key stands once in the lists
+
+-- jobs in the order of their numbers
+abbrev pub NumbersRise : List Job → Type 0
+NumbersRise [] = Unit {0}
+NumbersRise (job ∷ jobs) = AllByRecursion (λ later. job.job < later.job) jobs × NumbersRise jobs
+
+abbrev pub PlacesOnce : List Document → Type 0
+PlacesOnce [] = Unit {0}
+PlacesOnce (document ∷ documents) = AllByRecursion (λ other. other.job ≡ document.job → other.number ≢ document.number) documents × PlacesOnce documents
+
+abbrev pub MonthsOnce : List Grant → Type 0
+MonthsOnce [] = Unit {0}
+MonthsOnce (grant ∷ grants) = AllByRecursion (λ other. other.month ≢ grant.month) grants × MonthsOnce grants

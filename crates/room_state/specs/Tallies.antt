@@ -1,0 +1,41 @@
+-- What is counted of jobs, one after another (all this project's own).
+use Rattle.std.specs.Prelude.{ℕ, ◌+◌, Bool, ◌&&◌, ◌||◌, nat_le, if◌then◌else◌, List, count_by, Option, Some, None}
+use Rattle.std.specs.List.{sum_by, list_any}
+use Rattle.room_rules.specs.declared.job.Job.{Job}
+use Rattle.room_rules.specs.declared.job.Standing.{Standing}
+use Rattle.room_state.specs.declared.tally.Tally.{Tally}
+use Rattle.room_state.specs.RoomRules.{is_unfinished}
+use Rattle.room_state.specs.Sums.{is_processing}
+
+-- of all the jobs of a list
+abbrev pub tally_of : List Job → Tally
+tally_of jobs = record {
+  unfinished = count_by (λ job. is_unfinished job.standing.state) jobs;
+  is_processing = list_any (λ job. is_processing job.standing.state) jobs;
+  reserved = sum_by (λ job. job.standing.reserved) jobs;
+  charged = sum_by (λ job. job.standing.charged) jobs;
+}
+
+-- one job more
+abbrev pub counted : Tally → Standing → Tally
+counted tally standing = record {
+  unfinished = tally.unfinished + (if is_unfinished standing.state then 1 else 0);
+  is_processing = tally.is_processing || is_processing standing.state;
+  reserved = tally.reserved + standing.reserved;
+  charged = tally.charged + standing.charged;
+}
+
+-- a count is at most so many
+abbrev pub most_counted : ℕ
+most_counted = 4294967295
+
+-- a sum is at most so many units, which the sums of a room never reach
+abbrev pub most_units : ℕ
+most_units = 1000000000000000000
+
+abbrev pub is_in_bounds : Tally → Bool
+is_in_bounds tally = nat_le tally.unfinished most_counted && nat_le tally.reserved most_units && nat_le tally.charged most_units
+
+-- one job more, unless a count or a sum would pass its bound
+abbrev pub counted_in_bounds : Tally → Standing → Option Tally
+counted_in_bounds tally standing = if is_in_bounds (counted tally standing) then Some (counted tally standing) else None

@@ -1,0 +1,94 @@
+ghost use Rattle.std.specs.Prelude.{◌≡◌, ◌+◌, [], nat_le, IsTrue, if◌then◌else◌};
+ghost use Rattle.room_state.specs.RoomRules.{is_unfinished};
+ghost use Rattle.room_state.specs.Sums.{is_processing};
+ghost use Rattle.room_state.specs.Tallies.{tally_of, counted_in_bounds, is_in_bounds, most_units};
+
+use room_rules::{Job, JobState, Standing};
+
+/// More units than the jobs of an account ever reserve, or were ever charged.
+const MOST_UNITS: u64 = 1_000_000_000_000_000_000;
+
+/// What is counted of jobs, one after another.
+#[derive(Clone, Copy, Debug, PartialEq, Eq)]
+pub struct Tally {
+    /// Jobs that have not ended.
+    pub unfinished: u32,
+    /// Whether a job is processing.
+    pub is_processing: bool,
+    /// Units of the quota that their releases took.
+    pub reserved: u64,
+    /// Units of the quota that were charged when they ended.
+    pub charged: u64,
+}
+
+impl Tally {
+    /// Of no job.
+    pub fn new() -> Tally
+        ensures { result ≡ tally_of [] }
+    {
+        Tally {
+            unfinished: 0,
+            is_processing: false,
+            reserved: 0,
+            charged: 0,
+        }
+    }
+
+    /// With one job more. None exactly where the count would pass 4294967295, or a sum 10^18 units,
+    /// which no account's jobs come to.
+    pub fn with(self, standing: &Standing) -> Option<Tally>
+        ensures { result ≡ counted_in_bounds self standing.now }
+    {
+        let unfinished = self
+            .unfinished
+            .checked_add(is_unfinished(standing.state) as u32)?;
+        let reserved = sum_of_units(self.reserved, standing.reserved)?;
+        let charged = sum_of_units(self.charged, standing.charged)?;
+        Some(Tally {
+            unfinished,
+            is_processing: self.is_processing || is_processing(standing.state),
+            reserved,
+            charged,
+        })
+    }
+}
+
+/// Of all the jobs.
+pub(crate) fn tally_of(jobs: &[Job]) -> Tally
+    requires { IsTrue (is_in_bounds (tally_of jobs.now)) }
+    ensures { result ≡ tally_of jobs.now }
+{
+    let mut tally = Tally::new();
+    for job in jobs {
+        tally = tally.with(&job.standing).unwrap();
+    }
+    tally
+}
+
+fn sum_of_units(units: u64, more: u64) -> Option<u64>
+    ensures { result ≡ (if nat_le (units + more) most_units then Some (units + more) else None) }
+{
+    units.checked_add(more).filter(|sum| *sum <= MOST_UNITS)
+}
+
+fn is_unfinished(state: JobState) -> bool
+    ensures { result ≡ is_unfinished state }
+{
+    match state {
+        JobState::Held | JobState::Pending | JobState::Processing => true,
+        JobState::Canceled | JobState::Aborted | JobState::Completed => false,
+    }
+}
+
+fn is_processing(state: JobState) -> bool
+    ensures { result ≡ is_processing state }
+{
+    match state {
+        JobState::Processing => true,
+        JobState::Held
+        | JobState::Pending
+        | JobState::Canceled
+        | JobState::Aborted
+        | JobState::Completed => false,
+    }
+}
