@@ -532,6 +532,16 @@ fn eight_documents(rt: HostRuntime) -> Result<(), Fail> {
         rt.alloc(),
         r#"> grant alice 2026-09 100
 < ok
+> grant bob 2026-09 100
+< ok
+> ipp bob
+  0101 0002 00000001 01 C U(bob)
+  21 job-impressions = 00000001
+  03 48656c6c6f
+< ipp
+  0101 0000 00000001 01 C
+  job bob 1 4 job-hold-until-specified
+  03
 > ipp alice
   0101 0005 00000001 01 C U(alice)
   21 job-impressions = 00000001
@@ -599,6 +609,15 @@ fn eight_documents(rt: HostRuntime) -> Result<(), Fail> {
 < 67
 < document 1 1 application/octet-stream 1
 < 68
+> settle d1 alice 1 1 done
+< ok charged 1 left 99
+> start d1 alice 1
+< not-pending
+> release d1 bob 1 - -
+< ok reserved 1 left 99
+> start d1 bob 1
+< document 1 1 application/octet-stream 5
+< 48656c6c6f
 "#,
     )?;
     holds_once_opened(&rt, text.as_str())
