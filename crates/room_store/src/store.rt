@@ -1,0 +1,92 @@
+ghost use Rattle.std.specs.Prelude.{◌≡◌, ◌⊎◌, false, IfOk, IfErr, IsErrAnd, IsTrue};
+ghost use Rattle.sqlite.specs.State.{HasCleanDisk};
+ghost use Rattle.sqlite.specs.Held.{state};
+ghost use Rattle.room_store.specs.Tables.{no_schema};
+ghost use Rattle.room_store.specs.Making.{IsNew, IsOpened, IsOpenFault};
+ghost use Rattle.room_store.specs.Calls.{IsSame};
+
+use crate::fault::OpenFault;
+use crate::making::make_tables;
+use crate::schema::is_blank;
+use crate::version::check;
+use sqlite::{Alter, Connection, Error};
+use std::marker::Model;
+
+/// The shared tables of all accounts, over one connection, which is in no transaction. Contracts see it
+/// as its connection.
+#[derive(Drop)]
+pub struct Store<S: Alter> {
+    connection: Connection<S>,
+}
+
+impl<S: Alter> Model for Store<S> {
+    ghost use Rattle.std.specs.Prelude.{◌≡◌, false};
+    ghost use Rattle.sqlite.specs.Held.{Held, held_code};
+
+    ghost Value = { Held S };
+
+    ghost coded = { held_code S.code };
+
+    ghost view = { λ store. store.connection };
+
+    ghost invariant = { λ store. store.connection.in_transaction ≡ false };
+}
+
+/// Why there is no store, and the connection, whose tables are as they were.
+#[derive(Drop)]
+pub struct Refused<S: Alter> {
+    pub connection: Connection<S>,
+    pub fault: OpenFault,
+}
+
+impl<S: Alter> Store<S> {
+    /// Makes the tables, in one transaction. `Storage` tells also that the database has some table
+    /// already, or that the connection is in a transaction.
+    pub fn create(mut connection: Connection<S>) -> Result<Store<S>, Refused<S>>
+        ensures made { IfOk result (λ store. HasCleanDisk (state S.Store store) → ((state S.Store connection).now.schema ≡ no_schema) × IsNew (state S.Store store).now) }
+        ensures fault { IfErr result (λ refused. (refused.fault ≡ OpenFault.Storage) ⊎ (refused.fault ≡ OpenFault.Memory)) }
+        ensures taken { ((state S.Store connection).now.schema ≡ no_schema → ⊥) → IsErrAnd result (λ refused. refused.fault ≡ OpenFault.Storage) }
+        ensures unchanged { IfErr result (λ refused. HasCleanDisk (state S.Store refused.connection) → IsTrue (state S.Store refused.connection).is_open → (state S.Store refused.connection).now ≡ (state S.Store connection).now) }
+    {
+        if !connection.is_autocommit() || !is_blank(connection.schema()) {
+            return Err(Refused {
+                connection,
+                fault: OpenFault::Storage,
+            });
+        }
+        match make_tables(&mut connection) {
+            Ok(()) => Ok(Store { connection }),
+            Err(error) => Err(Refused {
+                connection,
+                fault: OpenFault::from(error),
+            }),
+        }
+    }
+
+    /// Opens a database of version 2 as it is. The schema is compared first: `NotOurs` tells that it is
+    /// none of ours, or has no version, and `WrongVersion` that it is one of another version. `Storage`
+    /// tells also that the connection is in a transaction.
+    pub fn open(mut connection: Connection<S>) -> Result<Store<S>, Refused<S>>
+        ensures opened { IfOk result (λ store. HasCleanDisk (state S.Store store) → IsOpened (state S.Store connection).now × IsSame (state S.Store connection) (state S.Store store)) }
+        ensures fault { IfErr result (λ refused. HasCleanDisk (state S.Store refused.connection) → IsOpenFault (state S.Store connection).now refused.fault) }
+        ensures unchanged { IfErr result (λ refused. HasCleanDisk (state S.Store refused.connection) → IsTrue (state S.Store refused.connection).is_open → (state S.Store refused.connection).now ≡ (state S.Store connection).now) }
+    {
+        if !connection.is_autocommit() {
+            return Err(Refused {
+                connection,
+                fault: OpenFault::Storage,
+            });
+        }
+        match check(&mut connection) {
+            Ok(()) => Ok(Store { connection }),
+            Err(fault) => Err(Refused { connection, fault }),
+        }
+    }
+
+    /// The connection, with its tables as they are. It takes no memory.
+    pub fn close(self) -> Connection<S>
+        ensures { result ≡ self }
+    {
+        self.connection
+    }
+}

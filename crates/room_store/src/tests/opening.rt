@@ -1,0 +1,108 @@
+//! Stores that are made and opened, in memory and in a file.
+
+use crate::tests::{fault_of, made};
+use crate::{OpenFault, Store};
+use sqlite::Connection;
+use std::fs;
+use std::test::Fail;
+
+/// The tables of version 1, from the table of the schema.
+const FIRST: &str =
+    "CREATE TABLE meta (id INTEGER NOT NULL PRIMARY KEY, version INTEGER NOT NULL) STRICT;
+CREATE TABLE account (name TEXT NOT NULL PRIMARY KEY, opened INTEGER NOT NULL, next_job INTEGER NOT NULL) STRICT;
+CREATE TABLE job (account TEXT NOT NULL, job INTEGER NOT NULL, name BLOB NOT NULL, password BLOB NOT NULL, state INTEGER NOT NULL, open INTEGER NOT NULL, stopping INTEGER NOT NULL, copies INTEGER NOT NULL, impressions INTEGER NOT NULL, reserved INTEGER NOT NULL, charged INTEGER NOT NULL, documents INTEGER NOT NULL, rate INTEGER NOT NULL, device TEXT NOT NULL, created INTEGER NOT NULL, started INTEGER NOT NULL, ended INTEGER NOT NULL, PRIMARY KEY (account, job)) STRICT;
+CREATE TABLE document (account TEXT NOT NULL, job INTEGER NOT NULL, number INTEGER NOT NULL, format TEXT NOT NULL, bytes BLOB NOT NULL, PRIMARY KEY (account, job, number)) STRICT;
+CREATE TABLE grants (account TEXT NOT NULL, month INTEGER NOT NULL, pages INTEGER NOT NULL, PRIMARY KEY (account, month)) STRICT;
+CREATE TABLE device (name TEXT NOT NULL PRIMARY KEY, accepting INTEGER NOT NULL) STRICT;";
+
+#[test]
+fn an_empty_database(rt: HostRuntime) -> Result<(), Fail> {
+    let connection = Connection::open_in_memory(rt.alloc())?;
+    assert_eq!(rt; fault_of(Store::open(connection)), Some(OpenFault::NotOurs));
+    Ok(())
+}
+
+#[test]
+fn made_and_opened_again(rt: HostRuntime) -> Result<(), Fail> {
+    let mut connection = made(rt.alloc())?;
+    let version: i64 = connection
+        .query_row("SELECT version FROM meta WHERE id = 1", &[])?
+        .get(0)?;
+    assert_eq!(rt; version, 2);
+    assert_eq!(rt; fault_of(Store::open(connection)), None);
+    Ok(())
+}
+
+#[test]
+fn made_twice(rt: HostRuntime) -> Result<(), Fail> {
+    let connection = made(rt.alloc())?;
+    assert_eq!(rt;
+        fault_of(Store::create(connection)),
+        Some(OpenFault::Storage)
+    );
+    Ok(())
+}
+
+#[test]
+fn made_where_another_table_is(rt: HostRuntime) -> Result<(), Fail> {
+    let mut connection = Connection::open_in_memory(rt.alloc())?;
+    connection.execute_batch("CREATE TABLE other (a INTEGER) STRICT")?;
+    assert_eq!(rt;
+        fault_of(Store::create(connection)),
+        Some(OpenFault::Storage)
+    );
+    Ok(())
+}
+
+#[test]
+fn other_versions(rt: HostRuntime) -> Result<(), Fail> {
+    let mut one = made(rt.alloc())?;
+    one.execute("UPDATE meta SET version = 1", &[])?;
+    assert_eq!(rt;
+        fault_of(Store::open(one)),
+        Some(OpenFault::WrongVersion(1))
+    );
+    let mut three = made(rt.alloc())?;
+    three.execute("UPDATE meta SET version = 3", &[])?;
+    assert_eq!(rt;
+        fault_of(Store::open(three)),
+        Some(OpenFault::WrongVersion(3))
+    );
+    let mut none = made(rt.alloc())?;
+    none.execute("DELETE FROM meta", &[])?;
+    assert_eq!(rt; fault_of(Store::open(none)), Some(OpenFault::NotOurs));
+    Ok(())
+}
+
+#[test]
+fn tables_of_version_one(rt: HostRuntime) -> Result<(), Fail> {
+    let mut one = Connection::open_in_memory(rt.alloc())?;
+    one.execute_batch(FIRST)?;
+    one.execute("INSERT INTO meta (id, version) VALUES (1, 1)", &[])?;
+    assert_eq!(rt;
+        fault_of(Store::open(one)),
+        Some(OpenFault::WrongVersion(1))
+    );
+    let mut two = Connection::open_in_memory(rt.alloc())?;
+    two.execute_batch(FIRST)?;
+    two.execute("INSERT INTO meta (id, version) VALUES (1, 2)", &[])?;
+    assert_eq!(rt; fault_of(Store::open(two)), Some(OpenFault::NotOurs));
+    Ok(())
+}
+
+#[test]
+fn a_file(rt: HostRuntime) -> Result<(), Fail> {
+    let _ = fs::remove_dir_all(&rt, "room_store_test");
+    fs::create_dir(&rt, "room_store_test")?;
+    let path = "room_store_test/rooms.db";
+    let empty = Connection::open(&rt, path)?;
+    assert_eq!(rt; fault_of(Store::open(empty)), Some(OpenFault::NotOurs));
+    let created = Connection::open(&rt, path)?;
+    assert_eq!(rt; fault_of(Store::create(created)), None);
+    let again = Connection::open(&rt, path)?;
+    assert_eq!(rt; fault_of(Store::open(again)), None);
+    let twice = Connection::open(&rt, path)?;
+    assert_eq!(rt; fault_of(Store::create(twice)), Some(OpenFault::Storage));
+    fs::remove_dir_all(&rt, "room_store_test")?;
+    Ok(())
+}
