@@ -1,6 +1,6 @@
 -- What holds of each element of a list holds of those that are picked out of it.
-use Rattle.std.proofs.Common.{◌≡◌, ℕ, zero, suc, ◌≤◌, Bool, true, false, cond, not, nat_lt, List, [], ◌∷◌, map, filter, take, length, Some, None, IfSome, unwrap_or, position, refl, arith}
-use Rattle.std.specs.List.{AllByRecursion, find, fold, position_or_len}
+use Rattle.std.proofs.Common.{◌≡◌, ◌≤◌, Bool, true, false, cond, not, nat_lt, List, [], ◌∷◌, map, length, Some, None, IfSome, unwrap_or, position, refl, arith}
+use Rattle.std.specs.List.{AllByRecursion, find, position_or_len}
 use Rattle.std.proofs.lemmas.Bool.Decides.{nat_tests}
 use Rattle.std.proofs.lemmas.List.Sums.{prefix_len-le-length}
 
@@ -12,22 +12,6 @@ found_of_all P test (x ∷ xs) all =
 pub all_unmapped : {X Y : Type 0} (P : Y → Type 0) (f : X → Y) (xs : List X) → AllByRecursion P (map f xs) → AllByRecursion (λ x. P (f x)) xs
 all_unmapped P f [] all = tt
 all_unmapped P f (x ∷ xs) all = (all.0, all_unmapped P f xs all.1)
-
-pub all_filtered : {X : Type 0} (P : X → Type 0) (test : X → Bool) (xs : List X) → AllByRecursion P xs → AllByRecursion P (filter test xs)
-all_filtered P test [] all = tt
-all_filtered P test (x ∷ xs) all =
-    let rest = all_filtered P test xs all.1 in
-    elim (test x) as (λ b. AllByRecursion P (cond b (x ∷ filter test xs) (filter test xs))) [ true ↦ (all.0, rest) | false ↦ rest ]
-
-pub all_taken : {X : Type 0} (P : X → Type 0) (n : ℕ) (xs : List X) → AllByRecursion P xs → AllByRecursion P (take n xs)
-all_taken P zero xs all = tt
-all_taken P (suc n) [] all = tt
-all_taken P (suc n) (x ∷ xs) all = (all.0, all_taken P n xs all.1)
-
-pub all_folded : {X : Type 0} (P : X → Type 0) (put : List X → X → List X) → ((xs : List X) (x : X) → AllByRecursion P xs → P x → AllByRecursion P (put xs x)) →
-    (done xs : List X) → AllByRecursion P done → AllByRecursion P xs → AllByRecursion P (fold put done xs)
-all_folded P put keeps done [] begun all = begun
-all_folded P put keeps done (x ∷ xs) begun all = all_folded P put keeps (put done x) xs (keeps done x begun all.0) all.1
 
 -- the place of the first that passes, or the length
 pub place_or_length : {X : Type 0} (test : X → Bool) (xs : List X) → unwrap_or (position test xs) (length xs) ≡ position_or_len test xs

@@ -1,11 +1,11 @@
 -- The jobs that Get-Jobs gives, their order, and that they can be shown.
-use Rattle.std.proofs.Common.{◌≡◌, ℕ, suc, ◌+◌, ◌*◌, arith, ◌≤◌, true, false, cond, not, List, [], ◌∷◌, map, Option, Some, None, Bor, refl, ap, ◌∙◌}
+use Rattle.std.proofs.Common.{◌≡◌, ℕ, suc, ◌+◌, ◌*◌, arith, ◌≤◌, true, false, cond, not, List, [], ◌∷◌, map, Bor, refl, ap, ◌∙◌}
 use Rattle.std.specs.List.{AllByRecursion, insert, position_or_len, prefix_len}
 use Rattle.room_asks.specs.Asks.{PlainAsk}
 use Rattle.room_asks.specs.declared.ask.Which.{Which}
 use Rattle.room_asks.specs.declared.ask.Which.TheVariants.{NotCompleted, Completed}
-use Rattle.room_core.specs.Queues.{is_later, put_by_end, chosen, at_most, asked_jobs}
-use Rattle.room_core.proofs.Lists.{all_filtered, all_taken, all_folded}
+use Rattle.room_core.specs.Queues.{chosen, asked_jobs}
+use Rattle.room_state.specs.Queues.{is_later, put_by_end}
 use Rattle.room_rules.specs.declared.job.Job.{Job}
 use Rattle.room_rules.specs.declared.job.JobState.{JobState}
 use Rattle.room_rules.specs.declared.job.JobState.TheVariants.{Held, Pending, Processing, Canceled, Aborted, Completed}
@@ -13,7 +13,8 @@ use Rattle.room_rules.specs.declared.job.Standing.{Standing}
 use Rattle.room_rules.specs.Limits.{last_next_job}
 use Rattle.room_rules.specs.Standings.{IsStanding, KeepsToState}
 use Rattle.room_texts.specs.Limits.{IsShowable}
-use Rattle.room_state.specs.RoomRules.{is_unfinished, IsJobAt}
+use Rattle.room_state.specs.RoomRules.{IsJobAt}
+use Rattle.room_state.proofs.QueueOrders.{all_not_completed, all_completed, all_at_most}
 
 charged_at_most : (s : Standing) → IsStanding s → s.charged ≤ 2147483647 * s.rate
 charged_at_most s h = by_state s.state h.by_state
@@ -57,19 +58,9 @@ put_there job (other ∷ jobs) =
     ≡ cond b (job.now ∷ other.now ∷ map (λ (j : Bor Job). j.now) jobs) (other.now ∷ put_by_end (map (λ (j : Bor Job). j.now) jobs) job.now))
     [ true ↦ refl | false ↦ ap (λ place. map (λ (j : Bor Job). j.now) (insert (other ∷ jobs) place job)) (after_one (prefix_len (λ (o : Bor Job). not (is_later job.now o.now)) jobs)) ∙ ap (λ rest. other.now ∷ rest) (put_there job jobs) ]
 
-all_put : (P : Job → Type 0) (jobs : List Job) (job : Job) → AllByRecursion P jobs → P job → AllByRecursion P (put_by_end jobs job)
-all_put P [] job all here = (here, tt)
-all_put P (other ∷ jobs) job all here =
-    elim (is_later job other) as (λ b. AllByRecursion P (cond b (job ∷ other ∷ jobs) (other ∷ put_by_end jobs job)))
-    [ true ↦ (here, all) | false ↦ (all.0, all_put P jobs job all.1 here) ]
-
 all_chosen : (P : Job → Type 0) (which : Which) (jobs : List Job) → AllByRecursion P jobs → AllByRecursion P (chosen which jobs)
-all_chosen P NotCompleted jobs all = all_filtered P (λ (job : Job). is_unfinished job.standing.state) jobs all
-all_chosen P Completed jobs all = all_folded P put_by_end (all_put P) [] _ tt (all_filtered P (λ (job : Job). not (is_unfinished job.standing.state)) jobs all)
-
-all_at_most : (P : Job → Type 0) (limit : Option ℕ) (jobs : List Job) → AllByRecursion P jobs → AllByRecursion P (at_most limit jobs)
-all_at_most P None jobs all = all
-all_at_most P (Some limit) jobs all = all_taken P limit jobs all
+all_chosen P NotCompleted jobs all = all_not_completed P jobs all
+all_chosen P Completed jobs all = all_completed P jobs all
 
 pub all_asked : (P : Job → Type 0) (ask : PlainAsk) (jobs : List Job) → AllByRecursion P jobs → AllByRecursion P (asked_jobs ask jobs)
 all_asked P ask jobs all = all_at_most P ask.limit (chosen ask.which jobs) (all_chosen P ask.which jobs all)

@@ -1,8 +1,6 @@
 -- What a station is answered (all this project's own). Its device is looked at first, then the job,
 -- then the table of states (Moves of room_rules).
-use Rattle.std.specs.Prelude.{ℕ, Bool, List, [], ◌∷◌, map, Option, Some, None, Result, Ok, Err}
-use Rattle.std.specs.List.{flat_map}
-use Rattle.std.specs.Option.{option_to_list}
+use Rattle.std.specs.Prelude.{ℕ, Bool, List, map, Option, Some, None, Result, Ok, Err}
 use Rattle.std.specs.FinMap.{get}
 use Rattle.room_answers.specs.Parts.{part_of}
 use Rattle.room_answers.specs.Stations.{known_device, ready_device}
@@ -10,7 +8,6 @@ use Rattle.room_core.specs.declared.event.Reply.TheVariants as reply
 use Rattle.room_core.specs.Steps.{Step, refusing, telling, and_then, with_moved}
 use Rattle.room_rules.specs.Acts.{StationRelease, StationStart, StationSettle}
 use Rattle.room_rules.specs.declared.device.Device.{Device}
-use Rattle.room_rules.specs.declared.job.Document.{Document}
 use Rattle.room_rules.specs.declared.job.Job.{Job}
 use Rattle.room_rules.specs.declared.job.Standing.{Standing}
 use Rattle.room_rules.specs.declared.refusal.Refusal.{Refusal}
@@ -18,6 +15,7 @@ use Rattle.room_rules.specs.declared.refusal.Word.{Word}
 use Rattle.room_rules.specs.declared.refusal.Word.TheVariants.{NoJob}
 use Rattle.room_rules.specs.Devices.{device_at}
 use Rattle.room_rules.specs.Moves.{move}
+use Rattle.room_state.specs.Documents.{documents_of}
 use Rattle.room_state.specs.Rooms.{RoomValue}
 use Rattle.room_state.specs.Sums.{left_in}
 use Rattle.room_texts.specs.declared.line.Success.TheVariants.{Released, Settled}
@@ -56,14 +54,6 @@ start_of room devices now device number =
     and_then (ready_device (device_at devices device)) (λ (ready : Device).
     and_then (named_job room number) (λ (job : Job).
     by_word (move (StationStart device ready.rate now) job.standing)))
-
--- the numbers that a document may have
-abbrev pub document_numbers : List ℕ
-document_numbers = 1 ∷ 2 ∷ 3 ∷ 4 ∷ 5 ∷ 6 ∷ 7 ∷ 8 ∷ []
-
--- the documents of a job, by rising number
-abbrev pub documents_of : RoomValue → ℕ → List Document
-documents_of room number = flat_map (λ document. option_to_list (get room.documents (number, document))) document_numbers
 
 -- each document of the job, as it is handed to the device
 abbrev pub started : RoomValue → ℕ → Result Standing Word → Step

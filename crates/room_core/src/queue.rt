@@ -1,14 +1,14 @@
 //! Get-Jobs.
 
-ghost use Rattle.std.specs.Prelude.{◌≡◌, ◌≤◌, ◌∷◌, [], not, map, filter, fold, take, position, None, Some, ℕ, List, IfOk, IfErr, OnOk};
+ghost use Rattle.std.specs.Prelude.{◌≡◌, ◌≤◌, map, take, position, None, Some, ℕ, List, IfOk, IfErr, OnOk};
 ghost use Rattle.std.specs.Borrow.{Bor};
 ghost use Rattle.std.specs.FinMap.{values};
 ghost use Rattle.std.specs.List.{AllByRecursion, position_or_len};
 ghost use Rattle.room_asks.specs.Asks.{IsAsk, plain_ask};
-ghost use Rattle.room_core.specs.Queues.{is_later, put_by_end, chosen, at_most, asked_jobs, listed, listed_names};
+ghost use Rattle.room_core.specs.Queues.{chosen, asked_jobs, listed, listed_names};
 ghost use Rattle.room_rules.specs.declared.job.Job.{Job};
 ghost use Rattle.room_rules.specs.Limits.{last_moment, last_next_job};
-ghost use Rattle.room_state.specs.RoomRules.{is_unfinished};
+ghost use Rattle.room_state.specs.Queues.{is_later, put_by_end, not_completed, completed, at_most};
 ghost use Rattle.room_texts.specs.Limits.{IsShowable};
 
 use crate::moving::is_unfinished;
@@ -96,7 +96,7 @@ fn chosen<'r>(alloc: Global, jobs: &'r [Job], which: Which) -> Result<Vec<&'r Jo
 }
 
 fn not_completed<'r>(alloc: Global, jobs: &'r [Job]) -> Result<Vec<&'r Job>, CoreFault>
-    ensures chosen { IfOk result (λ asked. map (λ (job : Bor Job). job.now) asked.items ≡ filter (λ (job : Job). is_unfinished job.standing.state) jobs.now) }
+    ensures chosen { IfOk result (λ asked. map (λ (job : Bor Job). job.now) asked.items ≡ not_completed jobs.now) }
     ensures memory { IfErr result (λ fault. fault ≡ CoreFault.Memory) }
 {
     let mut asked = Vec::new(alloc);
@@ -110,7 +110,7 @@ fn not_completed<'r>(alloc: Global, jobs: &'r [Job]) -> Result<Vec<&'r Job>, Cor
 
 /// By falling moment of ending, and where that is the same by falling number.
 fn completed<'r>(alloc: Global, jobs: &'r [Job]) -> Result<Vec<&'r Job>, CoreFault>
-    ensures chosen { IfOk result (λ asked. map (λ (job : Bor Job). job.now) asked.items ≡ fold put_by_end [] (filter (λ (job : Job). not (is_unfinished job.standing.state)) jobs.now)) }
+    ensures chosen { IfOk result (λ asked. map (λ (job : Bor Job). job.now) asked.items ≡ completed jobs.now) }
     ensures memory { IfErr result (λ fault. fault ≡ CoreFault.Memory) }
 {
     let mut asked = Vec::new(alloc);

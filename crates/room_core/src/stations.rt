@@ -7,8 +7,9 @@ ghost use Rattle.std.specs.FinMap.{get};
 ghost use Rattle.room_answers.specs.Parts.{part_of};
 ghost use Rattle.room_core.specs.Moving.{CanMove};
 ghost use Rattle.room_core.specs.Rates.{AreRated};
-ghost use Rattle.room_core.specs.Stations.{release_of, released, start_of, started, settle_of, settled, documents_of};
+ghost use Rattle.room_core.specs.Stations.{release_of, released, start_of, started, settle_of, settled};
 ghost use Rattle.room_rules.specs.Limits.{most_impressions, last_moment};
+ghost use Rattle.room_state.specs.Documents.{documents_of};
 
 use crate::devices::device_at;
 use crate::event::Reply;

@@ -1,3 +1,4 @@
+pub mod FormatLemmas
 pub mod NameLemmas
 pub mod DeviceLemmas
 pub mod MonthLemmas

@@ -1,3 +1,4 @@
+pub mod Formats
 pub mod Names
 pub mod NameCells
 pub mod Limits

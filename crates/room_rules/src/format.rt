@@ -1,3 +1,7 @@
+ghost use Rattle.std.specs.Prelude.{◌≡◌, ◌≢◌, IfSome, None, bytes_eq, find, option_copied};
+ghost use Rattle.room_rules.specs.Formats.{media_type, formats};
+ghost use Rattle.room_rules.specs.declared.format.Format.{Format as FormatValue};
+
 /// A document format (RFC 8011 section 5.4.22).
 #[derive(Clone, Copy, Debug, PartialEq, Eq)]
 pub enum Format {
@@ -8,4 +12,52 @@ pub enum Format {
     PwgRaster,
     Urf,
     Plain,
+}
+
+/// All of them.
+const FORMATS: [Format; 7] = [
+    Format::OctetStream,
+    Format::Pdf,
+    Format::PostScript,
+    Format::Jpeg,
+    Format::PwgRaster,
+    Format::Urf,
+    Format::Plain,
+];
+
+impl Format {
+    /// Its media type, in small letters.
+    pub fn media_type(self) -> &'static str
+        ensures { result.now ≡ media_type self }
+    {
+        match self {
+            Format::OctetStream => "application/octet-stream",
+            Format::Pdf => "application/pdf",
+            Format::PostScript => "application/postscript",
+            Format::Jpeg => "image/jpeg",
+            Format::PwgRaster => "image/pwg-raster",
+            Format::Urf => "image/urf",
+            Format::Plain => "text/plain",
+        }
+    }
+
+    /// The format whose media type is exactly these bytes.
+    pub fn of_media_type(text: &[u8]) -> Option<Format>
+        ensures some { IfSome result (λ format. text.now ≡ media_type format) }
+        ensures none { result ≡ None → (format : FormatValue) → text.now ≢ media_type format }
+    {
+        first_named(text).copied()
+    }
+}
+
+fn first_named(text: &[u8]) -> Option<&'static Format>
+    ensures { option_copied result ≡ find (λ format. bytes_eq text.now (media_type format)) formats }
+{
+    FORMATS.iter().find(|format| is_named(format, text))
+}
+
+fn is_named(format: &Format, text: &[u8]) -> bool
+    ensures { result ≡ bytes_eq text.now (media_type format.now) }
+{
+    text == format.media_type().as_bytes()
 }

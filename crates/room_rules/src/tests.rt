@@ -2,6 +2,7 @@
 
 mod acts;
 mod devices;
+mod formats;
 mod memory;
 mod months;
 mod names;

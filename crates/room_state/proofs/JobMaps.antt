@@ -3,14 +3,14 @@ use Rattle.std.proofs.Common.{◌≡◌, ℕ, ◌<◌, ◌==◌, ◌&&◌, Bool,
 use Rattle.std.specs.List.{find as first, AllByRecursion}
 use Rattle.std.specs.Ordering.{nat_cmp, is_lt}
 use Rattle.std.specs.Cmp.{nat_cmp_total}
-use Rattle.std.specs.FinMap.{FinMap, get, insert, entries, values, from_entries, is_sorted, nat_cmp-IsAntisymmetric, same_map, get-from_entries, get-from_sorted, entries-from_sorted}
+use Rattle.std.specs.FinMap.{FinMap, get, insert, entries, values, from_entries, is_sorted, nat_cmp-IsAntisymmetric, same_map, get-from_entries, get-from_sorted, entries-from_sorted, entries_sorted}
 use Rattle.std.specs.FinMap.Entries.{below_all}
 use Rattle.std.proofs.lemmas.Bool.Decides.{nat_tests}
 use Rattle.std.proofs.lemmas.Float.{T_from_true}
 use Rattle.room_rules.specs.declared.job.Job.{Job}
 use Rattle.room_state.specs.Rooms.{RoomValue, job_map, by_number}
 use Rattle.room_state.specs.RoomRules.{NumbersRise}
-use Rattle.room_state.proofs.FiniteMaps.{same_option, number_tie, get_keyed, push_keyed, all_along, entries_here}
+use Rattle.room_state.proofs.FiniteMaps.{same_option, number_tie, get_keyed, push_keyed, all_along, entries_here, all_above, T_first, T_second}
 
 pub get_job : (jobs : List Job) (number : ℕ) → get (job_map jobs) number ≡ first (λ job. job.job == number) jobs
 get_job jobs number =
@@ -60,3 +60,15 @@ values_keep P jobs each = seconds_keep P (entries jobs) (all_along (λ (e : ℕ 
 -- the list of jobs are those of the room
 pub jobs_seen : (room view : RoomValue) (jobs given : List Job) → view ≡ room → view.jobs ≡ job_map jobs → given ≡ jobs → NumbersRise jobs → given ≡ values room.jobs
 jobs_seen room view jobs given seen parts same rising = same ∙ sym (values-job_map jobs rising) ∙ ap values (sym parts) ∙ ap (λ (r : RoomValue). values r.jobs) seen
+
+seconds_rise : (es : List (ℕ × Job)) → T (is_sorted nat_cmp es) → AllByRecursion (λ (e : ℕ × Job). e.1.job ≡ e.0) es → NumbersRise (map (λ (e : ℕ × Job). e.1) es)
+seconds_rise [] sorted numbered = tt
+seconds_rise (e ∷ es) sorted numbered = (above es (all_above e.0 es (T_first _ _ sorted)) numbered.1, seconds_rise es (T_second _ _ sorted) numbered.1)
+  where
+    above : (later : List (ℕ × Job)) → AllByRecursion (λ f. e.0 < f.0) later → AllByRecursion (λ (f : ℕ × Job). f.1.job ≡ f.0) later → AllByRecursion (λ later. e.1.job < later.job) (map (λ (f : ℕ × Job). f.1) later)
+    above [] keys_rise numbers = tt
+    above (f ∷ later) keys_rise numbers = (omega (arith, keys_rise.0, numbers.0, numbered.0), above later keys_rise.1 numbers.1)
+
+-- the values of a map of jobs, each under its number, stand by rising number
+pub values_rise : (jobs : FinMap nat_cmp Job) → ((number : ℕ) (job : Job) → get jobs number ≡ Some job → job.job ≡ number) → NumbersRise (values jobs)
+values_rise jobs numbered = seconds_rise (entries jobs) (entries_sorted jobs) (all_along (λ (e : ℕ × Job) is. numbered e.0 e.1 is) (entries jobs) (entries_here jobs))

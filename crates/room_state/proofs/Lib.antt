@@ -12,3 +12,4 @@ pub mod TallyLemmas
 pub mod Lookups
 pub mod RoomLemmas
 pub mod FirstJobs
+pub mod QueueOrders

@@ -7,6 +7,7 @@ use Rattle.std.proofs.lemmas.List.Sums.{sum_by_push, sum_by-take-le}
 use Rattle.std.proofs.lemmas.List.Folds.{list_any-append}
 use Rattle.std.proofs.Math.Bool.{or-false}
 use Rattle.room_rules.specs.declared.job.Job.{Job}
+use Rattle.room_rules.specs.declared.job.JobState.{JobState}
 use Rattle.room_rules.specs.declared.job.Standing.{Standing}
 use Rattle.room_state.specs.declared.tally.Tally.{Tally}
 use Rattle.std.specs.FinMap.{values}
@@ -17,7 +18,11 @@ use Rattle.room_state.specs.Sums.{is_processing, reserved_in, charged_in}
 use Rattle.room_state.proofs.Bounds.{reserved_bound, charged_bound}
 use Rattle.room_state.specs.Tallies.{tally_of, counted, counted_in_bounds, is_in_bounds, most_counted, most_units}
 
-pub tally_push : (jobs : List Job) (job : Job) → tally_of (jobs ++ job ∷ []) ≡ counted (tally_of jobs) job.standing
+-- one job more, by its standing
+abbrev pub counted_with : Tally → Standing → Tally
+counted_with tally standing = counted tally standing.state standing.reserved standing.charged
+
+pub tally_push : (jobs : List Job) (job : Job) → tally_of (jobs ++ job ∷ []) ≡ counted_with (tally_of jobs) job.standing
 tally_push jobs job =
     let unfinished = sum_by_push (λ (job : Job). cond (is_unfinished job.standing.state) 1 0) jobs job in
     let processing = list_any-append (λ (job : Job). is_processing job.standing.state) jobs (job ∷ []) ∙ ap (λ b. list_any (λ (job : Job). is_processing job.standing.state) jobs || b) (or-false (is_processing job.standing.state)) in
@@ -25,10 +30,10 @@ tally_push jobs job =
     let charged = sum_by_push (λ (job : Job). job.standing.charged) jobs job in
     λ i. record { unfinished = unfinished i; is_processing = processing i; reserved = reserved i; charged = charged i }
 
-pub tally_more : (jobs : List Job) (i : ℕ) (job : Job) → i < length jobs → job ≡ get_or jobs i job → tally_of (take (i + 1) jobs) ≡ counted (tally_of (take i jobs)) job.standing
+pub tally_more : (jobs : List Job) (i : ℕ) (job : Job) → i < length jobs → job ≡ get_or jobs i job → tally_of (take (i + 1) jobs) ≡ counted_with (tally_of (take i jobs)) job.standing
 tally_more jobs i job h is = ap tally_of (take_more jobs i job h ∙ ap (λ (last : Job). take i jobs ++ last ∷ []) (sym is)) ∙ tally_push (take i jobs) job
 
-three_lower : (a b c x y z : ℕ) → a ≤ x → b ≤ y → c ≤ z →
+pub three_lower : (a b c x y z : ℕ) → a ≤ x → b ≤ y → c ≤ z →
     IsTrue (nat_le x most_counted && nat_le y most_units && nat_le z most_units) → IsTrue (nat_le a most_counted && nat_le b most_units && nat_le c most_units)
 three_lower a b c x y z h i j within = grind (arith, nat_tests)
 
@@ -39,8 +44,8 @@ in_bounds_before jobs i within =
     let charged = sum_by-take-le (λ (job : Job). job.standing.charged) jobs i in
     three_lower _ _ _ _ _ _ unfinished reserved charged within
 
-pub counted_some : (tally : Tally) (standing : Standing) → IsTrue (is_in_bounds (counted tally standing)) → counted_in_bounds tally standing ≡ Some (counted tally standing)
-counted_some tally standing within = ap (λ b. cond b (Some (counted tally standing)) None) within
+pub counted_some : (tally : Tally) (state : JobState) (reserved charged : ℕ) → IsTrue (is_in_bounds (counted tally state reserved charged)) → counted_in_bounds tally state reserved charged ≡ Some (counted tally state reserved charged)
+counted_some tally state reserved charged within = ap (λ b. cond b (Some (counted tally state reserved charged)) None) within
 
 three_within : (a b c : ℕ) → a ≤ most_unfinished → b ≤ most_units → c ≤ most_units → IsTrue (nat_le a most_counted && nat_le b most_units && nat_le c most_units)
 three_within a b c h i j = grind (arith, nat_tests)

@@ -1,7 +1,9 @@
 pub mod Rooms
 pub mod RoomRules
+pub mod Documents
 pub mod Sums
 pub mod Tallies
 pub mod Changes
 pub mod Conditions
 pub mod Restanding
+pub mod Queues

@@ -2,7 +2,7 @@
 use Rattle.std.specs.Prelude.{ℕ, ◌+◌, Bool, ◌&&◌, ◌||◌, nat_le, if◌then◌else◌, List, count_by, Option, Some, None}
 use Rattle.std.specs.List.{sum_by, list_any}
 use Rattle.room_rules.specs.declared.job.Job.{Job}
-use Rattle.room_rules.specs.declared.job.Standing.{Standing}
+use Rattle.room_rules.specs.declared.job.JobState.{JobState}
 use Rattle.room_state.specs.declared.tally.Tally.{Tally}
 use Rattle.room_state.specs.RoomRules.{is_unfinished}
 use Rattle.room_state.specs.Sums.{is_processing}
@@ -16,13 +16,13 @@ tally_of jobs = record {
   charged = sum_by (λ job. job.standing.charged) jobs;
 }
 
--- one job more
-abbrev pub counted : Tally → Standing → Tally
-counted tally standing = record {
-  unfinished = tally.unfinished + (if is_unfinished standing.state then 1 else 0);
-  is_processing = tally.is_processing || is_processing standing.state;
-  reserved = tally.reserved + standing.reserved;
-  charged = tally.charged + standing.charged;
+-- one job more, of which its state is counted, and the units that it reserves and was charged
+abbrev pub counted : Tally → JobState → (reserved charged : ℕ) → Tally
+counted tally state reserved charged = record {
+  unfinished = tally.unfinished + (if is_unfinished state then 1 else 0);
+  is_processing = tally.is_processing || is_processing state;
+  reserved = tally.reserved + reserved;
+  charged = tally.charged + charged;
 }
 
 -- a count is at most so many
@@ -37,5 +37,6 @@ abbrev pub is_in_bounds : Tally → Bool
 is_in_bounds tally = nat_le tally.unfinished most_counted && nat_le tally.reserved most_units && nat_le tally.charged most_units
 
 -- one job more, unless a count or a sum would pass its bound
-abbrev pub counted_in_bounds : Tally → Standing → Option Tally
-counted_in_bounds tally standing = if is_in_bounds (counted tally standing) then Some (counted tally standing) else None
+abbrev pub counted_in_bounds : Tally → JobState → (reserved charged : ℕ) → Option Tally
+counted_in_bounds tally state reserved charged =
+    if is_in_bounds (counted tally state reserved charged) then Some (counted tally state reserved charged) else None

@@ -3,7 +3,7 @@ ghost use Rattle.room_state.specs.RoomRules.{is_unfinished};
 ghost use Rattle.room_state.specs.Sums.{is_processing};
 ghost use Rattle.room_state.specs.Tallies.{tally_of, counted_in_bounds, is_in_bounds, most_units};
 
-use room_rules::{Job, JobState, Standing};
+use room_rules::{Job, JobState};
 
 /// More units than the jobs of an account ever reserve, or were ever charged.
 const MOST_UNITS: u64 = 1_000_000_000_000_000_000;
@@ -36,19 +36,15 @@ impl Tally {
 
     /// With one job more. None exactly where the count would pass 4294967295, or a sum 10^18 units,
     /// which no account's jobs come to.
-    pub fn with(self, standing: &Standing) -> Option<Tally>
-        ensures { result ≡ counted_in_bounds self standing.now }
+    pub fn with(self, state: JobState, reserved: u64, charged: u64) -> Option<Tally>
+        ensures { result ≡ counted_in_bounds self state reserved charged }
     {
-        let unfinished = self
-            .unfinished
-            .checked_add(is_unfinished(standing.state) as u32)?;
-        let reserved = sum_of_units(self.reserved, standing.reserved)?;
-        let charged = sum_of_units(self.charged, standing.charged)?;
+        let unfinished = self.unfinished.checked_add(is_unfinished(state) as u32)?;
         Some(Tally {
             unfinished,
-            is_processing: self.is_processing || is_processing(standing.state),
-            reserved,
-            charged,
+            is_processing: self.is_processing || is_processing(state),
+            reserved: sum_of_units(self.reserved, reserved)?,
+            charged: sum_of_units(self.charged, charged)?,
         })
     }
 }
@@ -60,7 +56,10 @@ pub(crate) fn tally_of(jobs: &[Job]) -> Tally
 {
     let mut tally = Tally::new();
     for job in jobs {
-        tally = tally.with(&job.standing).unwrap();
+        let standing = &job.standing;
+        tally = tally
+            .with(standing.state, standing.reserved, standing.charged)
+            .unwrap();
     }
     tally
 }

@@ -1,14 +1,16 @@
-ghost use Rattle.std.specs.Prelude.{◌≡◌, ◌⊎◌, false, IfOk, IfErr, IsErrAnd, IsTrue};
+ghost use Rattle.std.specs.Prelude.{◌≡◌, ◌⊎◌, ℕ, List, Option, false, IfOk, IfErr, IsErrAnd, IsTrue};
 ghost use Rattle.sqlite.specs.State.{HasCleanDisk};
 ghost use Rattle.sqlite.specs.Held.{state};
-ghost use Rattle.room_store.specs.Tables.{no_schema};
-ghost use Rattle.room_store.specs.Making.{IsNew, IsOpened, IsOpenFault};
-ghost use Rattle.room_store.specs.Calls.{IsSame};
+ghost use Rattle.room_tables.specs.Tables.{no_schema};
+ghost use Rattle.room_tables.specs.Making.{IsNew, IsOpened, IsOpenFault};
+ghost use Rattle.room_tables.specs.Calls.{IsSame};
+ghost use Rattle.room_tables.specs.Keyed.{HasSchema};
+ghost use Rattle.room_tables.specs.Accounts.{AgreeOnRows, Holds};
+ghost use Rattle.room_tables.specs.Devices.{Devices, HoldsDevices};
+ghost use Rattle.room_tables.specs.Migrating.{HasFirstSchema, HoldsFirstDevices, IsMigrated, IsMigrateFault};
+ghost use Rattle.room_state.specs.Rooms.{RoomValue};
 
-use crate::fault::OpenFault;
-use crate::making::make_tables;
-use crate::schema::is_blank;
-use crate::version::check;
+use room_tables::{OpenFault, check, is_blank, make_tables, migrate_tables};
 use sqlite::{Alter, Connection, Error};
 use std::marker::Model;
 
@@ -78,6 +80,30 @@ impl<S: Alter> Store<S> {
             });
         }
         match check(&mut connection) {
+            Ok(()) => Ok(Store { connection }),
+            Err(fault) => Err(Refused { connection, fault }),
+        }
+    }
+
+    /// Makes version 2 of a database of version 1: each device has rate 1, and each account keeps its rows.
+    /// Version 2 is opened as it is. The schema is compared first, as `open` does. `Storage` tells also that
+    /// a database of version 1 has the table `rates` already, or that the connection is in a transaction.
+    pub fn migrate(mut connection: Connection<S>) -> Result<Store<S>, Refused<S>>
+        ensures migrated { IfOk result (λ store. HasCleanDisk (state S.Store store) → ((IsOpened (state S.Store connection).now × IsSame (state S.Store connection) (state S.Store store)) ⊎ IsMigrated (state S.Store connection).now (state S.Store store).now)) }
+        ensures has_schema { IfOk result (λ store. HasCleanDisk (state S.Store store) → (HasFirstSchema (state S.Store connection).now ⊎ HasSchema (state S.Store connection).now) → HasSchema (state S.Store store).now) }
+        ensures rows { IfOk result (λ store. HasCleanDisk (state S.Store store) → (name : List ℕ) → AgreeOnRows name (state S.Store connection).now (state S.Store store).now) }
+        ensures rooms { IfOk result (λ store. HasCleanDisk (state S.Store store) → (name : List ℕ) (room : Option RoomValue) → Holds (state S.Store connection).now name room → Holds (state S.Store store).now name room) }
+        ensures devices { IfOk result (λ store. HasCleanDisk (state S.Store store) → (devices : Devices) → HoldsFirstDevices (state S.Store connection).now devices → HoldsDevices (state S.Store store).now devices) }
+        ensures fault { IfErr result (λ refused. HasCleanDisk (state S.Store refused.connection) → IsMigrateFault (state S.Store connection).now refused.fault) }
+        ensures unchanged { IfErr result (λ refused. HasCleanDisk (state S.Store refused.connection) → IsTrue (state S.Store refused.connection).is_open → (state S.Store refused.connection).now ≡ (state S.Store connection).now) }
+    {
+        if !connection.is_autocommit() {
+            return Err(Refused {
+                connection,
+                fault: OpenFault::Storage,
+            });
+        }
+        match migrate_tables(&mut connection) {
             Ok(()) => Ok(Store { connection }),
             Err(fault) => Err(Refused { connection, fault }),
         }

@@ -1,4 +1,3 @@
-pub mod Formats
 pub mod Words
 pub mod Lines
 pub mod Attributes

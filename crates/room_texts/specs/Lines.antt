@@ -1,7 +1,7 @@
 -- The lines that a station is told (this project's own). A refusal's line is the text of its word.
 use Rattle.std.specs.Prelude.{ℕ, List, ◌++◌, codes}
 use Rattle.std.specs.Fmt.{decimal, signed_decimal}
-use Rattle.room_texts.specs.Formats.{media_type}
+use Rattle.room_rules.specs.Formats.{media_type}
 use Rattle.room_texts.specs.declared.line.Success.{Success}
 use Rattle.room_texts.specs.declared.line.Success.TheVariants.{Released, Settled, Started}
 use Rattle.room_texts.specs.declared.line.Success.TheVariants as success

@@ -1,13 +1,13 @@
 -- The attributes that a printer shows (RFC 8011 sections 5.2 and 5.4; those on passwords are this project's own).
 use Rattle.std.specs.Prelude.{ℕ, true, ◌==◌, if◌then◌else◌, List, [], ◌∷◌, ◌++◌, map, Option, codes, slice_index_or}
 use Rattle.room_rules.specs.declared.format.Format.{Format}
-use Rattle.room_rules.specs.declared.format.Format.TheVariants.{OctetStream, Pdf, PostScript, Jpeg, PwgRaster, Urf, Plain}
+use Rattle.room_rules.specs.declared.format.Format.TheVariants.{OctetStream}
 use Rattle.ipp_coding.specs.Plain.{PlainValue, PlainGroup}
 use Rattle.room_texts.specs.declared.printer.PrinterNow.{PrinterNow}
 use Rattle.room_texts.specs.declared.printer.PrinterAttribute.{PrinterAttribute}
 use Rattle.room_texts.specs.declared.printer.PrinterAttribute.TheVariants as attribute
 use Rattle.room_texts.specs.Attributes.{value_with, single, number, boolean}
-use Rattle.room_texts.specs.Formats.{media_type}
+use Rattle.room_rules.specs.Formats.{media_type, formats}
 use Rattle.room_texts.specs.Places.{PlainPlace, printer_uri}
 use Rattle.room_texts.specs.Times.{up}
 use Rattle.room_texts.specs.Tables.{Row, shown}
@@ -16,9 +16,6 @@ use Rattle.room_texts.specs.Tables.{Row, shown}
 -- Get-Printer-Attributes, Hold-Job, Release-Job (RFC 8011 section 5.4.15)
 abbrev pub operations : List ℕ
 operations = 2 ∷ 4 ∷ 5 ∷ 6 ∷ 8 ∷ 9 ∷ 10 ∷ 11 ∷ 12 ∷ 13 ∷ []
-
-abbrev pub formats : List Format
-formats = OctetStream ∷ Pdf ∷ PostScript ∷ Jpeg ∷ PwgRaster ∷ Urf ∷ Plain ∷ []
 
 abbrev pub described : List ℕ → (PlainPlace → PrinterNow → List PlainValue) → Row PrinterNow
 described name values = record { name = name; group = codes "printer-description"; values = values }

@@ -4,7 +4,7 @@ ghost use Rattle.std.specs.Prelude.{◌≡◌, ◌++◌, IfOk, IfErr, OnOk, OnEr
 ghost use Rattle.room_texts.specs.Lines.{success_text};
 ghost use Rattle.room_texts.specs.Words.{word_numbers, word_text};
 
-use crate::names::{media_type, word_name};
+use crate::names::word_name;
 use room_rules::{CoreFault, Format, Word};
 use std::alloc::{AllocError, Global};
 
@@ -83,7 +83,7 @@ fn success_text(alloc: Global, s: Success) -> Result<String, AllocError>
             format,
             length,
         } => {
-            let kind = media_type(format);
+            let kind = format.media_type();
             format!(in alloc; "document {job} {copies} {kind} {length}")
         }
     }

@@ -1,25 +1,9 @@
-//! The words and formats as texts.
+//! The words as texts.
 
 ghost use Rattle.std.specs.Prelude.{◌≡◌};
-ghost use Rattle.room_texts.specs.Formats.{media_type};
 ghost use Rattle.room_texts.specs.Words.{word_name};
 
-use room_rules::{Format, Word};
-
-/// The media type of a format.
-pub(crate) fn media_type(format: Format) -> &'static str
-    ensures { result.now ≡ media_type format }
-{
-    match format {
-        Format::OctetStream => "application/octet-stream",
-        Format::Pdf => "application/pdf",
-        Format::PostScript => "application/postscript",
-        Format::Jpeg => "image/jpeg",
-        Format::PwgRaster => "image/pwg-raster",
-        Format::Urf => "image/urf",
-        Format::Plain => "text/plain",
-    }
-}
+use room_rules::Word;
 
 /// The word without its numbers.
 pub(crate) fn word_name(word: Word) -> &'static [u8]

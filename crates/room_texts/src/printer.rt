@@ -6,17 +6,16 @@ ghost use Rattle.ipp_coding.specs.Plain.{plain_value};
 ghost use Rattle.ipp_coding.specs.Spelling.{attribute_spelling, group_spelling};
 ghost use Rattle.room_rules.specs.declared.format.Format.{Format};
 ghost use Rattle.room_texts.specs.Attributes.{number, value_with};
-ghost use Rattle.room_texts.specs.Formats.{media_type};
+ghost use Rattle.room_rules.specs.Formats.{media_type, formats};
 ghost use Rattle.room_texts.specs.Limits.{IsPlace, IsPrinter};
 ghost use Rattle.room_texts.specs.Places.{plain_place};
-ghost use Rattle.room_texts.specs.PrinterAttributes.{formats, operations, printer_group, printer_row};
+ghost use Rattle.room_texts.specs.PrinterAttributes.{operations, printer_group, printer_row};
 ghost use Rattle.room_texts.specs.Tables.{asked_names, row_attribute, row_text};
 
 use crate::attribute::{
     CHARSET, ENUM, INTEGER, KEYWORD, LANGUAGE, MEDIA_TYPE, NAME, RANGE, put_boolean, put_number,
     put_printer_uri, put_single, put_values,
 };
-use crate::names::media_type;
 use crate::place::Place;
 use crate::selection::is_wanted;
 use ipp_coding::{Value, put_group};
@@ -244,7 +243,7 @@ fn put_printer_attribute(
             out,
             MEDIA_TYPE,
             name,
-            media_type(Format::OctetStream).as_bytes(),
+            Format::OctetStream.media_type().as_bytes(),
         ),
         PrinterAttribute::Formats => put_formats(out, name),
         PrinterAttribute::Accepting => put_boolean(out, name, now.accepting),
@@ -361,6 +360,6 @@ fn format_value(format: Format) -> Value<'static>
 {
     Value {
         tag: MEDIA_TYPE,
-        bytes: media_type(format).as_bytes(),
+        bytes: format.media_type().as_bytes(),
     }
 }

@@ -5,6 +5,11 @@ use crate::Tally;
 use room_rules::{JobState, Name, Standing};
 use std::test::Fail;
 
+/// With one job more, of that standing.
+fn with(tally: Tally, standing: &Standing) -> Option<Tally> {
+    tally.with(standing.state, standing.reserved, standing.charged)
+}
+
 #[test]
 fn three_jobs(rt: HostRuntime) -> Result<(), Fail> {
     let d1 = Name::read(b"d1").ok_or("a name")?;
@@ -12,10 +17,10 @@ fn three_jobs(rt: HostRuntime) -> Result<(), Fail> {
         state: JobState::Processing,
         ..released(d1)
     };
-    let tally = Tally::new().with(&HELD).ok_or("in bounds")?;
+    let tally = with(Tally::new(), &HELD).ok_or("in bounds")?;
     assert!(rt; !tally.is_processing);
-    let tally = tally.with(&processing).ok_or("in bounds")?;
-    let tally = tally.with(&settled(d1)).ok_or("in bounds")?;
+    let tally = with(tally, &processing).ok_or("in bounds")?;
+    let tally = with(tally, &settled(d1)).ok_or("in bounds")?;
     let wanted = Tally {
         unfinished: 2,
         is_processing: true,
@@ -35,18 +40,18 @@ fn bounds(rt: HostRuntime) -> Result<(), Fail> {
         reserved: 1_000_000_000_000_000_000,
         charged: 1_000_000_000_000_000_000 - 35,
     };
-    assert!(rt; most.with(&HELD).is_none());
-    assert!(rt; most.with(&settled(d1)).is_some());
+    assert!(rt; with(most, &HELD).is_none());
+    assert!(rt; with(most, &settled(d1)).is_some());
     let fewer = Tally {
         unfinished: 0,
         ..most
     };
-    assert!(rt; fewer.with(&HELD).is_some());
-    assert!(rt; fewer.with(&released(d1)).is_none());
+    assert!(rt; with(fewer, &HELD).is_some());
+    assert!(rt; with(fewer, &released(d1)).is_none());
     let more = Tally {
         charged: most.charged + 1,
         ..most
     };
-    assert!(rt; more.with(&settled(d1)).is_none());
+    assert!(rt; with(more, &settled(d1)).is_none());
     Ok(())
 }

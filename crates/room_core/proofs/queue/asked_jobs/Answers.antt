@@ -1,7 +1,8 @@
 use Rattle.std.proofs.Common.{◌≡◌, ap, sym, ◌∙◌, subst, map, Bor, List}
 use Rattle.std.specs.List.{AllByRecursion}
 use Rattle.room_asks.specs.Asks.{plain_ask}
-use Rattle.room_core.specs.Queues.{asked_jobs, at_most}
+use Rattle.room_core.specs.Queues.{asked_jobs}
+use Rattle.room_state.specs.Queues.{at_most}
 use Rattle.room_core.proofs.Lists.{all_unmapped}
 use Rattle.room_core.proofs.Orders.{all_asked, all_showable}
 use Rattle.room_rules.specs.declared.job.Job.{Job}

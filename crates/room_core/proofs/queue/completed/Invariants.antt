@@ -1,7 +1,7 @@
 use Rattle.std.proofs.Common.{◌≡◌, map, filter, take, not, [], Bor}
 use Rattle.std.specs.List.{fold}
 use Rattle.room_rules.specs.declared.job.Job.{Job}
-use Rattle.room_core.specs.Queues.{put_by_end}
+use Rattle.room_state.specs.Queues.{put_by_end}
 use Rattle.room_state.specs.RoomRules.{is_unfinished}
 use Rattle.room_core.proofs.queue.completed.Given as goal
 

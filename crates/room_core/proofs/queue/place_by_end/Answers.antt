@@ -1,6 +1,6 @@
 use Rattle.std.proofs.Common.{length, ap, ◌∙◌, unwrap_or, Option, ℕ, Bor}
 use Rattle.room_core.proofs.Lists.{place_or_length}
-use Rattle.room_core.specs.Queues.{is_later}
+use Rattle.room_state.specs.Queues.{is_later}
 use Rattle.room_rules.specs.declared.job.Job.{Job}
 use Rattle.room_core.proofs.queue.place_by_end.Goals as goal
 

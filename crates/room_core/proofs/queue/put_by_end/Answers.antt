@@ -1,7 +1,7 @@
 use Rattle.std.proofs.Common.{◌≡◌, not, map, ap, ◌∙◌, arith, Bor}
 use Rattle.std.specs.List.{insert, position_or_len}
 use Rattle.std.proofs.lemmas.List.Sums.{prefix_len-le-length}
-use Rattle.room_core.specs.Queues.{is_later}
+use Rattle.room_state.specs.Queues.{is_later}
 use Rattle.room_core.proofs.Orders.{put_there}
 use Rattle.room_rules.specs.declared.job.Job.{Job}
 use Rattle.room_core.proofs.queue.put_by_end.Goals as goal

@@ -1,0 +1,157 @@
+-- The walk over the table `device`: what its text means, and what it comes to.
+use Rattle.std.proofs.Common.{◌≡◌, ◌≢◌, ℕ, Bool, true, false, ◌||◌, List, [], ◌∷◌, ◌++◌, map, filter, find, drop, codes, Option, Some, None, option_map, IsPermutation, refl, sym, ap, ◌∙◌, ◌⊎◌, inl, inr, IsTrue, ◌↔◌}
+use Rattle.std.proofs.lemmas.Bool.{cases_Bool, and_parts, true≢false}
+use Rattle.std.proofs.lemmas.List.Sorted.{IsPermutation-sym}
+use Rattle.sqlite_tied.specs.Compute.{everything}
+use Rattle.sqlite_value.specs.declared.value.Value.TheVariants.{Text}
+use Rattle.sqlite_value.specs.Order.{Row, column}
+use Rattle.sqlite_value.specs.Keys.{first_key}
+use Rattle.sqlite_sql.specs.Term.{Term, col}
+use Rattle.sqlite_schema.specs.declared.schema.Constraint.TheVariants.{NotNull}
+use Rattle.sqlite_schema.specs.declared.schema.Kind.TheVariants as kind
+use Rattle.sqlite_rules.specs.Lists.{Has}
+use Rattle.sqlite_rules.proofs.ListLemmas.{has_found}
+use Rattle.sqlite_rules.proofs.ProbeLemmas.{has_mapped, mapped_has}
+use Rattle.sqlite_rules.proofs.RuleLemmas.{keeps_at}
+use Rattle.sqlite.specs.Effect.{Database}
+use Rattle.sqlite.specs.Listing.{understood}
+use Rattle.room_rules.specs.declared.device.Device.{Device}
+use Rattle.room_tables.specs.Tables.{room_schema, column_of, device}
+use Rattle.room_tables.specs.Keyed.{HasSchema, has_key}
+use Rattle.room_tables.specs.Queries.{Means, Takes, of_table, passes, shows_of}
+use Rattle.room_tables.specs.Cells.{flag, on_cells, device_cells}
+use Rattle.room_tables.specs.Devices.{device_at, AreSoundDevices, GathersOn, refuses_flag}
+use Rattle.room_statements.specs.Walks.{GathersAll, WalksAll, RefusesOne}
+use Rattle.room_tables.proofs.Columns.{cells_are, no_null, text_there, equal_itself}
+use Rattle.room_tables.proofs.Finds.{finds_only, key_shared}
+use Rattle.room_tables.proofs.KeyedRows.{same_row}
+use Rattle.room_tables.proofs.Queries.{permuted_has}
+use Rattle.room_tables.proofs.ReadBackLemmas.{flag_back}
+use Rattle.room_tables.proofs.Reading.{without_number}
+use Rattle.room_statements.proofs.WalkLemmas.{refused_there}
+use Rattle.room_tables.proofs.Statements.{fits_in, numbered_in, typed_in, once_in}
+use Rattle.room_statements.proofs.DeviceLemmas.{listed, guarded}
+
+abbrev pub walk_text : List ℕ
+walk_text = codes "SELECT accepting FROM device"
+
+abbrev pub walk_shows : List Term
+walk_shows = col 1 2 ∷ []
+
+abbrev pub walk_names : List (List ℕ)
+walk_names = codes "accepting" ∷ []
+
+pub walk_is : Means room_schema walk_text (of_table 9 [] walk_shows []) walk_names 0
+unfolding understood everything
+walk_is = record { is = refl; lists_nothing = refl; is_plain = (refl, refl); takes = refl; is_whole = refl }
+
+pub walk_takes : Takes room_schema (of_table 9 [] walk_shows []) [] 0
+walk_takes = record { given = refl; typed = refl }
+
+abbrev pub second : Row → Row
+second row = column row 2 ∷ []
+
+pub all_shown : (rows : List Row) → map (shows_of walk_shows []) (filter (passes [] []) rows) ≡ map second rows
+all_shown [] = refl
+all_shown (r ∷ rows) = ap (λ more. second r ∷ more) (all_shown rows)
+
+-- ---- flags, one after another
+
+module _ {G : Type 0} (on : G → Bool) where
+  abbrev step : G → Row → G → Type 0
+  step first row last = GathersOn (on first) row (on last)
+
+  stays_on : (first last : G) (rows : List Row) → GathersAll step first rows last → on first ≡ true → on last ≡ true
+  stays_on first last [] same is = ap on (sym same) ∙ is
+  stays_on first last (r ∷ rows) (next, told, more) is = stays_on next last rows more (told.added ∙ rw is refl)
+
+  came_on : (first last : G) (rows : List Row) → GathersAll step first rows last → on last ≡ true → (on first ≡ true) ⊎ ((row : Row) × Has rows row × (column row 0 ≡ flag true))
+  came_on first last [] same is = inl (ap on same ∙ is)
+  came_on first last (r ∷ rows) (next, told, more) is = elim (came_on next last rows more is) [
+    | inl before ↦ elim (cases_Bool told.accepting) [
+      | inl accepts ↦ inr (r, inl refl, told.told ∙ ap flag accepts)
+      | inr not ↦ elim (cases_Bool (on first)) [
+        | inl here ↦ inl here
+        | inr off ↦ absurd (true≢false (sym before ∙ told.added ∙ rw (off, not) refl))
+      ]
+    ]
+    | inr later ↦ inr (later.0, inr later.1, later.2)
+  ]
+
+  none_on : (first last : G) (rows : List Row) → GathersAll step first rows last → on last ≡ false → (row : Row) → Has rows row → column row 0 ≡ flag true → ⊥
+  none_on first last [] same off row there is = there
+  none_on first last (r ∷ rows) (next, told, more) off row (inl same) is =
+      let accepts : told.accepting ≡ true = flag_back told.accepting true (sym told.told ∙ ap (λ x. column x 0) (sym same) ∙ is) in
+      let here : on next ≡ true = told.added ∙ ap (λ b. on first || b) accepts ∙ or_true (on first) in
+      true≢false (sym (stays_on next last rows more here) ∙ off)
+    where
+      or_true : (b : Bool) → (b || true) ≡ true
+      or_true true = refl
+      or_true false = refl
+  none_on first last (r ∷ rows) (next, told, more) off row (inr later) is = none_on next last rows more off row later is
+
+-- ---- the rows of the table
+
+key_is : (r : Row) (t : List ℕ) → column r 1 ≡ Text t → has_key device (Text t ∷ []) r ≡ true
+unfolding first_key
+key_is r t e = rw (e, equal_itself (Text t) refl) refl
+
+module _ (db : Database) (has : HasSchema db) where
+  record IsDeviceRow (row : Row) : Type 0 where
+    name : List ℕ
+    cells : drop 1 row ≡ Text name ∷ column row 2 ∷ []
+    at_name : device_at db name ≡ Some (drop 1 row)
+
+  device_row : (r : Row) → Has (db.trees 9) r → IsDeviceRow r
+  device_row r k =
+      let typed = typed_in device listed db has r k in
+      let present = keeps_at NotNull room_schema db.trees device r ((fits_in db has).rules NotNull (λ e. absurd cc)) listed k in
+      let whole = cells_are device.columns 0 r (drop 1 r) (refl, (refl, tt)) refl typed present in
+      let text = text_there (column r 1) (and_parts _ _ (rw whole at typed)).0 (λ none. no_null 0 (column_of kind.Text (codes "name")) (column r 1) refl none (and_parts _ _ present).0) in
+      let is = key_is r text.0 text.1 in
+      let found = finds_only (has_key device (Text text.0 ∷ [])) (db.trees 9) r k is
+      (λ y h e. once_in device listed guarded db.trees (fits_in db has) (numbered_in device listed db has) y r h k (key_shared device (Text text.0 ∷ []) [] [] y r e is)) in
+      record { name = text.0; cells = whole ∙ ap (λ v. v ∷ column r 2 ∷ []) text.1; at_name = ap (option_map (drop 1)) found }
+
+  row_there : (name : List ℕ) (cells : Row) → (o : Option Row) → find (has_key device (Text name ∷ [])) (db.trees 9) ≡ o → option_map (drop 1) o ≡ Some cells → (r : Row) × Has (db.trees 9) r × (drop 1 r ≡ cells)
+  row_there name cells None found is = absurd (let e = is in cc)
+  row_there name cells (Some r) found is = (r, (has_found (has_key device (Text name ∷ [])) (db.trees 9) r found).0, same_row is)
+
+  module _ {G : Type 0} (on : G → Bool) (first last : G) (off : on first ≡ false) (walked : WalksAll (λ a row b. GathersOn (on a) row (on b)) (λ a row. refuses_flag row) (map second (db.trees 9)) first last) where
+    is_on : on last ≡ true → (name : List ℕ) × (device_at db name ≡ Some (on_cells name true))
+    is_on is = elim (came_on on first last walked.0 walked.2 is) [
+      | inl before ↦ absurd (true≢false (sym before ∙ off))
+      | inr some ↦
+          let r = has_mapped second (db.trees 9) some.0 (permuted_has (map second (db.trees 9)) walked.0 some.0 walked.1 some.1) in
+          let it = device_row r.0 r.1 in
+          let told : column r.0 2 ≡ flag true = ap (λ x. column x 0) (sym r.2) ∙ some.2 in
+          (it.name, it.at_name ∙ ap Some (it.cells ∙ ap (λ v. Text it.name ∷ v ∷ []) told))
+    ]
+
+    has_on : (name : List ℕ) × (device_at db name ≡ Some (on_cells name true)) → on last ≡ true
+    has_on (name, at) = elim (cases_Bool (on last)) [
+      | inl is ↦ is
+      | inr not ↦
+          let r = row_there name (on_cells name true) (find (has_key device (Text name ∷ [])) (db.trees 9)) refl at in
+          let told : column r.0 2 ≡ flag true = sym (without_number r.0 1) ∙ ap (λ l. column l 1) r.2 in
+          let there = permuted_from walked.0 (map second (db.trees 9)) (second r.0) walked.1 (mapped_has second (db.trees 9) r.0 r.1) in
+          absurd (none_on on first last walked.0 walked.2 not (second r.0) there told)
+    ]
+      where
+        permuted_from : (ys xs : List Row) (x : Row) → IsPermutation xs ys → Has xs x → Has ys x
+        permuted_from ys xs x same h = permuted_has ys xs x (IsPermutation-sym _ _ same) h
+
+    pub on_exactly : IsTrue (on last) ↔ ((name : List ℕ) × (device_at db name ≡ Some (on_cells name true)))
+    on_exactly = (is_on, has_on)
+
+  pub flags_unsound : {G : Type 0} (step : G → Row → G → Type 0) (first : G) → RefusesOne step (λ a row. refuses_flag row) (map second (db.trees 9)) first → AreSoundDevices db → ⊥
+  flags_unsound step first it held =
+      let there = permuted_has (map second (db.trees 9)) ((it.given ++ it.row ∷ []) ++ it.more) it.row it.are_shown (refused_there it.given it.row it.more) in
+      let r = has_mapped second (db.trees 9) it.row there in
+      let row = device_row r.0 r.1 in
+      let flagged = of_device row.name (held.0 row.name) (drop 1 r.0) (sym row.at_name ∙ held.1.device_rows row.name) in
+      it.refused flagged.0 (ap (λ x. column x 0) r.2 ∙ sym (without_number r.0 1) ∙ flagged.1)
+    where
+      of_device : (name : List ℕ) (o : Option Device) (cells : Row) → Some cells ≡ option_map device_cells o → (accepting : Bool) × (column cells 1 ≡ flag accepting)
+      of_device name None cells e = absurd (let no = e in cc)
+      of_device name (Some d) cells e = (d.on, ap (λ l. column l 1) (same_row e))

@@ -1,0 +1,125 @@
+-- The walk over the grants of an account: what its text means, and what it comes to.
+use Rattle.std.proofs.Common.{◌≡◌, ℕ, ◌+◌, ◌≤◌, ◌^◌, List, [], ◌∷◌, map, drop, codes, Some, None, IsPermutation, refl, sym, ap, subst, ◌∙◌, arith}
+use Rattle.std.specs.List.{sum_by}
+use Rattle.std.specs.FinMap.{entries}
+use Rattle.std.proofs.lemmas.List.Sums.{sum_by-cons}
+use Rattle.std.proofs.lemmas.List.Sorted.{IsPermutation-map, IsPermutation-sym, sum_by-IsPermutation}
+use Rattle.sqlite_tied.specs.Compute.{everything}
+use Rattle.sqlite_value.specs.declared.value.Value.TheVariants.{Text}
+use Rattle.sqlite_value.specs.Order.{Row, column}
+use Rattle.sqlite_value.specs.Keys.{first_key}
+use Rattle.sqlite_trees.proofs.ListLemmas.{map-map}
+use Rattle.sqlite_sql.specs.Term.{Term, col}
+use Rattle.sqlite_rules.proofs.ProbeLemmas.{has_mapped}
+use Rattle.sqlite.specs.Effect.{Database}
+use Rattle.sqlite.specs.Listing.{understood}
+use Rattle.room_state.specs.Rooms.{RoomValue}
+use Rattle.room_state.specs.Sums.{granted_to, pages_by}
+use Rattle.room_state.proofs.Bounds.{granted_bound}
+use Rattle.room_tables.specs.Tables.{room_schema, grants}
+use Rattle.room_tables.specs.Keyed.{HasSchema, rows_under}
+use Rattle.room_tables.specs.Queries.{Means, Takes, of_table, is_given, shown_of}
+use Rattle.room_tables.specs.Cells.{grant_cells}
+use Rattle.room_tables.specs.Accounts.{HoldsRoom, IsSound}
+use Rattle.room_statements.specs.Totals.{granted_cells, TellsGrant, AddsGrant, refuses_grant}
+use Rattle.room_statements.specs.Walks.{GathersAll, WalksAll, RefusesOne}
+use Rattle.room_statements.specs.declared.grants.Granted.{Granted}
+use Rattle.room_statements.proofs.AccountRows.{rows_of_grants, no_grants}
+use Rattle.room_tables.proofs.Queries.{permuted_has}
+use Rattle.room_tables.proofs.ReadBackLemmas.{integer_in, natural_in}
+use Rattle.room_statements.proofs.RowTotals.{of_their_cells, sum_mapped, refused_there, refused_within}
+
+abbrev pub granted_text : List ℕ
+granted_text = codes "SELECT month, pages FROM grants WHERE account = ?1"
+
+abbrev pub granted_tests : List Term
+granted_tests = is_given 1 1 ∷ []
+
+abbrev pub granted_shows : List Term
+granted_shows = col 1 2 ∷ col 1 3 ∷ []
+
+abbrev pub granted_names : List (List ℕ)
+granted_names = codes "month" ∷ codes "pages" ∷ []
+
+pub granted_is : Means room_schema granted_text (of_table 7 granted_tests granted_shows []) granted_names 1
+unfolding understood everything
+granted_is = record { is = refl; lists_nothing = refl; is_plain = (refl, refl); takes = refl; is_whole = refl }
+
+pub granted_takes : (name : List ℕ) → Takes room_schema (of_table 7 granted_tests granted_shows []) (Text name ∷ []) 1
+granted_takes name = record { given = refl; typed = refl }
+
+cells_granted : (r : Row) → column r 2 ∷ column r 3 ∷ [] ≡ granted_cells (drop 1 r)
+cells_granted [] = refl
+cells_granted (v ∷ r) = refl
+
+-- the rows that pass the test of the text are those of the account
+pub grants_shown : (name : List ℕ) (db : Database) → shown_of 7 granted_tests granted_shows (Text name ∷ []) db.trees ≡ map granted_cells (rows_under grants (1 ∷ []) (Text name ∷ []) db)
+unfolding first_key
+grants_shown name db = of_their_cells (λ r. column r 2 ∷ column r 3 ∷ []) granted_cells cells_granted _
+
+-- ---- what the rows tell
+
+abbrev pages_on : ℕ → Row → ℕ
+pages_on now row = pages_by now (natural_in (integer_in (column row 0)), natural_in (integer_in (column row 1)))
+
+pages_told : (now : ℕ) (row : Row) (month pages : ℕ) → TellsGrant row month pages → pages_on now row ≡ pages_by now (month, pages)
+pages_told now row month pages told = λ i. pages_by now (natural_in (integer_in (told.month i)), natural_in (integer_in (told.pages i)))
+
+abbrev pub adds_grant : Granted → Row → Granted → Type 0
+adds_grant first row last = (last.month ≡ first.month) × AddsGrant first.month first.pages row last.pages
+
+abbrev pub refuses_it : Granted → Row → Type 0
+refuses_it first row = refuses_grant first.month first.pages row
+
+record Adds (first : Granted) (rows : List Row) (last : Granted) : Type 0 where
+  month : last.month ≡ first.month
+  pages : last.pages ≡ first.pages + sum_by (pages_on first.month) rows
+
+adds_up : (first last : Granted) (rows : List Row) → GathersAll adds_grant first rows last → Adds first rows last
+adds_up first last [] same = record { month = ap (λ (g : Granted). g.month) (sym same); pages = omega (arith, ap (λ (g : Granted). g.pages) same) }
+adds_up first last (r ∷ rows) (next, step, more) =
+    let rest = adds_up next last rows more in
+    let added = step.1 in
+    let one = pages_told first.month r added.month added.pages added.told in
+    let others : sum_by (pages_on next.month) rows ≡ sum_by (pages_on first.month) rows = ap (λ now. sum_by (pages_on now) rows) step.0 in
+    record { month = rest.month ∙ step.0; pages = omega (arith, rest.pages, others, added.added, one, sum_by-cons (pages_on first.month) r rows) }
+
+-- ---- the rows of a room
+
+abbrev told_of : List ℕ → ℕ × ℕ → Row
+told_of name grant = granted_cells (grant_cells name grant.0 grant.1)
+
+module _ (db : Database) (has : HasSchema db) (name : List ℕ) (month : ℕ) where
+  abbrev shown : List Row
+  shown = map granted_cells (rows_under grants (1 ∷ []) (Text name ∷ []) db)
+
+  abbrev first : Granted
+  first = record { month = month; pages = 0 }
+
+  module _ (room : RoomValue) (held : HoldsRoom db name room) where
+    shown_told : IsPermutation shown (map (told_of name) (entries room.grants))
+    shown_told = subst (IsPermutation shown) (map-map granted_cells (λ (e : ℕ × ℕ). grant_cells name e.0 e.1) (entries room.grants))
+        (IsPermutation-map granted_cells (rows_under grants (1 ∷ []) (Text name ∷ []) db) (map (λ (e : ℕ × ℕ). grant_cells name e.0 e.1) (entries room.grants)) (rows_of_grants db has name room held))
+
+    sum_told : sum_by (pages_on month) shown ≡ granted_to room month
+    sum_told = sym (sum_by-IsPermutation (pages_on month) shown (map (told_of name) (entries room.grants)) shown_told) ∙ sum_mapped (told_of name) (pages_on month) (entries room.grants)
+
+    pub pages_granted : (last : Granted) → WalksAll adds_grant refuses_it shown first last → last.pages ≡ granted_to room month
+    pages_granted last (given, same, gathered) = omega (arith, (adds_up first last given gathered).pages, sum_by-IsPermutation (pages_on month) shown given same, sum_told)
+
+    -- a grant of the room is never refused
+    none_refused : RefusesOne adds_grant refuses_it shown first → ⊥
+    none_refused it =
+        let there = permuted_has (map (told_of name) (entries room.grants)) shown it.row (IsPermutation-sym _ _ shown_told) (refused_there adds_grant refuses_it shown first it) in
+        let here = has_mapped (told_of name) (entries room.grants) it.row there in
+        let told : TellsGrant it.row here.0.0 here.0.1 = record { month = ap (λ r. column r 0) here.2; pages = ap (λ r. column r 1) here.2 } in
+        let adds = adds_up first it.so_far it.given it.gathered in
+        let one = pages_told month it.row here.0.0 here.0.1 told in
+        let over : 2 ^ 64 ≤ it.so_far.pages + pages_by month (here.0.0, here.0.1) =
+        subst (λ now. 2 ^ 64 ≤ it.so_far.pages + pages_by now (here.0.0, here.0.1)) adds.month (it.refused here.0.0 here.0.1 told) in
+        omega (arith, over, one, adds.pages, refused_within adds_grant refuses_it shown first it (pages_on month), sum_told, granted_bound room month held.is_room)
+
+  pub grants_unsound : RefusesOne adds_grant refuses_it shown first → IsSound db name → ⊥
+  grants_unsound it (None, held) =
+      permuted_has [] shown it.row (IsPermutation-sym _ _ (IsPermutation-map granted_cells (rows_under grants (1 ∷ []) (Text name ∷ []) db) [] (no_grants db has name held))) (refused_there adds_grant refuses_it shown first it)
+  grants_unsound it (Some room, held) = none_refused room held it

@@ -1,0 +1,17 @@
+pub mod WalkLemmas
+pub mod AccountLemmas
+pub mod GrantLemmas
+pub mod AccountRows
+pub mod RowTotals
+pub mod TallyWalk
+pub mod GrantWalk
+pub mod JobLemmas
+pub mod JobRows
+pub mod DeviceLemmas
+pub mod DeviceWalk
+pub mod RateLemmas
+pub mod DocumentLemmas
+pub mod QueueTexts
+pub mod QueueRows
+pub mod QueueJobs
+pub mod DocumentWalk

@@ -1,0 +1,17 @@
+use Rattle.std.proofs.Common.{◌≡◌, ◌∙◌, sym, ap, Err}
+use Rattle.std.proofs.lemmas.Result.{err_from_is_err_and}
+use Rattle.sqlite.specs.Held.{state}
+use Rattle.room_tables.specs.declared.fault.StoreFault.TheVariants.{Damaged}
+use Rattle.room_tables.proofs.KeyedRows.{same_fault}
+use Rattle.room_statements.proofs.GrantWalk.{pages_granted, grants_unsound}
+use Rattle.room_statements.proofs.grants.granted_to.Goals as goal
+
+pub returns-clause-granted : goal.returns-clause-granted
+returns-clause-granted g c clean has room held =
+    pages_granted (state g.S.Store c.args.connection.now).now has c.args.name c.args.month room held c.walk_grants.new.granted (c.in_ok-walk_grants.ensures.walks clean has).all
+
+pub returns-in_err-walk_grants-clause-damaged : goal.returns-in_err-walk_grants-clause-damaged
+returns-in_err-walk_grants-clause-damaged g c clean has is_damaged =
+    let told = err_from_is_err_and c.from_residual.result c.from_residual.ensures.1 in
+    let fault : c.in_err-walk_grants.field-0.0 ≡ Damaged = sym told.2 ∙ same_fault (sym told.1 ∙ is_damaged) in
+    grants_unsound (state g.S.Store c.args.connection.now).now has c.args.name c.args.month ((c.in_err-walk_grants.ensures.walks clean has).damaged (ap Err fault))

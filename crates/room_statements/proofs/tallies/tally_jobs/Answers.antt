@@ -1,0 +1,17 @@
+use Rattle.std.proofs.Common.{◌≡◌, ◌∙◌, sym, ap, Err}
+use Rattle.std.proofs.lemmas.Result.{err_from_is_err_and}
+use Rattle.sqlite.specs.Held.{state}
+use Rattle.room_tables.specs.declared.fault.StoreFault.TheVariants.{Damaged}
+use Rattle.room_tables.proofs.KeyedRows.{same_fault}
+use Rattle.room_statements.proofs.TallyWalk.{tally_counted, jobs_unsound}
+use Rattle.room_statements.proofs.tallies.tally_jobs.Goals as goal
+
+pub returns-clause-counted : goal.returns-clause-counted
+returns-clause-counted g c clean has room held =
+    tally_counted (state g.S.Store c.args.connection.now).now has c.args.name room held c.walk_jobs.new.tally (rw c.new-tally.ensures at (c.in_ok-walk_jobs.ensures.walks clean has).all)
+
+pub returns-in_err-walk_jobs-clause-damaged : goal.returns-in_err-walk_jobs-clause-damaged
+returns-in_err-walk_jobs-clause-damaged g c clean has is_damaged =
+    let told = err_from_is_err_and c.from_residual.result c.from_residual.ensures.1 in
+    let fault : c.in_err-walk_jobs.field-0.0 ≡ Damaged = sym told.2 ∙ same_fault (sym told.1 ∙ is_damaged) in
+    jobs_unsound (state g.S.Store c.args.connection.now).now has c.args.name (rw c.new-tally.ensures at ((c.in_err-walk_jobs.ensures.walks clean has).damaged (ap Err fault)))

@@ -1,0 +1,5 @@
+pub mod Walks
+pub mod Documents
+pub mod Shown
+pub mod Totals
+pub mod Queues

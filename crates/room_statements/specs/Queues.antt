@@ -1,0 +1,39 @@
+-- The jobs of an account in the orders of Get-Jobs, row by row (all this project's own).
+use Rattle.std.specs.Prelude.{◌≡◌, ℕ, ◌<◌, ◌^◌, ℤ, pos, negsuc, List, [], ◌∷◌, ◌++◌, map, Option, None, Some}
+use Rattle.std.specs.FinMap.{values}
+use Rattle.sqlite_value.specs.declared.value.Value.TheVariants.{Blob}
+use Rattle.sqlite_value.specs.Order.{Row, column}
+use Rattle.sqlite.specs.Effect.{Database}
+use Rattle.room_rules.specs.declared.job.Job.{Job}
+use Rattle.room_state.specs.Rooms.{RoomValue}
+use Rattle.room_tables.specs.Cells.{number, standing_cells}
+use Rattle.room_tables.specs.Accounts.{HoldsRoom, HoldsNothing}
+use Rattle.room_statements.specs.Shown.{ShowsJob, IsJob}
+
+-- as LIMIT counts, where a number below 0 is none (lang_select.html)
+abbrev pub limit_number : Option ℕ → ℤ
+limit_number None = negsuc 0
+limit_number (Some limit) = pos limit
+
+-- the cells of a job behind its key, and then its number
+abbrev pub numbered_cells : Job → Row
+numbered_cells job = Blob job.name ∷ Blob job.password ∷ (standing_cells job.standing ++ number job.job ∷ [])
+
+pub record ShowsNumbered (row : Row) (job : Job) : Type 0 where
+  pub shown : ShowsJob row job
+  pub numbered : column row 15 ≡ number job.job
+
+-- the row tells a job, which is put at the end
+pub record ListsJob (first : List Job) (row : Row) (last : List Job) : Type 0 where
+  pub job : Job
+  pub in_range : IsJob job
+  pub told : ShowsNumbered row job
+  pub added : last ≡ first ++ job ∷ []
+
+abbrev pub refuses_numbered : Row → Type 0
+refuses_numbered row = (job : Job) → IsJob job → job.job < 2 ^ 32 → ShowsNumbered row job → ⊥
+
+-- the rows are those of the jobs that are chosen of the account's room, in their order, and none without a room
+pub record AreListed (chosen : List Job → List Job) (db : Database) (name : List ℕ) (rows : List Row) : Type 0 where
+  pub of_room : (room : RoomValue) → HoldsRoom db name room → rows ≡ map numbered_cells (chosen (values room.jobs))
+  pub of_none : HoldsNothing db name → rows ≡ []

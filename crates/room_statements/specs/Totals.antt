@@ -1,0 +1,52 @@
+-- What the rows of an account come to, one after another (all this project's own).
+use Rattle.std.specs.Prelude.{◌≡◌, ℕ, ◌+◌, ◌^◌, ◌≤◌, [], ◌∷◌, Some, None}
+use Rattle.sqlite_value.specs.Order.{Row, column}
+use Rattle.room_rules.specs.declared.job.JobState.{JobState}
+use Rattle.room_state.specs.declared.tally.Tally.{Tally}
+use Rattle.room_state.specs.Tallies.{counted_in_bounds}
+use Rattle.room_state.specs.Sums.{pages_by}
+use Rattle.room_tables.specs.Cells.{number, state_number}
+
+-- ---- its jobs
+
+-- the cells of a job that are counted: its state, and the units that it reserves and was charged
+abbrev pub counted_cells : Row → Row
+counted_cells cells = column cells 4 ∷ column cells 9 ∷ column cells 10 ∷ []
+
+pub record TellsCounted (row : Row) (job : JobState) (reserves charges : ℕ) : Type 0 where
+  pub state : column row 0 ≡ number (state_number job)
+  pub reserved : column row 1 ≡ number reserves
+  pub charged : column row 2 ≡ number charges
+
+-- the row tells a job, which is counted
+pub record CountsJob (first : Tally) (row : Row) (last : Tally) : Type 0 where
+  pub state : JobState
+  pub reserved : ℕ
+  pub charged : ℕ
+  pub told : TellsCounted row state reserved charged
+  pub counted : counted_in_bounds first state reserved charged ≡ Some last
+
+-- it tells none that can be counted
+abbrev pub refuses_job : Tally → Row → Type 0
+refuses_job first row = (state : JobState) (reserved charged : ℕ) → TellsCounted row state reserved charged → counted_in_bounds first state reserved charged ≡ None
+
+-- ---- its grants
+
+-- the cells of a grant behind the account
+abbrev pub granted_cells : Row → Row
+granted_cells cells = column cells 1 ∷ column cells 2 ∷ []
+
+pub record TellsGrant (row : Row) (of_month granted : ℕ) : Type 0 where
+  pub month : column row 0 ≡ number of_month
+  pub pages : column row 1 ≡ number granted
+
+-- the row tells a grant, whose pages are added if its month has come
+pub record AddsGrant (now first : ℕ) (row : Row) (last : ℕ) : Type 0 where
+  pub month : ℕ
+  pub pages : ℕ
+  pub told : TellsGrant row month pages
+  pub added : last ≡ first + pages_by now (month, pages)
+
+-- it tells none that can be added
+abbrev pub refuses_grant : (now first : ℕ) → Row → Type 0
+refuses_grant now first row = (month pages : ℕ) → TellsGrant row month pages → 2 ^ 64 ≤ first + pages_by now (month, pages)

@@ -1,0 +1,52 @@
+-- What a walk over the rows of a query gathers (all this project's own).
+use Rattle.std.specs.Prelude.{◌≡◌, ℕ, List, [], ◌∷◌, ◌++◌, IsPermutation, Result, Err, OnOk}
+use Rattle.sqlite_value.specs.Order.{Row}
+use Rattle.sqlite_sql.specs.Query.{Query}
+use Rattle.sqlite.specs.State.{State}
+use Rattle.room_tables.specs.declared.fault.StoreFault.{StoreFault}
+use Rattle.room_tables.specs.declared.fault.StoreFault.TheVariants.{Damaged}
+use Rattle.room_tables.specs.Calls.{IsSame, Stays}
+use Rattle.room_tables.specs.Queries.{HasNoSums, Means, Takes, IsShownBy}
+
+-- row by row, each step from what the one before left
+abbrev pub GathersAll : {G : Type 0} → (G → Row → G → Type 0) → G → List Row → G → Type 0
+GathersAll step first [] last = first ≡ last
+GathersAll {G} step first (row ∷ rows) last = (next : G) × step first row next × GathersAll step next rows last
+
+module _ {G : Type 0} (step : G → Row → G → Type 0) (refuses : G → Row → Type 0) where
+  -- each row of what may be shown is gathered, in its order
+  abbrev pub GathersShown : (List Row → Type 0) → G → G → Type 0
+  GathersShown IsShown first last = (given : List Row) × IsShown given × GathersAll step first given last
+
+  -- after some of them comes one that is refused
+  pub record RefusesShown (IsShown : List Row → Type 0) (first : G) : Type 0 where
+    pub given : List Row
+    pub row : Row
+    pub more : List Row
+    pub so_far : G
+    pub are_shown : IsShown ((given ++ row ∷ []) ++ more)
+    pub gathered : GathersAll step first given so_far
+    pub refused : refuses so_far row
+
+  pub record WalksShown (old new : State) (IsShown : List Row → Type 0) (first last : G) (result : Result (Unit {0}) StoreFault) : Type 0 where
+    pub all : OnOk result (GathersShown IsShown first last)
+    pub damaged : result ≡ Err Damaged → RefusesShown IsShown first
+    pub same : OnOk result (IsSame old new)
+    pub stays : Stays old new
+
+  -- whatever query the text means, this is what the walk comes to
+  abbrev pub Walks : State → State → List ℕ → Row → G → G → Result (Unit {0}) StoreFault → Type 0
+  Walks old new text params first last result =
+      (query : Query) (names : List (List ℕ)) (parameters : ℕ) → HasNoSums query → Means old.now.schema text query names parameters
+      → Takes old.now.schema query params parameters → WalksShown old new (IsShownBy query old.now.trees params) first last result
+
+  -- ---- over rows that are shown in some order
+
+  abbrev pub WalksAll : List Row → G → G → Type 0
+  WalksAll shown first last = GathersShown (IsPermutation shown) first last
+
+  abbrev pub RefusesOne : List Row → G → Type 0
+  RefusesOne shown first = RefusesShown (IsPermutation shown) first
+
+  abbrev pub WalksOver : State → State → List Row → G → G → Result (Unit {0}) StoreFault → Type 0
+  WalksOver old new shown first last result = WalksShown old new (IsPermutation shown) first last result

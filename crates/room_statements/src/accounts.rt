@@ -1,0 +1,88 @@
+//! The rows of the table `account`.
+
+ghost use Rattle.std.specs.Prelude.{◌≡◌, ◌≢◌, [], ◌∷◌, Err, option_map, IfOk, IfSome, OnOk, IsTrue};
+ghost use Rattle.sqlite_value.specs.Order.{column};
+ghost use Rattle.sqlite.specs.State.{HasCleanDisk, KeepsCommit, Survives};
+ghost use Rattle.sqlite.specs.Held.{state};
+ghost use Rattle.room_rules.specs.declared.account.Account.{Account as AccountValue};
+ghost use Rattle.room_tables.specs.Tables.{account as account_table};
+ghost use Rattle.room_tables.specs.Keyed.{HasSchema, SetsRow};
+ghost use Rattle.room_tables.specs.Cells.{number, account_cells};
+ghost use Rattle.room_tables.specs.Accounts.{account_at, IsAccount, IsSound};
+ghost use Rattle.room_tables.specs.Calls.{Goes, Stays, IsSame, Gets};
+
+use crate::values::{number, number_at};
+use room_rules::{Account, LAST_JOB, LAST_MOMENT, Name};
+use room_tables::{StoreFault, find_row};
+use sqlite::{Alter, Connection, Error, Row, Transaction};
+use sqlite_value::value::ValueRef;
+
+/// The account's own row. `Damaged` tells that the row that is there can be none of sound rows.
+pub fn find_account<S: Alter>(
+    connection: &mut Connection<S>,
+    name: Name,
+) -> Result<Option<Account>, StoreFault>
+    ensures goes { Goes (state S.Store connection.old) (state S.Store connection.new) }
+    ensures opened { HasCleanDisk (state S.Store connection.new) → OnOk result (IsTrue (state S.Store connection.old).is_open × IsTrue (state S.Store connection.new).is_open) }
+    ensures found { HasCleanDisk (state S.Store connection.new) → HasSchema (state S.Store connection.old).now → IfOk result (λ found. account_at (state S.Store connection.old).now name ≡ option_map (account_cells name) found) }
+    ensures in_range { IfOk result (λ found. IfSome found IsAccount) }
+    ensures damaged { HasCleanDisk (state S.Store connection.new) → HasSchema (state S.Store connection.old).now → result ≡ Err StoreFault.Damaged → IsSound (state S.Store connection.old).now name → ⊥ }
+    ensures same { HasCleanDisk (state S.Store connection.new) → HasSchema (state S.Store connection.old).now → OnOk result (IsSame (state S.Store connection.old) (state S.Store connection.new)) }
+    ensures stays { HasCleanDisk (state S.Store connection.new) → HasSchema (state S.Store connection.old).now → Stays (state S.Store connection.old) (state S.Store connection.new) }
+{
+    match account_row(connection, name)? {
+        Some(row) => Ok(Some(account_from(&row)?)),
+        None => Ok(None),
+    }
+}
+
+fn account_row<S: Alter>(connection: &mut Connection<S>, name: Name) -> Result<Option<Row>, Error>
+    ensures goes { Goes (state S.Store connection.old) (state S.Store connection.new) }
+    ensures opened { HasCleanDisk (state S.Store connection.new) → OnOk result (IsTrue (state S.Store connection.old).is_open × IsTrue (state S.Store connection.new).is_open) }
+    ensures gets { HasCleanDisk (state S.Store connection.new) → HasSchema (state S.Store connection.old).now → Gets (state S.Store connection.old) (state S.Store connection.new) (account_at (state S.Store connection.old).now name) (λ cells. column cells 1 ∷ column cells 2 ∷ []) result }
+{
+    find_row(
+        connection,
+        "SELECT opened, next_job FROM account WHERE name = ?1",
+        &[ValueRef::Text(name.bytes())],
+    )
+}
+
+fn account_from(row: &Row) -> Result<Account, StoreFault>
+    ensures read { IfOk result (λ account. (column row.now 0 ≡ number account.opened) × (column row.now 1 ≡ number account.next_job)) }
+    ensures in_range { IfOk result IsAccount }
+    ensures damaged { result ≡ Err StoreFault.Damaged → (account : AccountValue) → IsAccount account → column row.now 0 ≡ number account.opened → column row.now 1 ≢ number account.next_job }
+{
+    let opened = number_at(row, 0)?;
+    let next_job = number_at(row, 1)?;
+    if opened > LAST_MOMENT || next_job < 1 || next_job > LAST_JOB as u64 + 1 {
+        return Err(StoreFault::Damaged);
+    }
+    Ok(Account {
+        opened,
+        next_job: next_job as u32,
+    })
+}
+
+/// Sets the account's own row, inside a transaction.
+pub fn set_account<S: Alter>(
+    transaction: &mut Transaction<'_, S>,
+    name: Name,
+    account: Account,
+) -> Result<usize, Error>
+    requires { IsAccount account }
+    ensures same_reference { transaction.new.conn.ghost_name ≡ transaction.old.conn.ghost_name }
+    ensures sets { HasCleanDisk (state S.Store transaction.new.conn.now) → OnOk result (HasSchema (state S.Store transaction.old.conn.now).now → HasSchema (state S.Store transaction.new.conn.now).now × SetsRow account_table (account_cells name account) (state S.Store transaction.old.conn.now).now (state S.Store transaction.new.conn.now).now) }
+    ensures mode { HasCleanDisk (state S.Store transaction.new.conn.now) → OnOk result (IsTrue transaction.new.conn.now.in_transaction) }
+    ensures kept { HasCleanDisk (state S.Store transaction.new.conn.now) → KeepsCommit (state S.Store transaction.old.conn.now) (state S.Store transaction.new.conn.now) }
+    ensures survives { Survives (state S.Store transaction.old.conn.now) (state S.Store transaction.new.conn.now) (λ _. ⊥) }
+{
+    transaction.execute(
+        "INSERT INTO account (name, opened, next_job) VALUES (?1, ?2, ?3) ON CONFLICT (name) DO UPDATE SET opened = excluded.opened, next_job = excluded.next_job",
+        &[
+            ValueRef::Text(name.bytes()),
+            number(account.opened),
+            number(account.next_job as u64),
+        ],
+    )
+}

@@ -1,0 +1,169 @@
+//! The rows of the table `document`.
+
+ghost use Rattle.std.specs.Prelude.{◌≡◌, [], ◌∷◌, Err, IfOk, IfErr, OnOk, IsTrue};
+ghost use Rattle.std.specs.List.{flat_map};
+ghost use Rattle.std.specs.Option.{option_to_list};
+ghost use Rattle.sqlite_value.specs.declared.value.Value.TheVariants.{Text};
+ghost use Rattle.sqlite.specs.State.{HasCleanDisk, KeepsCommit, Survives};
+ghost use Rattle.sqlite.specs.Held.{state};
+ghost use Rattle.room_rules.specs.declared.job.Document.{Document as DocumentValue};
+ghost use Rattle.room_state.specs.Documents.{documents_of};
+ghost use Rattle.room_state.specs.Rooms.{RoomValue};
+ghost use Rattle.room_tables.specs.Tables.{document as document_table};
+ghost use Rattle.room_tables.specs.Keyed.{HasSchema, RemovesRows, SetsRow};
+ghost use Rattle.room_tables.specs.Cells.{number, document_cells};
+ghost use Rattle.room_tables.specs.Accounts.{HoldsRoom, IsSound};
+ghost use Rattle.room_tables.specs.Calls.{Goes, Stays, IsSame};
+ghost use Rattle.room_statements.specs.Documents.{IsDocumentOf, ShowsDocument, GathersDocument, refuses_document, shown_documents};
+ghost use Rattle.room_statements.specs.Walks.{WalksOver};
+
+use crate::values::{bytes_at, format_at, format_text, number, short_at};
+use crate::walking::{Gather, walk};
+use ipp_coding::List;
+use room_rules::{Document, Format, LONGEST_DOCUMENT, MOST_DOCUMENTS, Name};
+use room_tables::StoreFault;
+use sqlite::{Alter, Connection, Error, Row, Transaction};
+use sqlite_value::value::ValueRef;
+use std::alloc::Global;
+
+/// The documents of a job of the account, by rising number. `Damaged` tells that a row that is there can be
+/// none of sound rows.
+pub fn find_documents<S: Alter>(
+    alloc: Global,
+    connection: &mut Connection<S>,
+    name: Name,
+    job: u32,
+) -> Result<List<Document>, StoreFault>
+    ensures goes { Goes (state S.Store connection.old) (state S.Store connection.new) }
+    ensures opened { HasCleanDisk (state S.Store connection.new) → OnOk result (IsTrue (state S.Store connection.old).is_open × IsTrue (state S.Store connection.new).is_open) }
+    ensures listed { HasCleanDisk (state S.Store connection.new) → HasSchema (state S.Store connection.old).now → (room : RoomValue) → HoldsRoom (state S.Store connection.old).now name room → IfOk result (λ documents. documents ≡ documents_of room job) }
+    ensures damaged { HasCleanDisk (state S.Store connection.new) → HasSchema (state S.Store connection.old).now → result ≡ Err StoreFault.Damaged → IsSound (state S.Store connection.old).now name → ⊥ }
+    ensures same { HasCleanDisk (state S.Store connection.new) → HasSchema (state S.Store connection.old).now → OnOk result (IsSame (state S.Store connection.old) (state S.Store connection.new)) }
+    ensures stays { HasCleanDisk (state S.Store connection.new) → HasSchema (state S.Store connection.old).now → Stays (state S.Store connection.old) (state S.Store connection.new) }
+{
+    let mut found = Found {
+        job,
+        places: [None, None, None, None, None, None, None, None],
+    };
+    walk_documents(connection, name, &mut found)?;
+    in_order(alloc, found.places)
+}
+
+/// The documents of a job that were gathered, that of the number 1 in the first place.
+#[derive(Drop)]
+struct Found {
+    job: u32,
+    places: [Option<Document>; 8],
+}
+
+impl Gather for Found {
+    ghost use Rattle.std.specs.Prelude.{◌≡◌};
+    ghost use Rattle.room_statements.specs.Documents.{GathersDocument, refuses_document};
+
+    ghost step = { λ first row last. (last.job ≡ first.job) × GathersDocument first.job first.places row last.places };
+
+    ghost refuses = { λ first row. refuses_document first.job row };
+
+    fn gather(&mut self, row: &Row) -> Result<(), StoreFault> {
+        let document = document_from(row, self.job)?;
+        let place = (document.number - 1) as usize;
+        self.places[place] = Some(document);
+        Ok(())
+    }
+}
+
+/// The document that the row tells, if it is one that a job can have.
+fn document_from(row: &Row, job: u32) -> Result<Document, StoreFault>
+    ensures read { IfOk result (ShowsDocument row.now) }
+    ensures in_range { IfOk result (IsDocumentOf job) }
+    ensures damaged { result ≡ Err StoreFault.Damaged → (document : DocumentValue) → IsDocumentOf job document → ShowsDocument row.now document → ⊥ }
+{
+    let number = short_at(row, 0)?;
+    let format = format_at(row, 1)?;
+    let bytes = bytes_at(row, 2)?;
+    if number < 1 || number > MOST_DOCUMENTS || bytes.items.len() > LONGEST_DOCUMENT {
+        return Err(StoreFault::Damaged);
+    }
+    Ok(Document {
+        job,
+        number,
+        format,
+        bytes,
+    })
+}
+
+fn walk_documents<S: Alter>(
+    connection: &mut Connection<S>,
+    name: Name,
+    found: &mut Found,
+) -> Result<(), StoreFault>
+    ensures goes { Goes (state S.Store connection.old) (state S.Store connection.new) }
+    ensures opened { HasCleanDisk (state S.Store connection.new) → OnOk result (IsTrue (state S.Store connection.old).is_open × IsTrue (state S.Store connection.new).is_open) }
+    ensures walks { HasCleanDisk (state S.Store connection.new) → HasSchema (state S.Store connection.old).now → WalksOver (λ first row last. (last.job ≡ first.job) × GathersDocument first.job first.places row last.places) (λ first row. refuses_document first.job row) (state S.Store connection.old) (state S.Store connection.new) (shown_documents (state S.Store connection.old).now name found.old.job) found.old found.new result }
+{
+    walk(
+        connection,
+        "SELECT number, format, bytes FROM document WHERE account = ?1 AND job = ?2",
+        &[ValueRef::Text(name.bytes()), number(found.job as u64)],
+        found,
+    )
+}
+
+/// Those that are there, in the order of their places.
+fn in_order(alloc: Global, places: [Option<Document>; 8]) -> Result<List<Document>, StoreFault>
+    ensures listed { IfOk result (λ documents. documents ≡ flat_map option_to_list places) }
+    ensures fault { IfErr result (λ fault. fault ≡ StoreFault.Memory) }
+{
+    let mut items = Vec::new(alloc);
+    for place in places {
+        if let Some(document) = place {
+            items.push(document)?;
+        }
+    }
+    Ok(List { items })
+}
+
+/// Sets a document of a job of the account, inside a transaction. The row takes the one copy of the bytes.
+pub fn set_document<S: Alter>(
+    transaction: &mut Transaction<'_, S>,
+    name: Name,
+    job: u32,
+    number_in_job: u32,
+    format: Format,
+    bytes: &[u8],
+) -> Result<usize, Error>
+    ensures same_reference { transaction.new.conn.ghost_name ≡ transaction.old.conn.ghost_name }
+    ensures sets { HasCleanDisk (state S.Store transaction.new.conn.now) → OnOk result (HasSchema (state S.Store transaction.old.conn.now).now → HasSchema (state S.Store transaction.new.conn.now).now × SetsRow document_table (document_cells name (record { job = job; number = number_in_job; format = format; bytes = bytes.now })) (state S.Store transaction.old.conn.now).now (state S.Store transaction.new.conn.now).now) }
+    ensures mode { HasCleanDisk (state S.Store transaction.new.conn.now) → OnOk result (IsTrue transaction.new.conn.now.in_transaction) }
+    ensures kept { HasCleanDisk (state S.Store transaction.new.conn.now) → KeepsCommit (state S.Store transaction.old.conn.now) (state S.Store transaction.new.conn.now) }
+    ensures survives { Survives (state S.Store transaction.old.conn.now) (state S.Store transaction.new.conn.now) (λ _. ⊥) }
+{
+    transaction.execute(
+        "INSERT INTO document (account, job, number, format, bytes) VALUES (?1, ?2, ?3, ?4, ?5) ON CONFLICT (account, job, number) DO UPDATE SET format = excluded.format, bytes = excluded.bytes",
+        &[
+            ValueRef::Text(name.bytes()),
+            number(job as u64),
+            number(number_in_job as u64),
+            format_text(format),
+            ValueRef::Blob(bytes),
+        ],
+    )
+}
+
+/// Removes the documents of a job of the account, inside a transaction.
+pub fn remove_documents<S: Alter>(
+    transaction: &mut Transaction<'_, S>,
+    name: Name,
+    job: u32,
+) -> Result<usize, Error>
+    ensures same_reference { transaction.new.conn.ghost_name ≡ transaction.old.conn.ghost_name }
+    ensures removes { HasCleanDisk (state S.Store transaction.new.conn.now) → OnOk result (HasSchema (state S.Store transaction.old.conn.now).now → HasSchema (state S.Store transaction.new.conn.now).now × RemovesRows document_table (Text name ∷ number job ∷ []) (1 ∷ 2 ∷ []) (state S.Store transaction.old.conn.now).now (state S.Store transaction.new.conn.now).now) }
+    ensures mode { HasCleanDisk (state S.Store transaction.new.conn.now) → OnOk result (IsTrue transaction.new.conn.now.in_transaction) }
+    ensures kept { HasCleanDisk (state S.Store transaction.new.conn.now) → KeepsCommit (state S.Store transaction.old.conn.now) (state S.Store transaction.new.conn.now) }
+    ensures survives { Survives (state S.Store transaction.old.conn.now) (state S.Store transaction.new.conn.now) (λ _. ⊥) }
+{
+    transaction.execute(
+        "DELETE FROM document WHERE account = ?1 AND job = ?2",
+        &[ValueRef::Text(name.bytes()), number(job as u64)],
+    )
+}

@@ -1,0 +1,156 @@
+//! The rows of the table `job`.
+
+ghost use Rattle.std.specs.Prelude.{◌≡◌, Err, pos, IfOk, IfSome, OnOk, IsTrue, option_map};
+ghost use Rattle.sqlite.specs.State.{HasCleanDisk, KeepsCommit, Survives};
+ghost use Rattle.sqlite.specs.Held.{state};
+ghost use Rattle.room_rules.specs.Standings.{HasRanges, IsStanding};
+ghost use Rattle.room_rules.specs.declared.job.Job.{Job as JobValue};
+ghost use Rattle.room_rules.specs.declared.job.Standing.{Standing as StandingValue};
+ghost use Rattle.room_tables.specs.Tables.{job as job_table};
+ghost use Rattle.room_tables.specs.Keyed.{HasSchema, SetsRow};
+ghost use Rattle.room_tables.specs.Cells.{job_cells};
+ghost use Rattle.room_tables.specs.Accounts.{job_at, IsSound};
+ghost use Rattle.room_tables.specs.Calls.{Goes, Stays, IsSame, Gets};
+ghost use Rattle.room_tables.specs.ReadBack.{IsNameOrNone};
+ghost use Rattle.room_statements.specs.Shown.{behind_key, ShowsStanding, ShowsJob, IsJob};
+
+use crate::values::{
+    bytes_at, device_at, device_text, flag, flag_at, moment, moment_at, number, number_at,
+    number_of_state, short_at, state_at,
+};
+use room_rules::{Job, LONGEST_JOB_NAME, LONGEST_PASSWORD, Name, Standing};
+use room_tables::{StoreFault, find_row};
+use sqlite::{Alter, Connection, Error, Row, Transaction};
+use sqlite_value::value::ValueRef;
+
+/// The job of the account with the number. `Damaged` tells that the row that is there can be none of sound
+/// rows.
+pub fn find_job<S: Alter>(
+    connection: &mut Connection<S>,
+    name: Name,
+    number: u32,
+) -> Result<Option<Job>, StoreFault>
+    ensures goes { Goes (state S.Store connection.old) (state S.Store connection.new) }
+    ensures opened { HasCleanDisk (state S.Store connection.new) → OnOk result (IsTrue (state S.Store connection.old).is_open × IsTrue (state S.Store connection.new).is_open) }
+    ensures found { HasCleanDisk (state S.Store connection.new) → HasSchema (state S.Store connection.old).now → IfOk result (λ found. job_at (state S.Store connection.old).now name (pos number) ≡ option_map (job_cells name) found) }
+    ensures in_range { IfOk result (λ found. IfSome found (λ job. (job.job ≡ number) × IsJob job)) }
+    ensures damaged { HasCleanDisk (state S.Store connection.new) → HasSchema (state S.Store connection.old).now → result ≡ Err StoreFault.Damaged → IsSound (state S.Store connection.old).now name → ⊥ }
+    ensures same { HasCleanDisk (state S.Store connection.new) → HasSchema (state S.Store connection.old).now → OnOk result (IsSame (state S.Store connection.old) (state S.Store connection.new)) }
+    ensures stays { HasCleanDisk (state S.Store connection.new) → HasSchema (state S.Store connection.old).now → Stays (state S.Store connection.old) (state S.Store connection.new) }
+{
+    match job_row(connection, name, number)? {
+        Some(row) => Ok(Some(job_from(&row, number)?)),
+        None => Ok(None),
+    }
+}
+
+fn job_row<S: Alter>(
+    connection: &mut Connection<S>,
+    name: Name,
+    job: u32,
+) -> Result<Option<Row>, Error>
+    ensures goes { Goes (state S.Store connection.old) (state S.Store connection.new) }
+    ensures opened { HasCleanDisk (state S.Store connection.new) → OnOk result (IsTrue (state S.Store connection.old).is_open × IsTrue (state S.Store connection.new).is_open) }
+    ensures gets { HasCleanDisk (state S.Store connection.new) → HasSchema (state S.Store connection.old).now → Gets (state S.Store connection.old) (state S.Store connection.new) (job_at (state S.Store connection.old).now name (pos job)) behind_key result }
+{
+    find_row(
+        connection,
+        "SELECT name, password, state, open, stopping, copies, impressions, reserved, charged, documents, rate, device, created, started, ended FROM job WHERE account = ?1 AND job = ?2",
+        &[ValueRef::Text(name.bytes()), number(job as u64)],
+    )
+}
+
+/// The job with the number that the row tells, from its name on.
+pub(crate) fn job_from(row: &Row, number: u32) -> Result<Job, StoreFault>
+    ensures numbered { IfOk result (λ job. job.job ≡ number) }
+    ensures read { IfOk result (ShowsJob row.now) }
+    ensures in_range { IfOk result IsJob }
+    ensures damaged { result ≡ Err StoreFault.Damaged → (job : JobValue) → IsJob job → ShowsJob row.now job → ⊥ }
+{
+    let name = bytes_at(row, 0)?;
+    let password = bytes_at(row, 1)?;
+    let standing = standing_from(row)?;
+    if name.items.len() > LONGEST_JOB_NAME || password.items.len() > LONGEST_PASSWORD {
+        return Err(StoreFault::Damaged);
+    }
+    Ok(Job {
+        job: number,
+        name,
+        password,
+        standing,
+    })
+}
+
+/// The standing that the row tells, if it is one that a job can have.
+fn standing_from(row: &Row) -> Result<Standing, StoreFault>
+    ensures read { IfOk result (ShowsStanding row.now) }
+    ensures named { IfOk result (λ s. IsNameOrNone s.device) }
+    ensures in_range { IfOk result IsStanding }
+    ensures damaged { result ≡ Err StoreFault.Damaged → (s : StandingValue) → IsStanding s → IsNameOrNone s.device → ShowsStanding row.now s → ⊥ }
+{
+    let standing = columns_from(row)?;
+    if !standing.is_in_range() {
+        return Err(StoreFault::Damaged);
+    }
+    Ok(standing)
+}
+
+fn columns_from(row: &Row) -> Result<Standing, StoreFault>
+    ensures read { IfOk result (ShowsStanding row.now) }
+    ensures named { IfOk result (λ s. IsNameOrNone s.device) }
+    ensures damaged { result ≡ Err StoreFault.Damaged → (s : StandingValue) → HasRanges s → IsNameOrNone s.device → ShowsStanding row.now s → ⊥ }
+{
+    Ok(Standing {
+        state: state_at(row, 2)?,
+        is_open: flag_at(row, 3)?,
+        stopping: flag_at(row, 4)?,
+        copies: short_at(row, 5)?,
+        impressions: short_at(row, 6)?,
+        reserved: number_at(row, 7)?,
+        charged: number_at(row, 8)?,
+        documents: short_at(row, 9)?,
+        rate: short_at(row, 10)?,
+        device: device_at(row, 11)?,
+        created: number_at(row, 12)?,
+        started: moment_at(row, 13)?,
+        ended: moment_at(row, 14)?,
+    })
+}
+
+/// Sets a job of the account, under its number, inside a transaction.
+pub fn set_job<S: Alter>(
+    transaction: &mut Transaction<'_, S>,
+    name: Name,
+    job: &Job,
+) -> Result<usize, Error>
+    requires { IsStanding job.now.standing }
+    ensures same_reference { transaction.new.conn.ghost_name ≡ transaction.old.conn.ghost_name }
+    ensures sets { HasCleanDisk (state S.Store transaction.new.conn.now) → OnOk result (HasSchema (state S.Store transaction.old.conn.now).now → HasSchema (state S.Store transaction.new.conn.now).now × SetsRow job_table (job_cells name job.now) (state S.Store transaction.old.conn.now).now (state S.Store transaction.new.conn.now).now) }
+    ensures mode { HasCleanDisk (state S.Store transaction.new.conn.now) → OnOk result (IsTrue transaction.new.conn.now.in_transaction) }
+    ensures kept { HasCleanDisk (state S.Store transaction.new.conn.now) → KeepsCommit (state S.Store transaction.old.conn.now) (state S.Store transaction.new.conn.now) }
+    ensures survives { Survives (state S.Store transaction.old.conn.now) (state S.Store transaction.new.conn.now) (λ _. ⊥) }
+{
+    let s = &job.standing;
+    transaction.execute(
+        "INSERT INTO job (account, job, name, password, state, open, stopping, copies, impressions, reserved, charged, documents, rate, device, created, started, ended) VALUES (?1, ?2, ?3, ?4, ?5, ?6, ?7, ?8, ?9, ?10, ?11, ?12, ?13, ?14, ?15, ?16, ?17) ON CONFLICT (account, job) DO UPDATE SET name = excluded.name, password = excluded.password, state = excluded.state, open = excluded.open, stopping = excluded.stopping, copies = excluded.copies, impressions = excluded.impressions, reserved = excluded.reserved, charged = excluded.charged, documents = excluded.documents, rate = excluded.rate, device = excluded.device, created = excluded.created, started = excluded.started, ended = excluded.ended",
+        &[
+            ValueRef::Text(name.bytes()),
+            number(job.job as u64),
+            ValueRef::Blob(job.name.as_slice()),
+            ValueRef::Blob(job.password.as_slice()),
+            number_of_state(s.state),
+            flag(s.is_open),
+            flag(s.stopping),
+            number(s.copies as u64),
+            number(s.impressions as u64),
+            number(s.reserved),
+            number(s.charged),
+            number(s.documents as u64),
+            number(s.rate as u64),
+            device_text(&s.device),
+            number(s.created),
+            moment(s.started),
+            moment(s.ended),
+        ],
+    )
+}

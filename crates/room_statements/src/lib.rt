@@ -1,0 +1,26 @@
+//! One function for each statement on the rows of the shared tables.
+#![tactic(auto)]
+
+mod accounts;
+mod devices;
+mod documents;
+mod grants;
+mod jobs;
+mod queues;
+mod rates;
+mod tallies;
+mod values;
+mod walking;
+
+pub use accounts::{find_account, set_account};
+pub use devices::{find_device, is_device_on, set_device};
+pub use documents::{find_documents, remove_documents, set_document};
+pub use grants::{find_grant, granted_to, set_grant};
+pub use jobs::{find_job, set_job};
+pub use queues::{ended_jobs, unfinished_jobs};
+pub use rates::{find_rate, set_rate};
+pub use room_tables::StoreFault;
+pub use tallies::tally_jobs;
+
+#[cfg(test)]
+mod tests;

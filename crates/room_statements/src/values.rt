@@ -1,0 +1,213 @@
+//! Values of rows: the parameters of a statement, and what is read back.
+
+ghost use Rattle.std.specs.Prelude.{Bool, ◌≡◌, ◌≢◌, ℕ, ◌<◌, ◌^◌, pos, List, Option, Err, IfOk, IfErr};
+ghost use Rattle.sqlite_value.specs.Value.{owned};
+ghost use Rattle.sqlite_value.specs.declared.value.Value.TheVariants.{Blob, Int, Text};
+ghost use Rattle.sqlite_value.specs.Order.{column};
+ghost use Rattle.room_rules.specs.Formats.{media_type};
+ghost use Rattle.room_tables.specs.Cells.{device_name, device_text, flag, moment, moment_number, number, state_number};
+ghost use Rattle.room_statements.specs.Queues.{limit_number};
+ghost use Rattle.room_rules.specs.Standings.{IsMoment};
+ghost use Rattle.room_rules.specs.declared.format.Format.{Format as FormatValue};
+ghost use Rattle.room_rules.specs.declared.job.JobState.{JobState as JobStateValue};
+ghost use Rattle.room_tables.specs.ReadBack.{IsNameOrNone};
+
+use ipp_coding::List as Bytes;
+use room_rules::{Format, JobState, Name};
+use room_tables::StoreFault;
+use sqlite::Row;
+use sqlite_value::value::ValueRef;
+
+/// A number as a parameter.
+pub(crate) fn number<'a>(n: u64) -> ValueRef<'a>
+    requires { n < 2 ^ 63 }
+    ensures { owned result ≡ Int (pos n) }
+{
+    ValueRef::Int(n as i64)
+}
+
+/// The number in a column. Anything else there is `Damaged`.
+pub(crate) fn number_at(row: &Row, at: usize) -> Result<u64, StoreFault>
+    ensures read { IfOk result (λ n. column row.now at ≡ Int (pos n)) }
+    ensures damaged { result ≡ Err StoreFault.Damaged → (n : ℕ) → column row.now at ≢ Int (pos n) }
+{
+    match row.get(at) {
+        Ok(n) => Ok(n),
+        Err(error) => Err(StoreFault::of_value(error)),
+    }
+}
+
+/// A format as a parameter: its media type.
+pub(crate) fn format_text(format: Format) -> ValueRef<'static>
+    ensures { owned result ≡ Text (media_type format) }
+{
+    ValueRef::Text(format.media_type().as_bytes())
+}
+
+/// The format whose media type is in a column. Anything else there is `Damaged`.
+pub(crate) fn format_at(row: &Row, at: usize) -> Result<Format, StoreFault>
+    ensures read { IfOk result (λ format. column row.now at ≡ Text (media_type format)) }
+    ensures damaged { result ≡ Err StoreFault.Damaged → (format : FormatValue) → column row.now at ≢ Text (media_type format) }
+{
+    match row.get_ref(at) {
+        Ok(ValueRef::Text(bytes)) => format_of(bytes),
+        _ => Err(StoreFault::Damaged),
+    }
+}
+
+fn format_of(bytes: &[u8]) -> Result<Format, StoreFault>
+    ensures read { IfOk result (λ format. bytes.now ≡ media_type format) }
+    ensures damaged { IfErr result (λ fault. (format : FormatValue) → bytes.now ≢ media_type format) }
+{
+    Format::of_media_type(bytes).ok_or(StoreFault::Damaged)
+}
+
+/// A flag as a parameter.
+pub(crate) fn flag<'a>(on: bool) -> ValueRef<'a>
+    ensures { owned result ≡ flag on }
+{
+    ValueRef::Int(if on { 1 } else { 0 })
+}
+
+/// The flag in a column. Anything else there is `Damaged`.
+pub(crate) fn flag_at(row: &Row, at: usize) -> Result<bool, StoreFault>
+    ensures read { IfOk result (λ on. column row.now at ≡ flag on) }
+    ensures damaged { result ≡ Err StoreFault.Damaged → (on : Bool) → column row.now at ≢ flag on }
+{
+    match number_at(row, at)? {
+        0 => Ok(false),
+        1 => Ok(true),
+        _ => Err(StoreFault::Damaged),
+    }
+}
+
+/// The number of a state as a parameter.
+pub(crate) fn number_of_state<'a>(state: JobState) -> ValueRef<'a>
+    ensures { owned result ≡ number (state_number state) }
+{
+    ValueRef::Int(match state {
+        JobState::Held => 4,
+        JobState::Pending => 3,
+        JobState::Processing => 5,
+        JobState::Canceled => 7,
+        JobState::Aborted => 8,
+        JobState::Completed => 9,
+    })
+}
+
+/// A moment, or that there is none, as a parameter.
+pub(crate) fn moment<'a>(at: Option<u64>) -> ValueRef<'a>
+    requires { IsMoment at }
+    ensures { owned result ≡ moment at }
+{
+    match at {
+        None => ValueRef::Int(-1),
+        Some(at) => ValueRef::Int(at as i64),
+    }
+}
+
+/// A limit, or that there is none, as a parameter.
+pub(crate) fn limit_of<'a>(limit: Option<u32>) -> ValueRef<'a>
+    ensures { owned result ≡ Int (limit_number limit) }
+{
+    match limit {
+        None => ValueRef::Int(-1),
+        Some(limit) => ValueRef::Int(limit as i64),
+    }
+}
+
+/// The name of a device, or that there is none, as a parameter.
+pub(crate) fn device_text(device: &Option<Name>) -> ValueRef<'_>
+    ensures { owned result ≡ device_text device.now }
+{
+    match device {
+        None => ValueRef::Text(&[]),
+        Some(name) => ValueRef::Text(name.bytes()),
+    }
+}
+
+/// A number of 32 bits in a column. Anything else there is `Damaged`.
+pub(crate) fn short_at(row: &Row, at: usize) -> Result<u32, StoreFault>
+    ensures read { IfOk result (λ n. column row.now at ≡ number n) }
+    ensures damaged { result ≡ Err StoreFault.Damaged → (n : ℕ) → n < 2 ^ 32 → column row.now at ≢ number n }
+{
+    let n = number_at(row, at)?;
+    if n > u32::MAX as u64 {
+        return Err(StoreFault::Damaged);
+    }
+    Ok(n as u32)
+}
+
+/// The state whose number is in a column. Anything else there is `Damaged`.
+pub(crate) fn state_at(row: &Row, at: usize) -> Result<JobState, StoreFault>
+    ensures read { IfOk result (λ found. column row.now at ≡ number (state_number found)) }
+    ensures damaged { result ≡ Err StoreFault.Damaged → (found : JobStateValue) → column row.now at ≢ number (state_number found) }
+{
+    match number_at(row, at)? {
+        3 => Ok(JobState::Pending),
+        4 => Ok(JobState::Held),
+        5 => Ok(JobState::Processing),
+        7 => Ok(JobState::Canceled),
+        8 => Ok(JobState::Aborted),
+        9 => Ok(JobState::Completed),
+        _ => Err(StoreFault::Damaged),
+    }
+}
+
+/// The moment in a column, or that there is none. Anything else there is `Damaged`.
+pub(crate) fn moment_at(row: &Row, at: usize) -> Result<Option<u64>, StoreFault>
+    ensures read { IfOk result (λ found. column row.now at ≡ moment found) }
+    ensures damaged { result ≡ Err StoreFault.Damaged → (found : Option ℕ) → column row.now at ≢ moment found }
+{
+    match row.get_ref(at) {
+        Ok(ValueRef::Int(n)) => moment_of(n),
+        _ => Err(StoreFault::Damaged),
+    }
+}
+
+fn moment_of(n: i64) -> Result<Option<u64>, StoreFault>
+    ensures read { IfOk result (λ found. n ≡ moment_number found) }
+    ensures damaged { IfErr result (λ fault. (found : Option ℕ) → n ≢ moment_number found) }
+{
+    if n < -1 {
+        return Err(StoreFault::Damaged);
+    }
+    if n < 0 { Ok(None) } else { Ok(Some(n as u64)) }
+}
+
+/// The name of a device in a column, or that there is none. Anything else there is `Damaged`.
+pub(crate) fn device_at(row: &Row, at: usize) -> Result<Option<Name>, StoreFault>
+    ensures read { IfOk result (λ found. column row.now at ≡ device_text found) }
+    ensures named { IfOk result IsNameOrNone }
+    ensures damaged { result ≡ Err StoreFault.Damaged → (found : Option (List ℕ)) → IsNameOrNone found → column row.now at ≢ device_text found }
+{
+    match row.get_ref(at) {
+        Ok(ValueRef::Text(bytes)) => device_of(bytes),
+        _ => Err(StoreFault::Damaged),
+    }
+}
+
+fn device_of(bytes: &[u8]) -> Result<Option<Name>, StoreFault>
+    ensures read { IfOk result (λ found. bytes.now ≡ device_name found) }
+    ensures named { IfOk result IsNameOrNone }
+    ensures damaged { IfErr result (λ fault. (found : Option (List ℕ)) → IsNameOrNone found → bytes.now ≢ device_name found) }
+{
+    if bytes.is_empty() {
+        return Ok(None);
+    }
+    match Name::read(bytes) {
+        Some(name) => Ok(Some(name)),
+        None => Err(StoreFault::Damaged),
+    }
+}
+
+/// The bytes in a column, in a copy. Anything else there is `Damaged`.
+pub(crate) fn bytes_at(row: &Row, at: usize) -> Result<Bytes<u8>, StoreFault>
+    ensures read { IfOk result (λ bytes. column row.now at ≡ Blob bytes) }
+    ensures damaged { result ≡ Err StoreFault.Damaged → (bytes : List ℕ) → column row.now at ≢ Blob bytes }
+{
+    match row.get(at) {
+        Ok(items) => Ok(Bytes { items }),
+        Err(error) => Err(StoreFault::of_value(error)),
+    }
+}

@@ -1,5 +1,0 @@
-use Rattle.room_store.proofs.ReadBackLemmas as lemma
-use Rattle.room_store.proofs.law.rows_are_read_back.Goals as goal
-
-pub returns : goal.returns
-returns c = lemma.rows_are_read_back

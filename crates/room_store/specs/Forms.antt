@@ -1,7 +1,0 @@
--- The columns of a table, as it is made with them.
-use Rattle.sqlite_schema.specs.declared.schema.Column.{Column}
-use Rattle.room_store.specs.declared.schema.ColumnForm.{ColumnForm}
-use Rattle.room_store.specs.Tables.{column_of}
-
-abbrev pub column_formed : ColumnForm → Column
-column_formed form = column_of form.kind form.name.now

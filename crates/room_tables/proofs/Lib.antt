@@ -1,0 +1,16 @@
+pub mod MakingTexts
+pub mod Edits
+pub mod Finds
+pub mod Queries
+pub mod Upserts
+pub mod Statements
+pub mod Transactions
+pub mod Created
+pub mod Reading
+pub mod Columns
+pub mod VersionLemmas
+pub mod ReadBackLemmas
+pub mod KeyedRows
+pub mod RatedLemmas
+pub mod VersionTwo
+pub mod AgreedRows

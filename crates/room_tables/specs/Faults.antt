@@ -1,0 +1,23 @@
+-- What an error of the storage counts as.
+use Rattle.sqlite.specs.declared.error.Error.{Error}
+use Rattle.sqlite.specs.declared.error.Error.TheVariants.{SqliteFailure}
+use Rattle.sqlite.specs.declared.error.ErrorCode.TheVariants.{OutOfMemory}
+use Rattle.room_tables.specs.declared.fault.StoreFault.{StoreFault}
+use Rattle.room_tables.specs.declared.fault.StoreFault.TheVariants as store
+use Rattle.room_tables.specs.declared.fault.OpenFault.{OpenFault}
+use Rattle.room_tables.specs.declared.fault.OpenFault.TheVariants as opening
+
+-- of a statement
+abbrev pub statement_fault : Error → StoreFault
+statement_fault (SqliteFailure OutOfMemory) = store.Memory
+statement_fault _ = store.Storage
+
+-- of a value that is read from a row
+abbrev pub value_fault : Error → StoreFault
+value_fault (SqliteFailure OutOfMemory) = store.Memory
+value_fault _ = store.Damaged
+
+-- of a statement that makes, opens or migrates
+abbrev pub opening_fault : Error → OpenFault
+opening_fault (SqliteFailure OutOfMemory) = opening.Memory
+opening_fault _ = opening.Storage

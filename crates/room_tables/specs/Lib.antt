@@ -1,0 +1,12 @@
+pub mod Tables
+pub mod Keyed
+pub mod Queries
+pub mod Forms
+pub mod Cells
+pub mod Accounts
+pub mod Devices
+pub mod Calls
+pub mod Making
+pub mod Migrating
+pub mod Faults
+pub mod ReadBack

@@ -1,0 +1,82 @@
+-- What becomes of a database of version 1 when it is migrated (all this project's own).
+use Rattle.std.specs.Prelude.{◌≡◌, ◌≢◌, ⊤, ℕ, ℤ, pos, List, [], option_map, IfSome}
+use Rattle.std.specs.List.{AllByRecursion}
+use Rattle.sqlite_trees.specs.View.{IsShaped}
+use Rattle.sqlite_trees.specs.declared.store.Shape.TheVariants as shape
+use Rattle.sqlite.specs.Effect.{Database, IsDatabase}
+use Rattle.room_tables.specs.Tables.{first_schema, room_schema, meta, rates}
+use Rattle.room_tables.specs.declared.fault.OpenFault.{OpenFault}
+use Rattle.room_tables.specs.declared.fault.OpenFault.TheVariants.{NotOurs, WrongVersion, Storage, Memory}
+use Rattle.room_tables.specs.Keyed.{HasSchema, OnlyChanges}
+use Rattle.room_tables.specs.Cells.{units_cells, device_cells}
+use Rattle.room_tables.specs.Devices.{Devices, device_at, rate_at, IsDevice}
+use Rattle.room_tables.specs.Making.{HasVersion, IsOurs, IsNotOurs}
+
+-- ---- a database of version 1
+
+abbrev pub IsFirst : Database → Type 0
+IsFirst db = (db.schema ≡ first_schema) × HasVersion db (pos 1)
+
+-- It is a database with the schema of version 1, and in no table does a row number come twice.
+pub record HasFirstSchema (db : Database) : Type 0 where
+  pub schema_is : db.schema ≡ first_schema
+  pub is_database : IsDatabase db
+  pub numbered : AllByRecursion (λ table. IsShaped shape.Table (db.trees table.tree)) first_schema.tables
+
+-- each device has one row, and counts one unit for an impression
+pub record HoldsFirstDevices (db : Database) (devices : Devices) : Type 0 where
+  pub schema_is : db.schema ≡ first_schema
+  pub are_devices : (name : List ℕ) → IfSome (devices name) (λ device. IsDevice name device × (device.rate ≡ 1))
+  pub device_rows : (name : List ℕ) → device_at db name ≡ option_map device_cells (devices name)
+
+-- ---- as it is migrated
+
+-- each device has rate 1, and nothing else has a rate
+abbrev pub AreRatedOne : Database → Type 0
+AreRatedOne db = (name : List ℕ) → rate_at db name ≡ option_map (λ row. units_cells name 1) (device_at db name)
+
+-- each table of version 1 but that of the version is as it was
+abbrev pub KeepsFirst : Database → Database → Type 0
+KeepsFirst old new = AllByRecursion (λ table. table.tree ≢ meta.tree → new.trees table.tree ≡ old.trees table.tree) first_schema.tables
+
+pub record IsMigrated (old new : Database) : Type 0 where
+  pub was_first : IsFirst old
+  pub schema_is : new.schema ≡ room_schema
+  pub version_two : HasVersion new (pos 2)
+  pub kept : KeepsFirst old new
+  pub rated : AreRatedOne new
+  pub sound : HasFirstSchema old → HasSchema new
+
+-- ---- the statements on the way
+
+-- the table `rates` is there, with no row, beside the tables of version 1
+pub record AddsRates (old new : Database) : Type 0 where
+  pub schema_is : new.schema ≡ room_schema
+  pub kept : AllByRecursion (λ table. new.trees table.tree ≡ old.trees table.tree) first_schema.tables
+  pub no_rate : new.trees rates.tree ≡ []
+
+pub record RatesDevices (old new : Database) : Type 0 where
+  pub schema_is : new.schema ≡ room_schema
+  pub kept : OnlyChanges rates old new
+  pub rated : AreRatedOne new
+  pub numbered : IsShaped shape.Table (new.trees rates.tree)
+
+pub record NotesVersionTwo (old new : Database) : Type 0 where
+  pub schema_is : new.schema ≡ room_schema
+  pub is_database : IsDatabase new
+  pub kept : OnlyChanges meta old new
+  pub version_two : HasVersion new (pos 2)
+  pub numbered : IsShaped shape.Table (old.trees meta.tree) → IsShaped shape.Table (new.trees meta.tree)
+
+-- ---- why it is not migrated
+
+-- a version that there is none of, on a schema that is ours
+abbrev pub IsOfOtherVersion : Database → ℤ → Type 0
+IsOfOtherVersion db version = IsOurs db.schema × HasVersion db version × (version ≢ pos 1) × (version ≢ pos 2)
+
+-- want of memory and a failure of the storage say nothing of it
+abbrev pub IsMigrateFault : Database → OpenFault → Type 0
+IsMigrateFault db NotOurs = IsNotOurs db
+IsMigrateFault db (WrongVersion version) = IsOfOtherVersion db version
+IsMigrateFault db Storage = ⊤
+IsMigrateFault db Memory = ⊤

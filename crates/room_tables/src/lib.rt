@@ -1,0 +1,18 @@
+//! The shared tables: their schema, what their rows stand for, and how they are made, told and migrated.
+#![tactic(auto)]
+
+mod fault;
+mod law;
+mod making;
+mod migrating;
+mod rows;
+mod schema;
+mod version;
+
+pub use fault::{OpenFault, StoreFault};
+pub use law::rows_are_read_back;
+pub use making::make_tables;
+pub use migrating::migrate_tables;
+pub use rows::find_row;
+pub use schema::is_blank;
+pub use version::check;

@@ -1,0 +1,136 @@
+//! Whether a database is one of ours, and of which version.
+
+ghost use Rattle.std.specs.Prelude.{◌≡◌, ◌≢◌, ◌⊎◌, ℤ, false, [], ◌∷◌, pos, IfOk, IfErr, OnOk, IsTrue, MatchOption};
+ghost use Rattle.sqlite_value.specs.declared.value.Value.TheVariants.{Int};
+ghost use Rattle.sqlite_value.specs.Order.{column};
+ghost use Rattle.sqlite_sql.specs.Term.{col};
+ghost use Rattle.sqlite.specs.State.{HasCleanDisk};
+ghost use Rattle.sqlite.specs.Held.{state};
+ghost use Rattle.room_tables.specs.Calls.{Goes, Stays, IsSame};
+ghost use Rattle.room_tables.specs.Queries.{FindsRow};
+ghost use Rattle.room_tables.specs.Making.{HasVersion, LacksVersion, IsOurs, IsEdition, IsNoEdition, IsOpened, IsOpenFault, version_tests};
+ghost use Rattle.room_tables.specs.Migrating.{IsFirst, IsMigrateFault};
+
+use crate::fault::OpenFault;
+use crate::rows::find_row;
+use crate::schema::{is_first_schema, is_room_schema};
+use sqlite::{Alter, Connection, Error, ErrorCode, Row};
+
+/// The version that the store keeps.
+const VERSION: i64 = 2;
+
+/// The version that can be migrated.
+const OLDER_VERSION: i64 = 1;
+
+/// What a database of ours has: the schema with the table `rates` or that without it, and its version.
+#[derive(Clone, Copy)]
+struct Edition {
+    has_rates: bool,
+    version: i64,
+}
+
+/// Whether the database is one that the store can be opened on.
+pub fn check<S: Alter>(connection: &mut Connection<S>) -> Result<(), OpenFault>
+    ensures goes { Goes (state S.Store connection.old) (state S.Store connection.new) }
+    ensures opened { HasCleanDisk (state S.Store connection.new) → OnOk result (IsOpened (state S.Store connection.old).now) }
+    ensures fault { HasCleanDisk (state S.Store connection.new) → IfErr result (IsOpenFault (state S.Store connection.old).now) }
+    ensures same { HasCleanDisk (state S.Store connection.new) → OnOk result (IsSame (state S.Store connection.old) (state S.Store connection.new)) }
+    ensures stays { HasCleanDisk (state S.Store connection.new) → Stays (state S.Store connection.old) (state S.Store connection.new) }
+{
+    let edition = find_edition(connection)?;
+    judge(edition)
+}
+
+/// Whether the database is to be migrated. If not, the store can be opened on it.
+pub(crate) fn is_older<S: Alter>(connection: &mut Connection<S>) -> Result<bool, OpenFault>
+    ensures goes { Goes (state S.Store connection.old) (state S.Store connection.new) }
+    ensures found { HasCleanDisk (state S.Store connection.new) → IfOk result (λ older. (IsTrue older → IsFirst (state S.Store connection.old).now) × (older ≡ false → IsOpened (state S.Store connection.old).now)) }
+    ensures fault { HasCleanDisk (state S.Store connection.new) → IfErr result (IsMigrateFault (state S.Store connection.old).now) }
+    ensures same { HasCleanDisk (state S.Store connection.new) → OnOk result (IsSame (state S.Store connection.old) (state S.Store connection.new)) }
+    ensures stays { HasCleanDisk (state S.Store connection.new) → Stays (state S.Store connection.old) (state S.Store connection.new) }
+{
+    let edition = find_edition(connection)?;
+    judge_older(edition)
+}
+
+/// Whether it is an edition that the store can be opened on.
+fn judge(edition: Edition) -> Result<(), OpenFault>
+    ensures accepted { OnOk result (IsTrue edition.has_rates × (edition.version ≡ pos 2)) }
+    ensures refused { IfErr result (λ fault. ((edition.version ≢ pos 2) × (fault ≡ OpenFault.WrongVersion edition.version)) ⊎ ((edition.version ≡ pos 2) × (edition.has_rates ≡ false) × (fault ≡ OpenFault.NotOurs))) }
+{
+    if edition.version != VERSION {
+        return Err(OpenFault::WrongVersion(edition.version));
+    }
+    if edition.has_rates {
+        Ok(())
+    } else {
+        Err(OpenFault::NotOurs)
+    }
+}
+
+/// Whether it is the edition that can be migrated. If not, it is judged as an open judges it.
+fn judge_older(edition: Edition) -> Result<bool, OpenFault>
+    ensures accepted { IfOk result (λ older. (IsTrue older → (edition.has_rates ≡ false) × (edition.version ≡ pos 1)) × (older ≡ false → IsTrue edition.has_rates × (edition.version ≡ pos 2))) }
+    ensures refused { IfErr result (λ fault. ((edition.version ≢ pos 1) × (edition.version ≢ pos 2) × (fault ≡ OpenFault.WrongVersion edition.version)) ⊎ (((edition.version ≡ pos 2) × (edition.has_rates ≡ false) × (fault ≡ OpenFault.NotOurs)) ⊎ ((edition.version ≡ pos 1) × IsTrue edition.has_rates × (fault ≡ OpenFault.Storage)))) }
+{
+    if edition.version != OLDER_VERSION {
+        judge(edition)?;
+        return Ok(false);
+    }
+    // The table that a migration makes would be there already.
+    if edition.has_rates {
+        return Err(OpenFault::Storage);
+    }
+    Ok(true)
+}
+
+/// The edition that a database is, where it is one.
+fn find_edition<S: Alter>(connection: &mut Connection<S>) -> Result<Edition, OpenFault>
+    ensures goes { Goes (state S.Store connection.old) (state S.Store connection.new) }
+    ensures found { HasCleanDisk (state S.Store connection.new) → IfOk result (IsEdition (state S.Store connection.old).now) }
+    ensures fault { HasCleanDisk (state S.Store connection.new) → IfErr result (IsNoEdition (state S.Store connection.old).now) }
+    ensures same { HasCleanDisk (state S.Store connection.new) → OnOk result (IsSame (state S.Store connection.old) (state S.Store connection.new)) }
+    ensures stays { HasCleanDisk (state S.Store connection.new) → Stays (state S.Store connection.old) (state S.Store connection.new) }
+{
+    let has_rates = is_room_schema(connection.schema());
+    if !has_rates && !is_first_schema(connection.schema()) {
+        return Err(OpenFault::NotOurs);
+    }
+    match find_version(connection)? {
+        None => Err(OpenFault::NotOurs),
+        Some(version) => Ok(Edition { has_rates, version }),
+    }
+}
+
+/// The version that the row of `meta` tells, where it tells one.
+fn find_version<S: Alter>(connection: &mut Connection<S>) -> Result<Option<i64>, OpenFault>
+    ensures goes { Goes (state S.Store connection.old) (state S.Store connection.new) }
+    ensures found { HasCleanDisk (state S.Store connection.new) → IsOurs (state S.Store connection.old).now.schema → IfOk result (λ found. MatchOption found (LacksVersion (state S.Store connection.old).now) (HasVersion (state S.Store connection.old).now)) }
+    ensures fault { IfErr result (λ fault. (fault ≡ OpenFault.Storage) ⊎ (fault ≡ OpenFault.Memory)) }
+    ensures same { HasCleanDisk (state S.Store connection.new) → IsOurs (state S.Store connection.old).now.schema → OnOk result (IsSame (state S.Store connection.old) (state S.Store connection.new)) }
+    ensures stays { HasCleanDisk (state S.Store connection.new) → IsOurs (state S.Store connection.old).now.schema → Stays (state S.Store connection.old) (state S.Store connection.new) }
+{
+    match version_row(connection)? {
+        Some(row) => version_from(&row),
+        None => Ok(None),
+    }
+}
+
+fn version_row<S: Alter>(connection: &mut Connection<S>) -> Result<Option<Row>, Error>
+    ensures goes { Goes (state S.Store connection.old) (state S.Store connection.new) }
+    ensures finds { HasCleanDisk (state S.Store connection.new) → IsOurs (state S.Store connection.old).now.schema → FindsRow (state S.Store connection.old) (state S.Store connection.new) 0 version_tests (col 1 2 ∷ []) [] result }
+{
+    find_row(connection, "SELECT version FROM meta WHERE id = 1", &[])
+}
+
+/// The version that the row tells, where it is a number.
+fn version_from(row: &Row) -> Result<Option<i64>, OpenFault>
+    ensures read { IfOk result (λ found. MatchOption found ((version : ℤ) → column row.now 0 ≢ Int version) (λ version. column row.now 0 ≡ Int version)) }
+    ensures fault { IfErr result (λ fault. fault ≡ OpenFault.Memory) }
+{
+    match row.get(0) {
+        Ok(version) => Ok(Some(version)),
+        Err(Error::SqliteFailure(ErrorCode::OutOfMemory)) => Err(OpenFault::Memory),
+        Err(_) => Ok(None),
+    }
+}
