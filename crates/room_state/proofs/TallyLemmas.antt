@@ -16,7 +16,7 @@ use Rattle.room_state.specs.Rooms.{RoomValue}
 use Rattle.room_state.specs.RoomRules.{IsRoom, is_unfinished, unfinished_count}
 use Rattle.room_state.specs.Sums.{is_processing, reserved_in, charged_in}
 use Rattle.room_state.proofs.Bounds.{reserved_bound, charged_bound}
-use Rattle.room_state.specs.Tallies.{tally_of, counted, counted_in_bounds, is_in_bounds, most_counted, most_units}
+use Rattle.room_state.specs.Tallies.{tally_of, counted, counted_in_bounds, is_in_bounds, most_units}
 
 -- one job more, by its standing
 abbrev pub counted_with : Tally → Standing → Tally
@@ -34,7 +34,7 @@ pub tally_more : (jobs : List Job) (i : ℕ) (job : Job) → i < length jobs →
 tally_more jobs i job h is = ap tally_of (take_more jobs i job h ∙ ap (λ (last : Job). take i jobs ++ last ∷ []) (sym is)) ∙ tally_push (take i jobs) job
 
 pub three_lower : (a b c x y z : ℕ) → a ≤ x → b ≤ y → c ≤ z →
-    IsTrue (nat_le x most_counted && nat_le y most_units && nat_le z most_units) → IsTrue (nat_le a most_counted && nat_le b most_units && nat_le c most_units)
+    IsTrue (nat_le x most_unfinished && nat_le y most_units && nat_le z most_units) → IsTrue (nat_le a most_unfinished && nat_le b most_units && nat_le c most_units)
 three_lower a b c x y z h i j within = grind (arith, nat_tests)
 
 pub in_bounds_before : (jobs : List Job) (i : ℕ) → IsTrue (is_in_bounds (tally_of jobs)) → IsTrue (is_in_bounds (tally_of (take i jobs)))
@@ -47,7 +47,7 @@ in_bounds_before jobs i within =
 pub counted_some : (tally : Tally) (state : JobState) (reserved charged : ℕ) → IsTrue (is_in_bounds (counted tally state reserved charged)) → counted_in_bounds tally state reserved charged ≡ Some (counted tally state reserved charged)
 counted_some tally state reserved charged within = ap (λ b. cond b (Some (counted tally state reserved charged)) None) within
 
-three_within : (a b c : ℕ) → a ≤ most_unfinished → b ≤ most_units → c ≤ most_units → IsTrue (nat_le a most_counted && nat_le b most_units && nat_le c most_units)
+three_within : (a b c : ℕ) → a ≤ most_unfinished → b ≤ most_units → c ≤ most_units → IsTrue (nat_le a most_unfinished && nat_le b most_units && nat_le c most_units)
 three_within a b c h i j = grind (arith, nat_tests)
 
 -- what is counted of a room's jobs is within the bounds

@@ -1,6 +1,7 @@
 -- What is counted of jobs, one after another (all this project's own).
 use Rattle.std.specs.Prelude.{ℕ, ◌+◌, Bool, ◌&&◌, ◌||◌, nat_le, if◌then◌else◌, List, count_by, Option, Some, None}
 use Rattle.std.specs.List.{sum_by, list_any}
+use Rattle.room_rules.specs.Limits.{most_unfinished}
 use Rattle.room_rules.specs.declared.job.Job.{Job}
 use Rattle.room_rules.specs.declared.job.JobState.{JobState}
 use Rattle.room_state.specs.declared.tally.Tally.{Tally}
@@ -25,18 +26,14 @@ counted tally state reserved charged = record {
   charged = tally.charged + charged;
 }
 
--- a count is at most so many
-abbrev pub most_counted : ℕ
-most_counted = 4294967295
-
 -- a sum is at most so many units, which the sums of a room never reach
 abbrev pub most_units : ℕ
 most_units = 1000000000000000000
 
 abbrev pub is_in_bounds : Tally → Bool
-is_in_bounds tally = nat_le tally.unfinished most_counted && nat_le tally.reserved most_units && nat_le tally.charged most_units
+is_in_bounds tally = nat_le tally.unfinished most_unfinished && nat_le tally.reserved most_units && nat_le tally.charged most_units
 
--- one job more, unless a count or a sum would pass its bound
+-- one job more, unless the count or a sum would pass its bound
 abbrev pub counted_in_bounds : Tally → JobState → (reserved charged : ℕ) → Option Tally
 counted_in_bounds tally state reserved charged =
     if is_in_bounds (counted tally state reserved charged) then Some (counted tally state reserved charged) else None

@@ -9,7 +9,7 @@ mod room;
 mod tally;
 
 pub use room::Room;
-pub use tally::Tally;
+pub use tally::{Tally, sum_of_units};
 
 #[cfg(test)]
 mod tests;

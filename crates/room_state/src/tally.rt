@@ -1,9 +1,10 @@
 ghost use Rattle.std.specs.Prelude.{◌≡◌, ◌+◌, [], nat_le, IsTrue, if◌then◌else◌};
+ghost use Rattle.room_rules.specs.Limits.{most_unfinished};
 ghost use Rattle.room_state.specs.RoomRules.{is_unfinished};
 ghost use Rattle.room_state.specs.Sums.{is_processing};
 ghost use Rattle.room_state.specs.Tallies.{tally_of, counted_in_bounds, is_in_bounds, most_units};
 
-use room_rules::{Job, JobState};
+use room_rules::{Job, JobState, MOST_UNFINISHED};
 
 /// More units than the jobs of an account ever reserve, or were ever charged.
 const MOST_UNITS: u64 = 1_000_000_000_000_000_000;
@@ -34,14 +35,13 @@ impl Tally {
         }
     }
 
-    /// With one job more. None exactly where the count would pass 4294967295, or a sum 10^18 units,
+    /// With one job more. None exactly where more than 100 had not ended, or a sum would pass 10^18 units,
     /// which no account's jobs come to.
     pub fn with(self, state: JobState, reserved: u64, charged: u64) -> Option<Tally>
         ensures { result ≡ counted_in_bounds self state reserved charged }
     {
-        let unfinished = self.unfinished.checked_add(is_unfinished(state) as u32)?;
         Some(Tally {
-            unfinished,
+            unfinished: count_of_unfinished(self.unfinished, state)?,
             is_processing: self.is_processing || is_processing(state),
             reserved: sum_of_units(self.reserved, reserved)?,
             charged: sum_of_units(self.charged, charged)?,
@@ -64,7 +64,16 @@ pub(crate) fn tally_of(jobs: &[Job]) -> Tally
     tally
 }
 
-fn sum_of_units(units: u64, more: u64) -> Option<u64>
+fn count_of_unfinished(count: u32, state: JobState) -> Option<u32>
+    ensures { result ≡ (if nat_le (count + (if is_unfinished state then 1 else 0)) most_unfinished then Some (count + (if is_unfinished state then 1 else 0)) else None) }
+{
+    count
+        .checked_add(is_unfinished(state) as u32)
+        .filter(|sum| *sum <= MOST_UNFINISHED)
+}
+
+/// The sum of units. None exactly where it would pass 10^18.
+pub fn sum_of_units(units: u64, more: u64) -> Option<u64>
     ensures { result ≡ (if nat_le (units + more) most_units then Some (units + more) else None) }
 {
     units.checked_add(more).filter(|sum| *sum <= MOST_UNITS)

@@ -1,7 +1,7 @@
--- The statements on the table `document`: what their texts mean, and what they leave.
-use Rattle.std.proofs.Common.{◌≡◌, ℕ, ℤ, pos, Bool, true, false, cond, List, [], ◌∷◌, drop, codes, Option, None, option_map, Ok, refl, sym, ap, subst, ◌∙◌, inl, inr}
+-- The statements on the table `document`: what they leave.
+use Rattle.std.proofs.Common.{◌≡◌, ℕ, ℤ, pos, Bool, true, false, cond, List, [], ◌∷◌, drop, codes, Option, None, option_map, Ok, refl, ap, subst, ◌∙◌, inl, inr}
 use Rattle.std.proofs.Math.Bool.{or-false, and-true}
-use Rattle.std.proofs.lemmas.Bool.{cases_Bool, and_parts, and_from, not-true}
+use Rattle.std.proofs.lemmas.Bool.{and_parts, not-true}
 use Rattle.sqlite_tied.specs.Compute.{everything}
 use Rattle.sqlite_value.specs.declared.value.Value.TheVariants.{Null, Int, Text, Blob}
 use Rattle.sqlite_value.specs.declared.keys.Collation.TheVariants.{Binary}
@@ -12,70 +12,31 @@ use Rattle.sqlite_sql.specs.declared.ops.BinaryOp.TheVariants.{Compare}
 use Rattle.sqlite_sql.specs.declared.ops.CompareOp.TheVariants.{Eq}
 use Rattle.sqlite_sql.specs.Term.{Term, lit, col, op2}
 use Rattle.sqlite_schema.specs.declared.schema.Kind.TheVariants as kind
-use Rattle.sqlite_schema.specs.declared.command.Command.{Command}
-use Rattle.sqlite_schema.specs.declared.command.Command.TheVariants.{Delete}
 use Rattle.sqlite_schema.specs.Rules.{agree}
 use Rattle.sqlite_rules.specs.Cast.{cast, cast_row}
 use Rattle.sqlite_rules.specs.Lists.{Has}
-use Rattle.sqlite_rules.proofs.KeyLemmas.{agree_back, agree_chain}
 use Rattle.sqlite.specs.Effect.{Database}
 use Rattle.sqlite.specs.Does.{Does, Tally}
 use Rattle.sqlite.specs.Listing.{understood}
 use Rattle.sqlite.specs.State.{State, mode_of, Executes}
-use Rattle.sqlite.proofs.Callers.{IsPlain, command_of, statement_of, runs_as}
+use Rattle.sqlite.proofs.Callers.{statement_of, runs_as}
 use Rattle.room_rules.specs.declared.job.Document.{Document}
 use Rattle.room_rules.specs.Formats.{media_type}
 use Rattle.room_tables.specs.Tables.{room_schema, column_of, document}
-use Rattle.room_tables.specs.Keyed.{HasSchema, RemovesRows, has_key}
-use Rattle.room_tables.specs.Queries.{of_table, is_given, passes}
+use Rattle.room_tables.specs.Keyed.{HasSchema, RemovesRows}
+use Rattle.room_tables.specs.Queries.{passes}
 use Rattle.room_tables.specs.Cells.{number, document_cells}
 use Rattle.room_tables.proofs.KeyedRows.{first_text, second_integer, third_integer}
 use Rattle.room_tables.proofs.Upserts.{went, same_value, deleted, cast_integer, cast_null}
 use Rattle.room_tables.proofs.Finds.{removed, found_at}
 use Rattle.room_tables.proofs.Statements.{IsGuarded, IsSetting, numbered_in, once_in, typed_in, keeps_schema}
-
-abbrev pub remove_text : List ℕ
-remove_text = codes "DELETE FROM document WHERE account = ?1 AND job = ?2"
-
-abbrev pub remove_tests : List Term
-remove_tests = is_given 1 1 ∷ is_given 2 2 ∷ []
-
-abbrev pub remove_command : Command
-remove_command = Delete 3 (record { lets = []; body = of_table 5 remove_tests (col 1 0 ∷ []) [] })
-
-remove_is : command_of (understood room_schema remove_text) ≡ remove_command
-unfolding understood everything
-remove_is = refl
-
-remove_plain : IsPlain (understood room_schema remove_text)
-unfolding understood everything
-remove_plain = (refl, refl)
+use Rattle.room_statements.proofs.DocumentRemoval.{remove_text, remove_tests, remove_command, remove_is, remove_plain, meant_by, meant}
 
 pub document_listed : Has room_schema.tables document
 document_listed = inr (inr (inr (inl refl)))
 
 pub document_guarded : IsGuarded document
 document_guarded trees row h = not-true _ (and_parts _ _ h).0
-
--- two rows that agree on the places agree alike with a third
-alike : (places : List ℕ) (a b c : Row) → agree plain places a places b ≡ true → agree plain places a places c ≡ agree plain places b places c
-alike places a b c same = elim (cases_Bool (agree plain places b places c)) [
-  | inl is ↦ agree_chain plain places places places a b c same is ∙ sym is
-  | inr isnt ↦ elim (cases_Bool (agree plain places a places c)) [
-    | inl is ↦ absurd (let other = agree_chain plain places places places b a c (agree_back plain places places a b same) is in cc)
-    | inr other ↦ other ∙ sym isnt
-  ]
-]
-
-abbrev meant_by : List ℕ → ℕ → Row
-meant_by name job = Text name ∷ number job ∷ []
-
-meant : (name : List ℕ) (job : ℕ) (key x : Row) → has_key document key x ≡ true → passes remove_tests (meant_by name job) x ≡ agree plain (1 ∷ 2 ∷ []) (Null ∷ key) (1 ∷ 2 ∷ []) (Null ∷ meant_by name job)
-unfolding first_key
-meant name job key x is =
-    let parts = and_parts _ _ is in
-    let first : agree plain (1 ∷ 2 ∷ []) x (1 ∷ 2 ∷ []) (Null ∷ key) ≡ true = and_from _ _ parts.0 (and_from _ _ (and_parts _ _ parts.1).0 refl) in
-    alike (1 ∷ 2 ∷ []) x (Null ∷ key) (Null ∷ meant_by name job) first
 
 pub removes_documents : (name : List ℕ) (job : ℕ) (old new : State) (count : ℕ) → HasSchema old.now → Executes remove_text (meant_by name job) old new (Ok count)
     → RemovesRows document (meant_by name job) (1 ∷ 2 ∷ []) old.now new.now × HasSchema new.now

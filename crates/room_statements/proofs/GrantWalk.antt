@@ -1,5 +1,5 @@
 -- The walk over the grants of an account: what its text means, and what it comes to.
-use Rattle.std.proofs.Common.{◌≡◌, ℕ, ◌+◌, ◌≤◌, ◌^◌, List, [], ◌∷◌, map, drop, codes, Some, None, IsPermutation, refl, sym, ap, subst, ◌∙◌, arith}
+use Rattle.std.proofs.Common.{◌≡◌, ℕ, ◌+◌, ◌<◌, ◌≤◌, List, [], ◌∷◌, map, drop, codes, Some, None, IsPermutation, refl, sym, ap, subst, ◌∙◌, arith}
 use Rattle.std.specs.List.{sum_by}
 use Rattle.std.specs.FinMap.{entries}
 use Rattle.std.proofs.lemmas.List.Sums.{sum_by-cons}
@@ -15,6 +15,7 @@ use Rattle.sqlite.specs.Effect.{Database}
 use Rattle.sqlite.specs.Listing.{understood}
 use Rattle.room_state.specs.Rooms.{RoomValue}
 use Rattle.room_state.specs.Sums.{granted_to, pages_by}
+use Rattle.room_state.specs.Tallies.{most_units}
 use Rattle.room_state.proofs.Bounds.{granted_bound}
 use Rattle.room_tables.specs.Tables.{room_schema, grants}
 use Rattle.room_tables.specs.Keyed.{HasSchema, rows_under}
@@ -84,6 +85,11 @@ adds_up first last (r ∷ rows) (next, step, more) =
     let others : sum_by (pages_on next.month) rows ≡ sum_by (pages_on first.month) rows = ap (λ now. sum_by (pages_on now) rows) step.0 in
     record { month = rest.month ∙ step.0; pages = omega (arith, rest.pages, others, added.added, one, sum_by-cons (pages_on first.month) r rows) }
 
+-- whatever the rows, the sum stays within its bound
+pub pages_within : (first last : Granted) (rows : List Row) → GathersAll adds_grant first rows last → first.pages ≤ most_units → last.pages ≤ most_units
+pages_within first last [] same within = subst (λ (g : Granted). g.pages ≤ most_units) same within
+pages_within first last (r ∷ rows) (next, step, more) within = pages_within next last rows more (step.1.within within)
+
 -- ---- the rows of a room
 
 abbrev told_of : List ℕ → ℕ × ℕ → Row
@@ -115,8 +121,8 @@ module _ (db : Database) (has : HasSchema db) (name : List ℕ) (month : ℕ) wh
         let told : TellsGrant it.row here.0.0 here.0.1 = record { month = ap (λ r. column r 0) here.2; pages = ap (λ r. column r 1) here.2 } in
         let adds = adds_up first it.so_far it.given it.gathered in
         let one = pages_told month it.row here.0.0 here.0.1 told in
-        let over : 2 ^ 64 ≤ it.so_far.pages + pages_by month (here.0.0, here.0.1) =
-        subst (λ now. 2 ^ 64 ≤ it.so_far.pages + pages_by now (here.0.0, here.0.1)) adds.month (it.refused here.0.0 here.0.1 told) in
+        let over : most_units < it.so_far.pages + pages_by month (here.0.0, here.0.1) =
+        subst (λ now. most_units < it.so_far.pages + pages_by now (here.0.0, here.0.1)) adds.month (it.refused here.0.0 here.0.1 told) in
         omega (arith, over, one, adds.pages, refused_within adds_grant refuses_it shown first it (pages_on month), sum_told, granted_bound room month held.is_room)
 
   pub grants_unsound : RefusesOne adds_grant refuses_it shown first → IsSound db name → ⊥

@@ -10,8 +10,11 @@ pub mod JobRows
 pub mod DeviceLemmas
 pub mod DeviceWalk
 pub mod RateLemmas
+pub mod DocumentRemoval
 pub mod DocumentLemmas
 pub mod QueueTexts
+pub mod QueueTests
+pub mod QueueSorts
 pub mod QueueRows
 pub mod QueueJobs
 pub mod DocumentWalk

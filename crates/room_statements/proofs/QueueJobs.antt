@@ -1,7 +1,8 @@
 -- The jobs of an account in the orders of Get-Jobs: what is gathered of their rows.
-use Rattle.std.proofs.Common.{◌≡◌, ℕ, ◌<◌, ◌^◌, List, [], ◌∷◌, ◌++◌, map, append-nil, append_assoc, None, Some, refl, sym, ap, subst, ◌∙◌, arith}
+use Rattle.std.proofs.Common.{◌≡◌, ℕ, List, [], ◌∷◌, ◌++◌, map, append-nil, append_assoc, None, Some, refl, sym, ap, subst, ◌∙◌, arith}
 use Rattle.std.specs.List.{AllByRecursion}
 use Rattle.std.specs.FinMap.{values}
+use Rattle.sqlite_value.specs.Order.{Row}
 use Rattle.sqlite_rules.specs.Lists.{Has}
 use Rattle.sqlite_rules.proofs.ListLemmas.{all_has}
 use Rattle.sqlite_rules.proofs.ProbeLemmas.{has_mapped}
@@ -12,8 +13,7 @@ use Rattle.room_state.proofs.JobMaps.{values_keep}
 use Rattle.room_tables.specs.Cells.{job_cells}
 use Rattle.room_tables.specs.Accounts.{HoldsRoom, IsSound}
 use Rattle.room_tables.specs.ReadBack.{IsNameOrNone}
-use Rattle.room_statements.specs.Shown.{IsJob}
-use Rattle.room_statements.specs.Queues.{numbered_cells, ShowsNumbered, ListsJob, refuses_numbered, AreListed}
+use Rattle.room_statements.specs.Queues.{numbered_cells, IsNumbered, ShowsNumbered, ListsJob, refuses_numbered, AreListed}
 use Rattle.room_statements.specs.Walks.{GathersAll, GathersShown, RefusesShown}
 use Rattle.room_statements.proofs.JobRows.{EachIs, each_is}
 use Rattle.room_tables.proofs.ReadBackLemmas.{rows_are_read_back}
@@ -39,22 +39,32 @@ tells_itself it = record {
   numbered = refl;
 }
 
-abbrev IsNumbered : Job → Type 0
-IsNumbered it = IsJob it × (it.job < 2 ^ 32)
-
 gathered_so : (jobs first last : List Job) → AllByRecursion IsNumbered jobs → GathersAll ListsJob first (map numbered_cells jobs) last → last ≡ first ++ jobs
 gathered_so [] first last sound same = sym same ∙ sym (append-nil first)
 gathered_so (it ∷ jobs) first last sound (next, step, more) =
     gathered_so jobs next last sound.1 more
-    ∙ ap (λ (l : List Job). l ++ jobs) (step.added ∙ ap (λ (told : Job). first ++ told ∷ []) (told_once it step.job sound.0.0.named_device step.in_range.named_device step.told))
+    ∙ ap (λ (l : List Job). l ++ jobs) (step.added ∙ ap (λ (told : Job). first ++ told ∷ []) (told_once it step.job sound.0.in_range.named_device step.numbered.in_range.named_device step.told))
     ∙ append_assoc first (it ∷ []) jobs
 
 room_numbered : (db : Database) (name : List ℕ) (room : RoomValue) → HoldsRoom db name room → AllByRecursion IsNumbered (values room.jobs)
 room_numbered db name room held = values_keep (λ _ (it : Job). IsNumbered it) room.jobs (λ n it is.
     let at = held.is_room.jobs n it is in (
       at.numbered,
-      (record { name_fits = at.name_fits; password_fits = at.password_fits; standing = at.standing; named_device = held.named_devices n it is }, omega (arith, at.numbered, at.below_next, held.is_room.next_in_range)),
+      record {
+        in_range = record { name_fits = at.name_fits; password_fits = at.password_fits; standing = at.standing; named_device = held.named_devices n it is };
+        from_one = omega (arith, at.numbered, at.from_one);
+        to_last = omega (arith, at.numbered, at.below_next, held.is_room.next_in_range);
+      },
     ))
+
+-- each job that is gathered has a number of an account
+pub all_numbered : (first last : List Job) (rows : List Row) → GathersAll ListsJob first rows last → AllByRecursion IsNumbered first → AllByRecursion IsNumbered last
+all_numbered first last [] same sound = subst (AllByRecursion IsNumbered) same sound
+all_numbered first last (row ∷ rows) (next, step, more) sound = all_numbered next last rows more (subst (AllByRecursion IsNumbered) (sym step.added) (put_last first step.job sound step.numbered))
+  where
+    put_last : (jobs : List Job) (it : Job) → AllByRecursion IsNumbered jobs → IsNumbered it → AllByRecursion IsNumbered (jobs ++ it ∷ [])
+    put_last [] it all is = (is, tt)
+    put_last (job ∷ jobs) it all is = (all.0, put_last jobs it all.1 is)
 
 -- what holds of each job holds of those that are chosen
 module _ (chosen : List Job → List Job) (keeps : (P : Job → Type 0) (jobs : List Job) → AllByRecursion P jobs → AllByRecursion P (chosen jobs)) (db : Database) (name : List ℕ) where
@@ -70,4 +80,4 @@ module _ (chosen : List Job → List Job) (keeps : (P : Job → Type 0) (jobs : 
       let jobs = chosen (values room.jobs) in
       let told = has_mapped numbered_cells jobs it.row (subst (λ rows. Has rows it.row) (it.are_shown.of_room room held) (refused_there it.given it.row it.more)) in
       let sound = all_has IsNumbered jobs told.0 (keeps IsNumbered (values room.jobs) (room_numbered db name room held)) told.1 in
-      it.refused told.0 sound.0 sound.1 (subst (λ row. ShowsNumbered row told.0) (sym told.2) (tells_itself told.0))
+      it.refused told.0 sound (subst (λ row. ShowsNumbered row told.0) (sym told.2) (tells_itself told.0))

@@ -3,6 +3,7 @@ use Rattle.std.proofs.Common.{◌≡◌, ℕ, ◌+◌, ◌≤◌, Bool, true, fa
 use Rattle.std.specs.List.{sum_by, list_any}
 use Rattle.std.specs.FinMap.{values}
 use Rattle.std.proofs.Math.Bool.{or-false}
+use Rattle.std.proofs.lemmas.Bool.Decides.{nat_tests}
 use Rattle.std.proofs.lemmas.List.Sums.{sum_by-cons}
 use Rattle.std.proofs.lemmas.List.Sorted.{IsPermutation-map, IsPermutation-sym, sum_by-IsPermutation, list_any-IsPermutation}
 use Rattle.sqlite_tied.specs.Compute.{everything}
@@ -14,13 +15,14 @@ use Rattle.sqlite_sql.specs.Term.{Term, col}
 use Rattle.sqlite_rules.proofs.ProbeLemmas.{has_mapped}
 use Rattle.sqlite.specs.Effect.{Database}
 use Rattle.sqlite.specs.Listing.{understood}
+use Rattle.room_rules.specs.Limits.{most_unfinished}
 use Rattle.room_rules.specs.declared.job.Job.{Job}
 use Rattle.room_rules.specs.declared.job.JobState.{JobState}
 use Rattle.room_state.specs.declared.tally.Tally.{Tally}
 use Rattle.room_state.specs.Rooms.{RoomValue}
 use Rattle.room_state.specs.RoomRules.{is_unfinished, unfinished_count}
 use Rattle.room_state.specs.Sums.{is_processing, reserved_in, charged_in}
-use Rattle.room_state.specs.Tallies.{tally_of, counted, is_in_bounds}
+use Rattle.room_state.specs.Tallies.{tally_of, counted, is_in_bounds, most_units}
 use Rattle.room_state.proofs.TallyLemmas.{three_lower, counted_some, room_in_bounds}
 use Rattle.room_tables.specs.Tables.{room_schema, job}
 use Rattle.room_tables.specs.Keyed.{HasSchema, rows_under}
@@ -28,7 +30,7 @@ use Rattle.room_tables.specs.Queries.{Means, Takes, of_table, is_given, shown_of
 use Rattle.room_tables.specs.Cells.{job_cells}
 use Rattle.room_tables.specs.Accounts.{HoldsRoom, IsSound}
 use Rattle.room_statements.specs.Totals.{counted_cells, TellsCounted, CountsJob, refuses_job}
-use Rattle.room_statements.specs.Walks.{GathersAll, WalksAll, RefusesOne}
+use Rattle.room_statements.specs.Walks.{GathersAll, HasGathered, WalksAll, RefusesOne}
 use Rattle.room_statements.proofs.AccountRows.{rows_of_jobs, no_jobs}
 use Rattle.room_tables.proofs.Queries.{permuted_has}
 use Rattle.room_tables.proofs.ReadBackLemmas.{integer_in, natural_in, state_in, state_read}
@@ -92,6 +94,25 @@ record Adds (first : Tally) (rows : List Row) (last : Tally) : Type 0 where
 is_counted : (b : Bool) (it last : Tally) → cond b (Some it) None ≡ Some last → last ≡ it
 is_counted true it last is = cc
 is_counted false it last is = absurd (let no = is in cc)
+
+counted_within : (b : Bool) (it last : Tally) → b ≡ is_in_bounds it → cond b (Some it) None ≡ Some last → IsTrue (is_in_bounds last)
+counted_within true it last fits is = ap is_in_bounds (is_counted true it last is) ∙ sym fits
+counted_within false it last fits is = absurd (let no = is in cc)
+
+-- whatever the rows, what is counted stays within its bounds
+tally_within : (first last : Tally) (rows : List Row) → GathersAll CountsJob first rows last → IsTrue (is_in_bounds first) → IsTrue (is_in_bounds last)
+tally_within first last [] same within = subst (λ (t : Tally). IsTrue (is_in_bounds t)) same within
+tally_within first last (r ∷ rows) (next, step, more) within =
+    tally_within next last rows more (counted_within _ (counted first step.state step.reserved step.charged) next refl step.counted)
+
+pub walked_within : (first last : Tally) → HasGathered CountsJob first last → first ≡ tally_of [] → IsTrue (is_in_bounds last)
+walked_within first last (rows, gathered) none = tally_within first last rows gathered (subst (λ (t : Tally). IsTrue (is_in_bounds t)) (sym none) refl)
+
+pub few_of : (tally : Tally) → IsTrue (is_in_bounds tally) → tally.unfinished ≤ most_unfinished
+few_of tally within = grind (arith, nat_tests)
+
+pub units_of : (tally : Tally) → IsTrue (is_in_bounds tally) → (tally.reserved ≤ most_units) × (tally.charged ≤ most_units)
+units_of tally within = (grind (arith, nat_tests), grind (arith, nat_tests))
 
 or_twice : (a b c : Bool) → ((a || b) || c) ≡ (a || (b || c))
 or_twice true b c = refl

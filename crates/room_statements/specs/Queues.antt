@@ -1,9 +1,10 @@
 -- The jobs of an account in the orders of Get-Jobs, row by row (all this project's own).
-use Rattle.std.specs.Prelude.{◌≡◌, ℕ, ◌<◌, ◌^◌, ℤ, pos, negsuc, List, [], ◌∷◌, ◌++◌, map, Option, None, Some}
+use Rattle.std.specs.Prelude.{◌≡◌, ℕ, ◌<◌, ◌≤◌, ℤ, pos, negsuc, List, [], ◌∷◌, ◌++◌, map, Option, None, Some}
 use Rattle.std.specs.FinMap.{values}
 use Rattle.sqlite_value.specs.declared.value.Value.TheVariants.{Blob}
 use Rattle.sqlite_value.specs.Order.{Row, column}
 use Rattle.sqlite.specs.Effect.{Database}
+use Rattle.room_rules.specs.Limits.{last_next_job}
 use Rattle.room_rules.specs.declared.job.Job.{Job}
 use Rattle.room_state.specs.Rooms.{RoomValue}
 use Rattle.room_tables.specs.Cells.{number, standing_cells}
@@ -23,15 +24,21 @@ pub record ShowsNumbered (row : Row) (job : Job) : Type 0 where
   pub shown : ShowsJob row job
   pub numbered : column row 15 ≡ number job.job
 
+-- a job under a number that an account can give it
+pub record IsNumbered (job : Job) : Type 0 where
+  pub in_range : IsJob job
+  pub from_one : 1 ≤ job.job
+  pub to_last : job.job < last_next_job
+
 -- the row tells a job, which is put at the end
 pub record ListsJob (first : List Job) (row : Row) (last : List Job) : Type 0 where
   pub job : Job
-  pub in_range : IsJob job
+  pub numbered : IsNumbered job
   pub told : ShowsNumbered row job
   pub added : last ≡ first ++ job ∷ []
 
 abbrev pub refuses_numbered : Row → Type 0
-refuses_numbered row = (job : Job) → IsJob job → job.job < 2 ^ 32 → ShowsNumbered row job → ⊥
+refuses_numbered row = (job : Job) → IsNumbered job → ShowsNumbered row job → ⊥
 
 -- the rows are those of the jobs that are chosen of the account's room, in their order, and none without a room
 pub record AreListed (chosen : List Job → List Job) (db : Database) (name : List ℕ) (rows : List Row) : Type 0 where

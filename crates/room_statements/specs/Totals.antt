@@ -1,9 +1,9 @@
 -- What the rows of an account come to, one after another (all this project's own).
-use Rattle.std.specs.Prelude.{◌≡◌, ℕ, ◌+◌, ◌^◌, ◌≤◌, [], ◌∷◌, Some, None}
+use Rattle.std.specs.Prelude.{◌≡◌, ℕ, ◌+◌, ◌<◌, ◌≤◌, [], ◌∷◌, Some, None}
 use Rattle.sqlite_value.specs.Order.{Row, column}
 use Rattle.room_rules.specs.declared.job.JobState.{JobState}
 use Rattle.room_state.specs.declared.tally.Tally.{Tally}
-use Rattle.room_state.specs.Tallies.{counted_in_bounds}
+use Rattle.room_state.specs.Tallies.{counted_in_bounds, most_units}
 use Rattle.room_state.specs.Sums.{pages_by}
 use Rattle.room_tables.specs.Cells.{number, state_number}
 
@@ -46,7 +46,8 @@ pub record AddsGrant (now first : ℕ) (row : Row) (last : ℕ) : Type 0 where
   pub pages : ℕ
   pub told : TellsGrant row month pages
   pub added : last ≡ first + pages_by now (month, pages)
+  pub within : first ≤ most_units → last ≤ most_units
 
 -- it tells none that can be added
 abbrev pub refuses_grant : (now first : ℕ) → Row → Type 0
-refuses_grant now first row = (month pages : ℕ) → TellsGrant row month pages → 2 ^ 64 ≤ first + pages_by now (month, pages)
+refuses_grant now first row = (month pages : ℕ) → TellsGrant row month pages → most_units < first + pages_by now (month, pages)

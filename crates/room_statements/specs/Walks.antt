@@ -13,6 +13,10 @@ abbrev pub GathersAll : {G : Type 0} → (G → Row → G → Type 0) → G → 
 GathersAll step first [] last = first ≡ last
 GathersAll {G} step first (row ∷ rows) last = (next : G) × step first row next × GathersAll step next rows last
 
+-- some rows are gathered, whichever they are
+abbrev pub HasGathered : {G : Type 0} → (G → Row → G → Type 0) → G → G → Type 0
+HasGathered step first last = (given : List Row) × GathersAll step first given last
+
 module _ {G : Type 0} (step : G → Row → G → Type 0) (refuses : G → Row → Type 0) where
   -- each row of what may be shown is gathered, in its order
   abbrev pub GathersShown : (List Row → Type 0) → G → G → Type 0

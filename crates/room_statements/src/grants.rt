@@ -8,17 +8,19 @@ ghost use Rattle.sqlite.specs.Held.{state};
 ghost use Rattle.room_rules.specs.Limits.{most_pages};
 ghost use Rattle.room_state.specs.Rooms.{RoomValue};
 ghost use Rattle.room_state.specs.Sums.{granted_to};
+ghost use Rattle.room_state.specs.Tallies.{most_units};
 ghost use Rattle.room_tables.specs.Tables.{grants as grants_table};
 ghost use Rattle.room_tables.specs.Keyed.{HasSchema, SetsRow, rows_under};
 ghost use Rattle.room_tables.specs.Cells.{number, grant_cells};
 ghost use Rattle.room_tables.specs.Accounts.{grant_at, HoldsRoom, IsSound};
 ghost use Rattle.room_statements.specs.Totals.{granted_cells, AddsGrant, refuses_grant};
 ghost use Rattle.room_tables.specs.Calls.{Goes, Stays, IsSame, Gets};
-ghost use Rattle.room_statements.specs.Walks.{WalksOver};
+ghost use Rattle.room_statements.specs.Walks.{HasGathered, WalksOver};
 
 use crate::values::{number, number_at};
 use crate::walking::{Gather, walk};
 use room_rules::{MOST_PAGES, Name};
+use room_state::sum_of_units;
 use room_tables::{StoreFault, find_row};
 use sqlite::{Alter, Connection, Error, Row, Transaction};
 use sqlite_value::value::ValueRef;
@@ -82,6 +84,7 @@ pub fn granted_to<S: Alter>(
     ensures goes { Goes (state S.Store connection.old) (state S.Store connection.new) }
     ensures opened { HasCleanDisk (state S.Store connection.new) → OnOk result (IsTrue (state S.Store connection.old).is_open × IsTrue (state S.Store connection.new).is_open) }
     ensures granted { HasCleanDisk (state S.Store connection.new) → HasSchema (state S.Store connection.old).now → (room : RoomValue) → HoldsRoom (state S.Store connection.old).now name room → IfOk result (λ pages. pages ≡ granted_to room month) }
+    ensures in_range { IfOk result (λ pages. pages ≤ most_units) }
     ensures damaged { HasCleanDisk (state S.Store connection.new) → HasSchema (state S.Store connection.old).now → result ≡ Err StoreFault.Damaged → IsSound (state S.Store connection.old).now name → ⊥ }
     ensures same { HasCleanDisk (state S.Store connection.new) → HasSchema (state S.Store connection.old).now → OnOk result (IsSame (state S.Store connection.old) (state S.Store connection.new)) }
     ensures stays { HasCleanDisk (state S.Store connection.new) → HasSchema (state S.Store connection.old).now → Stays (state S.Store connection.old) (state S.Store connection.new) }
@@ -110,7 +113,7 @@ impl Gather for Granted {
         let month = number_at(row, 0)?;
         let pages = number_at(row, 1)?;
         if month <= self.month as u64 {
-            let Some(sum) = self.pages.checked_add(pages) else {
+            let Some(sum) = sum_of_units(self.pages, pages) else {
                 return Err(StoreFault::Damaged);
             };
             self.pages = sum;
@@ -126,6 +129,7 @@ fn walk_grants<S: Alter>(
 ) -> Result<(), StoreFault>
     ensures goes { Goes (state S.Store connection.old) (state S.Store connection.new) }
     ensures opened { HasCleanDisk (state S.Store connection.new) → OnOk result (IsTrue (state S.Store connection.old).is_open × IsTrue (state S.Store connection.new).is_open) }
+    ensures gathers { OnOk result (HasGathered (λ first row last. (last.month ≡ first.month) × AddsGrant first.month first.pages row last.pages) granted.old granted.new) }
     ensures walks { HasCleanDisk (state S.Store connection.new) → HasSchema (state S.Store connection.old).now → WalksOver (λ first row last. (last.month ≡ first.month) × AddsGrant first.month first.pages row last.pages) (λ first row. refuses_grant first.month first.pages row) (state S.Store connection.old) (state S.Store connection.new) (map granted_cells (rows_under grants_table (1 ∷ []) (Text name ∷ []) (state S.Store connection.old).now)) granted.old granted.new result }
 {
     walk(

@@ -1,24 +1,23 @@
 //! The jobs of an account in the orders of Get-Jobs.
 
-ghost use Rattle.std.specs.Prelude.{◌≡◌, Err, IfOk, OnOk, IsTrue, ◌<◌, ◌^◌};
+ghost use Rattle.std.specs.Prelude.{◌≡◌, Err, IfOk, OnOk, IsTrue};
+ghost use Rattle.std.specs.List.{AllByRecursion};
 ghost use Rattle.std.specs.FinMap.{values};
 ghost use Rattle.sqlite.specs.State.{HasCleanDisk};
 ghost use Rattle.sqlite.specs.Held.{state};
-ghost use Rattle.room_rules.specs.declared.job.Job.{Job as JobValue};
 ghost use Rattle.room_state.specs.Rooms.{RoomValue};
 ghost use Rattle.room_state.specs.Queues.{not_completed, completed, at_most};
 ghost use Rattle.room_tables.specs.Keyed.{HasSchema};
 ghost use Rattle.room_tables.specs.Accounts.{HoldsRoom, IsSound};
 ghost use Rattle.room_tables.specs.Calls.{Goes, Stays, IsSame};
-ghost use Rattle.room_statements.specs.Shown.{IsJob};
-ghost use Rattle.room_statements.specs.Queues.{ShowsNumbered, ListsJob, refuses_numbered, AreListed};
-ghost use Rattle.room_statements.specs.Walks.{WalksShown};
+ghost use Rattle.room_statements.specs.Queues.{IsNumbered, ShowsNumbered, ListsJob, refuses_numbered, AreListed};
+ghost use Rattle.room_statements.specs.Walks.{HasGathered, WalksShown};
 
 use crate::jobs::job_from;
 use crate::values::{limit_of, short_at};
 use crate::walking::{Gather, walk};
 use ipp_coding::List;
-use room_rules::{Job, Name};
+use room_rules::{Job, LAST_JOB, Name};
 use room_tables::StoreFault;
 use sqlite::{Alter, Connection, Row};
 use sqlite_value::value::ValueRef;
@@ -35,6 +34,7 @@ pub fn unfinished_jobs<S: Alter>(
     ensures goes { Goes (state S.Store connection.old) (state S.Store connection.new) }
     ensures opened { HasCleanDisk (state S.Store connection.new) → OnOk result (IsTrue (state S.Store connection.old).is_open × IsTrue (state S.Store connection.new).is_open) }
     ensures listed { HasCleanDisk (state S.Store connection.new) → HasSchema (state S.Store connection.old).now → (room : RoomValue) → HoldsRoom (state S.Store connection.old).now name room → IfOk result (λ jobs. jobs ≡ at_most limit (not_completed (values room.jobs))) }
+    ensures numbered { IfOk result (AllByRecursion IsNumbered) }
     ensures damaged { HasCleanDisk (state S.Store connection.new) → HasSchema (state S.Store connection.old).now → result ≡ Err StoreFault.Damaged → IsSound (state S.Store connection.old).now name → ⊥ }
     ensures same { HasCleanDisk (state S.Store connection.new) → HasSchema (state S.Store connection.old).now → OnOk result (IsSame (state S.Store connection.old) (state S.Store connection.new)) }
     ensures stays { HasCleanDisk (state S.Store connection.new) → HasSchema (state S.Store connection.old).now → Stays (state S.Store connection.old) (state S.Store connection.new) }
@@ -54,6 +54,7 @@ fn walk_unfinished<S: Alter>(
 ) -> Result<(), StoreFault>
     ensures goes { Goes (state S.Store connection.old) (state S.Store connection.new) }
     ensures opened { HasCleanDisk (state S.Store connection.new) → OnOk result (IsTrue (state S.Store connection.old).is_open × IsTrue (state S.Store connection.new).is_open) }
+    ensures gathers { OnOk result (HasGathered ListsJob jobs.old jobs.new) }
     ensures walks { HasCleanDisk (state S.Store connection.new) → HasSchema (state S.Store connection.old).now → WalksShown ListsJob (λ _ row. refuses_numbered row) (state S.Store connection.old) (state S.Store connection.new) (AreListed (λ all. at_most limit (not_completed all)) (state S.Store connection.old).now name) jobs.old jobs.new result }
 {
     walk(
@@ -76,6 +77,7 @@ pub fn ended_jobs<S: Alter>(
     ensures goes { Goes (state S.Store connection.old) (state S.Store connection.new) }
     ensures opened { HasCleanDisk (state S.Store connection.new) → OnOk result (IsTrue (state S.Store connection.old).is_open × IsTrue (state S.Store connection.new).is_open) }
     ensures listed { HasCleanDisk (state S.Store connection.new) → HasSchema (state S.Store connection.old).now → (room : RoomValue) → HoldsRoom (state S.Store connection.old).now name room → IfOk result (λ jobs. jobs ≡ at_most limit (completed (values room.jobs))) }
+    ensures numbered { IfOk result (AllByRecursion IsNumbered) }
     ensures damaged { HasCleanDisk (state S.Store connection.new) → HasSchema (state S.Store connection.old).now → result ≡ Err StoreFault.Damaged → IsSound (state S.Store connection.old).now name → ⊥ }
     ensures same { HasCleanDisk (state S.Store connection.new) → HasSchema (state S.Store connection.old).now → OnOk result (IsSame (state S.Store connection.old) (state S.Store connection.new)) }
     ensures stays { HasCleanDisk (state S.Store connection.new) → HasSchema (state S.Store connection.old).now → Stays (state S.Store connection.old) (state S.Store connection.new) }
@@ -95,6 +97,7 @@ fn walk_ended<S: Alter>(
 ) -> Result<(), StoreFault>
     ensures goes { Goes (state S.Store connection.old) (state S.Store connection.new) }
     ensures opened { HasCleanDisk (state S.Store connection.new) → OnOk result (IsTrue (state S.Store connection.old).is_open × IsTrue (state S.Store connection.new).is_open) }
+    ensures gathers { OnOk result (HasGathered ListsJob jobs.old jobs.new) }
     ensures walks { HasCleanDisk (state S.Store connection.new) → HasSchema (state S.Store connection.old).now → WalksShown ListsJob (λ _ row. refuses_numbered row) (state S.Store connection.old) (state S.Store connection.new) (AreListed (λ all. at_most limit (completed all)) (state S.Store connection.old).now name) jobs.old jobs.new result }
 {
     walk(
@@ -122,9 +125,12 @@ impl Gather for List<Job> {
 /// The job that the row tells, its number behind its other columns.
 fn numbered_job(row: &Row) -> Result<Job, StoreFault>
     ensures read { IfOk result (ShowsNumbered row.now) }
-    ensures in_range { IfOk result IsJob }
-    ensures damaged { result ≡ Err StoreFault.Damaged → (job : JobValue) → IsJob job → job.job < 2 ^ 32 → ShowsNumbered row.now job → ⊥ }
+    ensures numbered { IfOk result IsNumbered }
+    ensures damaged { result ≡ Err StoreFault.Damaged → refuses_numbered row.now }
 {
     let number = short_at(row, 15)?;
+    if number < 1 || number > LAST_JOB {
+        return Err(StoreFault::Damaged);
+    }
     job_from(row, number)
 }

@@ -5,7 +5,7 @@ ghost use Rattle.sqlite.specs.State.{HasCleanDisk};
 ghost use Rattle.sqlite.specs.Held.{state};
 ghost use Rattle.sqlite.specs.Values.{bound};
 ghost use Rattle.room_tables.specs.Calls.{Goes};
-ghost use Rattle.room_statements.specs.Walks.{Walks};
+ghost use Rattle.room_statements.specs.Walks.{HasGathered, Walks};
 
 use room_tables::StoreFault;
 use sqlite::{Alter, Connection, Row};
@@ -36,6 +36,7 @@ pub(crate) fn walk<S: Alter, G: Gather>(
 ) -> Result<(), StoreFault>
     ensures goes { Goes (state S.Store connection.old) (state S.Store connection.new) }
     ensures opened { HasCleanDisk (state S.Store connection.new) → OnOk result (IsTrue (state S.Store connection.old).is_open × IsTrue (state S.Store connection.new).is_open) }
+    ensures gathers { OnOk result (HasGathered G.step gathered.old gathered.new) }
     ensures walks { HasCleanDisk (state S.Store connection.new) → Walks G.step G.refuses (state S.Store connection.old) (state S.Store connection.new) text.now (bound params.now) gathered.old gathered.new result }
 {
     let mut rows = connection.query(text, params)?;

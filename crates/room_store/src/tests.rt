@@ -1,5 +1,6 @@
 //! Expected values come from worked examples and from the table of the schema, never from the code.
 
+mod memory;
 mod migrating;
 mod opening;
 

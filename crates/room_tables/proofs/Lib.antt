@@ -11,6 +11,7 @@ pub mod Columns
 pub mod VersionLemmas
 pub mod ReadBackLemmas
 pub mod KeyedRows
+pub mod RatingText
 pub mod RatedLemmas
 pub mod VersionTwo
 pub mod AgreedRows

@@ -1,20 +1,15 @@
 -- What the statements leave that make the table `rates` beside the others, and give each device its rate.
-use Rattle.std.proofs.Common.{◌≡◌, ◌≢◌, arith, ℕ, pos, true, List, [], ◌∷◌, map, filter, drop, find, codes, Option, Some, None, option_map, Ok, refl, sym, ap, subst, ◌∙◌, inl, inr, IsPermutation}
+use Rattle.std.proofs.Common.{◌≡◌, ◌≢◌, arith, ℕ, true, List, [], ◌∷◌, map, filter, drop, find, codes, Option, Some, None, option_map, Ok, refl, sym, ap, subst, ◌∙◌, inl, inr, IsPermutation}
 use Rattle.std.specs.List.{AllByRecursion}
 use Rattle.std.proofs.lemmas.Bool.{cases_Bool, and_parts}
 use Rattle.std.proofs.lemmas.List.Sorted.{IsPermutation-sym}
-use Rattle.sqlite_tied.specs.Compute.{everything}
-use Rattle.sqlite_value.specs.declared.value.Value.TheVariants.{Null, Int, Text}
-use Rattle.sqlite_value.specs.declared.keys.Collation.{Collation}
-use Rattle.sqlite_value.specs.declared.keys.Collation.TheVariants.{Binary}
+use Rattle.sqlite_value.specs.declared.value.Value.TheVariants.{Null, Text}
 use Rattle.sqlite_value.specs.Order.{Row, column}
 use Rattle.sqlite_value.specs.Keys.{first_key}
 use Rattle.sqlite_trees.specs.Tree.{Trees, rowid, put_row}
 use Rattle.sqlite_trees.specs.View.{IsShaped}
 use Rattle.sqlite_trees.specs.declared.store.Shape.TheVariants as shape
 use Rattle.sqlite_sql.specs.Ops.{is_null}
-use Rattle.sqlite_sql.specs.Term.{Term, lit, col}
-use Rattle.sqlite_schema.specs.declared.program.Program.{Program}
 use Rattle.sqlite_schema.specs.declared.schema.Constraint.TheVariants.{NotNull, Datatype}
 use Rattle.sqlite_schema.specs.declared.schema.Kind.TheVariants as kind
 use Rattle.sqlite_schema.specs.declared.command.Command.TheVariants.{Insert}
@@ -32,7 +27,7 @@ use Rattle.sqlite.specs.Does.{Does, Tally}
 use Rattle.sqlite.specs.Rows.{Written}
 use Rattle.sqlite.specs.Listing.{understood}
 use Rattle.sqlite.specs.State.{State, Executes, mode_of}
-use Rattle.sqlite.proofs.Callers.{IsPlain, command_of, statement_of, runs_as}
+use Rattle.sqlite.proofs.Callers.{statement_of, runs_as}
 use Rattle.room_tables.specs.Tables.{first_schema, room_schema, column_of, device, rates}
 use Rattle.room_tables.specs.Keyed.{has_key}
 use Rattle.room_tables.specs.Queries.{passes, shows_of}
@@ -43,9 +38,10 @@ use Rattle.room_tables.proofs.Created.{adds}
 use Rattle.room_tables.proofs.Columns.{cells_are, no_null, text_is, text_there}
 use Rattle.room_tables.proofs.Edits.{AreNumbered, edit_from, edit_adds, edit_wrote}
 use Rattle.room_tables.proofs.Finds.{finds_none, lacks}
-use Rattle.room_tables.proofs.Queries.{collated, answer_collated, finds_shown, permuted_has}
+use Rattle.room_tables.proofs.Queries.{answer_collated, finds_shown, permuted_has}
 use Rattle.room_tables.proofs.Reading.{without_number}
-use Rattle.room_tables.proofs.Upserts.{went, same_value, cast_integer}
+use Rattle.room_tables.proofs.Upserts.{went, same_value}
+use Rattle.room_tables.proofs.RatingText.{rate_text, rate_shows, by_bytes, of_devices, rate_is, rate_plain, remade}
 
 -- ---- the table is made
 
@@ -53,28 +49,6 @@ pub adds_rates : (old new : State) (count : ℕ) → Executes rates_text [] old 
 adds_rates old new count h was =
     let it = adds first_schema rates_text rates makes_rates old new count h was in
     record { schema_is = it.schema_is ∙ room_schema_is; kept = it.kept; no_rate = it.no_row }
-
--- ---- each device is given its rate
-
-abbrev pub rate_text : List ℕ
-rate_text = codes "INSERT INTO rates (device, units) SELECT name, 1 FROM device"
-
-abbrev pub rate_shows : List Term
-rate_shows = lit Null ∷ col 1 1 ∷ lit (Int (pos 1)) ∷ []
-
-abbrev pub by_bytes : List Collation
-by_bytes = Binary ∷ Binary ∷ Binary ∷ []
-
-abbrev pub of_devices : Program
-of_devices = record { lets = []; body = collated 9 [] rate_shows [] by_bytes }
-
-pub rate_is : command_of (understood room_schema rate_text) ≡ Insert 6 (Query of_devices)
-unfolding understood everything
-rate_is = refl
-
-pub rate_plain : IsPlain (understood room_schema rate_text)
-unfolding understood everything
-rate_plain = (refl, refl)
 
 -- ---- a row that is put in has the cells that it was given
 
@@ -153,9 +127,6 @@ module _ (devices rows : List Row) (are : AreRates devices rows) (name : List �
 
 apart : device.tree ≢ rates.tree
 apart e = omega (arith, e)
-
-remade : (x : Row) (t : List ℕ) → column x 1 ≡ Text t → drop 1 (cast_row rates (shows_of rate_shows [] x)) ≡ units_cells t 1
-remade x t e = rw (e, cast_integer (pos 1)) refl
 
 pub rates_devices : (old new : State) (count : ℕ) → Executes rate_text [] old new (Ok count) → old.now.schema ≡ room_schema → old.now.trees 11 ≡ [] → RatesDevices old.now new.now
 rates_devices old new count h was none =

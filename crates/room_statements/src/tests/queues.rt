@@ -106,7 +106,8 @@ fn damaged_rows(rt: HostRuntime) -> Result<(), Fail> {
     set(rt.alloc(), &mut connection, alice, 2, canceled(10))?;
     for text in [
         "UPDATE job SET copies = 0",
-        "UPDATE job SET job = -1 - job",
+        "UPDATE job SET copies = 1, job = 1 - job",
+        "UPDATE job SET job = job + 1000001",
         "UPDATE job SET job = job + 4294967296",
     ] {
         connection.execute(text, &[])?;

@@ -170,19 +170,23 @@ fn damaged_grants(rt: HostRuntime) -> Result<(), Fail> {
     for text in [
         "INSERT INTO grants (account, month, pages) VALUES ('alice', 24320, -1)",
         "UPDATE grants SET pages = 1, month = -1",
-        "UPDATE grants SET pages = 9223372036854775807, month = 1",
+        "UPDATE grants SET pages = 1000000000000000001, month = 1",
+        "UPDATE grants SET pages = 9223372036854775807",
         "INSERT INTO grants (account, month, pages) VALUES ('alice', 2, 9223372036854775807), ('alice', 3, 2)",
     ] {
         connection.execute(text, &[])?;
+        assert_eq!(rt;
+            granted_to(&mut connection, alice, 24_320),
+            Err(StoreFault::Damaged)
+        );
     }
-    assert_eq!(rt;
-        granted_to(&mut connection, alice, 3),
-        Err(StoreFault::Damaged)
-    );
-    connection.execute("UPDATE grants SET pages = -1 WHERE month = 1", &[])?;
+    connection.execute(
+        "UPDATE grants SET pages = 500000000000000000 WHERE month < 3",
+        &[],
+    )?;
     assert_eq!(rt;
         granted_to(&mut connection, alice, 2),
-        Err(StoreFault::Damaged)
+        Ok(1_000_000_000_000_000_000)
     );
     Ok(())
 }

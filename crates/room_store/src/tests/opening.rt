@@ -97,3 +97,49 @@ fn a_file(rt: HostRuntime) -> Result<(), Fail> {
     fs::remove_dir_all(&rt, "room_store_test")?;
     Ok(())
 }
+
+/// Makes a file of version 1 with one device.
+fn make_older(rt: &HostRuntime, path: &str) -> Result<(), Fail> {
+    let mut connection = Connection::open(rt, path)?;
+    connection.execute_batch(FIRST)?;
+    connection.execute_batch(
+        "INSERT INTO meta (id, version) VALUES (1, 1); INSERT INTO device (name, accepting) VALUES ('d1', 1)",
+    )?;
+    Ok(())
+}
+
+fn fault_of_open(rt: &HostRuntime, path: &str) -> Result<Option<OpenFault>, Fail> {
+    Ok(fault_of(Store::open(Connection::open(rt, path)?)))
+}
+
+fn fault_of_migrate(rt: &HostRuntime, path: &str) -> Result<Option<OpenFault>, Fail> {
+    Ok(fault_of(Store::migrate(Connection::open(rt, path)?)))
+}
+
+/// Sets the version to 3 where the device has rate 1.
+fn set_version_three(rt: &HostRuntime, path: &str) -> Result<(), Fail> {
+    let mut connection = Connection::open(rt, path)?;
+    let units: i64 = connection
+        .query_row("SELECT units FROM rates WHERE device = 'd1'", &[])?
+        .get(0)?;
+    if units != 1 {
+        return Err("the device has another rate".into());
+    }
+    connection.execute("UPDATE meta SET version = 3", &[])?;
+    Ok(())
+}
+
+#[test]
+fn versions_in_a_file(rt: HostRuntime) -> Result<(), Fail> {
+    let _ = fs::remove_dir_all(&rt, "room_store_versions");
+    fs::create_dir(&rt, "room_store_versions")?;
+    let path = "room_store_versions/rooms.db";
+    make_older(&rt, path)?;
+    assert_eq!(rt; fault_of_open(&rt, path)?, Some(OpenFault::WrongVersion(1)));
+    assert_eq!(rt; fault_of_migrate(&rt, path)?, None);
+    assert_eq!(rt; fault_of_open(&rt, path)?, None);
+    set_version_three(&rt, path)?;
+    assert_eq!(rt; fault_of_open(&rt, path)?, Some(OpenFault::WrongVersion(3)));
+    fs::remove_dir_all(&rt, "room_store_versions")?;
+    Ok(())
+}

@@ -8,7 +8,8 @@ use Rattle.sqlite.specs.declared.error.ErrorCode.TheVariants.{TransactionState}
 use Rattle.room_tables.specs.Tables.{document as document_table}
 use Rattle.room_tables.specs.Keyed.{HasSchema, RemovesRows}
 use Rattle.room_tables.specs.Cells.{number}
-use Rattle.room_statements.proofs.DocumentLemmas.{remove_text, removes_documents}
+use Rattle.room_statements.proofs.DocumentLemmas.{removes_documents}
+use Rattle.room_statements.proofs.DocumentRemoval.{remove_text}
 use Rattle.room_tables.proofs.Transactions.{Inside, runs_inside, kept_by_none}
 use Rattle.room_statements.proofs.documents.remove_documents.Goals as goal
 

@@ -1,9 +1,9 @@
-use Rattle.std.proofs.Common.{◌≡◌, ◌∙◌, sym, ap, Err}
+use Rattle.std.proofs.Common.{◌≡◌, ◌∙◌, sym, ap, Err, arith}
 use Rattle.std.proofs.lemmas.Result.{err_from_is_err_and}
 use Rattle.sqlite.specs.Held.{state}
 use Rattle.room_tables.specs.declared.fault.StoreFault.TheVariants.{Damaged}
 use Rattle.room_tables.proofs.KeyedRows.{same_fault}
-use Rattle.room_statements.proofs.GrantWalk.{pages_granted, grants_unsound}
+use Rattle.room_statements.proofs.GrantWalk.{pages_granted, pages_within, grants_unsound}
 use Rattle.room_statements.proofs.grants.granted_to.Goals as goal
 
 pub returns-clause-granted : goal.returns-clause-granted
@@ -15,3 +15,6 @@ returns-in_err-walk_grants-clause-damaged g c clean has is_damaged =
     let told = err_from_is_err_and c.from_residual.result c.from_residual.ensures.1 in
     let fault : c.in_err-walk_grants.field-0.0 ≡ Damaged = sym told.2 ∙ same_fault (sym told.1 ∙ is_damaged) in
     grants_unsound (state g.S.Store c.args.connection.now).now has c.args.name c.args.month ((c.in_err-walk_grants.ensures.walks clean has).damaged (ap Err fault))
+
+pub returns-clause-in_range : goal.returns-clause-in_range
+returns-clause-in_range g c = let gathered = c.in_ok-walk_grants.ensures.gathers in pages_within (record { month = c.args.month; pages = 0 }) c.walk_grants.new.granted gathered.0 gathered.1 (omega arith)

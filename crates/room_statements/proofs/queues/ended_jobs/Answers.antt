@@ -1,11 +1,13 @@
-use Rattle.std.proofs.Common.{◌≡◌, ◌∙◌, sym, ap, Err}
+use Rattle.std.proofs.Common.{◌≡◌, ◌∙◌, sym, ap, subst, Err}
+use Rattle.std.specs.List.{AllByRecursion}
 use Rattle.std.proofs.lemmas.Result.{err_from_is_err_and}
 use Rattle.sqlite.specs.Held.{state}
 use Rattle.room_state.specs.Queues.{completed, at_most}
 use Rattle.room_state.proofs.QueueOrders.{all_completed, all_at_most}
 use Rattle.room_tables.specs.declared.fault.StoreFault.TheVariants.{Damaged}
 use Rattle.room_tables.proofs.KeyedRows.{same_fault}
-use Rattle.room_statements.proofs.QueueJobs.{jobs_listed, jobs_unsound}
+use Rattle.room_statements.specs.Queues.{IsNumbered}
+use Rattle.room_statements.proofs.QueueJobs.{all_numbered, jobs_listed, jobs_unsound}
 use Rattle.room_statements.proofs.queues.ended_jobs.Goals as goal
 
 pub returns-in_err-walk_ended-clause-damaged : goal.returns-in_err-walk_ended-clause-damaged
@@ -19,3 +21,8 @@ pub returns-clause-listed : goal.returns-clause-listed
 returns-clause-listed g c clean has room held =
     jobs_listed (λ all. at_most c.args.limit (completed all)) (λ P all h. all_at_most P c.args.limit (completed all) (all_completed P all h)) (state g.S.Store c.args.connection.now).now c.args.name
     room held _ c.walk_ended.new.jobs c.new.ensures.items (c.in_ok-walk_ended.ensures.walks clean has).all
+
+pub returns-clause-numbered : goal.returns-clause-numbered
+returns-clause-numbered g c =
+    let gathered = c.in_ok-walk_ended.ensures.gathers in
+    all_numbered _ c.walk_ended.new.jobs gathered.0 gathered.1 (subst (AllByRecursion IsNumbered) (sym c.new.ensures.items) tt)

@@ -3,7 +3,7 @@ use Rattle.std.proofs.lemmas.Result.{err_from_is_err_and}
 use Rattle.sqlite.specs.Held.{state}
 use Rattle.room_tables.specs.declared.fault.StoreFault.TheVariants.{Damaged}
 use Rattle.room_tables.proofs.KeyedRows.{same_fault}
-use Rattle.room_statements.proofs.TallyWalk.{tally_counted, jobs_unsound}
+use Rattle.room_statements.proofs.TallyWalk.{tally_counted, walked_within, few_of, units_of, jobs_unsound}
 use Rattle.room_statements.proofs.tallies.tally_jobs.Goals as goal
 
 pub returns-clause-counted : goal.returns-clause-counted
@@ -15,3 +15,9 @@ returns-in_err-walk_jobs-clause-damaged g c clean has is_damaged =
     let told = err_from_is_err_and c.from_residual.result c.from_residual.ensures.1 in
     let fault : c.in_err-walk_jobs.field-0.0 ≡ Damaged = sym told.2 ∙ same_fault (sym told.1 ∙ is_damaged) in
     jobs_unsound (state g.S.Store c.args.connection.now).now has c.args.name (rw c.new-tally.ensures at ((c.in_err-walk_jobs.ensures.walks clean has).damaged (ap Err fault)))
+
+pub returns-clause-few : goal.returns-clause-few
+returns-clause-few g c = few_of c.walk_jobs.new.tally (walked_within _ c.walk_jobs.new.tally c.in_ok-walk_jobs.ensures.gathers c.new-tally.ensures)
+
+pub returns-clause-bounds : goal.returns-clause-bounds
+returns-clause-bounds g c = units_of c.walk_jobs.new.tally (walked_within _ c.walk_jobs.new.tally c.in_ok-walk_jobs.ensures.gathers c.new-tally.ensures)

@@ -17,6 +17,7 @@ rows-init g c =
       λ clean plain.
           let begun = begun_plain g.S.Store _ _ c.args.connection.now _ plain (made.begun clean) in
           ([], begun.0, begun.1, refl),
+      ([], refl),
     )
 
 pub rows-preserved : goal.rows-preserved
@@ -44,6 +45,8 @@ rows-preserved g c =
             unchanged_then old was now so_far.2 stays,
             gathers_more g.G.Gather.step c.args.gathered.now c.rows.gathered c.gather.new.self so_far.0 row so_far.3 c.in_ok-gather.ensures.gathered,
           ),
+      let before = c.rows.invariant.4 in
+          (before.0 ++ row ∷ [], gathers_more g.G.Gather.step c.args.gathered.now c.rows.gathered c.gather.new.self before.0 row before.1 c.in_ok-gather.ensures.gathered),
     )
 
 pub returns-in_err-rows-clause-goes : goal.returns-in_err-rows-clause-goes

@@ -5,7 +5,8 @@ use Rattle.sqlite.specs.declared.error.Error.TheVariants.{SqliteFailure}
 use Rattle.sqlite.specs.declared.error.ErrorCode.TheVariants.{TransactionState}
 use Rattle.room_tables.specs.Tables.{room_schema}
 use Rattle.room_tables.specs.Migrating.{RatesDevices}
-use Rattle.room_tables.proofs.RatedLemmas.{rate_text, rates_devices}
+use Rattle.room_tables.proofs.RatedLemmas.{rates_devices}
+use Rattle.room_tables.proofs.RatingText.{rate_text}
 use Rattle.room_tables.proofs.Transactions.{runs_inside, kept_by_none}
 use Rattle.room_tables.proofs.migrating.rate_devices.Goals as goal
 
