@@ -13,7 +13,7 @@ ghost use Rattle.room_tables.specs.Calls.{Goes, Stays, IsSame, Gets};
 
 use crate::values::{number, number_at};
 use room_rules::{Account, LAST_JOB, LAST_MOMENT, Name};
-use room_tables::{StoreFault, find_row};
+use room_tables::{StoreFault, find_row, write};
 use sqlite::{Alter, Connection, Error, Row, Transaction};
 use sqlite_value::value::ValueRef;
 
@@ -69,7 +69,7 @@ pub fn set_account<S: Alter>(
     transaction: &mut Transaction<'_, S>,
     name: Name,
     account: Account,
-) -> Result<usize, Error>
+) -> Result<(), Error>
     requires { IsAccount account }
     ensures same_reference { transaction.new.conn.ghost_name ≡ transaction.old.conn.ghost_name }
     ensures sets { HasCleanDisk (state S.Store transaction.new.conn.now) → OnOk result (HasSchema (state S.Store transaction.old.conn.now).now → HasSchema (state S.Store transaction.new.conn.now).now × SetsRow account_table (account_cells name account) (state S.Store transaction.old.conn.now).now (state S.Store transaction.new.conn.now).now) }
@@ -77,7 +77,8 @@ pub fn set_account<S: Alter>(
     ensures kept { HasCleanDisk (state S.Store transaction.new.conn.now) → KeepsCommit (state S.Store transaction.old.conn.now) (state S.Store transaction.new.conn.now) }
     ensures survives { Survives (state S.Store transaction.old.conn.now) (state S.Store transaction.new.conn.now) (λ _. ⊥) }
 {
-    transaction.execute(
+    write(
+        transaction,
         "INSERT INTO account (name, opened, next_job) VALUES (?1, ?2, ?3) ON CONFLICT (name) DO UPDATE SET opened = excluded.opened, next_job = excluded.next_job",
         &[
             ValueRef::Text(name.bytes()),

@@ -14,7 +14,7 @@ ghost use Rattle.room_statements.specs.Walks.{WalksOver};
 use crate::values::{flag, flag_at};
 use crate::walking::{Gather, walk};
 use room_rules::Name;
-use room_tables::{StoreFault, find_row};
+use room_tables::{StoreFault, find_row, write};
 use sqlite::{Alter, Connection, Error, Row, Transaction};
 use sqlite_value::value::ValueRef;
 
@@ -100,14 +100,15 @@ pub fn set_device<S: Alter>(
     transaction: &mut Transaction<'_, S>,
     name: Name,
     on: bool,
-) -> Result<usize, Error>
+) -> Result<(), Error>
     ensures same_reference { transaction.new.conn.ghost_name ≡ transaction.old.conn.ghost_name }
     ensures sets { HasCleanDisk (state S.Store transaction.new.conn.now) → OnOk result (HasSchema (state S.Store transaction.old.conn.now).now → HasSchema (state S.Store transaction.new.conn.now).now × SetsRow device_table (on_cells name on) (state S.Store transaction.old.conn.now).now (state S.Store transaction.new.conn.now).now) }
     ensures mode { HasCleanDisk (state S.Store transaction.new.conn.now) → OnOk result (IsTrue transaction.new.conn.now.in_transaction) }
     ensures kept { HasCleanDisk (state S.Store transaction.new.conn.now) → KeepsCommit (state S.Store transaction.old.conn.now) (state S.Store transaction.new.conn.now) }
     ensures survives { Survives (state S.Store transaction.old.conn.now) (state S.Store transaction.new.conn.now) (λ _. ⊥) }
 {
-    transaction.execute(
+    write(
+        transaction,
         "INSERT INTO device (name, accepting) VALUES (?1, ?2) ON CONFLICT (name) DO UPDATE SET accepting = excluded.accepting",
         &[ValueRef::Text(name.bytes()), flag(on)],
     )

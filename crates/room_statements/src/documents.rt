@@ -21,7 +21,7 @@ use crate::values::{bytes_at, format_at, format_text, number, short_at};
 use crate::walking::{Gather, walk};
 use ipp_coding::List;
 use room_rules::{Document, Format, LONGEST_DOCUMENT, MOST_DOCUMENTS, Name};
-use room_tables::StoreFault;
+use room_tables::{StoreFault, write};
 use sqlite::{Alter, Connection, Error, Row, Transaction};
 use sqlite_value::value::ValueRef;
 use std::alloc::Global;
@@ -131,14 +131,15 @@ pub fn set_document<S: Alter>(
     number_in_job: u32,
     format: Format,
     bytes: &[u8],
-) -> Result<usize, Error>
+) -> Result<(), Error>
     ensures same_reference { transaction.new.conn.ghost_name ≡ transaction.old.conn.ghost_name }
     ensures sets { HasCleanDisk (state S.Store transaction.new.conn.now) → OnOk result (HasSchema (state S.Store transaction.old.conn.now).now → HasSchema (state S.Store transaction.new.conn.now).now × SetsRow document_table (document_cells name (record { job = job; number = number_in_job; format = format; bytes = bytes.now })) (state S.Store transaction.old.conn.now).now (state S.Store transaction.new.conn.now).now) }
     ensures mode { HasCleanDisk (state S.Store transaction.new.conn.now) → OnOk result (IsTrue transaction.new.conn.now.in_transaction) }
     ensures kept { HasCleanDisk (state S.Store transaction.new.conn.now) → KeepsCommit (state S.Store transaction.old.conn.now) (state S.Store transaction.new.conn.now) }
     ensures survives { Survives (state S.Store transaction.old.conn.now) (state S.Store transaction.new.conn.now) (λ _. ⊥) }
 {
-    transaction.execute(
+    write(
+        transaction,
         "INSERT INTO document (account, job, number, format, bytes) VALUES (?1, ?2, ?3, ?4, ?5) ON CONFLICT (account, job, number) DO UPDATE SET format = excluded.format, bytes = excluded.bytes",
         &[
             ValueRef::Text(name.bytes()),
@@ -155,14 +156,15 @@ pub fn remove_documents<S: Alter>(
     transaction: &mut Transaction<'_, S>,
     name: Name,
     job: u32,
-) -> Result<usize, Error>
+) -> Result<(), Error>
     ensures same_reference { transaction.new.conn.ghost_name ≡ transaction.old.conn.ghost_name }
     ensures removes { HasCleanDisk (state S.Store transaction.new.conn.now) → OnOk result (HasSchema (state S.Store transaction.old.conn.now).now → HasSchema (state S.Store transaction.new.conn.now).now × RemovesRows document_table (Text name ∷ number job ∷ []) (1 ∷ 2 ∷ []) (state S.Store transaction.old.conn.now).now (state S.Store transaction.new.conn.now).now) }
     ensures mode { HasCleanDisk (state S.Store transaction.new.conn.now) → OnOk result (IsTrue transaction.new.conn.now.in_transaction) }
     ensures kept { HasCleanDisk (state S.Store transaction.new.conn.now) → KeepsCommit (state S.Store transaction.old.conn.now) (state S.Store transaction.new.conn.now) }
     ensures survives { Survives (state S.Store transaction.old.conn.now) (state S.Store transaction.new.conn.now) (λ _. ⊥) }
 {
-    transaction.execute(
+    write(
+        transaction,
         "DELETE FROM document WHERE account = ?1 AND job = ?2",
         &[ValueRef::Text(name.bytes()), number(job as u64)],
     )

@@ -21,7 +21,7 @@ use crate::values::{number, number_at};
 use crate::walking::{Gather, walk};
 use room_rules::{MOST_PAGES, Name};
 use room_state::sum_of_units;
-use room_tables::{StoreFault, find_row};
+use room_tables::{StoreFault, find_row, write};
 use sqlite::{Alter, Connection, Error, Row, Transaction};
 use sqlite_value::value::ValueRef;
 
@@ -146,14 +146,15 @@ pub fn set_grant<S: Alter>(
     name: Name,
     month: u32,
     pages: u32,
-) -> Result<usize, Error>
+) -> Result<(), Error>
     ensures same_reference { transaction.new.conn.ghost_name ≡ transaction.old.conn.ghost_name }
     ensures sets { HasCleanDisk (state S.Store transaction.new.conn.now) → OnOk result (HasSchema (state S.Store transaction.old.conn.now).now → HasSchema (state S.Store transaction.new.conn.now).now × SetsRow grants_table (grant_cells name month pages) (state S.Store transaction.old.conn.now).now (state S.Store transaction.new.conn.now).now) }
     ensures mode { HasCleanDisk (state S.Store transaction.new.conn.now) → OnOk result (IsTrue transaction.new.conn.now.in_transaction) }
     ensures kept { HasCleanDisk (state S.Store transaction.new.conn.now) → KeepsCommit (state S.Store transaction.old.conn.now) (state S.Store transaction.new.conn.now) }
     ensures survives { Survives (state S.Store transaction.old.conn.now) (state S.Store transaction.new.conn.now) (λ _. ⊥) }
 {
-    transaction.execute(
+    write(
+        transaction,
         "INSERT INTO grants (account, month, pages) VALUES (?1, ?2, ?3) ON CONFLICT (account, month) DO UPDATE SET pages = excluded.pages",
         &[
             ValueRef::Text(name.bytes()),

@@ -19,7 +19,7 @@ use crate::values::{
     number_of_state, short_at, state_at,
 };
 use room_rules::{Job, LONGEST_JOB_NAME, LONGEST_PASSWORD, Name, Standing};
-use room_tables::{StoreFault, find_row};
+use room_tables::{StoreFault, find_row, write};
 use sqlite::{Alter, Connection, Error, Row, Transaction};
 use sqlite_value::value::ValueRef;
 
@@ -122,7 +122,7 @@ pub fn set_job<S: Alter>(
     transaction: &mut Transaction<'_, S>,
     name: Name,
     job: &Job,
-) -> Result<usize, Error>
+) -> Result<(), Error>
     requires { IsStanding job.now.standing }
     ensures same_reference { transaction.new.conn.ghost_name ≡ transaction.old.conn.ghost_name }
     ensures sets { HasCleanDisk (state S.Store transaction.new.conn.now) → OnOk result (HasSchema (state S.Store transaction.old.conn.now).now → HasSchema (state S.Store transaction.new.conn.now).now × SetsRow job_table (job_cells name job.now) (state S.Store transaction.old.conn.now).now (state S.Store transaction.new.conn.now).now) }
@@ -131,7 +131,8 @@ pub fn set_job<S: Alter>(
     ensures survives { Survives (state S.Store transaction.old.conn.now) (state S.Store transaction.new.conn.now) (λ _. ⊥) }
 {
     let s = &job.standing;
-    transaction.execute(
+    write(
+        transaction,
         "INSERT INTO job (account, job, name, password, state, open, stopping, copies, impressions, reserved, charged, documents, rate, device, created, started, ended) VALUES (?1, ?2, ?3, ?4, ?5, ?6, ?7, ?8, ?9, ?10, ?11, ?12, ?13, ?14, ?15, ?16, ?17) ON CONFLICT (account, job) DO UPDATE SET name = excluded.name, password = excluded.password, state = excluded.state, open = excluded.open, stopping = excluded.stopping, copies = excluded.copies, impressions = excluded.impressions, reserved = excluded.reserved, charged = excluded.charged, documents = excluded.documents, rate = excluded.rate, device = excluded.device, created = excluded.created, started = excluded.started, ended = excluded.ended",
         &[
             ValueRef::Text(name.bytes()),

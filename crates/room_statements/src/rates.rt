@@ -13,7 +13,7 @@ ghost use Rattle.room_tables.specs.Calls.{Goes, Stays, IsSame, Gets};
 
 use crate::values::{number, number_at};
 use room_rules::{MOST_RATE, Name};
-use room_tables::{StoreFault, find_row};
+use room_tables::{StoreFault, find_row, write};
 use sqlite::{Alter, Connection, Error, Row, Transaction};
 use sqlite_value::value::ValueRef;
 
@@ -66,14 +66,15 @@ pub fn set_rate<S: Alter>(
     transaction: &mut Transaction<'_, S>,
     name: Name,
     units: u32,
-) -> Result<usize, Error>
+) -> Result<(), Error>
     ensures same_reference { transaction.new.conn.ghost_name ≡ transaction.old.conn.ghost_name }
     ensures sets { HasCleanDisk (state S.Store transaction.new.conn.now) → OnOk result (HasSchema (state S.Store transaction.old.conn.now).now → HasSchema (state S.Store transaction.new.conn.now).now × SetsRow rates_table (units_cells name units) (state S.Store transaction.old.conn.now).now (state S.Store transaction.new.conn.now).now) }
     ensures mode { HasCleanDisk (state S.Store transaction.new.conn.now) → OnOk result (IsTrue transaction.new.conn.now.in_transaction) }
     ensures kept { HasCleanDisk (state S.Store transaction.new.conn.now) → KeepsCommit (state S.Store transaction.old.conn.now) (state S.Store transaction.new.conn.now) }
     ensures survives { Survives (state S.Store transaction.old.conn.now) (state S.Store transaction.new.conn.now) (λ _. ⊥) }
 {
-    transaction.execute(
+    write(
+        transaction,
         "INSERT INTO rates (device, units) VALUES (?1, ?2) ON CONFLICT (device) DO UPDATE SET units = excluded.units",
         &[ValueRef::Text(name.bytes()), number(units as u64)],
     )

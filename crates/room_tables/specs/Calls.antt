@@ -1,8 +1,8 @@
 -- What each call keeps, also where nothing is known of the tables.
-use Rattle.std.specs.Prelude.{◌≡◌, ◌≤◌, false, IsTrue, Option, Result, option_map, IfOk, OnOk}
+use Rattle.std.specs.Prelude.{◌≡◌, ℕ, ◌≤◌, false, IsTrue, List, Option, Result, Ok, option_map, IfOk, OnOk}
 use Rattle.sqlite_value.specs.Order.{Row}
 use Rattle.sqlite_trees.specs.View.{doubt}
-use Rattle.sqlite.specs.State.{State, HasCleanDisk}
+use Rattle.sqlite.specs.State.{State, HasCleanDisk, Executes}
 use Rattle.sqlite.specs.declared.error.Error.{Error}
 
 -- no fault of the disk is forgotten, no shut connection is opened, and no transaction is left under way
@@ -23,3 +23,7 @@ pub record Gets (old new : State) (there : Option Row) (shown : Row → Row) (re
   pub found : IfOk result (λ o. o ≡ option_map shown there)
   pub same : OnOk result (IsSame old new)
   pub stays : Stays old new
+
+-- a write: the statement has run, whatever it counted
+abbrev pub HasRun : List ℕ → Row → State → State → Type 0
+HasRun text params old new = (count : ℕ) × Executes text params old new (Ok count)

@@ -8,6 +8,7 @@ mod migrating;
 mod rows;
 mod schema;
 mod version;
+mod writing;
 
 pub use fault::{OpenFault, StoreFault};
 pub use law::rows_are_read_back;
@@ -16,3 +17,4 @@ pub use migrating::migrate_tables;
 pub use rows::find_row;
 pub use schema::is_blank;
 pub use version::check;
+pub use writing::write;

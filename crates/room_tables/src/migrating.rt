@@ -11,6 +11,7 @@ ghost use Rattle.room_tables.specs.Migrating.{IsFirst, IsMigrated, IsMigrateFaul
 use crate::fault::OpenFault;
 use crate::making::make_rates;
 use crate::version::is_older;
+use crate::writing::write;
 use sqlite::{Alter, Connection, Error, Transaction};
 
 /// Makes version 2 of version 1, and leaves version 2 as it is.
@@ -42,25 +43,26 @@ fn add_rates<S: Alter>(connection: &mut Connection<S>) -> Result<(), Error>
     transaction.commit()
 }
 
-fn rate_devices<S: Alter>(transaction: &mut Transaction<'_, S>) -> Result<usize, Error>
+fn rate_devices<S: Alter>(transaction: &mut Transaction<'_, S>) -> Result<(), Error>
     ensures same_reference { transaction.new.conn.ghost_name ≡ transaction.old.conn.ghost_name }
     ensures rates { HasCleanDisk (state S.Store transaction.new.conn.now) → OnOk result ((state S.Store transaction.old.conn.now).now.schema ≡ room_schema → (state S.Store transaction.old.conn.now).now.trees rates.tree ≡ [] → RatesDevices (state S.Store transaction.old.conn.now).now (state S.Store transaction.new.conn.now).now) }
     ensures mode { HasCleanDisk (state S.Store transaction.new.conn.now) → OnOk result (IsTrue transaction.new.conn.now.in_transaction) }
     ensures kept { HasCleanDisk (state S.Store transaction.new.conn.now) → KeepsCommit (state S.Store transaction.old.conn.now) (state S.Store transaction.new.conn.now) }
     ensures survives { Survives (state S.Store transaction.old.conn.now) (state S.Store transaction.new.conn.now) (λ _. ⊥) }
 {
-    transaction.execute(
+    write(
+        transaction,
         "INSERT INTO rates (device, units) SELECT name, 1 FROM device",
         &[],
     )
 }
 
-fn note_version_two<S: Alter>(transaction: &mut Transaction<'_, S>) -> Result<usize, Error>
+fn note_version_two<S: Alter>(transaction: &mut Transaction<'_, S>) -> Result<(), Error>
     ensures same_reference { transaction.new.conn.ghost_name ≡ transaction.old.conn.ghost_name }
     ensures notes { HasCleanDisk (state S.Store transaction.new.conn.now) → OnOk result ((state S.Store transaction.old.conn.now).now.schema ≡ room_schema → HasVersion (state S.Store transaction.old.conn.now).now (pos 1) → NotesVersionTwo (state S.Store transaction.old.conn.now).now (state S.Store transaction.new.conn.now).now) }
     ensures mode { HasCleanDisk (state S.Store transaction.new.conn.now) → OnOk result (IsTrue transaction.new.conn.now.in_transaction) }
     ensures kept { HasCleanDisk (state S.Store transaction.new.conn.now) → KeepsCommit (state S.Store transaction.old.conn.now) (state S.Store transaction.new.conn.now) }
     ensures survives { Survives (state S.Store transaction.old.conn.now) (state S.Store transaction.new.conn.now) (λ _. ⊥) }
 {
-    transaction.execute("UPDATE meta SET version = 2 WHERE id = 1", &[])
+    write(transaction, "UPDATE meta SET version = 2 WHERE id = 1", &[])
 }

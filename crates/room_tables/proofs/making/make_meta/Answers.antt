@@ -1,18 +1,12 @@
-use Rattle.std.proofs.Common.{[]}
-use Rattle.sqlite.specs.Effect.{Database}
 use Rattle.sqlite.specs.Held.{state}
-use Rattle.sqlite.specs.declared.error.Error.TheVariants.{SqliteFailure}
-use Rattle.sqlite.specs.declared.error.ErrorCode.TheVariants.{TransactionState}
 use Rattle.room_tables.specs.Tables.{no_schema, meta}
-use Rattle.room_tables.specs.Making.{with_meta, IsBlank}
 use Rattle.room_tables.proofs.MakingTexts.{meta_text, makes_meta}
 use Rattle.room_tables.proofs.Created.{creates}
-use Rattle.room_tables.proofs.Transactions.{runs_inside, kept_by_none}
+use Rattle.room_tables.proofs.Transactions.{then_changed}
 use Rattle.room_tables.proofs.making.make_meta.Goals as goal
 
 pub returns-clause-made : goal.returns-clause-made
-returns-clause-made g c =
+returns-clause-made g c clean =
     let old = state g.S.Store c.args.transaction.now.conn.now in
-    let new = state g.S.Store c.execute.new.self.conn.now in
-    (runs_inside (λ (a b : Database). IsBlank no_schema a → IsBlank with_meta b) meta_text [] old new (SqliteFailure TransactionState) c.execute.result (λ count h. creates no_schema meta_text meta makes_meta old new count h) c.execute.ensures.runs
-    (λ ended. let refused = c.execute.ensures.ended ended in (refused.0, rw refused.1 (kept_by_none old)))).changes
+    let new = state g.S.Store c.write.new.transaction.conn.now in
+    then_changed c.write.result _ _ (λ run. creates no_schema meta_text meta makes_meta old new run.0 run.1) (c.write.ensures.runs clean)
