@@ -1,4 +1,7 @@
 //! Why a run of the program ends with a status other than 0.
+ghost use Rattle.std.specs.Prelude.{◌≡◌};
+ghost use Rattle.room_cli.specs.Statuses.{status_of};
+
 use std::alloc::{AllocError, AllocFailed};
 use std::io;
 use std::io::{ErrorKind, Write};
@@ -33,7 +36,9 @@ pub enum Fault {
 impl Fault {
     /// The exit status: 1 for usage, 2 for bad input of which nothing was run, 3 for the store and
     /// for memory, 4 for reading and writing.
-    pub fn status(&self) -> u8 {
+    pub fn status(&self) -> u8
+        ensures { result ≡ status_of self.now }
+    {
         match self {
             Fault::Usage(_) => 1,
             Fault::Name | Fault::Input | Fault::Line(_) => 2,

@@ -7,8 +7,7 @@ use Rattle.std.specs.FinMap as finite
 use Rattle.std.proofs.lemmas.Bool.{cases_Bool, and_parts, and_from, eqb-true, true≢false}
 use Rattle.std.proofs.lemmas.Cmp.{tied_itself}
 use Rattle.std.proofs.lemmas.List.Sorted.{IsPermutation-refl, IsPermutation-sym, IsPermutation-trans, IsPermutation-cons, IsPermutation-middle}
-use Rattle.sqlite_value.specs.declared.value.Value.{Value}
-use Rattle.sqlite_value.specs.declared.value.Value.TheVariants.{Null, Int, Real, Text, Blob}
+use Rattle.sqlite_value.specs.declared.value.Value.TheVariants.{Null, Int, Text}
 use Rattle.sqlite_value.specs.declared.keys.Collation.TheVariants.{Binary}
 use Rattle.sqlite_value.specs.Order.{Row, column, value_cmp}
 use Rattle.sqlite_value.specs.Keys.{plain, first_key}
@@ -20,7 +19,7 @@ use Rattle.sqlite_schema.specs.declared.schema.Column.{Column}
 use Rattle.sqlite_schema.specs.declared.schema.Constraint.TheVariants.{NotNull}
 use Rattle.sqlite_schema.specs.declared.schema.Kind.TheVariants as kind
 use Rattle.sqlite_schema.specs.declared.schema.Table.{Table}
-use Rattle.sqlite_schema.specs.Rules.{agree, equal, is_of, are_typed, are_present}
+use Rattle.sqlite_schema.specs.Rules.{agree, equal, are_typed, are_present}
 use Rattle.sqlite_rules.specs.Lists.{Has}
 use Rattle.sqlite_rules.proofs.ListLemmas.{all_has, has_right, has_filtered, has_kept, has_found}
 use Rattle.sqlite_rules.proofs.ProbeLemmas.{has_mapped, mapped_has}
@@ -33,7 +32,7 @@ use Rattle.room_tables.specs.Tables.{room_schema, column_of, keyed, job, grants}
 use Rattle.room_tables.specs.Keyed.{HasSchema, has_key, row_at, rows_under}
 use Rattle.room_tables.specs.Cells.{number, job_cells, grant_cells}
 use Rattle.room_tables.specs.Accounts.{HoldsRoom, HoldsNothing, under, whole}
-use Rattle.room_tables.proofs.Columns.{no_null}
+use Rattle.room_tables.proofs.Columns.{no_null, integer_there}
 use Rattle.room_tables.proofs.Finds.{finds_only, key_shared}
 use Rattle.room_tables.proofs.KeyedRows.{same_row}
 use Rattle.room_tables.proofs.Reading.{without_number}
@@ -144,13 +143,6 @@ module _ (table : Table) (listed : Has room_schema.tables table) (guarded : IsGu
       (λ x h. let n = from x h in there_at n.0 x (find (has_key table (key n.0)) rows) refl n.1)
 
 -- ---- a number in the key
-
-integer_there : (v : Value) → is_of kind.Integer v ≡ true → (v ≡ Null → ⊥) → (n : ℤ) × (v ≡ Int n)
-integer_there Null typed present = absurd (present refl)
-integer_there (Int n) typed present = (n, refl)
-integer_there (Real x) typed present = absurd (let e = typed in cc)
-integer_there (Text t) typed present = absurd (let e = typed in cc)
-integer_there (Blob b) typed present = absurd (let e = typed in cc)
 
 integer_equal : (n : ℤ) → equal Binary (Int n) (Int n) ≡ true
 unfolding binary

@@ -1,20 +1,19 @@
 -- The walk over the documents of a job: what its text means, and what it comes to.
-use Rattle.std.proofs.Common.{◌≡◌, ◌≢◌, ℕ, zero, suc, ◌+◌, ◌-◌, ◌≤◌, ℤ, pos, negsuc, true, ◌&&◌, nat_le, is_some, List, [], ◌∷◌, ◌++◌, length, drop, find, codes, get_or, slice_set, Option, Some, None, option_map, option_to_list, flat_map, refl, sym, ap, subst, ◌∙◌, ◌⊎◌, inl, inr, arith}
+use Rattle.std.proofs.Common.{◌≡◌, ℕ, zero, suc, ◌+◌, ◌-◌, ◌≤◌, ℤ, pos, negsuc, true, ◌&&◌, nat_le, is_some, List, [], ◌∷◌, ◌++◌, length, drop, find, codes, get_or, slice_set, Option, Some, None, option_map, option_to_list, flat_map, refl, sym, ap, subst, ◌∙◌, ◌⊎◌, inl, inr, arith}
 use Rattle.std.specs.FinMap.{get}
 use Rattle.std.proofs.lemmas.Bool.{cases_eq, and_parts, and_from, true≢false}
 use Rattle.std.proofs.lemmas.Bool.Decides.{nat_tests}
 use Rattle.std.proofs.lemmas.List.{get_or-set_same, get_or-set_other, length-set}
 use Rattle.std.proofs.lemmas.List.Sorted.{IsPermutation-sym}
 use Rattle.sqlite_tied.specs.Compute.{everything}
-use Rattle.sqlite_value.specs.declared.value.Value.{Value}
-use Rattle.sqlite_value.specs.declared.value.Value.TheVariants.{Null, Int, Real, Text, Blob}
+use Rattle.sqlite_value.specs.declared.value.Value.TheVariants.{Int, Text}
 use Rattle.sqlite_value.specs.declared.keys.Collation.TheVariants.{Binary}
 use Rattle.sqlite_value.specs.Order.{Row, column}
 use Rattle.sqlite_value.specs.Keys.{first_key}
 use Rattle.sqlite_sql.specs.Term.{Term, col}
 use Rattle.sqlite_schema.specs.declared.schema.Constraint.TheVariants.{NotNull}
 use Rattle.sqlite_schema.specs.declared.schema.Kind.TheVariants as kind
-use Rattle.sqlite_schema.specs.Rules.{is_of, equal}
+use Rattle.sqlite_schema.specs.Rules.{equal}
 use Rattle.sqlite_rules.specs.Lists.{Has}
 use Rattle.sqlite_rules.proofs.ListLemmas.{has_found, has_filtered, has_kept, has_left, has_right}
 use Rattle.sqlite_rules.proofs.ProbeLemmas.{has_mapped, mapped_has}
@@ -33,7 +32,7 @@ use Rattle.room_tables.specs.Cells.{number, document_cells}
 use Rattle.room_tables.specs.Accounts.{document_at, under_pair, HoldsRoom, IsSound}
 use Rattle.room_statements.specs.Documents.{is_of_job, shown_documents, ShowsDocument, IsDocumentOf, GathersDocument, refuses_document}
 use Rattle.room_statements.specs.Walks.{GathersAll, WalksAll, RefusesOne}
-use Rattle.room_tables.proofs.Columns.{cells_are, no_null, equal_itself}
+use Rattle.room_tables.proofs.Columns.{cells_are, no_null, equal_itself, integer_there}
 use Rattle.room_statements.proofs.DocumentLemmas.{document_listed, document_guarded}
 use Rattle.room_tables.proofs.Finds.{finds_only, key_shared}
 use Rattle.room_tables.proofs.KeyedRows.{same_row}
@@ -69,13 +68,6 @@ all_shown db name job = refl
 
 abbrev behind : Row → Row
 behind row = column row 3 ∷ column row 4 ∷ column row 5 ∷ []
-
-integer_there : (v : Value) → is_of kind.Integer v ≡ true → v ≢ Null → (n : ℤ) × (v ≡ Int n)
-integer_there Null typed present = absurd (present refl)
-integer_there (Int n) typed present = (n, refl)
-integer_there (Real x) typed present = absurd (let e = typed in cc)
-integer_there (Text t) typed present = absurd (let e = typed in cc)
-integer_there (Blob b) typed present = absurd (let e = typed in cc)
 
 same_document : (row : Row) (a b : Document) → a.job ≡ b.job → ShowsDocument row a → ShowsDocument row b → a ≡ b
 same_document row a b job p q =

@@ -5,7 +5,7 @@ mod migrating;
 mod opening;
 
 use crate::{OpenFault, Refused, Store};
-use sqlite::{Alter, Connection, MemStore};
+use sqlite::{Alter, Connection, Error, MemStore};
 use std::alloc::Global;
 use std::test::Fail;
 
@@ -26,10 +26,25 @@ fn fault_of<S: Alter + Drop>(answer: Result<Store<S>, Refused<S>>) -> Option<Ope
     }
 }
 
-/// The connection to a database that was just made.
-fn made(alloc: Global) -> Result<Connection<MemStore>, Fail> {
-    match Store::create(Connection::open_in_memory(alloc)?) {
+/// The connection of the store, or why there is none.
+fn connection_of(
+    answer: Result<Store<MemStore>, Refused<MemStore>>,
+) -> Result<Connection<MemStore>, Fail> {
+    match answer {
         Ok(store) => Ok(store.close()),
         Err(refused) => Err(refused.fault.into()),
     }
+}
+
+/// The connection to a database that was just made.
+fn made(alloc: Global) -> Result<Connection<MemStore>, Fail> {
+    connection_of(Store::create(Connection::open_in_memory(alloc)?))
+}
+
+/// Fills an empty database with the tables of version 1 and one device.
+fn fill_older<S: Alter>(connection: &mut Connection<S>) -> Result<(), Error> {
+    connection.execute_batch(FIRST)?;
+    connection.execute_batch(
+        "INSERT INTO meta (id, version) VALUES (1, 1); INSERT INTO device (name, accepting) VALUES ('d1', 1)",
+    )
 }

@@ -45,6 +45,13 @@ text_there (Real x) typed present = absurd (let e = typed in cc)
 text_there (Text t) typed present = (t, refl)
 text_there (Blob b) typed present = absurd (let e = typed in cc)
 
+pub integer_there : (v : Value) → is_of kind.Integer v ≡ true → v ≢ Null → (n : ℤ) × (v ≡ Int n)
+integer_there Null typed present = absurd (present refl)
+integer_there (Int n) typed present = (n, refl)
+integer_there (Real x) typed present = absurd (let e = typed in cc)
+integer_there (Text t) typed present = absurd (let e = typed in cc)
+integer_there (Blob b) typed present = absurd (let e = typed in cc)
+
 pub equal_itself : (v : Value) → is_null v ≡ false → equal Binary v v ≡ true
 unfolding binary
 equal_itself v present = rw (present, tied_itself value_cmp_total v) refl

@@ -2,9 +2,9 @@
 //! `Storage`, the tables are as before, and the call made again gives the usual answer. Run as they are, these
 //! tests meet no refusal; `tools/refuse-memory` runs them once for each request that they make.
 
-use crate::tests::FIRST;
-use crate::{OpenFault, Refused, Store};
-use sqlite::{Connection, Error, MemStore};
+use crate::tests::{connection_of, fill_older};
+use crate::{OpenFault, Store};
+use sqlite::{Connection, MemStore};
 use std::alloc::{AllocError, Global};
 use std::test::Fail;
 
@@ -26,25 +26,8 @@ fn older(alloc: Global) -> Result<Connection<MemStore>, Fail> {
     Ok(connection)
 }
 
-fn fill_older(connection: &mut Connection<MemStore>) -> Result<(), Error> {
-    connection.execute_batch(FIRST)?;
-    connection.execute_batch(
-        "INSERT INTO meta (id, version) VALUES (1, 1); INSERT INTO device (name, accepting) VALUES ('d1', 1)",
-    )
-}
-
 fn is_told(fault: OpenFault) -> bool {
     matches!(fault, OpenFault::Memory | OpenFault::Storage)
-}
-
-/// The connection of the store, or why there is none.
-fn connection_of(
-    answer: Result<Store<MemStore>, Refused<MemStore>>,
-) -> Result<Connection<MemStore>, Fail> {
-    match answer {
-        Ok(store) => Ok(store.close()),
-        Err(refused) => Err(refused.fault.into()),
-    }
 }
 
 #[test]

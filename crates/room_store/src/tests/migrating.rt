@@ -1,6 +1,6 @@
 //! Databases of version 1, and others, that are migrated.
 
-use crate::tests::{FIRST, fault_of, made};
+use crate::tests::{FIRST, connection_of, fault_of, made};
 use crate::{OpenFault, Store};
 use room_rules::Name;
 use room_statements::{find_account, find_device, find_grant, find_job, find_rate};
@@ -29,10 +29,7 @@ fn count(connection: &mut Connection<MemStore>, text: &str) -> Result<i64, Fail>
 }
 
 fn migrated(connection: Connection<MemStore>) -> Result<Connection<MemStore>, Fail> {
-    match Store::migrate(connection) {
-        Ok(store) => Ok(store.close()),
-        Err(refused) => Err(refused.fault.into()),
-    }
+    connection_of(Store::migrate(connection))
 }
 
 #[test]

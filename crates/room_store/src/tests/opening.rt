@@ -1,6 +1,6 @@
 //! Stores that are made and opened, in memory and in a file.
 
-use crate::tests::{FIRST, fault_of, made};
+use crate::tests::{FIRST, fault_of, fill_older, made};
 use crate::{OpenFault, Store};
 use sqlite::Connection;
 use std::fs;
@@ -100,11 +100,7 @@ fn a_file(rt: HostRuntime) -> Result<(), Fail> {
 
 /// Makes a file of version 1 with one device.
 fn make_older(rt: &HostRuntime, path: &str) -> Result<(), Fail> {
-    let mut connection = Connection::open(rt, path)?;
-    connection.execute_batch(FIRST)?;
-    connection.execute_batch(
-        "INSERT INTO meta (id, version) VALUES (1, 1); INSERT INTO device (name, accepting) VALUES ('d1', 1)",
-    )?;
+    fill_older(&mut Connection::open(rt, path)?)?;
     Ok(())
 }
 
