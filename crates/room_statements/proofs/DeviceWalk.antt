@@ -1,36 +1,30 @@
 -- The walk over the table `device`: what its text means, and what it comes to.
-use Rattle.std.proofs.Common.{◌≡◌, ℕ, Bool, true, false, ◌||◌, List, [], ◌∷◌, ◌++◌, map, filter, find, drop, codes, Option, Some, None, option_map, IsPermutation, refl, sym, ap, ◌∙◌, ◌⊎◌, inl, inr, IsTrue, ◌↔◌}
-use Rattle.std.proofs.lemmas.Bool.{cases_Bool, and_parts, true≢false}
+use Rattle.std.proofs.Common.{◌≡◌, ℕ, Bool, true, false, ◌||◌, List, [], ◌∷◌, ◌++◌, map, filter, drop, codes, Option, Some, None, option_map, IsPermutation, refl, sym, ap, ◌∙◌, ◌⊎◌, inl, inr, IsTrue, ◌↔◌}
+use Rattle.std.proofs.lemmas.Bool.{cases_Bool, true≢false}
 use Rattle.std.proofs.lemmas.List.Sorted.{IsPermutation-sym}
 use Rattle.sqlite_tied.specs.Compute.{everything}
 use Rattle.sqlite_value.specs.declared.value.Value.TheVariants.{Text}
 use Rattle.sqlite_value.specs.Order.{Row, column}
-use Rattle.sqlite_value.specs.Keys.{first_key}
 use Rattle.sqlite_sql.specs.Term.{Term, col}
-use Rattle.sqlite_schema.specs.declared.schema.Constraint.TheVariants.{NotNull}
-use Rattle.sqlite_schema.specs.declared.schema.Kind.TheVariants as kind
 use Rattle.sqlite_rules.specs.Lists.{Has}
-use Rattle.sqlite_rules.proofs.ListLemmas.{has_found}
 use Rattle.sqlite_rules.proofs.ProbeLemmas.{has_mapped, mapped_has}
-use Rattle.sqlite_rules.proofs.RuleLemmas.{keeps_at}
 use Rattle.sqlite.specs.Effect.{Database}
 use Rattle.sqlite.specs.Listing.{understood}
 use Rattle.room_rules.specs.declared.device.Device.{Device}
-use Rattle.room_tables.specs.Tables.{room_schema, column_of, device}
-use Rattle.room_tables.specs.Keyed.{HasSchema, has_key}
+use Rattle.room_tables.specs.Tables.{room_schema}
+use Rattle.room_tables.specs.Keyed.{HasSchema}
 use Rattle.room_tables.specs.Queries.{Means, Takes, of_table, passes, shows_of}
 use Rattle.room_tables.specs.Cells.{flag, on_cells, device_cells}
 use Rattle.room_tables.specs.Devices.{device_at, AreSoundDevices, GathersOn, refuses_flag}
 use Rattle.room_statements.specs.Walks.{GathersAll, WalksAll, RefusesOne}
-use Rattle.room_tables.proofs.Columns.{cells_are, no_null, text_there, equal_itself}
-use Rattle.room_tables.proofs.Finds.{finds_only, key_shared}
-use Rattle.room_tables.proofs.KeyedRows.{same_row}
+use Rattle.room_tables.proofs.KeyedRows.{same_row, text_at}
 use Rattle.room_tables.proofs.Queries.{permuted_has}
 use Rattle.room_tables.proofs.ReadBackLemmas.{flag_back}
 use Rattle.room_tables.proofs.Reading.{without_number}
 use Rattle.room_statements.proofs.WalkLemmas.{refused_there}
-use Rattle.room_tables.proofs.Statements.{fits_in, numbered_in, typed_in, once_in}
-use Rattle.room_statements.proofs.DeviceLemmas.{listed, guarded}
+use Rattle.room_tables.proofs.KeyedTables.{device_in, device_key}
+use Rattle.room_tables.proofs.RowsUnder.{row_under, under_row}
+use Rattle.room_statements.proofs.NamedValues.{value_found}
 
 abbrev pub walk_text : List ℕ
 walk_text = codes "SELECT accepting FROM device"
@@ -92,30 +86,10 @@ module _ {G : Type 0} (on : G → Bool) where
 
 -- ---- the rows of the table
 
-key_is : (r : Row) (t : List ℕ) → column r 1 ≡ Text t → has_key device (Text t ∷ []) r ≡ true
-unfolding first_key
-key_is r t e = rw (e, equal_itself (Text t) refl) refl
-
 module _ (db : Database) (has : HasSchema db) where
-  record IsDeviceRow (row : Row) : Type 0 where
-    name : List ℕ
-    cells : drop 1 row ≡ Text name ∷ column row 2 ∷ []
-    at_name : device_at db name ≡ Some (drop 1 row)
-
-  device_row : (r : Row) → Has (db.trees 9) r → IsDeviceRow r
-  device_row r k =
-      let typed = typed_in device listed db has r k in
-      let present = keeps_at NotNull room_schema db.trees device r ((fits_in db has).rules NotNull (λ e. absurd cc)) listed k in
-      let whole = cells_are device.columns 0 r (drop 1 r) (refl, (refl, tt)) refl typed present in
-      let text = text_there (column r 1) (and_parts _ _ (rw whole at typed)).0 (λ none. no_null 0 (column_of kind.Text (codes "name")) (column r 1) refl none (and_parts _ _ present).0) in
-      let is = key_is r text.0 text.1 in
-      let found = finds_only (has_key device (Text text.0 ∷ [])) (db.trees 9) r k is
-      (λ y h e. once_in device listed guarded db.trees (fits_in db has) (numbered_in device listed db has) y r h k (key_shared device (Text text.0 ∷ []) [] [] y r e is)) in
-      record { name = text.0; cells = whole ∙ ap (λ v. v ∷ column r 2 ∷ []) text.1; at_name = ap (option_map (drop 1)) found }
-
-  row_there : (name : List ℕ) (cells : Row) → (o : Option Row) → find (has_key device (Text name ∷ [])) (db.trees 9) ≡ o → option_map (drop 1) o ≡ Some cells → (r : Row) × Has (db.trees 9) r × (drop 1 r ≡ cells)
-  row_there name cells None found is = absurd (let e = is in cc)
-  row_there name cells (Some r) found is = (r, (has_found (has_key device (Text name ∷ [])) (db.trees 9) r found).0, same_row is)
+  -- each row is that of a name
+  device_row : (r : Row) → Has (db.trees 9) r → (name : List ℕ) × (device_at db name ≡ Some (drop 1 r))
+  device_row r k = row_under [] Text device_in device_key tt (λ t. refl) db has (λ r there. text_at device_in db has r there 0 (codes "name") refl) r k refl
 
   module _ {G : Type 0} (on : G → Bool) (first last : G) (off : on first ≡ false) (walked : WalksAll (λ a row b. GathersOn (on a) row (on b)) (λ a row. refuses_flag row) (map second (db.trees 9)) first last) where
     is_on : on last ≡ true → (name : List ℕ) × (device_at db name ≡ Some (on_cells name true))
@@ -125,17 +99,17 @@ module _ (db : Database) (has : HasSchema db) where
           let r = has_mapped second (db.trees 9) some.0 (permuted_has (map second (db.trees 9)) walked.0 some.0 walked.1 some.1) in
           let it = device_row r.0 r.1 in
           let told : column r.0 2 ≡ flag true = ap (λ x. column x 0) (sym r.2) ∙ some.2 in
-          (it.name, it.at_name ∙ ap Some (it.cells ∙ ap (λ v. Text it.name ∷ v ∷ []) told))
+          (it.0, value_found device_in db has it.0 (column (drop 1 r.0) 1 ∷ []) (sym (ap (option_map (λ cells. column cells 1 ∷ [])) it.1)) (flag true) (without_number r.0 1 ∙ told))
     ]
 
     has_on : (name : List ℕ) × (device_at db name ≡ Some (on_cells name true)) → on last ≡ true
     has_on (name, at) = elim (cases_Bool (on last)) [
       | inl is ↦ is
       | inr not ↦
-          let r = row_there name (on_cells name true) (find (has_key device (Text name ∷ [])) (db.trees 9)) refl at in
-          let told : column r.0 2 ≡ flag true = sym (without_number r.0 1) ∙ ap (λ l. column l 1) r.2 in
-          let there = permuted_from walked.0 (map second (db.trees 9)) (second r.0) walked.1 (mapped_has second (db.trees 9) r.0 r.1) in
-          absurd (none_on on first last walked.0 walked.2 not (second r.0) there told)
+          let r = under_row [] Text device_in device_key tt (λ t. refl) db has name (on_cells name true) at in
+          let told : column r.row 2 ≡ flag true = sym (without_number r.row 1) ∙ ap (λ l. column l 1) r.are_cells in
+          let there = permuted_from walked.0 (map second (db.trees 9)) (second r.row) walked.1 (mapped_has second (db.trees 9) r.row r.there) in
+          absurd (none_on on first last walked.0 walked.2 not (second r.row) there told)
     ]
       where
         permuted_from : (ys xs : List Row) (x : Row) → IsPermutation xs ys → Has xs x → Has ys x
@@ -149,7 +123,7 @@ module _ (db : Database) (has : HasSchema db) where
       let there = permuted_has (map second (db.trees 9)) ((it.given ++ it.row ∷ []) ++ it.more) it.row it.are_shown (refused_there it.given it.row it.more) in
       let r = has_mapped second (db.trees 9) it.row there in
       let row = device_row r.0 r.1 in
-      let flagged = of_device row.name (held.0 row.name) (drop 1 r.0) (sym row.at_name ∙ held.1.device_rows row.name) in
+      let flagged = of_device row.0 (held.0 row.0) (drop 1 r.0) (sym row.1 ∙ held.1.device_rows row.0) in
       it.refused flagged.0 (ap (λ x. column x 0) r.2 ∙ sym (without_number r.0 1) ∙ flagged.1)
     where
       of_device : (name : List ℕ) (o : Option Device) (cells : Row) → Some cells ≡ option_map device_cells o → (accepting : Bool) × (column cells 1 ≡ flag accepting)

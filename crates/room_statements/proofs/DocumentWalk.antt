@@ -1,23 +1,18 @@
 -- The walk over the documents of a job: what its text means, and what it comes to.
-use Rattle.std.proofs.Common.{◌≡◌, ℕ, zero, suc, ◌+◌, ◌-◌, ◌≤◌, ℤ, pos, negsuc, true, ◌&&◌, nat_le, is_some, List, [], ◌∷◌, ◌++◌, length, drop, find, codes, get_or, slice_set, Option, Some, None, option_map, option_to_list, flat_map, refl, sym, ap, subst, ◌∙◌, ◌⊎◌, inl, inr, arith}
+use Rattle.std.proofs.Common.{◌≡◌, ℕ, zero, suc, ◌+◌, ◌-◌, ◌≤◌, ℤ, pos, negsuc, true, ◌&&◌, nat_le, is_some, List, [], ◌∷◌, ◌++◌, length, drop, codes, get_or, slice_set, Option, Some, None, option_map, option_to_list, flat_map, refl, sym, ap, subst, ◌∙◌, ◌⊎◌, inl, inr, arith}
 use Rattle.std.specs.FinMap.{get}
-use Rattle.std.proofs.lemmas.Bool.{cases_eq, and_parts, and_from, true≢false}
+use Rattle.std.proofs.lemmas.Bool.{cases_eq, and_parts, true≢false}
 use Rattle.std.proofs.lemmas.Bool.Decides.{nat_tests}
 use Rattle.std.proofs.lemmas.List.{get_or-set_same, get_or-set_other, length-set}
 use Rattle.std.proofs.lemmas.List.Sorted.{IsPermutation-sym}
 use Rattle.sqlite_tied.specs.Compute.{everything}
 use Rattle.sqlite_value.specs.declared.value.Value.TheVariants.{Int, Text}
-use Rattle.sqlite_value.specs.declared.keys.Collation.TheVariants.{Binary}
 use Rattle.sqlite_value.specs.Order.{Row, column}
 use Rattle.sqlite_value.specs.Keys.{first_key}
 use Rattle.sqlite_sql.specs.Term.{Term, col}
-use Rattle.sqlite_schema.specs.declared.schema.Constraint.TheVariants.{NotNull}
-use Rattle.sqlite_schema.specs.declared.schema.Kind.TheVariants as kind
-use Rattle.sqlite_schema.specs.Rules.{equal}
 use Rattle.sqlite_rules.specs.Lists.{Has}
-use Rattle.sqlite_rules.proofs.ListLemmas.{has_found, has_filtered, has_kept, has_left, has_right}
+use Rattle.sqlite_rules.proofs.ListLemmas.{has_filtered, has_kept, has_left, has_right}
 use Rattle.sqlite_rules.proofs.ProbeLemmas.{has_mapped, mapped_has}
-use Rattle.sqlite_rules.proofs.RuleLemmas.{keeps_at}
 use Rattle.sqlite.specs.Effect.{Database}
 use Rattle.sqlite.specs.Listing.{understood}
 use Rattle.room_rules.specs.declared.job.Document.{Document}
@@ -25,21 +20,19 @@ use Rattle.room_rules.specs.declared.job.Job.{Job}
 use Rattle.room_state.specs.Documents.{documents_of}
 use Rattle.room_state.specs.Rooms.{RoomValue}
 use Rattle.room_state.specs.RoomRules.{has_document, is_unfinished}
-use Rattle.room_tables.specs.Tables.{room_schema, column_of, document}
-use Rattle.room_tables.specs.Keyed.{HasSchema, has_key}
+use Rattle.room_tables.specs.Tables.{room_schema}
+use Rattle.room_tables.specs.Keyed.{HasSchema}
 use Rattle.room_tables.specs.Queries.{Means, Takes, of_table, is_given, shown_of}
 use Rattle.room_tables.specs.Cells.{number, document_cells}
 use Rattle.room_tables.specs.Accounts.{document_at, under_pair, HoldsRoom, IsSound}
 use Rattle.room_statements.specs.Documents.{is_of_job, shown_documents, ShowsDocument, IsDocumentOf, GathersDocument, refuses_document}
 use Rattle.room_statements.specs.Walks.{GathersAll, WalksAll, RefusesOne}
-use Rattle.room_tables.proofs.Columns.{cells_are, no_null, equal_itself, integer_there}
-use Rattle.room_statements.proofs.DocumentLemmas.{document_listed, document_guarded}
-use Rattle.room_tables.proofs.Finds.{finds_only, key_shared}
-use Rattle.room_tables.proofs.KeyedRows.{same_row}
+use Rattle.room_tables.proofs.KeyedRows.{same_row, integer_at}
 use Rattle.room_tables.proofs.Queries.{permuted_has}
 use Rattle.room_tables.proofs.ReadBackLemmas.{number_back, format_back, blob_back}
 use Rattle.room_tables.proofs.Reading.{without_number}
-use Rattle.room_tables.proofs.Statements.{fits_in, numbered_in, typed_in, once_in}
+use Rattle.room_tables.proofs.KeyedTables.{document_in, document_key}
+use Rattle.room_tables.proofs.RowsUnder.{row_under, under_row}
 
 abbrev pub walk_text : List ℕ
 walk_text = codes "SELECT number, format, bytes FROM document WHERE account = ?1 AND job = ?2"
@@ -83,26 +76,8 @@ module _ (db : Database) (has : HasSchema db) (name : List ℕ) (job : ℕ) wher
     number : ℤ
     at_place : document_at db name (pos job) number ≡ Some (drop 1 row)
 
-  has_place : (r : Row) → is_of_job name job r ≡ true → (n : ℤ) → column r 3 ≡ Int n → has_key document (Text name ∷ number job ∷ Int n ∷ []) r ≡ true
-  unfolding first_key
-  has_place r is n third =
-      let parts = and_parts (equal Binary (column r 1) (Text name)) (equal Binary (column r 2) (number job) && true) is in
-      let after = and_parts (equal Binary (column r 2) (number job)) true parts.1 in
-      let same : equal Binary (column r 3) (Int n) ≡ true = rw third (equal_itself (Int n) refl) in
-      rw (parts.0, after.0, same) refl
-
-  document_row : (r : Row) → Has (db.trees 5) r → is_of_job name job r ≡ true → IsPlaced r
-  document_row r k is =
-      let typed = typed_in document document_listed db has r k in
-      let present = keeps_at NotNull room_schema db.trees document r ((fits_in db has).rules NotNull (λ e. absurd cc)) document_listed k in
-      let whole = cells_are document.columns 0 r (drop 1 r) (refl, (refl, (refl, (refl, (refl, tt))))) refl typed present in
-      let third = integer_there (column r 3) (and_parts _ _ (and_parts _ _ (and_parts _ _ (rw whole at typed)).1).1).0
-      (λ none. no_null 2 (column_of kind.Integer (codes "number")) (column r 3) refl none (and_parts _ _ (and_parts _ _ (and_parts _ _ present).1).1).0) in
-      let key = Text name ∷ number job ∷ Int third.0 ∷ [] in
-      let keyed = has_place r is third.0 third.1 in
-      let found = finds_only (has_key document key) (db.trees 5) r k keyed
-      (λ y h e. once_in document document_listed document_guarded db.trees (fits_in db has) (numbered_in document document_listed db has) y r h k (key_shared document key [] [] y r e keyed)) in
-      record { number = third.0; at_place = ap (option_map (drop 1)) found }
+  number_there : (r : Row) → Has (db.trees 5) r → (n : ℤ) × (column r 3 ≡ Int n)
+  number_there r there = integer_at document_in db has r there 2 (codes "number") refl
 
   -- a row of the job that is shown
   record IsShownOf (x : Row) : Type 0 where
@@ -114,7 +89,8 @@ module _ (db : Database) (has : HasSchema db) (name : List ℕ) (job : ℕ) wher
   shown_row x h =
       let r = has_mapped behind _ x h in
       let there = has_filtered (is_of_job name job) (db.trees 5) r.0 r.1 in
-      record { row = r.0; placed = document_row r.0 there.0 there.1; shown = r.2 }
+      let placed = row_under (Text name ∷ number job ∷ []) Int document_in (document_key name (pos job)) (refl, (refl, tt)) (λ n. refl) db has number_there r.0 there.0 there.1 in
+      record { row = r.0; placed = record { number = placed.0; at_place = placed.1 }; shown = r.2 }
 
   -- ---- they are those of the room
 
@@ -168,22 +144,14 @@ module _ (db : Database) (has : HasSchema db) (name : List ℕ) (job : ℕ) wher
       tells : ShowsDocument row it
 
     row_there : (n : ℕ) (it : Document) → get room.documents (job, n) ≡ Some it → IsShown it
-    unfolding first_key
     row_there n it is =
-        let key = Text name ∷ number job ∷ number n ∷ [] in
-        by_row (find (has_key document key) (db.trees 5)) refl (held.document_rows (pos job) (pos n) ∙ ap (option_map (document_cells name)) is)
-      where
-        by_row : (o : Option Row) → find (has_key document (Text name ∷ number job ∷ number n ∷ [])) (db.trees 5) ≡ o → option_map (drop 1) o ≡ Some (document_cells name it) → IsShown it
-        by_row None found e = absurd (let no = e in cc)
-        by_row (Some r) found e =
-            let there = has_found (has_key document (Text name ∷ number job ∷ number n ∷ [])) (db.trees 5) r found in
-            let parts = and_parts _ _ there.1 in
-            let of_job : is_of_job name job r ≡ true = and_from _ _ parts.0 (and_from _ _ (and_parts _ _ parts.1).0 refl) in
-            record {
-              row = behind r;
-              there = mapped_has behind _ r (has_kept (is_of_job name job) (db.trees 5) r there.0 of_job);
-              tells = tells_it r (behind r) it refl (same_row e);
-            }
+        let r = under_row (Text name ∷ number job ∷ []) Int document_in (document_key name (pos job)) (refl, (refl, tt)) (λ n. refl) db has (pos n) (document_cells name it)
+        (held.document_rows (pos job) (pos n) ∙ ap (option_map (document_cells name)) is) in
+        record {
+          row = behind r.row;
+          there = mapped_has behind _ r.row (has_kept (is_of_job name job) (db.trees 5) r.row r.there r.begins);
+          tells = tells_it r.row (behind r.row) it refl r.are_cells;
+        }
 
 -- ---- places, after some rows
 

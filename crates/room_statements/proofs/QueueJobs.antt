@@ -15,7 +15,7 @@ use Rattle.room_tables.specs.Accounts.{HoldsRoom, IsSound}
 use Rattle.room_tables.specs.ReadBack.{IsNameOrNone}
 use Rattle.room_statements.specs.Queues.{numbered_cells, IsNumbered, ShowsNumbered, ListsJob, refuses_numbered, AreListed}
 use Rattle.room_statements.specs.Walks.{GathersAll, GathersShown, RefusesShown}
-use Rattle.room_statements.proofs.JobRows.{EachIs, each_is}
+use Rattle.room_tables.proofs.Columns.{EachIs, each_is}
 use Rattle.room_tables.proofs.ReadBackLemmas.{rows_are_read_back}
 use Rattle.room_statements.proofs.WalkLemmas.{refused_there}
 

@@ -1,9 +1,8 @@
 -- The jobs of an account in the orders of Get-Jobs: what the rows of the walks tell.
-use Rattle.std.proofs.Common.{◌≡◌, ℕ, zero, suc, ℤ, pos, negsuc, Bool, true, false, not, ◌&&◌, List, [], ◌∷◌, map, filter, take, drop, codes, Option, None, Some, IsSome, option_map, refl, sym, ap, subst, ◌∙◌, Less}
+use Rattle.std.proofs.Common.{◌≡◌, ℕ, zero, suc, Bool, true, false, not, ◌&&◌, List, [], ◌∷◌, map, filter, take, drop, Option, None, Some, IsSome, refl, sym, ap, subst, ◌∙◌, Less}
 use Rattle.std.specs.List.{AllByRecursion}
 use Rattle.std.specs.List.Sorted.{IsPermutation}
-use Rattle.std.specs.FinMap.{FinMap, values, from_sorted, get-from_sorted, entries-from_sorted}
-use Rattle.std.specs.Ordering.{nat_cmp}
+use Rattle.std.specs.FinMap.{values}
 use Rattle.std.proofs.lemmas.Bool.{true≢false}
 use Rattle.std.proofs.lemmas.List.{take-map}
 use Rattle.std.proofs.lemmas.List.Sorted.{IsPermutation-map, IsPermutation-trans}
@@ -14,7 +13,6 @@ use Rattle.sqlite_trees.specs.Tree.{IsAscending}
 use Rattle.sqlite_trees.proofs.ListLemmas.{map-map, filter-map, filter_same, all_of, all-permutation, IsPermutation-filter, ascending-map}
 use Rattle.sqlite_sql.specs.Query.{Query, Output, output, output_cmp, page}
 use Rattle.sqlite_sql.specs.Term.{Term, col}
-use Rattle.sqlite_schema.specs.declared.schema.Kind.TheVariants as kind
 use Rattle.sqlite.specs.Effect.{Database}
 use Rattle.room_rules.specs.declared.job.Job.{Job}
 use Rattle.room_rules.specs.declared.job.JobState.{JobState}
@@ -25,15 +23,14 @@ use Rattle.room_state.specs.RoomRules.{NumbersRise, is_unfinished}
 use Rattle.room_state.specs.Queues.{not_completed, completed, at_most}
 use Rattle.room_state.proofs.JobMaps.{values_keep, values_rise}
 use Rattle.room_state.proofs.QueueOrders.{with_end, not_completed_rise, completed_permutes, completed_fall}
-use Rattle.room_tables.specs.Tables.{column_of, job}
+use Rattle.room_tables.specs.Tables.{job}
 use Rattle.room_tables.specs.Keyed.{HasSchema, rows_under}
 use Rattle.room_tables.specs.Queries.{first_of_table, passes, IsShownBy}
 use Rattle.room_tables.specs.Cells.{job_cells}
-use Rattle.room_tables.specs.Accounts.{HoldsRoom, HoldsNothing, under}
+use Rattle.room_tables.specs.Accounts.{HoldsRoom, HoldsNothing}
 use Rattle.room_statements.specs.Queues.{numbered_cells, AreListed}
 use Rattle.room_tables.proofs.Queries.{env, answer_in_order}
-use Rattle.room_statements.proofs.AccountRows.{account_rows, rows_of_jobs}
-use Rattle.room_statements.proofs.JobLemmas.{job_listed, job_guarded}
+use Rattle.room_statements.proofs.AccountRows.{no_jobs, rows_of_jobs}
 use Rattle.room_statements.proofs.QueueTexts.{shows, params, unfinished_tests, unfinished_order, unfinished_query, ended_tests, ended_order, ended_query}
 use Rattle.room_statements.proofs.QueueTests.{of_account, is_early, early_state, is_late, late_state, asks_early, asks_late}
 use Rattle.room_statements.proofs.QueueSorts.{told_by, job_told, by_number, early_outputs, early_rise, by_end, late_outputs, late_fall}
@@ -76,20 +73,6 @@ module _ (tests : List Term) (order : List (Term × Key)) (name : List ℕ) (lim
       let all : IsPermutation (map (λ r. output query (env (params name limit) r)) (filter (passes tests (params name limit)) (db.trees 3))) (map (job_told sorts name) wanted) =
       subst (λ l. IsPermutation l (map (job_told sorts name) wanted)) (sym (passing_rows (db.trees 3))) (subst (IsPermutation (map (told_by sorts) (filter state_test (rows_under job (1 ∷ []) (Text name ∷ []) db)))) (map-map (told_by sorts) (job_cells name) wanted) permuted) in
       answer_in_order 3 tests shows order (col 0 1) db.trees (params name limit) rows answer (map (job_told sorts name) wanted) all (ascending-map (λ a b. output_cmp query a b ≡ Less) (job_told sorts name) wanted up) ∙ limited_so wanted limit refl
-
-abbrev nobody : FinMap nat_cmp Job
-nobody = from_sorted []
-
-nobody_there : (n : ℤ) → under nobody n ≡ None
-nobody_there (pos k) = get-from_sorted nat_cmp [] k tt
-nobody_there (negsuc k) = refl
-
--- an account without rows has none in this table
-no_jobs : (db : Database) → HasSchema db → (name : List ℕ) → HoldsNothing db name → IsPermutation (rows_under job (1 ∷ []) (Text name ∷ []) db) []
-no_jobs db has name held =
-    subst (λ (es : List (ℕ × Job)). IsPermutation (rows_under job (1 ∷ []) (Text name ∷ []) db) (map (λ (e : ℕ × Job). job_cells name e.1) es)) (entries-from_sorted nat_cmp [] tt)
-    (account_rows job.name 3 (column_of kind.Text (codes "account")) (codes "job") (drop 2 job.columns) job_listed job_guarded name db has nobody (λ _ it. job_cells name it)
-    (λ k it is. absurd (let no = sym (nobody_there (pos k)) ∙ is in cc)) (λ n. held.no_job n ∙ sym (ap (option_map (job_cells name)) (nobody_there n))))
 
 -- ---- those that have not ended
 

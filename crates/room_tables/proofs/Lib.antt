@@ -10,7 +10,12 @@ pub mod Reading
 pub mod Columns
 pub mod VersionLemmas
 pub mod ReadBackLemmas
+pub mod KeyedTables
 pub mod KeyedRows
+pub mod Settings
+pub mod NoneTwice
+pub mod RowsUnder
+pub mod MapRows
 pub mod RatingText
 pub mod RatedLemmas
 pub mod VersionTwo

@@ -2,10 +2,9 @@ use Rattle.std.proofs.Common.{OnOk}
 use Rattle.sqlite.specs.State.{HasCleanDisk}
 use Rattle.sqlite.specs.Held.{state}
 use Rattle.room_tables.specs.Calls.{HasRun}
-use Rattle.room_tables.specs.Tables.{account as account_table}
 use Rattle.room_tables.specs.Cells.{account_cells}
-use Rattle.room_statements.proofs.AccountLemmas.{set_account_text, sets_account, account_there, account_becomes, account_terms}
-use Rattle.room_tables.proofs.Statements.{sets_row}
+use Rattle.room_statements.proofs.AccountLemmas.{set_account_text, sets_account}
+use Rattle.room_tables.proofs.Settings.{sets_row}
 use Rattle.room_tables.proofs.Transactions.{then_changed}
 use Rattle.room_statements.proofs.accounts.set_account.Goals as goal
 
@@ -16,4 +15,4 @@ returns-clause-sets g c clean =
     let cells = account_cells c.args.name c.args.account in
     let ran : HasCleanDisk new → OnOk c.write.result (HasRun set_account_text cells old new) = rw (c.bytes.ensures.value, c.number.ensures, c.number-2.ensures) at c.write.ensures.runs in
     then_changed c.write.result _ _
-    (λ run has. let set = sets_row set_account_text 1 cells account_table.name 1 account_table.primary account_table.columns cells account_there account_becomes account_terms 4 (sets_account c.args.name c.args.account) old new run.0 has run.1 in (set.1, set.0)) (ran clean)
+    (λ run has. sets_row (sets_account c.args.name c.args.account) old new run.0 has run.1) (ran clean)

@@ -3,10 +3,9 @@ use Rattle.sqlite.specs.State.{HasCleanDisk}
 use Rattle.sqlite.specs.Held.{state}
 use Rattle.room_rules.specs.declared.job.Document.{Document}
 use Rattle.room_tables.specs.Calls.{HasRun}
-use Rattle.room_tables.specs.Tables.{document as document_table}
 use Rattle.room_tables.specs.Cells.{document_cells}
-use Rattle.room_statements.proofs.DocumentLemmas.{set_text, sets_document, there, becomes, terms}
-use Rattle.room_tables.proofs.Statements.{sets_row}
+use Rattle.room_statements.proofs.DocumentLemmas.{set_text, sets_document}
+use Rattle.room_tables.proofs.Settings.{sets_row}
 use Rattle.room_tables.proofs.Transactions.{then_changed}
 use Rattle.room_statements.proofs.documents.set_document.Goals as goal
 
@@ -18,4 +17,4 @@ returns-clause-sets g c clean =
     let cells = document_cells c.args.name it in
     let ran : HasCleanDisk new → OnOk c.write.result (HasRun set_text cells old new) = rw (c.bytes.ensures.value, c.number.ensures, c.number-2.ensures, c.format_text.ensures) at c.write.ensures.runs in
     then_changed c.write.result _ _
-    (λ run has. let set = sets_row set_text 3 cells document_table.name 5 document_table.primary document_table.columns cells there becomes terms 6 (sets_document c.args.name it) old new run.0 has run.1 in (set.1, set.0)) (ran clean)
+    (λ run has. sets_row (sets_document c.args.name it) old new run.0 has run.1) (ran clean)

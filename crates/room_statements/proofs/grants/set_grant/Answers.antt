@@ -2,10 +2,9 @@ use Rattle.std.proofs.Common.{OnOk}
 use Rattle.sqlite.specs.State.{HasCleanDisk}
 use Rattle.sqlite.specs.Held.{state}
 use Rattle.room_tables.specs.Calls.{HasRun}
-use Rattle.room_tables.specs.Tables.{grants as grants_table}
 use Rattle.room_tables.specs.Cells.{grant_cells}
-use Rattle.room_statements.proofs.GrantLemmas.{set_grant_text, sets_grant, grant_there, grant_becomes, grant_terms}
-use Rattle.room_tables.proofs.Statements.{sets_row}
+use Rattle.room_statements.proofs.GrantLemmas.{set_grant_text, sets_grant}
+use Rattle.room_tables.proofs.Settings.{sets_row}
 use Rattle.room_tables.proofs.Transactions.{then_changed}
 use Rattle.room_statements.proofs.grants.set_grant.Goals as goal
 
@@ -16,4 +15,4 @@ returns-clause-sets g c clean =
     let cells = grant_cells c.args.name c.args.month c.args.pages in
     let ran : HasCleanDisk new → OnOk c.write.result (HasRun set_grant_text cells old new) = rw (c.bytes.ensures.value, c.number.ensures, c.number-2.ensures) at c.write.ensures.runs in
     then_changed c.write.result _ _
-    (λ run has. let set = sets_row set_grant_text 4 cells grants_table.name 7 grants_table.primary grants_table.columns cells grant_there grant_becomes grant_terms 4 (sets_grant c.args.name c.args.month c.args.pages) old new run.0 has run.1 in (set.1, set.0)) (ran clean)
+    (λ run has. sets_row (sets_grant c.args.name c.args.month c.args.pages) old new run.0 has run.1) (ran clean)
