@@ -17,6 +17,3 @@ pub use message::{Attribute, Group, Header, Message, Value};
 pub use reading::{read_header, read_message};
 pub use values::{bool_of, int_of, text_of};
 pub use writing::{put_attribute, put_end, put_group, put_header, put_more};
-
-#[cfg(test)]
-mod tests;

@@ -15,6 +15,3 @@ pub use part::{Part, handed};
 pub use response::{begun, done, ended, refused, with_job, with_jobs, with_printer};
 pub use station::{known_device, left_after, ready_device};
 pub use text::{line, success};
-
-#[cfg(test)]
-mod tests;

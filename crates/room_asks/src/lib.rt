@@ -19,6 +19,3 @@ pub use ask::{Ask, AskFault, Which};
 pub use job::new_job;
 pub use operation::Operation;
 pub use read::read_ask;
-
-#[cfg(test)]
-mod tests;

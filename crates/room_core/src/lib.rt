@@ -43,6 +43,3 @@ pub use room_texts::{
     Place, PrinterNow, Success, internal_error, put_job, put_line, put_printer, put_reply,
     put_success,
 };
-
-#[cfg(test)]
-mod tests;

@@ -4,6 +4,3 @@
 mod fields;
 
 pub use fields::{FieldFault, bytes, choice, decimal, month, number};
-
-#[cfg(test)]
-mod tests;

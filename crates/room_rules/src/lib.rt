@@ -30,6 +30,3 @@ pub use month::month_of;
 pub use name::Name;
 pub use quota::{exceeds, left, need};
 pub use refusal::{Refusal, Word};
-
-#[cfg(test)]
-mod tests;

@@ -11,5 +11,4 @@ pub mod Bounds
 pub mod TallyLemmas
 pub mod Lookups
 pub mod RoomLemmas
-pub mod FirstJobs
 pub mod QueueOrders

@@ -10,6 +10,3 @@ mod tally;
 
 pub use room::Room;
 pub use tally::{Tally, sum_of_units};
-
-#[cfg(test)]
-mod tests;

@@ -21,6 +21,3 @@ pub use queues::{ended_jobs, unfinished_jobs};
 pub use rates::{find_rate, set_rate};
 pub use room_tables::StoreFault;
 pub use tallies::tally_jobs;
-
-#[cfg(test)]
-mod tests;

@@ -5,6 +5,3 @@ mod store;
 
 pub use room_tables::{OpenFault, StoreFault};
 pub use store::{Refused, Store};
-
-#[cfg(test)]
-mod tests;

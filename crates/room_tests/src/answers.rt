@@ -5,8 +5,9 @@ mod responses;
 ghost use Rattle.room_texts.specs.Limits.{IsPlace, IsShowable};
 ghost use Rattle.room_texts.specs.Places.{plain_place};
 
+use crate::plain::{fresh, read_name};
 use ipp_coding::{Header, List};
-use room_rules::{Job, Name, fresh};
+use room_rules::Job;
 use room_texts::Place;
 use std::alloc::Global;
 use std::process::Abort;
@@ -35,7 +36,7 @@ const NAMES: &[&[u8]] = &[b"job-uri", b"job-id", b"job-state", b"job-state-reaso
 fn place(rt: &impl Abort) -> Place<'static>
     ensures { IsPlace (plain_place result) }
 {
-    let name = Name::read(b"alice").expect(rt, "a name");
+    let name = read_name(b"alice").expect(rt, "a name");
     Place {
         base: b"ipp://localhost",
         name,

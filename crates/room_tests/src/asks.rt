@@ -1,4 +1,4 @@
-mod asks;
+mod asked;
 mod builder;
 mod checks;
 mod memory;
@@ -6,9 +6,3 @@ mod pairs;
 mod syntaxes;
 mod targets;
 mod templates;
-
-/// Validate-Job for the queue of alice: 119 bytes.
-const REQUEST: &[u8] = b"\x01\x01\x00\x04\x00\x00\x00\x01\x01\
-    \x47\x00\x12attributes-charset\x00\x05utf-8\
-    \x48\x00\x1battributes-natural-language\x00\x02en\
-    \x45\x00\x0bprinter-uri\x00\x1fipp://localhost/ipp/print/alice\x03";

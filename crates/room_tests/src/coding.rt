@@ -2,14 +2,3 @@ mod memory;
 mod reading;
 mod values;
 mod writing;
-
-/// Validate-Job for the queue of alice: 119 bytes.
-const REQUEST: &[u8] = b"\x01\x01\x00\x04\x00\x00\x00\x01\x01\
-    \x47\x00\x12attributes-charset\x00\x05utf-8\
-    \x48\x00\x1battributes-natural-language\x00\x02en\
-    \x45\x00\x0bprinter-uri\x00\x1fipp://localhost/ipp/print/alice\x03";
-
-/// The answer to it: 72 bytes.
-const ANSWER: &[u8] = b"\x01\x01\x00\x00\x00\x00\x00\x01\x01\
-    \x47\x00\x12attributes-charset\x00\x05utf-8\
-    \x48\x00\x1battributes-natural-language\x00\x02en\x03";

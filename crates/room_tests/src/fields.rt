@@ -1,4 +1,4 @@
-use crate::{FieldFault, bytes, choice, decimal, month, number};
+use room_fields::{FieldFault, bytes, choice, decimal, month, number};
 use std::test::Fail;
 
 #[test]

@@ -3,13 +3,14 @@ ghost use Rattle.std.specs.List.{AllByRecursion};
 ghost use Rattle.room_core.specs.Fits.{fits};
 ghost use Rattle.room_core.specs.Rates.{HasRate};
 
+mod events;
 mod fits;
-mod machine;
 mod memory;
 mod requests;
 mod stations;
 
-use crate::{CoreFault, Device, Event, Name, Reply, Room};
+use crate::plain::read_name;
+use room_core::{CoreFault, Device, Event, Name, Reply, Room};
 use std::alloc::Global;
 use std::process::Abort;
 
@@ -17,17 +18,6 @@ use std::process::Abort;
 const NOW: u64 = 1788220800;
 
 const MONTH: u32 = 24320;
-
-/// Validate-Job for the queue of alice: 119 bytes.
-const REQUEST: &[u8] = b"\x01\x01\x00\x04\x00\x00\x00\x01\x01\
-    \x47\x00\x12attributes-charset\x00\x05utf-8\
-    \x48\x00\x1battributes-natural-language\x00\x02en\
-    \x45\x00\x0bprinter-uri\x00\x1fipp://localhost/ipp/print/alice\x03";
-
-/// The answer to it: 72 bytes.
-const ANSWER: &[u8] = b"\x01\x01\x00\x00\x00\x00\x00\x01\x01\
-    \x47\x00\x12attributes-charset\x00\x05utf-8\
-    \x48\x00\x1battributes-natural-language\x00\x02en\x03";
 
 /// Print-Job of twelve impressions in three copies.
 const PRINT: &[u8] = b"\x01\x01\x00\x02\x00\x00\x00\x01\x01\
@@ -100,11 +90,11 @@ const PRINTER: &[u8] = b"\x01\x01\x00\x0b\x00\x00\x00\x01\x01\
     \x44\x00\x14requested-attributes\x00\x0dprinter-state\x03";
 
 fn alice(rt: &impl Abort) -> Name {
-    Name::read(b"alice").expect(rt, "a name")
+    read_name(b"alice").expect(rt, "a name")
 }
 
 fn d1(rt: &impl Abort) -> Name {
-    Name::read(b"d1").expect(rt, "a name")
+    read_name(b"d1").expect(rt, "a name")
 }
 
 /// The device d1, at this rate.
@@ -119,6 +109,7 @@ fn device(rt: &impl Abort, on: bool, rate: u32) -> Device
 }
 
 /// The answer to an event. It promises nothing here: a test looks at what runs.
+#[tactic(auto, using(room_core::proofs::Rates::all_are_rated))]
 fn answer(
     alloc: Global,
     room: &mut Option<Room>,
@@ -129,7 +120,7 @@ fn answer(
     requires fits { IsTrue (fits e.now) }
     requires rates { AllByRecursion HasRate devices.now }
 {
-    crate::answer(alloc, room, devices, now, e)
+    room_core::answer(alloc, room, devices, now, e)
 }
 
 /// The answer, asked for once more where memory was refused: then the room is as before.

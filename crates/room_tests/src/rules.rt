@@ -8,7 +8,7 @@ mod months;
 mod names;
 mod rows;
 
-use crate::{JobState, Name, Refusal, Standing, Word};
+use room_rules::{JobState, Name, Refusal, Standing, Word};
 
 /// The moment of each act in these tests.
 const NOW: u64 = 1_788_220_800;

@@ -15,6 +15,3 @@ pub use line::{Success, put_line, put_success};
 pub use place::Place;
 pub use printer::{PrinterNow, put_printer};
 pub use reply::{internal_error, put_reply};
-
-#[cfg(test)]
-mod tests;

@@ -4,11 +4,6 @@ mod memory;
 mod migrating;
 mod opening;
 
-use crate::{OpenFault, Refused, Store};
-use sqlite::{Alter, Connection, Error, MemStore};
-use std::alloc::Global;
-use std::test::Fail;
-
 /// The tables of version 1, from the table of the schema.
 const FIRST: &str =
     "CREATE TABLE meta (id INTEGER NOT NULL PRIMARY KEY, version INTEGER NOT NULL) STRICT;
@@ -18,33 +13,6 @@ CREATE TABLE document (account TEXT NOT NULL, job INTEGER NOT NULL, number INTEG
 CREATE TABLE grants (account TEXT NOT NULL, month INTEGER NOT NULL, pages INTEGER NOT NULL, PRIMARY KEY (account, month)) STRICT;
 CREATE TABLE device (name TEXT NOT NULL PRIMARY KEY, accepting INTEGER NOT NULL) STRICT;";
 
-/// What is wrong with a result that should have been a store.
-fn fault_of<S: Alter + Drop>(answer: Result<Store<S>, Refused<S>>) -> Option<OpenFault> {
-    match answer {
-        Ok(_) => None,
-        Err(refused) => Some(refused.fault),
-    }
-}
-
-/// The connection of the store, or why there is none.
-fn connection_of(
-    answer: Result<Store<MemStore>, Refused<MemStore>>,
-) -> Result<Connection<MemStore>, Fail> {
-    match answer {
-        Ok(store) => Ok(store.close()),
-        Err(refused) => Err(refused.fault.into()),
-    }
-}
-
-/// The connection to a database that was just made.
-fn made(alloc: Global) -> Result<Connection<MemStore>, Fail> {
-    connection_of(Store::create(Connection::open_in_memory(alloc)?))
-}
-
-/// Fills an empty database with the tables of version 1 and one device.
-fn fill_older<S: Alter>(connection: &mut Connection<S>) -> Result<(), Error> {
-    connection.execute_batch(FIRST)?;
-    connection.execute_batch(
-        "INSERT INTO meta (id, version) VALUES (1, 1); INSERT INTO device (name, accepting) VALUES ('d1', 1)",
-    )
-}
+/// What stands in them: their version, and one device.
+const VERSION_ONE: &str =
+    "INSERT INTO meta (id, version) VALUES (1, 1); INSERT INTO device (name, accepting) VALUES ('d1', 1)";

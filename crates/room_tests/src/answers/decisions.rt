@@ -1,8 +1,9 @@
-use crate::{
+use crate::plain::{fresh, read_name, release_by_owner};
+use room_answers::{
     check_accepting, check_grant, is_accepting, known_device, left_after, printer_state,
     ready_device,
 };
-use room_rules::{Device, Name, Refusal, Word, fresh, release_by_owner};
+use room_rules::{Device, Refusal, Word};
 use std::process::Abort;
 use std::test::Fail;
 
@@ -40,7 +41,7 @@ fn grants(rt: HostRuntime) {
 /// The device d1.
 fn device(rt: &impl Abort, on: bool) -> Device {
     Device {
-        name: Name::read(b"d1").expect(rt, "a name"),
+        name: read_name(b"d1").expect(rt, "a name"),
         on,
         rate: 1,
     }

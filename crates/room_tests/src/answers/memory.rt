@@ -3,8 +3,8 @@
 //! them once for each request that they make.
 
 use super::{MADE, NAMES, PRINT_JOB, job, place};
-use crate::{done, handed, line, refused, success, with_job, with_jobs, with_printer};
 use ipp_coding::List;
+use room_answers::{done, handed, line, refused, success, with_job, with_jobs, with_printer};
 use room_rules::{CoreFault, Document, Format, Refusal, Word};
 use room_texts::{PrinterNow, Success};
 use std::process::Abort;

@@ -1,10 +1,11 @@
 use super::{MADE, NAMES, PRINT_JOB, job, place};
-use crate::{
+use crate::plain::put_job;
+use ipp_coding::{Header, List};
+use room_answers::{
     begun, done, ended, handed, line, refused, success, with_job, with_jobs, with_printer,
 };
-use ipp_coding::{Header, List};
 use room_rules::{Document, Format, Refusal, Word};
-use room_texts::{PrinterNow, Success, put_job};
+use room_texts::{PrinterNow, Success};
 use std::test::Fail;
 
 #[test]

@@ -1,13 +1,13 @@
-use super::REQUEST;
 use super::builder::{ALICE, CREATE_JOB, GET_JOBS, JOB_1, LAST, PRINT_JOB, SEND_DOCUMENT, with};
-use crate::{Operation, Which, new_job, read_ask};
-use ipp_coding::{put_attribute, put_end, put_group, put_more};
-use room_rules::{Format, JobState, Name};
+use crate::examples::REQUEST;
+use crate::plain::{put_attribute, put_end, put_group, put_more, read_ask, read_name};
+use room_asks::{Operation, Which, new_job};
+use room_rules::{Format, JobState};
 use std::test::Fail;
 
 #[test]
 fn a_good_request_is_an_ask(rt: HostRuntime) -> Result<(), Fail> {
-    let alice = Name::read(b"alice").ok_or("a name")?;
+    let alice = read_name(b"alice").ok_or("a name")?;
     let ask = read_ask(rt.alloc(), REQUEST, alice)?;
     assert!(rt; ask.operation == Operation::ValidateJob);
     assert_eq!(rt; ask.base, b"ipp://localhost".as_slice());
@@ -32,7 +32,7 @@ fn what_a_print_job_says(rt: HostRuntime) -> Result<(), Fail> {
     put_end(&mut body)?;
     body.extend_from_slice(b"data")?;
     assert!(rt; body.len() >= 8);
-    let alice = Name::read(b"alice").ok_or("a name")?;
+    let alice = read_name(b"alice").ok_or("a name")?;
     let ask = read_ask(rt.alloc(), &body, alice)?;
     assert_eq!(rt; ask.name, b"report".as_slice());
     assert_eq!(rt; ask.impressions, 12);
@@ -61,7 +61,7 @@ fn create_job_leaves_its_job_open(rt: HostRuntime) -> Result<(), Fail> {
     let mut body = with(rt.alloc(), CREATE_JOB, &[ALICE])?;
     put_end(&mut body)?;
     assert!(rt; body.len() >= 8);
-    let alice = Name::read(b"alice").ok_or("a name")?;
+    let alice = read_name(b"alice").ok_or("a name")?;
     let standing = new_job(&read_ask(rt.alloc(), &body, alice)?, 5);
     assert!(rt; standing.is_open);
     assert_eq!(rt; standing.documents, 0);
@@ -79,7 +79,7 @@ fn what_get_jobs_says(rt: HostRuntime) -> Result<(), Fail> {
     put_attribute(&mut body, 0x44, b"job-name", b"x")?;
     put_end(&mut body)?;
     assert!(rt; body.len() >= 8);
-    let alice = Name::read(b"alice").ok_or("a name")?;
+    let alice = read_name(b"alice").ok_or("a name")?;
     let ask = read_ask(rt.alloc(), &body, alice)?;
     assert!(rt; ask.which == Which::Completed);
     assert!(rt; ask.limit == Some(2));
@@ -97,7 +97,7 @@ fn an_empty_name_is_untitled_and_the_last_document_is_last(rt: HostRuntime) -> R
     let mut body = with(rt.alloc(), PRINT_JOB, &[ALICE, (0x42, b"job-name", b"")])?;
     put_end(&mut body)?;
     assert!(rt; body.len() >= 8);
-    let alice = Name::read(b"alice").ok_or("a name")?;
+    let alice = read_name(b"alice").ok_or("a name")?;
     let ask = read_ask(rt.alloc(), &body, alice)?;
     assert_eq!(rt; ask.name, b"untitled".as_slice());
     assert!(rt; !ask.last);

@@ -1,8 +1,9 @@
 //! Requests, part by part, of version 1.1 and with request-id 1.
 
-use crate::{AskFault, read_ask};
-use ipp_coding::{Header, put_attribute, put_end, put_group, put_header};
-use room_rules::{Name, Refusal, Word};
+use crate::plain::{put_attribute, put_end, put_group, put_header, read_ask, read_name};
+use ipp_coding::Header;
+use room_asks::AskFault;
+use room_rules::{Refusal, Word};
 use std::alloc::Global;
 use std::test::Fail;
 
@@ -75,7 +76,7 @@ pub(super) fn refusal_of(alloc: Global, body: &[u8]) -> Result<Option<Refusal>, 
     if body.len() < 8 {
         return Err(Fail::from("a body of at least 8 bytes"));
     }
-    let alice = Name::read(b"alice").ok_or("a name")?;
+    let alice = read_name(b"alice").ok_or("a name")?;
     match read_ask(alloc, body, alice) {
         Ok(_) => Ok(None),
         Err(AskFault::Refused { refusal, .. }) => Ok(Some(refusal)),

@@ -5,7 +5,8 @@ use super::builder::{
     HOLD_JOB, JOB_1, LAST, PRINT_JOB, RELEASE_JOB, SEND_DOCUMENT, VALIDATE_JOB, headed, opened,
     put_all, refusal, refusal_of, refused, with,
 };
-use ipp_coding::{Header, put_attribute, put_end, put_group, put_more};
+use crate::plain::{put_attribute, put_end, put_group, put_more};
+use ipp_coding::Header;
 use room_rules::{Refusal, Word};
 use std::alloc::Global;
 use std::test::Fail;

@@ -3,9 +3,8 @@
 //! runs them once for each request that they make.
 
 use super::builder::{ALICE, GET_JOBS, PRINT_JOB, with};
-use crate::{AskFault, read_ask};
-use ipp_coding::{put_attribute, put_end, put_group, put_more};
-use room_rules::Name;
+use crate::plain::{put_attribute, put_end, put_group, put_more, read_ask, read_name};
+use room_asks::AskFault;
 use std::test::Fail;
 
 #[test]
@@ -15,7 +14,7 @@ fn read_ask_again(rt: HostRuntime) -> Result<(), Fail> {
     put_more(&mut body, 0x44, b"job-name")?;
     put_end(&mut body)?;
     assert!(rt; body.len() >= 8);
-    let alice = Name::read(b"alice").ok_or("a name")?;
+    let alice = read_name(b"alice").ok_or("a name")?;
     let mut ask = read_ask(rt.alloc(), &body, alice);
     if matches!(&ask, Err(AskFault::Memory)) {
         ask = read_ask(rt.alloc(), &body, alice);
@@ -33,7 +32,7 @@ fn read_ask_of_templates_again(rt: HostRuntime) -> Result<(), Fail> {
     put_attribute(&mut body, 0x44, b"sides", b"one-sided")?;
     put_end(&mut body)?;
     assert!(rt; body.len() >= 8);
-    let alice = Name::read(b"alice").ok_or("a name")?;
+    let alice = read_name(b"alice").ok_or("a name")?;
     let mut ask = read_ask(rt.alloc(), &body, alice);
     if matches!(&ask, Err(AskFault::Memory)) {
         ask = read_ask(rt.alloc(), &body, alice);

@@ -4,7 +4,7 @@
 use super::builder::{
     ALICE, GET_JOBS, Given, PRINT_JOB, put_all, refusal, refusal_of, refused, with,
 };
-use ipp_coding::{put_attribute, put_end, put_group};
+use crate::plain::{put_attribute, put_end, put_group};
 use room_rules::{Refusal, Word};
 use std::alloc::Global;
 use std::test::Fail;

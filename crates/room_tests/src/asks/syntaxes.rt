@@ -4,7 +4,7 @@ use super::builder::{
     ALICE, CREATE_JOB, GET_JOB_ATTRIBUTES, GET_JOBS, GET_PRINTER_ATTRIBUTES, Given, JOB_1, LAST,
     PRINT_JOB, SEND_DOCUMENT, VALIDATE_JOB, put_all, refusal, refusal_of, with,
 };
-use ipp_coding::{put_attribute, put_end, put_more};
+use crate::plain::{put_attribute, put_end, put_more};
 use room_rules::{Refusal, Word};
 use std::alloc::Global;
 use std::test::Fail;

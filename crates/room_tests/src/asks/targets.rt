@@ -2,9 +2,8 @@ use super::builder::{
     ALICE, CANCEL_JOB, GET_JOBS, Given, JOB_1, VALIDATE_JOB, put_all, refusal, refusal_of, refused,
     with,
 };
-use crate::read_ask;
-use ipp_coding::{put_attribute, put_end, put_more};
-use room_rules::{Name, Word};
+use crate::plain::{put_attribute, put_end, put_more, read_ask, read_name};
+use room_rules::Word;
 use std::test::Fail;
 
 #[test]
@@ -27,7 +26,7 @@ fn queues_and_their_bases(rt: HostRuntime) -> Result<(), Fail> {
         (b"ipp://alice", None),
         (b"", None),
     ];
-    let alice = Name::read(b"alice").ok_or("a name")?;
+    let alice = read_name(b"alice").ok_or("a name")?;
     for (target, base) in cases {
         let given: Given = (0x45, b"printer-uri", target);
         let mut body = with(rt.alloc(), VALIDATE_JOB, &[given])?;
@@ -67,7 +66,7 @@ fn jobs_and_their_numbers(rt: HostRuntime) -> Result<(), Fail> {
         (b"ipp://h/ipp/print/bob/1", None),
         (b"ipp:/ipp/print/alice/1", None),
     ];
-    let alice = Name::read(b"alice").ok_or("a name")?;
+    let alice = read_name(b"alice").ok_or("a name")?;
     for (target, number) in cases {
         let given: Given = (0x45, b"job-uri", target);
         let mut body = with(rt.alloc(), CANCEL_JOB, &[given])?;
@@ -98,7 +97,7 @@ fn job_ids(rt: HostRuntime) -> Result<(), Fail> {
         (b"\xff\xff\xff\xff", 0),
         (b"\x7f\xff\xff\xff", 0),
     ];
-    let alice = Name::read(b"alice").ok_or("a name")?;
+    let alice = read_name(b"alice").ok_or("a name")?;
     for (id, number) in cases {
         let mut body = with(rt.alloc(), CANCEL_JOB, &[ALICE, (0x21, b"job-id", id)])?;
         put_end(&mut body)?;

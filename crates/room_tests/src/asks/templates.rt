@@ -1,7 +1,8 @@
 use super::builder::{ALICE, GET_JOBS, Given, PRINT_JOB, headed, put_all, with};
-use crate::{Ask, AskFault, read_ask};
-use ipp_coding::{Attribute, Header, put_attribute, put_end, put_group, put_more};
-use room_rules::{Name, Refusal, Word};
+use crate::plain::{put_attribute, put_end, put_group, put_more, read_ask, read_name};
+use ipp_coding::{Attribute, Header};
+use room_asks::{Ask, AskFault};
+use room_rules::{Refusal, Word};
 use std::alloc::Global;
 use std::test::Fail;
 
@@ -20,7 +21,7 @@ fn ask_of<'a>(alloc: Global, body: &'a [u8]) -> Result<Ask<'a>, Fail> {
     if body.len() < 8 {
         return Err(Fail::from("a body of at least 8 bytes"));
     }
-    let alice = Name::read(b"alice").ok_or("a name")?;
+    let alice = read_name(b"alice").ok_or("a name")?;
     Ok(read_ask(alloc, body, alice)?)
 }
 
@@ -130,7 +131,7 @@ fn refused_with(alloc: Global, body: &[u8]) -> Result<(Refusal, usize), Fail> {
     if body.len() < 8 {
         return Err(Fail::from("a body of at least 8 bytes"));
     }
-    let alice = Name::read(b"alice").ok_or("a name")?;
+    let alice = read_name(b"alice").ok_or("a name")?;
     match read_ask(alloc, body, alice) {
         Err(
             AskFault::Refused {

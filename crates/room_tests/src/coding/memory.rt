@@ -2,11 +2,9 @@
 //! vector as it was, and made again it gives the usual answer. Run as they are, these tests meet no
 //! refusal; `tools/refuse-memory` runs them once for each request that they make.
 
-use super::REQUEST;
-use crate::{
-    Header, PutFault, ReadFault, put_attribute, put_end, put_group, put_header, put_more,
-    read_message,
-};
+use crate::examples::REQUEST;
+use crate::plain::{put_attribute, put_end, put_group, put_header, put_more, read_message};
+use ipp_coding::{Header, PutFault, ReadFault};
 use std::process::Abort;
 use std::test::Fail;
 
@@ -64,5 +62,5 @@ fn put_calls_again(rt: HostRuntime) {
         |out| put_more(out, 0x44, b"c"),
         b"\x44\x00\x00\x00\x01c",
     );
-    put_again(&rt, put_end, b"\x03");
+    put_again(&rt, |out| put_end(out), b"\x03");
 }

@@ -1,5 +1,6 @@
-use super::REQUEST;
-use crate::{Header, Message, ReadFault, read_header, read_message};
+use crate::examples::REQUEST;
+use crate::plain::read_message;
+use ipp_coding::{Header, Message, ReadFault, read_header};
 use std::test::Fail;
 
 #[test]

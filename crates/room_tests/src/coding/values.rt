@@ -1,4 +1,4 @@
-use crate::{Value, bool_of, int_of, text_of};
+use ipp_coding::{Value, bool_of, int_of, text_of};
 
 #[test]
 fn numbers(rt: HostRuntime) {

@@ -1,5 +1,6 @@
-use super::ANSWER;
-use crate::{Header, PutFault, put_attribute, put_end, put_group, put_header, put_more};
+use crate::examples::ANSWER;
+use crate::plain::{put_attribute, put_end, put_group, put_header, put_more};
+use ipp_coding::{Header, PutFault};
 use std::test::Fail;
 
 #[test]

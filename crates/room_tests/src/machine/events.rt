@@ -1,5 +1,6 @@
-use super::{ANSWER, REQUEST, again, alice, answer, opened, responds, tells};
-use crate::{CoreFault, Event, LAST_MOMENT, Reply};
+use super::{again, alice, answer, opened, responds, tells};
+use crate::examples::{ANSWER, REQUEST};
+use room_core::{CoreFault, Event, LAST_MOMENT, Reply};
 
 #[test]
 fn an_account_is_opened_once(rt: HostRuntime) {

@@ -1,8 +1,9 @@
-use crate::{Event, Name, fits};
+use crate::plain::read_name;
+use room_core::{Event, Name, fits};
 use std::process::Abort;
 
 fn name(rt: &impl Abort) -> Name {
-    Name::read(b"alice").expect(rt, "a name")
+    read_name(b"alice").expect(rt, "a name")
 }
 
 fn grant(account: Name, month: u32, pages: u32) -> bool {

@@ -3,10 +3,11 @@
 //! `tools/refuse-memory` runs them once for each request that they make.
 
 use super::{
-    CANCEL, CLOSE, CREATE, DESCRIBE, HOLD, LIST, MONTH, NOW, PRINT, PRINTER, RELEASE, REQUEST,
-    SEND, again, alice, d1, device, opened, responds, tells,
+    CANCEL, CLOSE, CREATE, DESCRIBE, HOLD, LIST, MONTH, NOW, PRINT, PRINTER, RELEASE, SEND, again,
+    alice, d1, device, opened, responds, tells,
 };
-use crate::{Event, Reply};
+use crate::examples::REQUEST;
+use room_core::{Event, Reply};
 
 #[test]
 fn accounts_again(rt: HostRuntime) {

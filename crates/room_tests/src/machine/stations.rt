@@ -1,7 +1,7 @@
 //! What a station is answered, on a job of alice.
 
 use super::{MONTH, NOW, PRINT, again, alice, d1, device, opened, responds, tells};
-use crate::{Event, Reply};
+use room_core::{Event, Reply};
 
 #[test]
 fn reserve_and_settle(rt: HostRuntime) {

@@ -1,7 +1,8 @@
 //! The table of job states: which act has an effect in which state, and what it makes of a job.
 
 use super::{NOW, job, refused};
-use crate::{
+use crate::plain::read_name;
+use room_rules::{
     JobState, Name, Refusal, Standing, Word, add_document, cancel, hold, release_at_station,
     release_by_owner, settle, start,
 };
@@ -231,7 +232,7 @@ fn compare_row(rt: &impl Abort, row: &Row, device: Name) {
 
 #[test]
 fn each_cell_of_the_table(rt: HostRuntime) -> Result<(), Fail> {
-    let d1 = Name::read(b"d1").ok_or("a name")?;
+    let d1 = read_name(b"d1").ok_or("a name")?;
     for row in &owner_rows() {
         compare_row(&rt, row, d1);
     }
@@ -274,7 +275,7 @@ fn document(
 
 #[test]
 fn documents(rt: HostRuntime) -> Result<(), Fail> {
-    let d1 = Name::read(b"d1").ok_or("a name")?;
+    let d1 = read_name(b"d1").ok_or("a name")?;
     let closed = &job(JobState::Held, d1);
     let open = &Standing {
         is_open: true,
@@ -324,7 +325,7 @@ fn documents(rt: HostRuntime) -> Result<(), Fail> {
 
 #[test]
 fn cancels_and_holds(rt: HostRuntime) -> Result<(), Fail> {
-    let d1 = Name::read(b"d1").ok_or("a name")?;
+    let d1 = read_name(b"d1").ok_or("a name")?;
     let held = &job(JobState::Held, d1);
     let pending = &job(JobState::Pending, d1);
     let processing = &job(JobState::Processing, d1);
@@ -376,7 +377,7 @@ fn cancels_and_holds(rt: HostRuntime) -> Result<(), Fail> {
 
 #[test]
 fn releases_by_the_owner(rt: HostRuntime) -> Result<(), Fail> {
-    let d1 = Name::read(b"d1").ok_or("a name")?;
+    let d1 = read_name(b"d1").ok_or("a name")?;
     let held = &job(JobState::Held, d1);
     let open = &Standing {
         is_open: true,
@@ -427,7 +428,7 @@ fn releases_by_the_owner(rt: HostRuntime) -> Result<(), Fail> {
 
 #[test]
 fn releases_at_a_station(rt: HostRuntime) -> Result<(), Fail> {
-    let d1 = Name::read(b"d1").ok_or("a name")?;
+    let d1 = read_name(b"d1").ok_or("a name")?;
     let held = &job(JobState::Held, d1);
     let open = &Standing {
         is_open: true,
@@ -550,8 +551,8 @@ fn releases_at_a_station(rt: HostRuntime) -> Result<(), Fail> {
 
 #[test]
 fn starts(rt: HostRuntime) -> Result<(), Fail> {
-    let d1 = Name::read(b"d1").ok_or("a name")?;
-    let d2 = Name::read(b"d2").ok_or("a name")?;
+    let d1 = read_name(b"d1").ok_or("a name")?;
+    let d2 = read_name(b"d2").ok_or("a name")?;
     let bound = &job(JobState::Pending, d1);
     let unbound = &Standing {
         reserved: 36,
@@ -597,8 +598,8 @@ fn starts(rt: HostRuntime) -> Result<(), Fail> {
 
 #[test]
 fn settles(rt: HostRuntime) -> Result<(), Fail> {
-    let d1 = Name::read(b"d1").ok_or("a name")?;
-    let d2 = Name::read(b"d2").ok_or("a name")?;
+    let d1 = read_name(b"d1").ok_or("a name")?;
+    let d2 = read_name(b"d2").ok_or("a name")?;
     let processing = &job(JobState::Processing, d1);
     let stopping = &Standing {
         stopping: true,

@@ -1,9 +1,10 @@
-use crate::{Device, Name, set_device, set_rate};
+use crate::plain::read_name;
+use room_rules::{Device, set_device, set_rate};
 use std::test::Fail;
 
 #[test]
 fn a_new_device_has_rate_one(rt: HostRuntime) -> Result<(), Fail> {
-    let d1 = Name::read(b"d1").ok_or("a name")?;
+    let d1 = read_name(b"d1").ok_or("a name")?;
     let mut devices = Vec::new(rt.alloc());
     set_device(&mut devices, d1, true)?;
     let one = Device {
@@ -17,9 +18,9 @@ fn a_new_device_has_rate_one(rt: HostRuntime) -> Result<(), Fail> {
 
 #[test]
 fn a_device_keeps_what_is_not_set(rt: HostRuntime) -> Result<(), Fail> {
-    let d1 = Name::read(b"d1").ok_or("a name")?;
-    let d2 = Name::read(b"d2").ok_or("a name")?;
-    let d9 = Name::read(b"d9").ok_or("a name")?;
+    let d1 = read_name(b"d1").ok_or("a name")?;
+    let d2 = read_name(b"d2").ok_or("a name")?;
+    let d9 = read_name(b"d9").ok_or("a name")?;
     let mut devices = Vec::new(rt.alloc());
     set_device(&mut devices, d1, true)?;
     set_device(&mut devices, d2, true)?;
@@ -42,7 +43,7 @@ fn a_device_keeps_what_is_not_set(rt: HostRuntime) -> Result<(), Fail> {
 
 #[test]
 fn the_first_of_a_name_counts(rt: HostRuntime) -> Result<(), Fail> {
-    let d1 = Name::read(b"d1").ok_or("a name")?;
+    let d1 = read_name(b"d1").ok_or("a name")?;
     let device = &Device {
         name: d1,
         on: true,

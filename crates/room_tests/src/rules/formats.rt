@@ -1,6 +1,6 @@
 //! The media types are those of RFC 8011 section 5.4.22 and of PWG 5102.4.
 
-use crate::Format;
+use room_rules::Format;
 use std::test::Fail;
 
 #[test]

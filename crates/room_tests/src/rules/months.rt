@@ -1,4 +1,5 @@
-use crate::{LAST_MOMENT, month_of};
+use crate::plain::month_of;
+use room_rules::LAST_MOMENT;
 
 #[test]
 fn months_begin_and_end(rt: HostRuntime) {

@@ -1,10 +1,10 @@
-use crate::Name;
+use crate::plain::read_name;
 
 #[test]
 fn what_is_a_name(rt: HostRuntime) {
     let longest: &[u8] = b"abcdefghijklmnopqrstuvwxyz-01234";
     for good in [b"a".as_slice(), b"alice", b"d1", b"a-", b"a--9", longest] {
-        match Name::read(good) {
+        match read_name(good) {
             Some(name) => assert_eq!(rt; name.bytes(), good),
             None => assert!(rt; false, "{good:?} is a name"),
         }
@@ -20,13 +20,13 @@ fn what_is_a_name(rt: HostRuntime) {
         b"\xc3\xa9",
         too_long,
     ] {
-        assert!(rt; Name::read(bad).is_none(), "{bad:?} is no name");
+        assert!(rt; read_name(bad).is_none(), "{bad:?} is no name");
     }
 }
 
 #[test]
 fn names_are_compared_by_their_bytes(rt: HostRuntime) {
-    assert!(rt; Name::read(b"alice") == Name::read(b"alice"));
-    assert!(rt; Name::read(b"alice") != Name::read(b"alic"));
-    assert!(rt; Name::read(b"alice") != Name::read(b"alicf"));
+    assert!(rt; read_name(b"alice") == read_name(b"alice"));
+    assert!(rt; read_name(b"alice") != read_name(b"alic"));
+    assert!(rt; read_name(b"alice") != read_name(b"alicf"));
 }

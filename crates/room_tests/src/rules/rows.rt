@@ -1,15 +1,15 @@
 //! Worked examples, with the units that are left after each step.
 
 use super::{NOW, refused};
-use crate::{
-    JobState, Name, Standing, Word, cancel, fresh, hold, left, need, release_at_station,
-    release_by_owner, settle, start,
+use crate::plain::{
+    cancel, fresh, hold, read_name, release_at_station, release_by_owner, settle, start,
 };
+use room_rules::{JobState, Standing, Word, left, need};
 use std::test::Fail;
 
 #[test]
 fn units_are_reserved_and_charged(rt: HostRuntime) -> Result<(), Fail> {
-    let d1 = Name::read(b"d1").ok_or("a name")?;
+    let d1 = read_name(b"d1").ok_or("a name")?;
     let first = fresh(true, 3, 12, NOW);
     let first = release_at_station(first, b"", d1, b"", 0, 1, 100)?;
     assert_eq!(rt; (first.reserved, left(100, 36, 0)), (36, 64));
@@ -28,7 +28,7 @@ fn units_are_reserved_and_charged(rt: HostRuntime) -> Result<(), Fail> {
 
 #[test]
 fn charges_go_past_the_grants(rt: HostRuntime) -> Result<(), Fail> {
-    let d1 = Name::read(b"d1").ok_or("a name")?;
+    let d1 = read_name(b"d1").ok_or("a name")?;
     let first = release_at_station(fresh(true, 1, 10, NOW), b"", d1, b"", 0, 1, 20)?;
     assert_eq!(rt; (first.reserved, left(20, 10, 0)), (10, 10));
     let first = settle(start(first, d1, 1, NOW)?, d1, 14, false, NOW)?;
@@ -46,7 +46,7 @@ fn charges_go_past_the_grants(rt: HostRuntime) -> Result<(), Fail> {
 
 #[test]
 fn hold_gives_back(rt: HostRuntime) -> Result<(), Fail> {
-    let d1 = Name::read(b"d1").ok_or("a name")?;
+    let d1 = read_name(b"d1").ok_or("a name")?;
     let first = &fresh(true, 3, 12, NOW);
     let released = release_at_station(*first, b"", d1, b"", 0, 1, 100)?;
     assert_eq!(rt; hold(released), Ok(*first));
@@ -60,7 +60,7 @@ fn hold_gives_back(rt: HostRuntime) -> Result<(), Fail> {
 
 #[test]
 fn canceled_while_printing(rt: HostRuntime) -> Result<(), Fail> {
-    let d1 = Name::read(b"d1").ok_or("a name")?;
+    let d1 = read_name(b"d1").ok_or("a name")?;
     let job = release_at_station(fresh(true, 1, 4, NOW), b"", d1, b"", 0, 1, 100)?;
     let stopping = cancel(start(job, d1, 1, NOW)?, NOW)?;
     assert!(rt; stopping.stopping);
@@ -77,8 +77,8 @@ fn canceled_while_printing(rt: HostRuntime) -> Result<(), Fail> {
 
 #[test]
 fn the_rate_of_the_release_is_charged(rt: HostRuntime) -> Result<(), Fail> {
-    let d1 = Name::read(b"d1").ok_or("a name")?;
-    let d2 = Name::read(b"d2").ok_or("a name")?;
+    let d1 = read_name(b"d1").ok_or("a name")?;
+    let d2 = read_name(b"d2").ok_or("a name")?;
     let first = release_at_station(fresh(true, 2, 4, NOW), b"", d1, b"", 0, 5, 100)?;
     assert_eq!(rt; (first.reserved, left(100, 40, 0)), (40, 60));
     let first = settle(start(first, d1, 7, NOW)?, d1, 8, false, NOW)?;
@@ -96,8 +96,8 @@ fn the_rate_of_the_release_is_charged(rt: HostRuntime) -> Result<(), Fail> {
 
 #[test]
 fn a_job_is_bound_to_its_device(rt: HostRuntime) -> Result<(), Fail> {
-    let d1 = Name::read(b"d1").ok_or("a name")?;
-    let d2 = Name::read(b"d2").ok_or("a name")?;
+    let d1 = read_name(b"d1").ok_or("a name")?;
+    let d2 = read_name(b"d2").ok_or("a name")?;
     let job = release_at_station(fresh(true, 1, 1, NOW), b"", d1, b"", 0, 1, 1)?;
     assert_eq!(rt; start(job, d2, 1, NOW), refused(Word::OtherDevice));
     Ok(())
@@ -105,7 +105,7 @@ fn a_job_is_bound_to_its_device(rt: HostRuntime) -> Result<(), Fail> {
 
 #[test]
 fn a_password_is_asked_whole(rt: HostRuntime) -> Result<(), Fail> {
-    let d1 = Name::read(b"d1").ok_or("a name")?;
+    let d1 = read_name(b"d1").ok_or("a name")?;
     let job = &fresh(true, 1, 1, NOW);
     let kept: &[u8] = b"aaaaaaaaaaaaaaaaaaaaaaaaaaaaaaaa";
     let short: &[u8] = b"aaaaaaaaaaaaaaaaaaaaaaaaaaaaaaa";

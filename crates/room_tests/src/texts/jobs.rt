@@ -2,9 +2,10 @@ ghost use Rattle.std.specs.Prelude.{◌≡◌, IfOk, codes};
 ghost use Rattle.room_texts.specs.Limits.{IsPlace, IsShowable};
 ghost use Rattle.room_texts.specs.Places.{plain_place};
 
-use crate::{Place, put_job, put_reply};
-use ipp_coding::{Header, List, put_end};
-use room_rules::{Job, JobState, Name, Standing};
+use crate::plain::{put_end, put_job, put_reply, read_name};
+use ipp_coding::{Header, List};
+use room_rules::{Job, JobState, Standing};
+use room_texts::Place;
 use std::alloc::{AllocError, Global};
 use std::process::Abort;
 use std::test::Fail;
@@ -47,7 +48,7 @@ const DONE: Standing = Standing {
 fn alice(rt: &impl Abort) -> Place<'static>
     ensures { IsPlace (plain_place result) }
 {
-    let name = Name::read(b"alice").expect(rt, "a name");
+    let name = read_name(b"alice").expect(rt, "a name");
     Place {
         base: b"ipp://localhost",
         name,

@@ -1,5 +1,6 @@
-use crate::{Success, put_line, put_success};
+use crate::plain::{put_line, put_success};
 use room_rules::{Format, Word};
+use room_texts::Success;
 use std::test::Fail;
 
 #[test]

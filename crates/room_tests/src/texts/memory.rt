@@ -5,9 +5,10 @@
 ghost use Rattle.room_texts.specs.Limits.{IsPlace};
 ghost use Rattle.room_texts.specs.Places.{plain_place};
 
-use crate::{Place, PrinterNow, Success, put_job, put_line, put_printer, put_reply, put_success};
+use crate::plain::{put_job, put_line, put_printer, put_reply, put_success, read_name};
 use ipp_coding::{Attribute, Header, List, Value};
-use room_rules::{CoreFault, Job, JobState, Name, Standing, Word};
+use room_rules::{CoreFault, Job, JobState, Standing, Word};
+use room_texts::{Place, PrinterNow, Success};
 use std::process::Abort;
 use std::test::Fail;
 
@@ -88,7 +89,7 @@ fn reply_again(rt: HostRuntime) {
 fn alice(rt: &impl Abort) -> Place<'static>
     ensures { IsPlace (plain_place result) }
 {
-    let name = Name::read(b"alice").expect(rt, "a name");
+    let name = read_name(b"alice").expect(rt, "a name");
     Place {
         base: b"ipp://localhost",
         name,

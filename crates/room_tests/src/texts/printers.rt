@@ -1,8 +1,8 @@
 ghost use Rattle.room_texts.specs.Limits.{IsPlace};
 ghost use Rattle.room_texts.specs.Places.{plain_place};
 
-use crate::{Place, PrinterNow, put_printer};
-use room_rules::Name;
+use crate::plain::{put_printer, read_name};
+use room_texts::{Place, PrinterNow};
 use std::process::Abort;
 use std::test::Fail;
 
@@ -22,7 +22,7 @@ const BUSY: PrinterNow = PrinterNow {
 fn alice(rt: &impl Abort) -> Place<'static>
     ensures { IsPlace (plain_place result) }
 {
-    let name = Name::read(b"alice").expect(rt, "a name");
+    let name = read_name(b"alice").expect(rt, "a name");
     Place {
         base: b"ipp://localhost",
         name,

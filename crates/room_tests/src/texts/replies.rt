@@ -1,6 +1,7 @@
-use crate::{internal_error, put_reply};
-use ipp_coding::{Attribute, Header, List, Value, put_end};
+use crate::plain::{put_end, put_reply};
+use ipp_coding::{Attribute, Header, List, Value};
 use room_rules::Word;
+use room_texts::internal_error;
 use std::test::Fail;
 
 fn header(major: u8, code: u16, request_id: u32) -> Header {

@@ -1,8 +1,8 @@
 //! The walk over the documents of a job.
 
-use crate::tests::made;
-use crate::{StoreFault, find_documents, set_document};
+use crate::plain::{find_documents, made, read_name, run, set_document};
 use room_rules::{Format, Name};
+use room_statements::StoreFault;
 use sqlite::{Connection, MemStore};
 use std::alloc::Global;
 use std::test::Fail;
@@ -13,14 +13,9 @@ fn set(
     account: Name,
     documents: &[(u32, &[u8])],
 ) -> Result<(), Fail> {
-    if !connection.is_autocommit() {
-        return Err("a transaction is under way".into());
-    }
-    let mut transaction = connection.transaction();
     for (number, bytes) in documents {
-        set_document(&mut transaction, account, 3, *number, Format::Pdf, bytes)?;
+        set_document(connection, account, 3, *number, Format::Pdf, bytes)?;
     }
-    transaction.commit()?;
     Ok(())
 }
 
@@ -49,8 +44,8 @@ fn are(
 
 #[test]
 fn by_rising_number(rt: HostRuntime) -> Result<(), Fail> {
-    let alice = Name::read(b"alice").ok_or("a name")?;
-    let bob = Name::read(b"bob").ok_or("a name")?;
+    let alice = read_name(b"alice").ok_or("a name")?;
+    let bob = read_name(b"bob").ok_or("a name")?;
     let mut connection = made(rt.alloc())?;
     assert!(rt; are(rt.alloc(), &mut connection, alice, 3, &[])?);
     set(&mut connection, bob, &[(1, b"one"), (2, b"x")])?;
@@ -97,8 +92,8 @@ fn by_rising_number(rt: HostRuntime) -> Result<(), Fail> {
 
 #[test]
 fn damaged_rows(rt: HostRuntime) -> Result<(), Fail> {
-    let alice = Name::read(b"alice").ok_or("a name")?;
-    let bob = Name::read(b"bob").ok_or("a name")?;
+    let alice = read_name(b"alice").ok_or("a name")?;
+    let bob = read_name(b"bob").ok_or("a name")?;
     let mut connection = made(rt.alloc())?;
     for text in [
         "UPDATE document SET number = 0 WHERE account = 'alice' AND number = 1",
@@ -108,10 +103,10 @@ fn damaged_rows(rt: HostRuntime) -> Result<(), Fail> {
         "UPDATE document SET format = 'text/html' WHERE account = 'alice'",
         "UPDATE document SET format = 'TEXT/PLAIN' WHERE account = 'alice'",
     ] {
-        connection.execute("DELETE FROM document", &[])?;
+        run(&mut connection, "DELETE FROM document")?;
         set(&mut connection, alice, &[(1, b"1"), (2, b"2")])?;
         set(&mut connection, bob, &[(1, b"1")])?;
-        connection.execute(text, &[])?;
+        run(&mut connection, text)?;
         let fault = match find_documents(rt.alloc(), &mut connection, alice, 3) {
             Ok(_) => None,
             Err(fault) => Some(fault),

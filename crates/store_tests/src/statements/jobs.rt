@@ -1,9 +1,9 @@
 //! The statements on the table `job`.
 
-use crate::tests::made;
-use crate::{StoreFault, find_job, set_job};
+use crate::plain::{find_job, made, number, read_name, run, run_with, set_job};
 use ipp_coding::List;
 use room_rules::{Job, JobState, Name, Standing};
+use room_statements::StoreFault;
 use sqlite::{Connection, MemStore};
 use sqlite_value::value::ValueRef;
 use std::alloc::Global;
@@ -48,7 +48,7 @@ pub(super) fn set(
     job: u32,
     standing: Standing,
 ) -> Result<(), Fail> {
-    if !connection.is_autocommit() || !standing.is_in_range() {
+    if !standing.is_in_range() {
         return Err("no job can be set".into());
     }
     let mut name = Vec::new(alloc);
@@ -61,10 +61,7 @@ pub(super) fn set(
         password: List { items: password },
         standing,
     };
-    let mut transaction = connection.transaction();
-    set_job(&mut transaction, account, &job)?;
-    transaction.commit()?;
-    Ok(())
+    set_job(connection, account, &job)
 }
 
 /// The standing of a job, if it is found with that name and password.
@@ -96,9 +93,9 @@ fn fault_of(connection: &mut Connection<MemStore>, account: Name) -> Option<Stor
 
 #[test]
 fn set_and_found(rt: HostRuntime) -> Result<(), Fail> {
-    let alice = Name::read(b"alice").ok_or("a name")?;
-    let bob = Name::read(b"bob").ok_or("a name")?;
-    let device = Name::read(b"d1").ok_or("a name")?;
+    let alice = read_name(b"alice").ok_or("a name")?;
+    let bob = read_name(b"bob").ok_or("a name")?;
+    let device = read_name(b"d1").ok_or("a name")?;
     let mut connection = made(rt.alloc())?;
     assert_eq!(rt; standing_of(&mut connection, alice, 1)?, None);
     set(rt.alloc(), &mut connection, alice, 1, HELD)?;
@@ -117,7 +114,7 @@ fn set_and_found(rt: HostRuntime) -> Result<(), Fail> {
         "SELECT count(*) FROM job WHERE account = 'bob' AND job = 1 AND state = 4 AND device = '' AND started = -1 AND ended = -1",
         "SELECT count(*) / 3 FROM job",
     ] {
-        let found: i64 = connection.query_row(text, &[])?.get(0)?;
+        let found = number(&mut connection, text)?;
         assert_eq!(rt; found, 1);
     }
     Ok(())
@@ -125,21 +122,17 @@ fn set_and_found(rt: HostRuntime) -> Result<(), Fail> {
 
 #[test]
 fn each_state(rt: HostRuntime) -> Result<(), Fail> {
-    let alice = Name::read(b"alice").ok_or("a name")?;
+    let alice = read_name(b"alice").ok_or("a name")?;
     let mut connection = made(rt.alloc())?;
     set(rt.alloc(), &mut connection, alice, 1, HELD)?;
-    for (number, state) in [
-        (3, JobState::Pending),
-        (4, JobState::Held),
-        (7, JobState::Canceled),
-        (8, JobState::Aborted),
-        (9, JobState::Completed),
+    for (text, state) in [
+        ("UPDATE job SET state = 3", JobState::Pending),
+        ("UPDATE job SET state = 4", JobState::Held),
+        ("UPDATE job SET state = 7, ended = 3000", JobState::Canceled),
+        ("UPDATE job SET state = 8", JobState::Aborted),
+        ("UPDATE job SET state = 9", JobState::Completed),
     ] {
-        let ended = if number < 7 { -1 } else { 3000 };
-        connection.execute(
-            "UPDATE job SET state = ?1, ended = ?2",
-            &[ValueRef::Int(number), ValueRef::Int(ended)],
-        )?;
+        run(&mut connection, text)?;
         let found = standing_of(&mut connection, alice, 1)?.ok_or("a job")?;
         assert_eq!(rt; found.state, state);
     }
@@ -148,7 +141,7 @@ fn each_state(rt: HostRuntime) -> Result<(), Fail> {
 
 #[test]
 fn damaged_rows(rt: HostRuntime) -> Result<(), Fail> {
-    let alice = Name::read(b"alice").ok_or("a name")?;
+    let alice = read_name(b"alice").ok_or("a name")?;
     let mut connection = made(rt.alloc())?;
     for text in [
         "UPDATE job SET state = 6",
@@ -166,7 +159,7 @@ fn damaged_rows(rt: HostRuntime) -> Result<(), Fail> {
         "UPDATE job SET ended = 1",
     ] {
         set(rt.alloc(), &mut connection, alice, 1, HELD)?;
-        connection.execute(text, &[])?;
+        run(&mut connection, text)?;
         assert_eq!(rt; fault_of(&mut connection, alice), Some(StoreFault::Damaged));
     }
     Ok(())
@@ -174,16 +167,32 @@ fn damaged_rows(rt: HostRuntime) -> Result<(), Fail> {
 
 #[test]
 fn long_texts(rt: HostRuntime) -> Result<(), Fail> {
-    let alice = Name::read(b"alice").ok_or("a name")?;
+    let alice = read_name(b"alice").ok_or("a name")?;
     let mut connection = made(rt.alloc())?;
     set(rt.alloc(), &mut connection, alice, 1, HELD)?;
-    connection.execute("UPDATE job SET name = ?1", &[ValueRef::Blob(&[0; 255])])?;
-    connection.execute("UPDATE job SET password = ?1", &[ValueRef::Blob(&[0; 32])])?;
+    run_with(
+        &mut connection,
+        "UPDATE job SET name = ?1",
+        ValueRef::Blob(&[0; 255]),
+    )?;
+    run_with(
+        &mut connection,
+        "UPDATE job SET password = ?1",
+        ValueRef::Blob(&[0; 32]),
+    )?;
     assert_eq!(rt; fault_of(&mut connection, alice), None);
-    connection.execute("UPDATE job SET name = ?1", &[ValueRef::Blob(&[0; 256])])?;
+    run_with(
+        &mut connection,
+        "UPDATE job SET name = ?1",
+        ValueRef::Blob(&[0; 256]),
+    )?;
     assert_eq!(rt; fault_of(&mut connection, alice), Some(StoreFault::Damaged));
     set(rt.alloc(), &mut connection, alice, 1, HELD)?;
-    connection.execute("UPDATE job SET password = ?1", &[ValueRef::Blob(&[0; 33])])?;
+    run_with(
+        &mut connection,
+        "UPDATE job SET password = ?1",
+        ValueRef::Blob(&[0; 33]),
+    )?;
     assert_eq!(rt; fault_of(&mut connection, alice), Some(StoreFault::Damaged));
     Ok(())
 }

@@ -1,34 +1,29 @@
 //! The statements on the tables `grants`, `device` and `rates`, and the removal of documents.
 
-use crate::tests::made;
-use crate::{
-    StoreFault, find_device, find_grant, find_rate, is_device_on, remove_documents, set_device,
-    set_document, set_grant, set_rate,
+use crate::plain::{
+    find_device, find_grant, find_rate, is_device_on, made, number, read_name, remove_documents,
+    run, set_device, set_document, set_grant, set_rate,
 };
-use room_rules::{Format, Name};
+use room_rules::Format;
+use room_statements::StoreFault;
 use std::test::Fail;
 
 #[test]
 fn grants(rt: HostRuntime) -> Result<(), Fail> {
-    let alice = Name::read(b"alice").ok_or("a name")?;
-    let bob = Name::read(b"bob").ok_or("a name")?;
+    let alice = read_name(b"alice").ok_or("a name")?;
+    let bob = read_name(b"bob").ok_or("a name")?;
     let mut connection = made(rt.alloc())?;
-    if !connection.is_autocommit() {
-        return Err("a transaction is under way".into());
-    }
-    let mut transaction = connection.transaction();
-    set_grant(&mut transaction, alice, 24_320, 100)?;
-    set_grant(&mut transaction, alice, 24_321, 50)?;
-    set_grant(&mut transaction, bob, 24_320, 7)?;
-    set_grant(&mut transaction, alice, 24_320, 120)?;
-    transaction.commit()?;
+    set_grant(&mut connection, alice, 24_320, 100)?;
+    set_grant(&mut connection, alice, 24_321, 50)?;
+    set_grant(&mut connection, bob, 24_320, 7)?;
+    set_grant(&mut connection, alice, 24_320, 120)?;
     assert_eq!(rt; find_grant(&mut connection, alice, 24_320), Ok(Some(120)));
     assert_eq!(rt; find_grant(&mut connection, alice, 24_321), Ok(Some(50)));
     assert_eq!(rt; find_grant(&mut connection, bob, 24_320), Ok(Some(7)));
     assert_eq!(rt; find_grant(&mut connection, bob, 24_321), Ok(None));
-    connection.execute(
+    run(
+        &mut connection,
         "UPDATE grants SET pages = 1000000001 WHERE account = 'bob'",
-        &[],
     )?;
     assert_eq!(rt;
         find_grant(&mut connection, bob, 24_320),
@@ -39,126 +34,99 @@ fn grants(rt: HostRuntime) -> Result<(), Fail> {
 
 #[test]
 fn devices(rt: HostRuntime) -> Result<(), Fail> {
-    let d1 = Name::read(b"d1").ok_or("a name")?;
-    let d2 = Name::read(b"d2").ok_or("a name")?;
+    let d1 = read_name(b"d1").ok_or("a name")?;
+    let d2 = read_name(b"d2").ok_or("a name")?;
     let mut connection = made(rt.alloc())?;
-    if !connection.is_autocommit() {
-        return Err("a transaction is under way".into());
-    }
-    let mut transaction = connection.transaction();
-    set_device(&mut transaction, d1, true)?;
-    set_device(&mut transaction, d2, true)?;
-    set_device(&mut transaction, d1, false)?;
-    transaction.commit()?;
+    set_device(&mut connection, d1, true)?;
+    set_device(&mut connection, d2, true)?;
+    set_device(&mut connection, d1, false)?;
     assert_eq!(rt; find_device(&mut connection, d1), Ok(Some(false)));
     assert_eq!(rt; find_device(&mut connection, d2), Ok(Some(true)));
-    connection.execute("UPDATE device SET accepting = 2 WHERE name = 'd1'", &[])?;
+    run(
+        &mut connection,
+        "UPDATE device SET accepting = 2 WHERE name = 'd1'",
+    )?;
     assert_eq!(rt; find_device(&mut connection, d1), Err(StoreFault::Damaged));
-    connection.execute("DELETE FROM device WHERE name = 'd1'", &[])?;
+    run(&mut connection, "DELETE FROM device WHERE name = 'd1'")?;
     assert_eq!(rt; find_device(&mut connection, d1), Ok(None));
     Ok(())
 }
 
 #[test]
 fn some_device_on(rt: HostRuntime) -> Result<(), Fail> {
-    let d1 = Name::read(b"d1").ok_or("a name")?;
-    let d2 = Name::read(b"d2").ok_or("a name")?;
-    let d3 = Name::read(b"d3").ok_or("a name")?;
+    let d1 = read_name(b"d1").ok_or("a name")?;
+    let d2 = read_name(b"d2").ok_or("a name")?;
+    let d3 = read_name(b"d3").ok_or("a name")?;
     let mut connection = made(rt.alloc())?;
     assert_eq!(rt; is_device_on(&mut connection), Ok(false));
-    if !connection.is_autocommit() {
-        return Err("a transaction is under way".into());
-    }
-    let mut transaction = connection.transaction();
-    set_device(&mut transaction, d1, false)?;
-    set_device(&mut transaction, d2, true)?;
-    set_device(&mut transaction, d3, false)?;
-    transaction.commit()?;
+    set_device(&mut connection, d1, false)?;
+    set_device(&mut connection, d2, true)?;
+    set_device(&mut connection, d3, false)?;
     assert_eq!(rt; is_device_on(&mut connection), Ok(true));
-    connection.execute("UPDATE device SET accepting = 0 WHERE name = 'd2'", &[])?;
+    run(
+        &mut connection,
+        "UPDATE device SET accepting = 0 WHERE name = 'd2'",
+    )?;
     assert_eq!(rt; is_device_on(&mut connection), Ok(false));
-    connection.execute("UPDATE device SET accepting = -1 WHERE name = 'd3'", &[])?;
+    run(
+        &mut connection,
+        "UPDATE device SET accepting = -1 WHERE name = 'd3'",
+    )?;
     assert_eq!(rt; is_device_on(&mut connection), Err(StoreFault::Damaged));
     Ok(())
 }
 
 #[test]
 fn rates(rt: HostRuntime) -> Result<(), Fail> {
-    let d1 = Name::read(b"d1").ok_or("a name")?;
-    let d2 = Name::read(b"d2").ok_or("a name")?;
+    let d1 = read_name(b"d1").ok_or("a name")?;
+    let d2 = read_name(b"d2").ok_or("a name")?;
     let mut connection = made(rt.alloc())?;
-    if !connection.is_autocommit() {
-        return Err("a transaction is under way".into());
-    }
-    let mut transaction = connection.transaction();
-    set_rate(&mut transaction, d1, 1)?;
-    set_rate(&mut transaction, d1, 5)?;
-    transaction.commit()?;
+    set_rate(&mut connection, d1, 1)?;
+    set_rate(&mut connection, d1, 5)?;
     assert_eq!(rt; find_rate(&mut connection, d1), Ok(Some(5)));
     assert_eq!(rt; find_rate(&mut connection, d2), Ok(None));
-    connection.execute("UPDATE rates SET units = 101", &[])?;
+    run(&mut connection, "UPDATE rates SET units = 101")?;
     assert_eq!(rt; find_rate(&mut connection, d1), Err(StoreFault::Damaged));
-    connection.execute("UPDATE rates SET units = 0", &[])?;
+    run(&mut connection, "UPDATE rates SET units = 0")?;
     assert_eq!(rt; find_rate(&mut connection, d1), Err(StoreFault::Damaged));
     Ok(())
 }
 
 #[test]
 fn documents_of_a_job(rt: HostRuntime) -> Result<(), Fail> {
-    let alice = Name::read(b"alice").ok_or("a name")?;
+    let alice = read_name(b"alice").ok_or("a name")?;
     let mut connection = made(rt.alloc())?;
-    connection.execute(
+    run(
+        &mut connection,
         "INSERT INTO document (account, job, number, format, bytes) VALUES ('alice', 1, 1, 'text/plain', x'61'), ('alice', 1, 2, 'text/plain', x'62'), ('alice', 2, 1, 'text/plain', x'63'), ('bob', 1, 1, 'text/plain', x'64'), ('alice2', 1, 1, 'text/plain', x'65')",
-        &[],
     )?;
-    if !connection.is_autocommit() {
-        return Err("a transaction is under way".into());
-    }
-    let mut transaction = connection.transaction();
-    remove_documents(&mut transaction, alice, 1)?;
-    transaction.commit()?;
-    let left: i64 = connection
-        .query_row("SELECT count(*) FROM document", &[])?
-        .get(0)?;
+    remove_documents(&mut connection, alice, 1)?;
+    let left = number(&mut connection, "SELECT count(*) FROM document")?;
     assert_eq!(rt; left, 3);
-    let of_the_job: i64 = connection
-        .query_row(
-            "SELECT count(*) FROM document WHERE account = 'alice' AND job = 1",
-            &[],
-        )?
-        .get(0)?;
+    let of_the_job = number(
+        &mut connection,
+        "SELECT count(*) FROM document WHERE account = 'alice' AND job = 1",
+    )?;
     assert_eq!(rt; of_the_job, 0);
     Ok(())
 }
 
 #[test]
 fn documents_set(rt: HostRuntime) -> Result<(), Fail> {
-    let alice = Name::read(b"alice").ok_or("a name")?;
-    let bob = Name::read(b"bob").ok_or("a name")?;
+    let alice = read_name(b"alice").ok_or("a name")?;
+    let bob = read_name(b"bob").ok_or("a name")?;
     let mut connection = made(rt.alloc())?;
-    if !connection.is_autocommit() {
-        return Err("a transaction is under way".into());
-    }
-    let mut transaction = connection.transaction();
-    set_document(&mut transaction, alice, 3, 1, Format::Pdf, b"one")?;
-    set_document(&mut transaction, alice, 3, 2, Format::Plain, b"two")?;
-    set_document(&mut transaction, bob, 3, 1, Format::Jpeg, b"three")?;
-    set_document(
-        &mut transaction,
-        alice,
-        3,
-        1,
-        Format::PwgRaster,
-        b"\x00\xff",
-    )?;
-    transaction.commit()?;
+    set_document(&mut connection, alice, 3, 1, Format::Pdf, b"one")?;
+    set_document(&mut connection, alice, 3, 2, Format::Plain, b"two")?;
+    set_document(&mut connection, bob, 3, 1, Format::Jpeg, b"three")?;
+    set_document(&mut connection, alice, 3, 1, Format::PwgRaster, b"\x00\xff")?;
     for text in [
         "SELECT count(*) FROM document WHERE account = 'alice' AND job = 3 AND number = 1 AND format = 'image/pwg-raster' AND bytes = x'00ff'",
         "SELECT count(*) FROM document WHERE account = 'alice' AND job = 3 AND number = 2 AND format = 'text/plain' AND bytes = x'74776f'",
         "SELECT count(*) FROM document WHERE account = 'bob' AND job = 3 AND number = 1 AND format = 'image/jpeg' AND bytes = x'7468726565'",
         "SELECT count(*) / 3 FROM document",
     ] {
-        let found: i64 = connection.query_row(text, &[])?.get(0)?;
+        let found = number(&mut connection, text)?;
         assert_eq!(rt; found, 1);
     }
     Ok(())

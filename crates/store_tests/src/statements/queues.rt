@@ -1,10 +1,10 @@
 //! The jobs of an account in the orders of Get-Jobs.
 
-use crate::tests::jobs::{HELD, set};
-use crate::tests::made;
-use crate::{StoreFault, ended_jobs, unfinished_jobs};
+use super::jobs::{HELD, set};
+use crate::plain::{ended_jobs, made, read_name, run, unfinished_jobs};
 use ipp_coding::List;
 use room_rules::{Job, JobState, Name, Standing};
+use room_statements::StoreFault;
 use sqlite::{Connection, MemStore};
 use std::alloc::Global;
 use std::test::Fail;
@@ -21,7 +21,7 @@ fn canceled(ended: u64) -> Standing {
 /// Jobs 1, 2 and 3 canceled at 20, 10 and 20, and 4 to 6 held, of which 4 was set last. Job 1 of another
 /// account, whose name this one begins, is held, and its job 2 was canceled at 30.
 fn filled(alloc: Global, account: Name) -> Result<Connection<MemStore>, Fail> {
-    let longer = Name::read(b"alice2").ok_or("a name")?;
+    let longer = read_name(b"alice2").ok_or("a name")?;
     let mut connection = made(alloc)?;
     set(alloc, &mut connection, account, 6, HELD)?;
     for (job, ended) in [(1, 20), (2, 10), (3, 20)] {
@@ -47,8 +47,8 @@ fn numbers(alloc: Global, jobs: &List<Job>) -> Result<Vec<u32>, Fail> {
 
 #[test]
 fn unfinished_by_number(rt: HostRuntime) -> Result<(), Fail> {
-    let alice = Name::read(b"alice").ok_or("a name")?;
-    let bob = Name::read(b"bob").ok_or("a name")?;
+    let alice = read_name(b"alice").ok_or("a name")?;
+    let bob = read_name(b"bob").ok_or("a name")?;
     let mut connection = filled(rt.alloc(), alice)?;
     let all = unfinished_jobs(rt.alloc(), &mut connection, alice, None)?;
     assert_eq!(rt; numbers(rt.alloc(), &all)?.as_slice(), [4, 5, 6].as_slice());
@@ -66,7 +66,7 @@ fn unfinished_by_number(rt: HostRuntime) -> Result<(), Fail> {
 
 #[test]
 fn ended_by_the_end(rt: HostRuntime) -> Result<(), Fail> {
-    let alice = Name::read(b"alice").ok_or("a name")?;
+    let alice = read_name(b"alice").ok_or("a name")?;
     let mut connection = filled(rt.alloc(), alice)?;
     let all = ended_jobs(rt.alloc(), &mut connection, alice, None)?;
     assert_eq!(rt; numbers(rt.alloc(), &all)?.as_slice(), [3, 1, 2].as_slice());
@@ -79,7 +79,7 @@ fn ended_by_the_end(rt: HostRuntime) -> Result<(), Fail> {
 
 #[test]
 fn each_state(rt: HostRuntime) -> Result<(), Fail> {
-    let alice = Name::read(b"alice").ok_or("a name")?;
+    let alice = read_name(b"alice").ok_or("a name")?;
     let mut connection = made(rt.alloc())?;
     set(rt.alloc(), &mut connection, alice, 1, HELD)?;
     for (text, unfinished) in [
@@ -89,7 +89,7 @@ fn each_state(rt: HostRuntime) -> Result<(), Fail> {
         ("UPDATE job SET state = 8", 0),
         ("UPDATE job SET state = 9", 0),
     ] {
-        connection.execute(text, &[])?;
+        run(&mut connection, text)?;
         let early = unfinished_jobs(rt.alloc(), &mut connection, alice, None)?;
         let late = ended_jobs(rt.alloc(), &mut connection, alice, None)?;
         assert_eq!(rt; early.as_slice().len(), unfinished);
@@ -100,7 +100,7 @@ fn each_state(rt: HostRuntime) -> Result<(), Fail> {
 
 #[test]
 fn damaged_rows(rt: HostRuntime) -> Result<(), Fail> {
-    let alice = Name::read(b"alice").ok_or("a name")?;
+    let alice = read_name(b"alice").ok_or("a name")?;
     let mut connection = made(rt.alloc())?;
     set(rt.alloc(), &mut connection, alice, 1, HELD)?;
     set(rt.alloc(), &mut connection, alice, 2, canceled(10))?;
@@ -110,7 +110,7 @@ fn damaged_rows(rt: HostRuntime) -> Result<(), Fail> {
         "UPDATE job SET job = job + 1000001",
         "UPDATE job SET job = job + 4294967296",
     ] {
-        connection.execute(text, &[])?;
+        run(&mut connection, text)?;
         let early = match unfinished_jobs(rt.alloc(), &mut connection, alice, None) {
             Ok(_) => None,
             Err(fault) => Some(fault),

@@ -1,11 +1,11 @@
 //! What the rows of an account come to. The name of each other account begins like that of alice, or is
 //! where hers begins.
 
-use crate::tests::made;
-use crate::{StoreFault, granted_to, set_grant, set_job, tally_jobs};
+use crate::plain::{granted_to, made, read_name, run, set_grant, set_job, tally_jobs};
 use ipp_coding::List;
 use room_rules::{Job, JobState, Name, Standing};
 use room_state::Tally;
+use room_statements::StoreFault;
 use sqlite::{Connection, MemStore};
 use std::alloc::Global;
 use std::test::Fail;
@@ -58,7 +58,7 @@ fn set(
     job: u32,
     standing: Standing,
 ) -> Result<(), Fail> {
-    if !connection.is_autocommit() || !standing.is_in_range() {
+    if !standing.is_in_range() {
         return Err("no job can be set".into());
     }
     let job = Job {
@@ -71,18 +71,15 @@ fn set(
         },
         standing,
     };
-    let mut transaction = connection.transaction();
-    set_job(&mut transaction, account, &job)?;
-    transaction.commit()?;
-    Ok(())
+    set_job(connection, account, &job)
 }
 
 #[test]
 fn jobs_of_one_account(rt: HostRuntime) -> Result<(), Fail> {
-    let ali = Name::read(b"ali").ok_or("a name")?;
-    let alice = Name::read(b"alice").ok_or("a name")?;
-    let alice2 = Name::read(b"alice2").ok_or("a name")?;
-    let device = Name::read(b"d1").ok_or("a name")?;
+    let ali = read_name(b"ali").ok_or("a name")?;
+    let alice = read_name(b"alice").ok_or("a name")?;
+    let alice2 = read_name(b"alice2").ok_or("a name")?;
+    let device = read_name(b"d1").ok_or("a name")?;
     let mut connection = made(rt.alloc())?;
     assert_eq!(rt; tally_jobs(&mut connection, alice), Ok(Tally::new()));
     set(rt.alloc(), &mut connection, alice, 1, HELD)?;
@@ -110,7 +107,7 @@ fn jobs_of_one_account(rt: HostRuntime) -> Result<(), Fail> {
 
 #[test]
 fn damaged_jobs(rt: HostRuntime) -> Result<(), Fail> {
-    let alice = Name::read(b"alice").ok_or("a name")?;
+    let alice = read_name(b"alice").ok_or("a name")?;
     let mut connection = made(rt.alloc())?;
     set(rt.alloc(), &mut connection, alice, 1, HELD)?;
     set(rt.alloc(), &mut connection, alice, 2, HELD)?;
@@ -120,7 +117,7 @@ fn damaged_jobs(rt: HostRuntime) -> Result<(), Fail> {
         "UPDATE job SET reserved = 0, charged = -1 WHERE job = 2",
         "UPDATE job SET charged = 600000000000000000",
     ] {
-        connection.execute(text, &[])?;
+        run(&mut connection, text)?;
         assert_eq!(rt;
             tally_jobs(&mut connection, alice),
             Err(StoreFault::Damaged)
@@ -131,21 +128,16 @@ fn damaged_jobs(rt: HostRuntime) -> Result<(), Fail> {
 
 #[test]
 fn grants_of_one_account(rt: HostRuntime) -> Result<(), Fail> {
-    let ali = Name::read(b"ali").ok_or("a name")?;
-    let alice = Name::read(b"alice").ok_or("a name")?;
-    let alice2 = Name::read(b"alice2").ok_or("a name")?;
+    let ali = read_name(b"ali").ok_or("a name")?;
+    let alice = read_name(b"alice").ok_or("a name")?;
+    let alice2 = read_name(b"alice2").ok_or("a name")?;
     let mut connection = made(rt.alloc())?;
     assert_eq!(rt; granted_to(&mut connection, alice, 24_320), Ok(0));
-    if !connection.is_autocommit() {
-        return Err("a transaction is under way".into());
-    }
-    let mut transaction = connection.transaction();
-    set_grant(&mut transaction, alice, 24_320, 100)?;
-    set_grant(&mut transaction, alice, 24_319, 1_000_000_000)?;
-    set_grant(&mut transaction, alice, 24_321, 50)?;
-    set_grant(&mut transaction, alice2, 24_320, 7)?;
-    set_grant(&mut transaction, ali, 24_320, 9)?;
-    transaction.commit()?;
+    set_grant(&mut connection, alice, 24_320, 100)?;
+    set_grant(&mut connection, alice, 24_319, 1_000_000_000)?;
+    set_grant(&mut connection, alice, 24_321, 50)?;
+    set_grant(&mut connection, alice2, 24_320, 7)?;
+    set_grant(&mut connection, ali, 24_320, 9)?;
     assert_eq!(rt; granted_to(&mut connection, alice, 24_318), Ok(0));
     assert_eq!(rt;
         granted_to(&mut connection, alice, 24_319),
@@ -165,7 +157,7 @@ fn grants_of_one_account(rt: HostRuntime) -> Result<(), Fail> {
 
 #[test]
 fn damaged_grants(rt: HostRuntime) -> Result<(), Fail> {
-    let alice = Name::read(b"alice").ok_or("a name")?;
+    let alice = read_name(b"alice").ok_or("a name")?;
     let mut connection = made(rt.alloc())?;
     for text in [
         "INSERT INTO grants (account, month, pages) VALUES ('alice', 24320, -1)",
@@ -174,15 +166,15 @@ fn damaged_grants(rt: HostRuntime) -> Result<(), Fail> {
         "UPDATE grants SET pages = 9223372036854775807",
         "INSERT INTO grants (account, month, pages) VALUES ('alice', 2, 9223372036854775807), ('alice', 3, 2)",
     ] {
-        connection.execute(text, &[])?;
+        run(&mut connection, text)?;
         assert_eq!(rt;
             granted_to(&mut connection, alice, 24_320),
             Err(StoreFault::Damaged)
         );
     }
-    connection.execute(
+    run(
+        &mut connection,
         "UPDATE grants SET pages = 500000000000000000 WHERE month < 3",
-        &[],
     )?;
     assert_eq!(rt;
         granted_to(&mut connection, alice, 2),
