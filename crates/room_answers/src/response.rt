@@ -15,7 +15,7 @@ ghost use Rattle.room_texts.specs.Tables.{asked_names};
 
 use ipp_coding::{Attribute, Header, List, put_end};
 use room_rules::{CoreFault, Job, Refusal};
-use room_texts::{Place, PrinterNow, put_job, put_printer, put_reply};
+use room_texts::{Place, PrinterNow, Selection, put_job, put_printer, put_reply, put_selected_job};
 use std::alloc::Global;
 
 /// The response that refuses the request with the header, with the job template attributes that are
@@ -131,8 +131,9 @@ pub fn with_jobs(
     ensures text { IfOk result (λ text. text ≡ done_text request (map plain_attribute unsupported.now) (job_groups (plain_place at.entry.now) (map (λ job. job.now) jobs.now) (asked_names wanted.entry))) }
     ensures memory { IfErr result (λ fault. fault ≡ CoreFault.Memory) }
 {
+    let selection = Selection::of(wanted);
     let mut out = begun(alloc, request, unsupported)?;
-    put_jobs(&mut out, at, jobs, wanted)?;
+    put_jobs(&mut out, at, jobs, &selection)?;
     ended(out)
 }
 
@@ -140,15 +141,15 @@ fn put_jobs(
     out: &mut Vec<u8>,
     at: &Place<'_>,
     jobs: &[&Job],
-    wanted: Option<&[&[u8]]>,
+    selection: &Selection<'_>,
 ) -> Result<(), CoreFault>
     requires place { IsPlace (plain_place at.now) }
     requires jobs { AllByRecursion (λ job. IsShowable job.now) jobs.now }
-    ensures appended { OnOk result (out.new.items ≡ out.old.items ++ flat_map group_spelling (job_groups (plain_place at.entry.now) (map (λ job. job.now) jobs.now) (asked_names wanted.entry))) }
+    ensures appended { OnOk result (out.new.items ≡ out.old.items ++ flat_map group_spelling (job_groups (plain_place at.entry.now) (map (λ job. job.now) jobs.now) selection.now)) }
     ensures memory { IfErr result (λ fault. fault ≡ CoreFault.Memory) }
 {
     for job in jobs {
-        put_job(out, at, job, wanted)?;
+        put_selected_job(out, at, job, selection)?;
     }
     Ok(())
 }

@@ -3,6 +3,7 @@ pub mod Lookups
 pub mod Returns
 pub mod Schemes
 pub mod Sections
+pub mod Seen
 pub mod Spelled
 pub mod Stages
 pub mod Wholes

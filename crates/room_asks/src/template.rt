@@ -3,7 +3,7 @@ ghost use Rattle.ipp_coding.specs.Plain.{plain_value, plain_attribute, plain_mes
 ghost use Rattle.room_rules.specs.Limits.{most_copies};
 ghost use Rattle.room_asks.specs.declared.ask.AskFault.TheVariants.{Memory};
 ghost use Rattle.room_asks.specs.Requests.{lone_value};
-ghost use Rattle.room_asks.specs.Templates.{template_attributes, up_to_most, copies_said, copies, is_indefinite, holds_for_good, is_supported, is_known, unknown, returned, is_repeated, unsupported};
+ghost use Rattle.room_asks.specs.Templates.{template_attributes, up_to_most, copies_said, copies, is_indefinite, holds_for_good, is_supported, is_known, unknown, returned, unsupported, byte_at, first_bytes};
 
 use crate::ask::AskFault;
 use crate::operation::Operation;
@@ -12,6 +12,7 @@ use crate::syntax::{lone_value, positive_of};
 use ipp_coding::{Attribute, List, Message, Value};
 use room_rules::MOST_COPIES;
 use std::alloc::Global;
+use std::collections::BTreeSet;
 
 /// What the job template attributes of a request say.
 #[derive(Debug, Drop)]
@@ -115,27 +116,47 @@ fn unsupported_in<'a>(
     ensures unsupported { IfOk result (λ list. map plain_attribute list ≡ unsupported (map plain_attribute attributes.now)) }
     ensures memory { IfErr result (λ fault. fault ≡ Memory) }
 {
+    let mut seen = BTreeSet::new(alloc);
     let mut items = Vec::new(alloc);
-    for index in 0..attributes.len() {
-        let attribute = &attributes[index];
-        if is_returned(&attributes[..index], attribute) {
+    for attribute in attributes {
+        // Of a name that comes again, the first counts.
+        if seen.insert(ordered(attribute.name))? && !is_supported(attribute) {
             items.push(returned(alloc, attribute)?)?;
         }
     }
     Ok(List { items })
 }
 
-fn is_returned(before: &[Attribute<'_>], attribute: &Attribute<'_>) -> bool
-    ensures { result ≡ not (is_repeated (map plain_attribute before.now) (plain_attribute attribute.now) || is_supported (plain_attribute attribute.now)) }
+/// A name behind its first bytes. Most names differ in them, and then the set orders two names by what
+/// it holds, and looks at no byte of the request, wherever that lies.
+fn ordered(name: &[u8]) -> (u64, &[u8])
+    ensures first { result.0 ≡ first_bytes name.now }
+    ensures name { result.1 ≡ name.entry }
 {
-    !(is_repeated(before, attribute) || is_supported(attribute))
+    (first_bytes(name), name)
 }
 
-/// Whether an attribute before has the name: the first counts.
-fn is_repeated(before: &[Attribute<'_>], attribute: &Attribute<'_>) -> bool
-    ensures { result ≡ is_repeated (map plain_attribute before.now) (plain_attribute attribute.now) }
+#[tactic(auto, unfolding(crate::specs::Templates::first_bytes))]
+fn first_bytes(name: &[u8]) -> u64
+    ensures { result ≡ first_bytes name.now }
 {
-    named(before, attribute.name).is_some()
+    u64::from_be_bytes([
+        byte_at(name, 0),
+        byte_at(name, 1),
+        byte_at(name, 2),
+        byte_at(name, 3),
+        byte_at(name, 4),
+        byte_at(name, 5),
+        byte_at(name, 6),
+        byte_at(name, 7),
+    ])
+}
+
+/// 0 behind the end.
+fn byte_at(name: &[u8], place: usize) -> u8
+    ensures { result ≡ byte_at name.now place }
+{
+    name.get(place).copied().unwrap_or(0)
 }
 
 fn is_supported(attribute: &Attribute<'_>) -> bool
@@ -170,7 +191,7 @@ fn returned<'a>(alloc: Global, attribute: &Attribute<'a>) -> Result<Attribute<'a
     ensures returned { IfOk result (λ a. plain_attribute a ≡ returned (plain_attribute attribute.now)) }
     ensures memory { IfErr result (λ fault. fault ≡ Memory) }
 {
-    let mut items = Vec::new(alloc);
+    let mut items = Vec::with_capacity(alloc, 1)?;
     if is_known(attribute) {
         items.extend_from_slice(attribute.values.as_slice())?;
     } else {

@@ -14,7 +14,7 @@ ghost use Rattle.room_texts.specs.Places.{plain_place};
 use ipp_coding::{Attribute, Header, Message, PutFault, ReadFault};
 use room_asks::{Ask, AskFault};
 use room_rules::{CoreFault, Job, Name, Refusal, Standing, Word};
-use room_texts::{Place, PrinterNow, Success};
+use room_texts::{Place, PrinterNow, Selection, Success};
 use std::alloc::Global;
 
 pub(crate) fn read_message(alloc: Global, bytes: &[u8]) -> Result<Message<'_>, ReadFault> {
@@ -164,6 +164,18 @@ pub(crate) fn put_job(
     requires job { IsShowable job.now }
 {
     room_texts::put_job(out, at, job, wanted)
+}
+
+pub(crate) fn put_selected_job(
+    out: &mut Vec<u8>,
+    at: &Place<'_>,
+    job: &Job,
+    selection: &Selection<'_>,
+) -> Result<(), CoreFault>
+    requires place { IsPlace (plain_place at.now) }
+    requires job { IsShowable job.now }
+{
+    room_texts::put_selected_job(out, at, job, selection)
 }
 
 pub(crate) fn put_printer(

@@ -1,8 +1,9 @@
 -- Rows of the table of job attributes.
-use Rattle.std.proofs.Common.{◌≡◌, ◌≢◌, [], ◌∷◌, map, refl, codes}
+use Rattle.std.proofs.Common.{◌≡◌, ◌≢◌, ℕ, Option, List, [], ◌∷◌, map, refl, codes}
 use Rattle.room_texts.specs.declared.job.JobAttribute.{JobAttribute}
 use Rattle.room_texts.specs.declared.job.JobAttribute.TheVariants as attribute
-use Rattle.room_texts.specs.JobAttributes.{job_attributes, job_row}
+use Rattle.room_texts.specs.JobAttributes.{job_attributes, job_row, wanted_rows}
+use Rattle.room_texts.specs.Tables.{is_wanted}
 
 -- all but two are in the group of names `job-description`
 pub job_described : (a : JobAttribute) → a ≢ attribute.Copies → a ≢ attribute.HoldUntil → (job_row a).group ≡ codes "job-description"
@@ -30,3 +31,8 @@ job_described attribute.HoldUntil copies hold = absurd (hold refl)
 pub job_rows : map job_row (attribute.Uri ∷ attribute.Id ∷ attribute.PrinterUri ∷ attribute.Name ∷ attribute.UserName ∷ attribute.State ∷ attribute.StateReasons ∷ attribute.Documents ∷ attribute.Impressions ∷ attribute.ImpressionsCompleted ∷ attribute.Created ∷ attribute.Started ∷ attribute.Ended ∷ attribute.UpTime ∷ attribute.Charset ∷ attribute.NaturalLanguage ∷ attribute.Copies ∷ attribute.HoldUntil ∷ []) ≡ job_attributes
 unfolding job_attributes
 job_rows = refl
+
+-- which attributes of the program are wanted, one by one
+pub rows_wanted : (wanted : Option (List (List ℕ))) → map (λ (a : JobAttribute). is_wanted wanted (job_row a).name (job_row a).group) (attribute.Uri ∷ attribute.Id ∷ attribute.PrinterUri ∷ attribute.Name ∷ attribute.UserName ∷ attribute.State ∷ attribute.StateReasons ∷ attribute.Documents ∷ attribute.Impressions ∷ attribute.ImpressionsCompleted ∷ attribute.Created ∷ attribute.Started ∷ attribute.Ended ∷ attribute.UpTime ∷ attribute.Charset ∷ attribute.NaturalLanguage ∷ attribute.Copies ∷ attribute.HoldUntil ∷ []) ≡ wanted_rows wanted
+unfolding job_attributes
+rows_wanted wanted = refl

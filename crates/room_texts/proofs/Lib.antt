@@ -3,3 +3,4 @@ pub mod Values
 pub mod Rows
 pub mod JobRows
 pub mod PrinterRows
+pub mod Selections

@@ -1,5 +1,5 @@
 -- The attributes that a job shows (RFC 8011 sections 5.2 and 5.3).
-use Rattle.std.specs.Prelude.{ℕ, ◌/◌, Bool, ◌==◌, if◌then◌else◌, List, [], ◌∷◌, Option, codes, slice_index_or}
+use Rattle.std.specs.Prelude.{ℕ, ◌/◌, Bool, ◌==◌, if◌then◌else◌, List, [], ◌∷◌, map, Option, codes, slice_index_or}
 use Rattle.room_rules.specs.declared.job.Job.{Job}
 use Rattle.room_rules.specs.declared.job.JobState.{JobState}
 use Rattle.room_rules.specs.declared.job.JobState.TheVariants.{Held, Pending, Processing, Canceled, Aborted, Completed}
@@ -9,7 +9,7 @@ use Rattle.room_texts.specs.declared.job.JobAttribute.TheVariants as attribute
 use Rattle.room_texts.specs.Attributes.{single, number, unknown}
 use Rattle.room_texts.specs.Places.{PlainPlace, printer_uri, job_uri}
 use Rattle.room_texts.specs.Times.{up, moment_values}
-use Rattle.room_texts.specs.Tables.{Row, shown}
+use Rattle.room_texts.specs.Tables.{Row, is_wanted, shown}
 
 -- job-state as an enum (RFC 8011 section 5.3.7)
 abbrev pub state_number : JobState → ℕ
@@ -60,6 +60,10 @@ job_attributes =
     ∷ templated (codes "copies") (λ at job. single 0x21 (number job.standing.copies))
     ∷ templated (codes "job-hold-until") (λ at job. single 0x44 (codes "indefinite"))
     ∷ []
+
+-- which attributes of the table are wanted, one by one
+abbrev pub wanted_rows : Option (List (List ℕ)) → List Bool
+wanted_rows wanted = map (λ (row : Row Job). is_wanted wanted row.name row.group) job_attributes
 
 -- the group of a job, with the attributes of it that are wanted
 abbrev pub job_group : PlainPlace → Job → Option (List (List ℕ)) → PlainGroup

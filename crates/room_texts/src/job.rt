@@ -14,7 +14,7 @@ use crate::attribute::{
     put_printer_uri, put_single,
 };
 use crate::place::Place;
-use crate::selection::is_wanted;
+use crate::selection::Selection;
 use ipp_coding::put_group;
 use room_rules::{CoreFault, Job, JobState, Standing};
 
@@ -42,7 +42,7 @@ pub(crate) enum JobAttribute {
 }
 
 /// In the order in which they are shown.
-const JOB_ATTRIBUTES: [JobAttribute; 18] = [
+pub(crate) const JOB_ATTRIBUTES: [JobAttribute; 18] = [
     JobAttribute::Uri,
     JobAttribute::Id,
     JobAttribute::PrinterUri,
@@ -65,7 +65,7 @@ const JOB_ATTRIBUTES: [JobAttribute; 18] = [
 
 impl JobAttribute {
     #[tactic(auto, unfolding(crate::specs::JobAttributes::job_attributes))]
-    fn name(self) -> &'static [u8]
+    pub(crate) fn name(self) -> &'static [u8]
         ensures { result.now ≡ (job_row self).name }
     {
         match self {
@@ -92,7 +92,7 @@ impl JobAttribute {
 
     /// The group of names that it is in.
     #[tactic(auto, unfolding(crate::specs::JobAttributes::job_attributes))]
-    fn group(self) -> &'static [u8]
+    pub(crate) fn group(self) -> &'static [u8]
         ensures { result.now ≡ (job_row self).group }
     {
         match self {
@@ -115,8 +115,24 @@ pub fn put_job(
     ensures memory { IfErr result (λ fault. fault ≡ CoreFault.Memory) }
     ensures unchanged { OnErr result (out.new.items ≡ out.old.items) }
 {
+    put_selected_job(out, at, job, &Selection::of(wanted))
+}
+
+/// The same, with the attributes selected before: one selection serves many jobs.
+pub fn put_selected_job(
+    out: &mut Vec<u8>,
+    at: &Place<'_>,
+    job: &Job,
+    selection: &Selection<'_>,
+) -> Result<(), CoreFault>
+    requires place { IsPlace (plain_place at.now) }
+    requires job { IsShowable job.now }
+    ensures appended { OnOk result (out.new.items ≡ out.old.items ++ group_spelling (job_group (plain_place at.entry.now) job.now selection.now)) }
+    ensures memory { IfErr result (λ fault. fault ≡ CoreFault.Memory) }
+    ensures unchanged { OnErr result (out.new.items ≡ out.old.items) }
+{
     let start = out.len();
-    let answer = append_job(out, at, job, wanted);
+    let answer = append_job(out, at, job, selection);
     if answer.is_err() {
         out.truncate(start);
     }
@@ -127,15 +143,15 @@ fn append_job(
     out: &mut Vec<u8>,
     at: &Place<'_>,
     job: &Job,
-    wanted: Option<&[&[u8]]>,
+    selection: &Selection<'_>,
 ) -> Result<(), CoreFault>
     requires job { IsShowable job.now }
-    ensures appended { OnOk result (out.new.items ≡ out.old.items ++ group_spelling (job_group (plain_place at.entry.now) job.now (asked_names wanted.entry))) }
+    ensures appended { OnOk result (out.new.items ≡ out.old.items ++ group_spelling (job_group (plain_place at.entry.now) job.now selection.now)) }
     ensures memory { IfErr result (λ fault. fault ≡ CoreFault.Memory) }
     ensures front { take (length out.old.items) out.new.items ≡ out.old.items }
 {
     put_group(out, 0x02)?;
-    put_job_attributes(out, at, job, wanted, &JOB_ATTRIBUTES)?;
+    put_job_attributes(out, at, job, selection, &JOB_ATTRIBUTES)?;
     Ok(())
 }
 
@@ -144,16 +160,16 @@ fn put_job_attributes(
     out: &mut Vec<u8>,
     at: &Place<'_>,
     job: &Job,
-    wanted: Option<&[&[u8]]>,
+    selection: &Selection<'_>,
     attributes: &[JobAttribute],
 ) -> Result<(), CoreFault>
     requires job { IsShowable job.now }
-    ensures appended { OnOk result (out.new.items ≡ out.old.items ++ flat_map (row_text (asked_names wanted.entry) (plain_place at.entry.now) job.now) (map job_row attributes.now)) }
+    ensures appended { OnOk result (out.new.items ≡ out.old.items ++ flat_map (row_text selection.now (plain_place at.entry.now) job.now) (map job_row attributes.now)) }
     ensures memory { IfErr result (λ fault. fault ≡ CoreFault.Memory) }
     ensures front { take (length out.old.items) out.new.items ≡ out.old.items }
 {
     for attribute in attributes {
-        put_where_wanted(out, at, job, wanted, *attribute)?;
+        put_where_wanted(out, at, job, selection, *attribute)?;
     }
     Ok(())
 }
@@ -162,15 +178,15 @@ fn put_where_wanted(
     out: &mut Vec<u8>,
     at: &Place<'_>,
     job: &Job,
-    wanted: Option<&[&[u8]]>,
+    selection: &Selection<'_>,
     attribute: JobAttribute,
 ) -> Result<(), CoreFault>
     requires job { IsShowable job.now }
-    ensures appended { OnOk result (out.new.items ≡ out.old.items ++ row_text (asked_names wanted.entry) (plain_place at.entry.now) job.now (job_row attribute)) }
+    ensures appended { OnOk result (out.new.items ≡ out.old.items ++ row_text selection.now (plain_place at.entry.now) job.now (job_row attribute)) }
     ensures memory { IfErr result (λ fault. fault ≡ CoreFault.Memory) }
     ensures unchanged { OnErr result (out.new.items ≡ out.old.items) }
 {
-    if !is_wanted(wanted, attribute.name(), attribute.group()) {
+    if !selection.selects(attribute) {
         return Ok(());
     }
     put_job_attribute(out, at, job, attribute)

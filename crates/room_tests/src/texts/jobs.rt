@@ -2,10 +2,10 @@ ghost use Rattle.std.specs.Prelude.{◌≡◌, IfOk, codes};
 ghost use Rattle.room_texts.specs.Limits.{IsPlace, IsShowable};
 ghost use Rattle.room_texts.specs.Places.{plain_place};
 
-use crate::plain::{put_end, put_job, put_reply, read_name};
+use crate::plain::{put_end, put_job, put_reply, put_selected_job, read_name};
 use ipp_coding::{Header, List};
 use room_rules::{Job, JobState, Standing};
-use room_texts::Place;
+use room_texts::{Place, Selection};
 use std::alloc::{AllocError, Global};
 use std::process::Abort;
 use std::test::Fail;
@@ -162,6 +162,28 @@ fn all_attributes_of_a_completed_job(rt: HostRuntime) -> Result<(), Fail> {
             \x48\x00\x1battributes-natural-language\x00\x02en\
             \x21\x00\x06copies\x00\x04\x00\x00\x03\xe7\
             \x44\x00\x0ejob-hold-until\x00\x0aindefinite"
+            .as_slice()
+    );
+    Ok(())
+}
+
+#[test]
+fn one_selection_of_two_jobs(rt: HostRuntime) -> Result<(), Fail> {
+    let held = job(rt.alloc(), HELD)?;
+    let done = job(rt.alloc(), DONE)?;
+    let wanted: [&[u8]; 2] = [b"copies", b"job-state"];
+    let selection = Selection::of(Some(&wanted));
+    let mut out = Vec::new(rt.alloc());
+    put_selected_job(&mut out, &alice(&rt), &held, &selection)?;
+    put_selected_job(&mut out, &alice(&rt), &done, &selection)?;
+    assert_eq!(rt;
+        out.as_slice(),
+        b"\x02\
+            \x23\x00\x09job-state\x00\x04\x00\x00\x00\x04\
+            \x21\x00\x06copies\x00\x04\x00\x00\x00\x01\
+            \x02\
+            \x23\x00\x09job-state\x00\x04\x00\x00\x00\x09\
+            \x21\x00\x06copies\x00\x04\x00\x00\x03\xe7"
             .as_slice()
     );
     Ok(())
