@@ -8,5 +8,6 @@ pub mod Acts
 pub mod Effects
 pub mod Moves
 pub mod NewJobs
+pub mod StateLaws
 pub mod Devices
 pub mod Months

@@ -4,6 +4,7 @@ use Rattle.std.specs.Prelude.{◌≡◌, ℕ, ◌*◌, ◌%◌, ◌≤◌, false
 use Rattle.room_rules.specs.declared.job.JobState.{JobState}
 use Rattle.room_rules.specs.declared.job.JobState.TheVariants.{Held, Pending, Processing, Canceled, Aborted, Completed}
 use Rattle.room_rules.specs.declared.job.Standing.{Standing}
+use Rattle.room_rules.specs.Names.{IsNameOrNone}
 use Rattle.room_rules.specs.Limits.{most_copies, most_impressions, most_rate, most_documents, last_moment}
 
 -- a moment, where there is one, is in range
@@ -66,3 +67,4 @@ pub record HasRanges (s : Standing) : Type 0 where
 pub record IsStanding (s : Standing) : Type 0 where
   pub ranges : HasRanges s
   pub by_state : KeepsToState s.state s
+  pub named_device : IsNameOrNone s.device

@@ -8,6 +8,7 @@ mod effects;
 mod fault;
 mod format;
 mod job;
+mod laws;
 mod limits;
 mod month;
 mod name;
@@ -21,6 +22,10 @@ pub use device::{Device, set_device, set_rate};
 pub use fault::CoreFault;
 pub use format::Format;
 pub use job::{Document, Job, JobState, Standing, fresh};
+pub use laws::{
+    ended_jobs_stay, passwords_are_asked, quota_comes_last, releases_fix_rates, releases_reserve,
+    reservations_are_given_back, reservations_stay, settling_alone_charges, starts_alone_process,
+};
 pub use limits::{
     FIRST_MONTH, LAST_JOB, LAST_MOMENT, LAST_MONTH, LONGEST_DOCUMENT, LONGEST_JOB_NAME,
     LONGEST_PASSWORD, MOST_COPIES, MOST_DOCUMENTS, MOST_IMPRESSIONS, MOST_PAGES, MOST_RATE,

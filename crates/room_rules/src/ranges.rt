@@ -14,11 +14,18 @@ impl Standing {
     pub fn is_in_range(&self) -> bool
         ensures { IsTrue result ↔ IsStanding self.now }
     {
-        if !has_ranges(self) {
-            return false;
-        }
-        keeps_to_state(self)
+        is_standing(*self)
     }
+}
+
+/// That a device which it is bound to has a name needs no test: it is a `Name`.
+fn is_standing(s: Standing) -> bool
+    ensures { IsTrue result ↔ IsStanding s }
+{
+    if !has_ranges(&s) {
+        return false;
+    }
+    keeps_to_state(&s)
 }
 
 fn has_ranges(s: &Standing) -> bool

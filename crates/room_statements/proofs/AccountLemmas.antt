@@ -78,7 +78,7 @@ module _ (db : Database) (has : HasSchema db) (name : List ℕ) (row : Row) (sho
   pub account_unsound : ((it : Account) → IsAccount it → column row 0 ≡ number it.opened → column row 1 ≢ number it.next_job) → IsSound db name → ⊥
   account_unsound damaged (None, held) = absurd (let none = held.no_account in let e = rw none at shown in cc)
   account_unsound damaged (Some room, held) =
-      let e : Some row ≡ Some (number room.opened ∷ number room.next ∷ []) = shown ∙ ap (option_map (λ cells. column cells 1 ∷ column cells 2 ∷ [])) held.account_row in
+      let e : Some row ≡ Some (number room.opened ∷ number room.next ∷ []) = shown ∙ ap (option_map (λ cells. column cells 1 ∷ column cells 2 ∷ [])) held.rows.account_row in
       let same = same_row e in
       damaged (account_of room) (record { opened_in_range = held.is_room.opened_in_range; next_from_one = held.is_room.next_from_one; next_in_range = held.is_room.next_in_range })
       (ap (λ r. column r 0) same) (ap (λ r. column r 1) same)

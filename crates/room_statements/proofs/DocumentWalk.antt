@@ -131,7 +131,7 @@ module _ (db : Database) (has : HasSchema db) (name : List ℕ) (job : ℕ) wher
         }
 
     in_room : (x : Row) → IsShownOf x → IsInRoom x
-    in_room x it = by_number it.placed.number (sym it.placed.at_place ∙ held.document_rows (pos job) it.placed.number)
+    in_room x it = by_number it.placed.number (sym it.placed.at_place ∙ held.rows.document_rows (pos job) it.placed.number)
       where
         by_number : (n : ℤ) → Some (drop 1 it.row) ≡ option_map (document_cells name) (under_pair room.documents (pos job) n) → IsInRoom x
         by_number (pos n) is = in_place it.row x n it.shown (get room.documents (job, n)) refl is
@@ -146,7 +146,7 @@ module _ (db : Database) (has : HasSchema db) (name : List ℕ) (job : ℕ) wher
     row_there : (n : ℕ) (it : Document) → get room.documents (job, n) ≡ Some it → IsShown it
     row_there n it is =
         let r = under_row (Text name ∷ number job ∷ []) Int document_in (document_key name (pos job)) (refl, (refl, tt)) (λ n. refl) db has (pos n) (document_cells name it)
-        (held.document_rows (pos job) (pos n) ∙ ap (option_map (document_cells name)) is) in
+        (held.rows.document_rows (pos job) (pos n) ∙ ap (option_map (document_cells name)) is) in
         record {
           row = behind r.row;
           there = mapped_has behind _ r.row (has_kept (is_of_job name job) (db.trees 5) r.row r.there r.begins);

@@ -79,5 +79,5 @@ module _ (db : Database) (has : HasSchema db) (name : List ℕ) (month : ℕ) (r
   pub grant_unsound : ((pages : ℕ) → pages ≤ most_pages → column row 0 ≢ number pages) → IsSound db name → ⊥
   grant_unsound damaged (None, held) = absurd (let none = held.no_grant (pos month) in let e = rw none at shown in cc)
   grant_unsound damaged (Some room, held) =
-      let is = shown_of (λ cells. column cells 2 ∷ []) (grant_cells name month) row (get room.grants month) (shown ∙ ap (option_map (λ cells. column cells 2 ∷ [])) (held.grant_rows (pos month))) in
+      let is = shown_of (λ cells. column cells 2 ∷ []) (grant_cells name month) row (get room.grants month) (shown ∙ ap (option_map (λ cells. column cells 2 ∷ [])) (held.rows.grant_rows (pos month))) in
       damaged is.0 (held.is_room.grants month is.0 is.1).pages_fit (ap (λ r. column r 0) is.2)

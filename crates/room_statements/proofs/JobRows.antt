@@ -71,6 +71,6 @@ module _ (db : Database) (has : HasSchema db) (name : List ℕ) (n : ℕ) (row :
   pub job_unsound : ((it : Job) → IsJob it → ShowsJob row it → ⊥) → IsSound db name → ⊥
   job_unsound damaged (None, held) = absurd (let none = held.no_job (pos n) in let e = rw none at shown in cc)
   job_unsound damaged (Some room, held) =
-      let is = shown_of behind_key (job_cells name) row (get room.jobs n) (shown ∙ ap (option_map behind_key) (held.job_rows (pos n))) in
+      let is = shown_of behind_key (job_cells name) row (get room.jobs n) (shown ∙ ap (option_map behind_key) (held.rows.job_rows (pos n))) in
       let kept = held.is_room.jobs n is.0 is.1 in
-      damaged is.0 (record { name_fits = kept.name_fits; password_fits = kept.password_fits; standing = kept.standing; named_device = held.named_devices n is.0 is.1 }) (shows_it is.0 is.2)
+      damaged is.0 (record { name_fits = kept.name_fits; password_fits = kept.password_fits; standing = kept.standing }) (shows_it is.0 is.2)

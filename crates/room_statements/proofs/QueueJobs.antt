@@ -12,7 +12,7 @@ use Rattle.room_state.specs.Rooms.{RoomValue}
 use Rattle.room_state.proofs.JobMaps.{values_keep}
 use Rattle.room_tables.specs.Cells.{job_cells}
 use Rattle.room_tables.specs.Accounts.{HoldsRoom, IsSound}
-use Rattle.room_tables.specs.ReadBack.{IsNameOrNone}
+use Rattle.room_rules.specs.Names.{IsNameOrNone}
 use Rattle.room_statements.specs.Queues.{numbered_cells, IsNumbered, ShowsNumbered, ListsJob, refuses_numbered, AreListed}
 use Rattle.room_statements.specs.Walks.{GathersAll, GathersShown, RefusesShown}
 use Rattle.room_tables.proofs.Columns.{EachIs, each_is}
@@ -43,7 +43,7 @@ gathered_so : (jobs first last : List Job) → AllByRecursion IsNumbered jobs �
 gathered_so [] first last sound same = sym same ∙ sym (append-nil first)
 gathered_so (it ∷ jobs) first last sound (next, step, more) =
     gathered_so jobs next last sound.1 more
-    ∙ ap (λ (l : List Job). l ++ jobs) (step.added ∙ ap (λ (told : Job). first ++ told ∷ []) (told_once it step.job sound.0.in_range.named_device step.numbered.in_range.named_device step.told))
+    ∙ ap (λ (l : List Job). l ++ jobs) (step.added ∙ ap (λ (told : Job). first ++ told ∷ []) (told_once it step.job sound.0.in_range.standing.named_device step.numbered.in_range.standing.named_device step.told))
     ∙ append_assoc first (it ∷ []) jobs
 
 room_numbered : (db : Database) (name : List ℕ) (room : RoomValue) → HoldsRoom db name room → AllByRecursion IsNumbered (values room.jobs)
@@ -51,7 +51,7 @@ room_numbered db name room held = values_keep (λ _ (it : Job). IsNumbered it) r
     let at = held.is_room.jobs n it is in (
       at.numbered,
       record {
-        in_range = record { name_fits = at.name_fits; password_fits = at.password_fits; standing = at.standing; named_device = held.named_devices n it is };
+        in_range = record { name_fits = at.name_fits; password_fits = at.password_fits; standing = at.standing };
         from_one = omega (arith, at.numbered, at.from_one);
         to_last = omega (arith, at.numbered, at.below_next, held.is_room.next_in_range);
       },

@@ -7,7 +7,6 @@ use Rattle.room_rules.specs.Standings.{IsStanding}
 use Rattle.room_rules.specs.declared.job.Standing.{Standing}
 use Rattle.room_rules.specs.declared.job.Job.{Job}
 use Rattle.room_tables.specs.Cells.{number, flag, state_number, moment, device_text}
-use Rattle.room_tables.specs.ReadBack.{IsNameOrNone}
 
 -- the cells of a job behind its key
 abbrev pub behind_key : Row → Row
@@ -42,4 +41,3 @@ pub record IsJob (job : Job) : Type 0 where
   pub name_fits : length job.name ≤ longest_job_name
   pub password_fits : length job.password ≤ longest_password
   pub standing : IsStanding job.standing
-  pub named_device : IsNameOrNone job.standing.device

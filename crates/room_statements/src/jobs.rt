@@ -11,7 +11,7 @@ ghost use Rattle.room_tables.specs.Keyed.{HasSchema, SetsRow};
 ghost use Rattle.room_tables.specs.Cells.{job_cells};
 ghost use Rattle.room_tables.specs.Accounts.{job_at, IsSound};
 ghost use Rattle.room_tables.specs.Calls.{Goes, Stays, IsSame, Gets};
-ghost use Rattle.room_tables.specs.ReadBack.{IsNameOrNone};
+ghost use Rattle.room_rules.specs.Names.{IsNameOrNone};
 ghost use Rattle.room_statements.specs.Shown.{behind_key, ShowsStanding, ShowsJob, IsJob};
 
 use crate::values::{
@@ -84,9 +84,8 @@ pub(crate) fn job_from(row: &Row, number: u32) -> Result<Job, StoreFault>
 /// The standing that the row tells, if it is one that a job can have.
 fn standing_from(row: &Row) -> Result<Standing, StoreFault>
     ensures read { IfOk result (ShowsStanding row.now) }
-    ensures named { IfOk result (λ s. IsNameOrNone s.device) }
     ensures in_range { IfOk result IsStanding }
-    ensures damaged { result ≡ Err StoreFault.Damaged → (s : StandingValue) → IsStanding s → IsNameOrNone s.device → ShowsStanding row.now s → ⊥ }
+    ensures damaged { result ≡ Err StoreFault.Damaged → (s : StandingValue) → IsStanding s → ShowsStanding row.now s → ⊥ }
 {
     let standing = columns_from(row)?;
     if !standing.is_in_range() {

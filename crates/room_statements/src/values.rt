@@ -10,7 +10,7 @@ ghost use Rattle.room_statements.specs.Queues.{limit_number};
 ghost use Rattle.room_rules.specs.Standings.{IsMoment};
 ghost use Rattle.room_rules.specs.declared.format.Format.{Format as FormatValue};
 ghost use Rattle.room_rules.specs.declared.job.JobState.{JobState as JobStateValue};
-ghost use Rattle.room_tables.specs.ReadBack.{IsNameOrNone};
+ghost use Rattle.room_rules.specs.Names.{IsNameOrNone};
 
 use ipp_coding::List as Bytes;
 use room_rules::{Format, JobState, Name};

@@ -15,7 +15,8 @@ use Rattle.room_rules.specs.declared.format.Format.TheVariants.{OctetStream, Pdf
 use Rattle.room_rules.specs.declared.device.Device.{Device}
 use Rattle.room_rules.specs.Formats.{media_type}
 use Rattle.room_tables.specs.Cells.{number, flag, state_number, moment, device_text, account_cells, job_cells, document_cells, device_cells, rate_cells}
-use Rattle.room_tables.specs.ReadBack.{IsNameOrNone, RowsAreReadBack}
+use Rattle.room_rules.specs.Names.{IsNameOrNone}
+use Rattle.room_tables.specs.ReadBack.{RowsAreReadBack}
 
 -- ---- a value is read back from its column
 

@@ -7,12 +7,10 @@ use Rattle.sqlite_value.specs.Order.{Row}
 use Rattle.sqlite.specs.Effect.{Database}
 use Rattle.room_rules.specs.Limits.{last_moment, last_next_job}
 use Rattle.room_rules.specs.declared.account.Account.{Account}
-use Rattle.room_rules.specs.declared.job.Job.{Job}
 use Rattle.room_state.specs.Rooms.{RoomValue, place_cmp}
 use Rattle.room_state.specs.RoomRules.{IsRoom}
 use Rattle.room_tables.specs.Tables.{account, job, document, grants}
 use Rattle.room_tables.specs.Keyed.{row_at}
-use Rattle.room_tables.specs.ReadBack.{IsNameOrNone}
 use Rattle.room_tables.specs.Cells.{account_cells, job_cells, document_cells, grant_cells}
 
 -- ---- the rows of an account: those whose account is exactly this text, key by key
@@ -54,15 +52,18 @@ whole (negsuc _) = 0
 abbrev pub account_of : RoomValue → Account
 account_of room = record { opened = room.opened; next_job = room.next }
 
--- The rows of the account are those of a room that keeps its rules, and no others. A device that a job is
--- bound to has a name.
-pub record HoldsRoom (db : Database) (name : List ℕ) (room : RoomValue) : Type 0 where
-  pub is_room : IsRoom room
-  pub named_devices : (number : ℕ) (job : Job) → get room.jobs number ≡ Some job → IsNameOrNone job.standing.device
+-- the rows of the account are those of the room, and no others; between the writes of one event the room may
+-- break its rules
+pub record HoldsRows (db : Database) (name : List ℕ) (room : RoomValue) : Type 0 where
   pub account_row : account_at db name ≡ Some (account_cells name (account_of room))
   pub job_rows : (number : ℤ) → job_at db name number ≡ option_map (job_cells name) (under room.jobs number)
   pub document_rows : (job number : ℤ) → document_at db name job number ≡ option_map (document_cells name) (under_pair room.documents job number)
   pub grant_rows : (month : ℤ) → grant_at db name month ≡ option_map (grant_cells name (whole month)) (under room.grants month)
+
+-- the rows of the account are those of a room that keeps its rules
+pub record HoldsRoom (db : Database) (name : List ℕ) (room : RoomValue) : Type 0 where
+  pub is_room : IsRoom room
+  pub rows : HoldsRows db name room
 
 -- the account has no row
 pub record HoldsNothing (db : Database) (name : List ℕ) : Type 0 where

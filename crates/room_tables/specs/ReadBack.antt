@@ -1,15 +1,11 @@
 -- A row that was written is read back as itself: no two values have one row.
-use Rattle.std.specs.Prelude.{◌≡◌, ℕ, List, Option, IfSome, IsTrue}
-use Rattle.room_rules.specs.Names.{is_name}
+use Rattle.std.specs.Prelude.{◌≡◌, ℕ, List}
+use Rattle.room_rules.specs.Names.{IsNameOrNone}
 use Rattle.room_rules.specs.declared.account.Account.{Account}
 use Rattle.room_rules.specs.declared.job.Job.{Job}
 use Rattle.room_rules.specs.declared.job.Document.{Document}
 use Rattle.room_rules.specs.declared.device.Device.{Device}
 use Rattle.room_tables.specs.Cells.{account_cells, job_cells, document_cells, grant_cells, device_cells, rate_cells}
-
--- a device that a job is bound to has a name, which is not empty
-abbrev pub IsNameOrNone : Option (List ℕ) → Type 0
-IsNameOrNone device = IfSome device (λ name. IsTrue (is_name name))
 
 pub record RowsAreReadBack : Type 0 where
   pub accounts : (name other : List ℕ) (a b : Account) → account_cells name a ≡ account_cells other b → (name ≡ other) × (a ≡ b)
