@@ -1,23 +1,11 @@
-//! Tests of the public calls of the crates of one account, a module for each crate.
+//! Tests of the rules of an account, of a room and of the machine, and of the fields of lines.
 #![tactic(auto)]
 
-#[cfg(test)]
-mod answers;
-#[cfg(test)]
-mod asks;
-#[cfg(test)]
-mod coding;
-#[cfg(test)]
-mod examples;
 #[cfg(test)]
 mod fields;
 #[cfg(test)]
 mod machine;
 #[cfg(test)]
-mod plain;
-#[cfg(test)]
 mod rules;
 #[cfg(test)]
 mod state;
-#[cfg(test)]
-mod texts;

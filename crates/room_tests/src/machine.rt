@@ -9,7 +9,7 @@ mod memory;
 mod requests;
 mod stations;
 
-use crate::plain::read_name;
+use plain_calls::read_name;
 use room_core::{CoreFault, Device, Event, Name, Reply, Room};
 use std::alloc::Global;
 use std::process::Abort;

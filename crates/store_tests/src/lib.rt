@@ -1,9 +1,5 @@
-//! Tests of the public calls of the crates of the tables, a module for each crate.
+//! Tests of stores that are made, opened and migrated.
 #![tactic(auto)]
 
-#[cfg(test)]
-mod plain;
-#[cfg(test)]
-mod statements;
 #[cfg(test)]
 mod store;

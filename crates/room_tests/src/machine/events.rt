@@ -1,5 +1,5 @@
 use super::{again, alice, answer, opened, responds, tells};
-use crate::examples::{ANSWER, REQUEST};
+use plain_calls::{ANSWER, REQUEST};
 use room_core::{CoreFault, Event, LAST_MOMENT, Reply};
 
 #[test]

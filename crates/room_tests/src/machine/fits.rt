@@ -1,4 +1,4 @@
-use crate::plain::read_name;
+use plain_calls::read_name;
 use room_core::{Event, Name, fits};
 use std::process::Abort;
 

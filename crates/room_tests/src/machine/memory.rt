@@ -6,7 +6,7 @@ use super::{
     CANCEL, CLOSE, CREATE, DESCRIBE, HOLD, LIST, MONTH, NOW, PRINT, PRINTER, RELEASE, SEND, again,
     alice, d1, device, opened, responds, tells,
 };
-use crate::examples::REQUEST;
+use plain_calls::REQUEST;
 use room_core::{Event, Reply};
 
 #[test]

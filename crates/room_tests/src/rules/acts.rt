@@ -1,7 +1,7 @@
 //! The table of job states: which act has an effect in which state, and what it makes of a job.
 
 use super::{NOW, job, refused};
-use crate::plain::read_name;
+use plain_calls::read_name;
 use room_rules::{
     JobState, Name, Refusal, Standing, Word, add_document, cancel, hold, release_at_station,
     release_by_owner, settle, start,

@@ -1,4 +1,4 @@
-use crate::plain::read_name;
+use plain_calls::read_name;
 use room_rules::{Device, set_device, set_rate};
 use std::test::Fail;
 

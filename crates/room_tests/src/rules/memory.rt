@@ -2,7 +2,7 @@
 //! leaves its list as it was, and made again it gives the usual answer. Run as it is, this test meets
 //! no refusal.
 
-use crate::plain::read_name;
+use plain_calls::read_name;
 use room_rules::{CoreFault, Device, set_device};
 use std::test::Fail;
 

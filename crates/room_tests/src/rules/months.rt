@@ -1,4 +1,4 @@
-use crate::plain::month_of;
+use plain_calls::month_of;
 use room_rules::LAST_MOMENT;
 
 #[test]

@@ -1,4 +1,4 @@
-use crate::plain::read_name;
+use plain_calls::read_name;
 
 #[test]
 fn what_is_a_name(rt: HostRuntime) {

@@ -1,7 +1,7 @@
 //! Worked examples, with the units that are left after each step.
 
 use super::{NOW, refused};
-use crate::plain::{
+use plain_calls::{
     cancel, fresh, hold, read_name, release_at_station, release_by_owner, settle, start,
 };
 use room_rules::{JobState, Standing, Word, left, need};

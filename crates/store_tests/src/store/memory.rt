@@ -3,7 +3,7 @@
 //! tests meet no refusal; `tools/refuse-memory` runs them once for each request that they make.
 
 use super::{FIRST, VERSION_ONE};
-use crate::plain::{create, migrate, open};
+use plain_tables::{create, migrate, open};
 use room_store::OpenFault;
 use sqlite::{Connection, MemStore};
 use std::alloc::{AllocError, Global};

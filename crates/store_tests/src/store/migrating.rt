@@ -1,9 +1,10 @@
 //! Databases of version 1, and others, that are migrated.
 
 use super::FIRST;
-use crate::plain::{
+use plain_calls::read_name;
+use plain_tables::{
     empty, fault_of_migrate, fault_of_open, find_account, find_device, find_grant, find_job,
-    find_rate, made, migrate, number, read_name, run,
+    find_rate, made, migrate, number, run,
 };
 use room_store::OpenFault;
 use sqlite::{Connection, MemStore};

@@ -1,7 +1,7 @@
 //! Stores that are made and opened, in memory and in a file.
 
 use super::{FIRST, VERSION_ONE};
-use crate::plain::{empty, fault_of_create, fault_of_migrate, fault_of_open, made, number, run};
+use plain_tables::{empty, fault_of_create, fault_of_migrate, fault_of_open, made, number, run};
 use room_store::OpenFault;
 use sqlite::Connection;
 use std::fs;
