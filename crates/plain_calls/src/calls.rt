@@ -1,5 +1,5 @@
 //! The calls that the tests make, with nothing promised of them but what they ask of one another: a test
-//! looks at what runs, and is proved the sooner.
+//! looks at what runs. Nothing but tests stands on them.
 
 ghost use Rattle.std.specs.Prelude.{◌≤◌, length, map, IfOk};
 ghost use Rattle.std.specs.List.{AllByRecursion};

@@ -1,5 +1,5 @@
-//! The calls that the tests make, with nothing promised of them: a test looks at what runs, and is proved
-//! the sooner. Each write is a transaction of its own.
+//! The calls that the tests make, with nothing promised of them: a test looks at what runs. Nothing but
+//! tests stands on them. Each write is a transaction of its own.
 
 ghost use Rattle.room_rules.specs.Standings.{IsStanding};
 ghost use Rattle.room_tables.specs.Accounts.{IsAccount};

@@ -1,34 +1,15 @@
 //! What the rows of an account come to. The name of each other account begins like that of alice, or is
 //! where hers begins.
 
-use ipp_coding::List;
+use super::jobs::{HELD, set};
 use plain_calls::read_name;
-use plain_tables::{granted_to, made, run, set_grant, set_job, tally_jobs};
-use room_rules::{Job, JobState, Name, Standing};
+use plain_tables::{granted_to, made, run, set_grant, tally_jobs};
+use room_rules::{JobState, Name, Standing};
 use room_state::Tally;
 use room_statements::StoreFault;
-use sqlite::{Connection, MemStore};
-use std::alloc::Global;
 use std::test::Fail;
 
-/// A held job of three copies of one document.
-const HELD: Standing = Standing {
-    state: JobState::Held,
-    is_open: false,
-    stopping: false,
-    copies: 3,
-    impressions: 12,
-    reserved: 0,
-    charged: 0,
-    documents: 1,
-    rate: 1,
-    device: None,
-    created: 1000,
-    started: None,
-    ended: None,
-};
-
-/// The same as the device prints it: it reserves 36 units.
+/// The held job as the device prints it: it reserves 36 units.
 fn processing(device: Name) -> Standing {
     Standing {
         state: JobState::Processing,
@@ -39,7 +20,7 @@ fn processing(device: Name) -> Standing {
     }
 }
 
-/// The same as it was settled at 35 impressions.
+/// The held job as it was settled at 35 impressions.
 fn completed(device: Name) -> Standing {
     Standing {
         state: JobState::Completed,
@@ -49,30 +30,6 @@ fn completed(device: Name) -> Standing {
         ended: Some(3000),
         ..HELD
     }
-}
-
-/// Sets a job without a name and a password.
-fn set(
-    alloc: Global,
-    connection: &mut Connection<MemStore>,
-    account: Name,
-    job: u32,
-    standing: Standing,
-) -> Result<(), Fail> {
-    if !standing.is_in_range() {
-        return Err("no job can be set".into());
-    }
-    let job = Job {
-        job,
-        name: List {
-            items: Vec::new(alloc),
-        },
-        password: List {
-            items: Vec::new(alloc),
-        },
-        standing,
-    };
-    set_job(connection, account, &job)
 }
 
 #[test]
