@@ -1,3 +1,2 @@
-pub mod Actions
 pub mod Commands
 pub mod Statuses

@@ -2,7 +2,8 @@
 ghost use Rattle.std.specs.Prelude.{◌≡◌};
 ghost use Rattle.room_cli.specs.Statuses.{status_of};
 
-use std::alloc::{AllocError, AllocFailed};
+use room_lines::LineFault;
+use std::alloc::AllocError;
 use std::io;
 use std::io::{ErrorKind, Write};
 use thiserror::Error;
@@ -62,9 +63,12 @@ impl From<AllocError> for Fault {
     }
 }
 
-impl<T: Drop> From<AllocFailed<T>> for Fault {
-    fn from(_error: AllocFailed<T>) -> Fault {
-        Fault::Memory
+impl From<LineFault> for Fault {
+    fn from(fault: LineFault) -> Fault {
+        match fault {
+            LineFault::Line(number) => Fault::Line(number),
+            LineFault::Memory => Fault::Memory,
+        }
     }
 }
 

@@ -1,15 +1,12 @@
 //! One run of the program, over any reader and writers.
 ghost use Rattle.std.specs.Prelude.{IsTrue};
-ghost use Rattle.room_cli.specs.Actions.{is_in_range};
+ghost use Rattle.room_lines.specs.Actions.{is_in_range};
 
-use crate::action::Action;
 use crate::command::Command;
 use crate::fault::Fault;
-use crate::lines::{Grammar, Line};
-use crate::printing::print_outcome;
-use crate::rooms::Rooms;
 use room_core::{CoreFault, Reply};
-use std::alloc::{AllocError, Global};
+use room_lines::{Action, Grammar, Line, Rooms, print_outcomes};
+use std::alloc::Global;
 use std::io::{Read, Write};
 
 // The most bytes that standard input may have.
@@ -91,7 +88,7 @@ fn read_lines<R: Read + Drop>(
     grammar: Grammar,
 ) -> Result<Vec<Line>, Fault> {
     let text = read_whole(alloc, input)?;
-    grammar.read(alloc, text.as_slice())
+    Ok(grammar.read(alloc, text.as_slice())?)
 }
 
 // The whole input, of which at most one byte past the limit is read.
@@ -128,35 +125,12 @@ fn run_lines<W: Write>(
     if database != ":memory:" {
         return Err(Fault::Store);
     }
-    let outcomes = outcomes_of(alloc, &mut Rooms::new(alloc), lines)?;
+    let outcomes = Rooms::new(alloc).answer_all(lines)?;
     let printed = print_outcomes(output, outcomes.as_slice());
     match first_failure(outcomes.as_slice()) {
         Some(fault) => Err(fault),
-        None => printed,
+        None => Ok(printed?),
     }
-}
-
-// Room for every outcome is taken before the first line is run.
-fn outcomes_of(
-    alloc: Global,
-    rooms: &mut Rooms,
-    lines: &[Line],
-) -> Result<Vec<Result<Reply, CoreFault>>, AllocError> {
-    let mut outcomes = Vec::with_capacity(alloc, lines.len())?;
-    for line in lines {
-        outcomes.push(rooms.answer(line.moment, &line.action.event()))?;
-    }
-    Ok(outcomes)
-}
-
-fn print_outcomes<W: Write>(
-    output: &mut W,
-    outcomes: &[Result<Reply, CoreFault>],
-) -> Result<(), Fault> {
-    for outcome in outcomes {
-        print_outcome(output, outcome)?;
-    }
-    Ok(output.flush()?)
 }
 
 fn first_failure(outcomes: &[Result<Reply, CoreFault>]) -> Option<Fault> {

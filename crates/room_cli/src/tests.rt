@@ -1,10 +1,7 @@
 //! The program from the outside, through `run`: its words and its input, what it prints, and how it
 //! ends.
-mod conversation;
-mod day;
 mod ends;
 mod lines;
-mod rows;
 mod words;
 
 use crate::run::run;

@@ -1,11 +1,22 @@
-//! Tests of the rules of an account, of a room and of the machine, and of the fields of lines.
+//! Tests of calls by themselves: what is asked and answered outside events, what no event shows, and calls
+//! where memory is refused. What events show stands in the rows of `worked_rows`.
 #![tactic(auto)]
 
 #[cfg(test)]
-mod fields;
+mod answers;
 #[cfg(test)]
-mod machine;
+mod asks;
+#[cfg(test)]
+mod coding;
+#[cfg(test)]
+mod events;
+#[cfg(test)]
+mod examples;
+#[cfg(test)]
+mod memory;
 #[cfg(test)]
 mod rules;
 #[cfg(test)]
-mod state;
+mod tallies;
+#[cfg(test)]
+mod texts;

@@ -1,63 +1,72 @@
-//! Expected values come from worked examples and from the table of job states, never from the code.
+//! Names, media types, months and devices.
 
-mod acts;
-mod devices;
-mod formats;
-mod memory;
-mod months;
-mod names;
-mod rows;
+use room_rules::{Device, Format, Name, left, month_of, set_device, set_rate};
+use std::test::Fail;
 
-use room_rules::{JobState, Name, Refusal, Standing, Word};
-
-/// The moment of each act in these tests.
-const NOW: u64 = 1_788_220_800;
-
-/// A closed job of three copies of one document of twelve impressions; once it is released, at rate 5
-/// on the device.
-fn job(state: JobState, device: Name) -> Standing {
-    let held = Standing {
-        state,
-        is_open: false,
-        stopping: false,
-        copies: 3,
-        impressions: 12,
-        reserved: 0,
-        charged: 0,
-        documents: 1,
-        rate: 1,
-        device: None,
-        created: 1000,
-        started: None,
-        ended: None,
-    };
-    let pending = Standing {
-        reserved: 180,
-        rate: 5,
-        device: Some(device),
-        ..held
-    };
-    let processing = Standing {
-        started: Some(2000),
-        ..pending
-    };
-    match state {
-        JobState::Held => held,
-        JobState::Pending => pending,
-        JobState::Processing => processing,
-        JobState::Canceled | JobState::Aborted | JobState::Completed => Standing {
-            reserved: 0,
-            charged: 175,
-            ended: Some(3000),
-            ..processing
-        },
+#[test]
+fn no_names(rt: HostRuntime) {
+    let too_long: &[u8] = b"abcdefghijklmnopqrstuvwxyz-012345";
+    for bad in [
+        b"".as_slice(),
+        b"Alice",
+        b"1d",
+        b"-a",
+        b"a_b",
+        b"a b",
+        b"\xc3\xa9",
+        too_long,
+    ] {
+        assert!(rt; Name::read(bad).is_none(), "{bad:?} is no name");
     }
 }
 
-/// client-error-not-possible, for the reason.
-fn refused(word: Word) -> Result<Standing, Refusal> {
-    Err(Refusal {
-        status: 0x0404,
-        word,
-    })
+/// Those of RFC 8011 section 5.4.22 and of PWG 5102.4 are spelled in small letters alone.
+#[test]
+fn no_media_types(rt: HostRuntime) {
+    let none: [&[u8]; 4] = [b"", b"image/", b"Image/jpeg", b"text/plain "];
+    for text in none {
+        assert_eq!(rt; Format::of_media_type(text), None);
+    }
+}
+
+#[test]
+fn months_of_moments(rt: HostRuntime) {
+    assert_eq!(rt; month_of(1_788_220_800), Some(24_320));
+    assert_eq!(rt; month_of(4_102_444_799), Some(25_199));
+    assert_eq!(rt; month_of(4_102_444_800), None);
+    assert_eq!(rt; month_of(u64::MAX), None);
+}
+
+#[test]
+fn what_is_left(rt: HostRuntime) {
+    assert_eq!(rt; left(100, 36, 0), 64);
+}
+
+#[test]
+fn a_device_is_made(rt: HostRuntime) -> Result<(), Fail> {
+    let d1 = Name::read(b"d1").ok_or("a name")?;
+    let mut devices = Vec::new(rt.alloc());
+    set_device(&mut devices, d1, true)?;
+    let one = Device {
+        name: d1,
+        on: true,
+        rate: 1,
+    };
+    assert_eq!(rt; devices.as_slice(), [one].as_slice());
+    Ok(())
+}
+
+#[test]
+fn the_first_of_a_name_counts(rt: HostRuntime) -> Result<(), Fail> {
+    let d1 = Name::read(b"d1").ok_or("a name")?;
+    let device = &Device {
+        name: d1,
+        on: true,
+        rate: 5,
+    };
+    let mut devices = [*device, *device];
+    assert!(rt; set_rate(&mut devices, d1, 9));
+    let written = Device { rate: 9, ..*device };
+    assert_eq!(rt; devices, [written, *device]);
+    Ok(())
 }

@@ -1,8 +1,0 @@
-mod asked;
-mod builder;
-mod checks;
-mod memory;
-mod pairs;
-mod syntaxes;
-mod targets;
-mod templates;

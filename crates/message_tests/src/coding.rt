@@ -1,4 +1,0 @@
-mod memory;
-mod reading;
-mod values;
-mod writing;

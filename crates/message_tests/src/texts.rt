@@ -1,5 +1,0 @@
-mod jobs;
-mod lines;
-mod memory;
-mod printers;
-mod replies;

@@ -1,0 +1,202 @@
+//! The grammar of lines: fields parted by one space, lines ended by a line feed, the last of which may
+//! be missing. Nothing is trimmed, so a carriage return, a tab or a further space makes a line bad.
+ghost use Rattle.std.specs.Prelude.{◌≤◌, IfOk, IsTrue};
+ghost use Rattle.room_rules.specs.Limits.{first_month, last_month};
+ghost use Rattle.room_lines.specs.Actions.{is_in_range, are_impressions};
+
+use crate::action::Action;
+use crate::fault::LineFault;
+use room_core::{LAST_JOB, LAST_MOMENT, MOST_IMPRESSIONS, MOST_PAGES, MOST_RATE, Name};
+use room_fields::FieldFault;
+use std::alloc::Global;
+
+/// A line that was read: what to do, and the moment at which it counts as done, in seconds since
+/// 1970-01-01T00:00:00Z.
+#[derive(Debug, Drop)]
+pub struct Line {
+    pub moment: u64,
+    pub action: Action,
+    ghost in_range: { IsTrue (is_in_range action) },
+}
+
+/// Which lines an input may have.
+#[derive(Clone, Copy, Debug)]
+pub enum Grammar {
+    /// Every kind of line, each begun by its moment and a space.
+    Script,
+    /// `release`, `start` and `settle`, all at one moment.
+    Station { moment: u64 },
+}
+
+impl Grammar {
+    /// The lines of an input in order, or the number of the first bad line. An input of no bytes has
+    /// no lines.
+    pub fn read(self, alloc: Global, input: &[u8]) -> Result<Vec<Line>, LineFault> {
+        let mut lines = Vec::new(alloc);
+        if input.is_empty() {
+            return Ok(lines);
+        }
+        let text = input.strip_suffix(b"\n").unwrap_or(input);
+        for (index, line) in text.split(|byte| *byte == b'\n').enumerate() {
+            match self.read_line(alloc, line) {
+                Ok(line) => lines.push(line).map_err(|_| LineFault::Memory)?,
+                Err(FieldFault::Malformed) => return Err(LineFault::Line(index + 1)),
+                Err(FieldFault::Memory) => return Err(LineFault::Memory),
+            }
+        }
+        Ok(lines)
+    }
+
+    fn read_line(self, alloc: Global, line: &[u8]) -> Result<Line, FieldFault> {
+        let mut fields = Fields { rest: Some(line) };
+        let line = match self {
+            Grammar::Script => Line {
+                moment: fields.moment()?,
+                action: script_action(alloc, &mut fields)?,
+            },
+            Grammar::Station { moment } => {
+                let kind = fields.take()?;
+                let action = station_action(alloc, kind, &mut fields)?;
+                Line { moment, action }
+            }
+        };
+        fields.end()?;
+        Ok(line)
+    }
+}
+
+fn script_action(alloc: Global, fields: &mut Fields<'_>) -> Result<Action, FieldFault>
+    ensures { IfOk result (λ action. IsTrue (is_in_range action)) }
+{
+    match fields.take()? {
+        b"open" => Ok(Action::Open {
+            account: fields.name()?,
+        }),
+        b"device" => Ok(Action::Device {
+            name: fields.name()?,
+            on: fields.choice(b"on", b"off")?,
+        }),
+        b"rate" => Ok(Action::Rate {
+            name: fields.name()?,
+            units: fields.number(1, MOST_RATE)?,
+        }),
+        b"grant" => Ok(Action::Grant {
+            account: fields.name()?,
+            month: fields.month()?,
+            pages: fields.number(0, MOST_PAGES)?,
+        }),
+        b"ipp" => Ok(Action::Ipp {
+            account: fields.name()?,
+            body: fields.bytes(alloc)?,
+        }),
+        kind => station_action(alloc, kind, fields),
+    }
+}
+
+fn station_action(alloc: Global, kind: &[u8], fields: &mut Fields<'_>) -> Result<Action, FieldFault>
+    ensures { IfOk result (λ action. IsTrue (is_in_range action)) }
+{
+    match kind {
+        b"release" => Ok(Action::Release {
+            device: fields.name()?,
+            account: fields.name()?,
+            job: fields.number(1, LAST_JOB)?,
+            password: fields.password(alloc)?,
+            impressions: fields.impressions()?,
+        }),
+        b"start" => Ok(Action::Start {
+            device: fields.name()?,
+            account: fields.name()?,
+            job: fields.number(1, LAST_JOB)?,
+        }),
+        b"settle" => Ok(Action::Settle {
+            device: fields.name()?,
+            account: fields.name()?,
+            job: fields.number(1, LAST_JOB)?,
+            impressions: fields.number(0, MOST_IMPRESSIONS)?,
+            failed: fields.choice(b"failed", b"done")?,
+        }),
+        _ => Err(FieldFault::Malformed),
+    }
+}
+
+// The fields of a line that are still to be read: `None` once the last one was.
+#[derive(Drop)]
+struct Fields<'a> {
+    rest: Option<&'a [u8]>,
+}
+
+impl<'a> Fields<'a> {
+    fn take(&mut self) -> Result<&'a [u8], FieldFault> {
+        let rest = self.rest.ok_or(FieldFault::Malformed)?;
+        match rest.iter().position(|byte| *byte == b' ') {
+            Some(end) => {
+                self.rest = Some(&rest[end + 1..]);
+                Ok(&rest[..end])
+            }
+            None => {
+                self.rest = None;
+                Ok(rest)
+            }
+        }
+    }
+
+    fn end(&self) -> Result<(), FieldFault> {
+        match self.rest {
+            None => Ok(()),
+            Some(_) => Err(FieldFault::Malformed),
+        }
+    }
+
+    fn moment(&mut self) -> Result<u64, FieldFault>
+        ensures { IfOk result (λ moment. moment ≤ 4102444799) }
+    {
+        match room_fields::decimal(self.take()?) {
+            Some(moment) if moment <= LAST_MOMENT => Ok(moment),
+            _ => Err(FieldFault::Malformed),
+        }
+    }
+
+    fn name(&mut self) -> Result<Name, FieldFault> {
+        Name::read(self.take()?).ok_or(FieldFault::Malformed)
+    }
+
+    fn number(&mut self, least: u32, most: u32) -> Result<u32, FieldFault>
+        ensures { IfOk result (λ number. (least ≤ number) × (number ≤ most)) }
+    {
+        room_fields::number(self.take()?, least, most).ok_or(FieldFault::Malformed)
+    }
+
+    fn month(&mut self) -> Result<u32, FieldFault>
+        ensures { IfOk result (λ month. (first_month ≤ month) × (month ≤ last_month)) }
+    {
+        room_fields::month(self.take()?).ok_or(FieldFault::Malformed)
+    }
+
+    fn choice(&mut self, yes: &[u8], no: &[u8]) -> Result<bool, FieldFault> {
+        room_fields::choice(self.take()?, yes, no).ok_or(FieldFault::Malformed)
+    }
+
+    fn bytes(&mut self, alloc: Global) -> Result<Vec<u8>, FieldFault> {
+        room_fields::bytes(alloc, self.take()?)
+    }
+
+    fn password(&mut self, alloc: Global) -> Result<Vec<u8>, FieldFault> {
+        match self.take()? {
+            b"-" => Ok(Vec::new(alloc)),
+            digits => room_fields::bytes(alloc, digits),
+        }
+    }
+
+    fn impressions(&mut self) -> Result<Option<u32>, FieldFault>
+        ensures { IfOk result (λ impressions. IsTrue (are_impressions impressions)) }
+    {
+        match self.take()? {
+            b"-" => Ok(None),
+            digits => match room_fields::number(digits, 1, MOST_IMPRESSIONS) {
+                Some(impressions) => Ok(Some(impressions)),
+                None => Err(FieldFault::Malformed),
+            },
+        }
+    }
+}

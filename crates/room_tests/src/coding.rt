@@ -1,0 +1,139 @@
+//! Messages that are read and written, part by part.
+
+use crate::examples::{ANSWER, REQUEST};
+use ipp_coding::{
+    Header, PutFault, ReadFault, Value, bool_of, int_of, put_attribute, put_end, put_group,
+    put_header, put_more, read_header, read_message, text_of,
+};
+use std::test::Fail;
+
+#[test]
+fn header_of_a_request(rt: HostRuntime) {
+    let header = Header {
+        major: 1,
+        minor: 1,
+        code: 4,
+        request_id: 1,
+    };
+    assert_eq!(rt; read_header(REQUEST), Some(header));
+    assert_eq!(rt; read_header(&REQUEST[..7]), None);
+}
+
+#[test]
+fn every_proper_prefix_is_malformed(rt: HostRuntime) {
+    assert_eq!(rt; REQUEST.len(), 119);
+    for length in 0..REQUEST.len() {
+        let read = read_message(rt.alloc(), &REQUEST[..length]);
+        assert!(rt; matches!(&read, Err(ReadFault::Malformed)), "{length}");
+    }
+    assert!(rt; read_message(rt.alloc(), REQUEST).is_ok());
+}
+
+#[test]
+fn the_calls_write_an_answer(rt: HostRuntime) -> Result<(), Fail> {
+    let mut out = Vec::new(rt.alloc());
+    let header = Header {
+        major: 1,
+        minor: 1,
+        code: 0,
+        request_id: 1,
+    };
+    put_header(&mut out, header)?;
+    put_group(&mut out, 0x01)?;
+    put_attribute(&mut out, 0x47, b"attributes-charset", b"utf-8")?;
+    put_attribute(&mut out, 0x48, b"attributes-natural-language", b"en")?;
+    put_end(&mut out)?;
+    assert_eq!(rt; out.as_slice(), ANSWER);
+    Ok(())
+}
+
+#[test]
+fn a_further_value(rt: HostRuntime) -> Result<(), Fail> {
+    let mut out = Vec::new(rt.alloc());
+    put_attribute(&mut out, 0x44, b"a", b"b")?;
+    put_more(&mut out, 0x44, b"c")?;
+    assert_eq!(rt;
+        out.as_slice(),
+        b"\x44\x00\x01a\x00\x01b\x44\x00\x00\x00\x01c".as_slice()
+    );
+    Ok(())
+}
+
+#[test]
+fn refusals_in_their_order(rt: HostRuntime) -> Result<(), Fail> {
+    let mut out = Vec::new(rt.alloc());
+    let mut long = Vec::new(rt.alloc());
+    long.resize(32_768, b'x')?;
+    let cases: [(u8, &[u8], &[u8], PutFault); 4] = [
+        (0x44, &long, b"b", PutFault::TooLong),
+        (0x00, b"", &long, PutFault::TooLong),
+        (0x00, b"", b"b", PutFault::EmptyName),
+        (0x0f, b"a", b"b", PutFault::BadTag),
+    ];
+    for (tag, name, value, fault) in cases {
+        let put = put_attribute(&mut out, tag, name, value);
+        assert_eq!(rt; put, Err(fault), "{tag} {}", name.len());
+    }
+    assert_eq!(rt; put_more(&mut out, 0x00, &long), Err(PutFault::TooLong));
+    assert_eq!(rt; put_more(&mut out, 0x0f, b"b"), Err(PutFault::BadTag));
+    for tag in [0x00, 0x03, 0x10, 0xff] {
+        let put = put_group(&mut out, tag);
+        assert_eq!(rt; put, Err(PutFault::BadTag), "group {tag}");
+    }
+    assert_eq!(rt; out.len(), 0);
+    Ok(())
+}
+
+#[test]
+fn numbers(rt: HostRuntime) {
+    let cases: [(u8, &[u8], Option<i32>); 7] = [
+        (0x21, b"\x00\x00\x00\x07", Some(7)),
+        (0x23, b"\x00\x00\x00\x04", Some(4)),
+        (0x21, b"\xff\xff\xff\xff", Some(-1)),
+        (0x21, b"\x80\x00\x00\x00", Some(-2147483648)),
+        (0x21, b"\x00\x00\x07", None),
+        (0x21, b"\x00\x00\x00\x00\x07", None),
+        (0x22, b"\x00\x00\x00\x07", None),
+    ];
+    for (tag, bytes, number) in cases {
+        assert_eq!(rt; int_of(Value { tag, bytes }), number, "{tag} {bytes:?}");
+    }
+}
+
+#[test]
+fn truths(rt: HostRuntime) {
+    let cases: [(u8, &[u8], Option<bool>); 6] = [
+        (0x22, b"\x00", Some(false)),
+        (0x22, b"\x01", Some(true)),
+        (0x22, b"\x02", None),
+        (0x22, b"", None),
+        (0x22, b"\x01\x01", None),
+        (0x21, b"\x01", None),
+    ];
+    for (tag, bytes, truth) in cases {
+        assert_eq!(rt; bool_of(Value { tag, bytes }), truth, "{tag} {bytes:?}");
+    }
+}
+
+#[test]
+fn texts(rt: HostRuntime) {
+    let cases: [(u8, &[u8], Option<&[u8]>); 14] = [
+        (0x41, b"abc", Some(b"abc")),
+        (0x42, b"", Some(b"")),
+        (0x44, b"none", Some(b"none")),
+        (0x49, b"text/plain", Some(b"text/plain")),
+        (0x43, b"abc", None),
+        (0x4a, b"abc", None),
+        (0x36, b"\x00\x02en\x00\x03abc", Some(b"abc")),
+        (0x35, b"\x00\x02en\x00\x03abc", Some(b"abc")),
+        (0x36, b"\x00\x00\x00\x00", Some(b"")),
+        (0x36, b"\x00\x02en\x00\x03abcd", None),
+        (0x36, b"\x00\x02en\x00\x03ab", None),
+        (0x36, b"\x00\x02en\x00", None),
+        (0x36, b"\x00\x02e", None),
+        (0x34, b"\x00\x02en\x00\x03abc", None),
+    ];
+    for (tag, bytes, text) in cases {
+        assert!(rt; text_of(Value { tag, bytes }) == text, "{tag} {bytes:?}");
+    }
+}

@@ -1,0 +1,89 @@
+//! One account's machine by itself: an account that is opened, events that do not fit, moments that are none.
+
+ghost use Rattle.std.specs.Prelude.{IsTrue};
+ghost use Rattle.room_core.specs.Fits.{fits};
+
+use crate::examples::{ANSWER, REQUEST};
+use room_core::{CoreFault, Event, Name, Reply, Room, answer, fits};
+use std::process::Abort;
+
+const NEXT_CENTURY: u64 = 4_102_444_800;
+
+fn name(rt: &impl Abort) -> Name {
+    Name::read(b"alice").expect(rt, "a name")
+}
+
+#[test]
+fn numbers_past_their_limits(rt: HostRuntime) {
+    let name = name(&rt);
+    for (month, pages) in [(23_639, 1), (25_200, 1), (25_199, 1_000_000_001)] {
+        let grant = Event::Grant {
+            account: name,
+            month,
+            pages,
+        };
+        assert!(rt; !fits(&grant), "{month} {pages}");
+    }
+    for units in [0, 101] {
+        assert!(rt; !fits(&Event::Rate { name, units }), "{units}");
+    }
+    let impressions = 2_147_483_648;
+    let settle = Event::Settle {
+        device: name,
+        account: name,
+        job: 1,
+        impressions,
+        failed: false,
+    };
+    assert!(rt; !fits(&settle));
+    let release = Event::Release {
+        device: name,
+        account: name,
+        job: 1,
+        password: b"",
+        impressions,
+    };
+    assert!(rt; !fits(&release));
+}
+
+#[test]
+fn moments_come_first(rt: HostRuntime) {
+    let account = name(&rt);
+    let short = Event::Ipp {
+        account,
+        body: b"\x01\x01\x00\x04\x00\x00\x00",
+    };
+    let mut room = None;
+    for event in &[short, Event::Open { account }] {
+        let late = answer(rt.alloc(), &mut room, &[], NEXT_CENTURY, event);
+        assert!(rt; matches!(&late, Err(CoreFault::Moment)));
+        assert!(rt; room.is_none());
+    }
+}
+
+/// The answer at the moment 1000, where no device is known.
+fn answered(rt: &(impl Abort + AllocGlobal), room: &mut Option<Room>, event: &Event<'_>) -> Reply
+    requires { IsTrue (fits event.now) }
+{
+    answer(rt.alloc(), room, &[], 1000, event)
+        .ok()
+        .expect(rt, "an answer")
+}
+
+#[test]
+fn an_account_is_opened(rt: HostRuntime) {
+    let account = name(&rt);
+    let body = REQUEST;
+    let mut room = None;
+    let before = answered(&rt, &mut room, &Event::Ipp { account, body });
+    assert!(rt; matches!(&before, Reply::NoAccount));
+    assert!(rt; room.is_none());
+    match answered(&rt, &mut room, &Event::Open { account }) {
+        Reply::Line(text) => assert_eq!(rt; text.as_slice(), b"ok".as_slice()),
+        _ => assert!(rt; false),
+    }
+    match answered(&rt, &mut room, &Event::Ipp { account, body }) {
+        Reply::Ipp(message) => assert_eq!(rt; message.as_slice(), ANSWER),
+        _ => assert!(rt; false),
+    }
+}

@@ -1,0 +1,262 @@
+//! Each call where a request for memory is refused: it answers its fault for memory and leaves what it was
+//! given as it was, and made again it gives the usual answer. Run as they are, these tests meet no refusal;
+//! `tools/refuse-memory` runs them once for each request that they make. The machine as a whole is tried by
+//! the rows of `worked_rows`.
+
+ghost use Rattle.room_texts.specs.Limits.{IsPlace};
+ghost use Rattle.room_texts.specs.Places.{plain_place};
+
+use crate::examples::REQUEST;
+use ipp_coding::{
+    Attribute, Header, List, PutFault, ReadFault, Value, put_attribute, put_end, put_group,
+    put_header, put_more, read_message,
+};
+use room_asks::{AskFault, read_ask};
+use room_rules::{CoreFault, Device, Job, JobState, Name, Standing, Word, set_device};
+use room_texts::{
+    Place, PrinterNow, Success, put_job, put_line, put_printer, put_reply, put_success,
+};
+use std::process::Abort;
+use std::test::Fail;
+
+#[test]
+fn read_message_again(rt: HostRuntime) -> Result<(), Fail> {
+    let mut read = read_message(rt.alloc(), REQUEST);
+    if matches!(read, Err(ReadFault::Memory)) {
+        read = read_message(rt.alloc(), REQUEST);
+    }
+    let message = read?;
+    assert_eq!(rt; message.groups.as_slice().len(), 1);
+    assert_eq!(rt; message.payload.len(), 0);
+    Ok(())
+}
+
+/// Makes the call, once more where memory was refused, and compares what it appended.
+fn put_parts_again<F: FnMut(&mut Vec<u8>) -> Result<(), PutFault>>(
+    rt: &(impl Abort + AllocGlobal),
+    mut put: F,
+    appended: &[u8],
+)
+    requires { F.IsAlwaysCallable put }
+{
+    let mut out = Vec::new(rt.alloc());
+    let mut answer = put(&mut out);
+    if answer == Err(PutFault::Memory) {
+        assert_eq!(rt; out.len(), 0);
+        answer = put(&mut out);
+    }
+    assert_eq!(rt; answer, Ok(()));
+    assert_eq!(rt; out.as_slice(), appended);
+}
+
+#[test]
+fn put_calls_again(rt: HostRuntime) {
+    let header = Header {
+        major: 1,
+        minor: 1,
+        code: 4,
+        request_id: 1,
+    };
+    put_parts_again(
+        &rt,
+        |out| put_header(out, header),
+        b"\x01\x01\x00\x04\x00\x00\x00\x01",
+    );
+    put_parts_again(&rt, |out| put_group(out, 0x02), b"\x02");
+    put_parts_again(
+        &rt,
+        |out| put_attribute(out, 0x44, b"a", b"b"),
+        b"\x44\x00\x01a\x00\x01b",
+    );
+    put_parts_again(
+        &rt,
+        |out| put_more(out, 0x44, b"c"),
+        b"\x44\x00\x00\x00\x01c",
+    );
+    put_parts_again(&rt, |out| put_end(out), b"\x03");
+}
+
+/// A Print-Job of alice with two job template attributes that are not supported.
+const TEMPLATES: &[u8] = b"\x01\x01\x00\x02\x00\x00\x00\x01\x01\
+    \x47\x00\x12attributes-charset\x00\x05utf-8\
+    \x48\x00\x1battributes-natural-language\x00\x02en\
+    \x45\x00\x0bprinter-uri\x00\x1fipp://localhost/ipp/print/alice\
+    \x02\x21\x00\x06copies\x00\x04\x00\x00\x00\x00\x44\x00\x05sides\x00\x09one-sided\x03";
+
+/// A Get-Jobs of alice with two requested names.
+const REQUESTED: &[u8] = b"\x01\x01\x00\x0a\x00\x00\x00\x01\x01\
+    \x47\x00\x12attributes-charset\x00\x05utf-8\
+    \x48\x00\x1battributes-natural-language\x00\x02en\
+    \x45\x00\x0bprinter-uri\x00\x1fipp://localhost/ipp/print/alice\
+    \x44\x00\x14requested-attributes\x00\x06job-id\x44\x00\x00\x00\x08job-name\x03";
+
+#[test]
+fn read_ask_again(rt: HostRuntime) -> Result<(), Fail> {
+    let alice = Name::read(b"alice").ok_or("a name")?;
+    for (body, unsupported, names) in [(TEMPLATES, 2usize, 0usize), (REQUESTED, 0, 2)] {
+        assert!(rt; body.len() >= 8);
+        let mut ask = read_ask(rt.alloc(), body, alice);
+        if matches!(&ask, Err(AskFault::Memory)) {
+            ask = read_ask(rt.alloc(), body, alice);
+        }
+        let ask = ask?;
+        assert_eq!(rt; ask.unsupported.as_slice().len(), unsupported);
+        let wanted = ask
+            .wanted
+            .as_ref()
+            .map_or(0, |names| names.as_slice().len());
+        assert_eq!(rt; wanted, names);
+    }
+    Ok(())
+}
+
+#[test]
+fn set_device_again(rt: HostRuntime) -> Result<(), Fail> {
+    let d1 = Name::read(b"d1").ok_or("a name")?;
+    let mut devices: Vec<Device> = Vec::new(rt.alloc());
+    let mut answer = set_device(&mut devices, d1, true);
+    if answer == Err(CoreFault::Memory) {
+        assert_eq!(rt; devices.len(), 0);
+        answer = set_device(&mut devices, d1, true);
+    }
+    assert_eq!(rt; answer, Ok(()));
+    assert_eq!(rt; devices.len(), 1);
+    Ok(())
+}
+
+/// Makes the call, once more where memory was refused, and looks at the end of what it appended.
+fn put_again<F: FnMut(&mut Vec<u8>) -> Result<(), CoreFault>>(
+    rt: &(impl Abort + AllocGlobal),
+    mut put: F,
+    length: usize,
+    end: &[u8],
+)
+    requires { F.IsAlwaysCallable put }
+{
+    let mut out = Vec::new(rt.alloc());
+    let mut answer = put(&mut out);
+    if answer == Err(CoreFault::Memory) {
+        assert_eq!(rt; out.len(), 0);
+        answer = put(&mut out);
+    }
+    assert_eq!(rt; answer, Ok(()));
+    assert_eq!(rt; out.len(), length);
+    assert!(rt; out.ends_with(end));
+}
+
+#[test]
+fn lines_again(rt: HostRuntime) {
+    let word = Word::Quota { need: 66, left: 65 };
+    put_again(&rt, |out| put_line(out, word), 11, b"quota 66 65");
+    let success = Success::Released {
+        reserved: 36,
+        left: 64,
+    };
+    put_again(
+        &rt,
+        |out| put_success(out, success),
+        22,
+        b"ok reserved 36 left 64",
+    );
+}
+
+#[test]
+fn reply_again(rt: HostRuntime) {
+    let header = Header {
+        major: 1,
+        minor: 1,
+        code: 2,
+        request_id: 1,
+    };
+    let mut items = Vec::new(rt.alloc());
+    if items
+        .push(Value {
+            tag: 0x10,
+            bytes: b"",
+        })
+        .is_err()
+    {
+        items = Vec::new(rt.alloc());
+        assert!(rt;
+            items
+                .push(Value {
+                    tag: 0x10,
+                    bytes: b""
+                })
+                .is_ok()
+        );
+    }
+    let unsupported = [Attribute {
+        name: b"media-col",
+        values: List { items },
+    }];
+    put_again(
+        &rt,
+        |out| put_reply(out, header, 0x040b, Some(Word::Template), &unsupported),
+        113,
+        b"\x00\x08template\x05\x10\x00\x09media-col\x00\x00",
+    );
+}
+
+fn alice(rt: &impl Abort) -> Place<'static>
+    ensures { IsPlace (plain_place result) }
+{
+    let name = Name::read(b"alice").expect(rt, "a name");
+    Place {
+        base: b"ipp://localhost",
+        name,
+        opened: 1000,
+        now: 2000,
+    }
+}
+
+#[test]
+fn job_again(rt: HostRuntime) {
+    let job = Job {
+        job: 1,
+        name: List {
+            items: Vec::new(rt.alloc()),
+        },
+        password: List {
+            items: Vec::new(rt.alloc()),
+        },
+        standing: Standing {
+            state: JobState::Pending,
+            is_open: false,
+            stopping: false,
+            copies: 1,
+            impressions: 1,
+            reserved: 1,
+            charged: 0,
+            documents: 1,
+            rate: 1,
+            device: None,
+            created: 1000,
+            started: None,
+            ended: None,
+        },
+    };
+    let place = alice(&rt);
+    put_again(
+        &rt,
+        |out| put_job(out, &place, &job, None),
+        494,
+        b"job-hold-until\x00\x0aindefinite",
+    );
+}
+
+#[test]
+fn printer_again(rt: HostRuntime) {
+    let now = PrinterNow {
+        state: 3,
+        accepting: true,
+        queued: 0,
+    };
+    let place = alice(&rt);
+    put_again(
+        &rt,
+        |out| put_printer(out, &place, now, None),
+        1087,
+        b"job-hold-until-supported\x00\x0aindefinite",
+    );
+}

@@ -1,0 +1,27 @@
+//! What is counted of jobs, at its bounds.
+
+use room_rules::JobState;
+use room_state::Tally;
+
+#[test]
+fn bounds(rt: HostRuntime) {
+    let most = Tally {
+        unfinished: 100,
+        is_processing: false,
+        reserved: 1_000_000_000_000_000_000,
+        charged: 1_000_000_000_000_000_000 - 35,
+    };
+    assert!(rt; most.with(JobState::Held, 0, 0).is_none());
+    assert!(rt; most.with(JobState::Completed, 0, 35).is_some());
+    let fewer = Tally {
+        unfinished: 0,
+        ..most
+    };
+    assert!(rt; fewer.with(JobState::Held, 0, 0).is_some());
+    assert!(rt; fewer.with(JobState::Pending, 36, 0).is_none());
+    let more = Tally {
+        charged: most.charged + 1,
+        ..most
+    };
+    assert!(rt; more.with(JobState::Completed, 0, 35).is_none());
+}

@@ -1,0 +1,123 @@
+//! The notation of messages, in which a person can read them. Each line of it stands for hexadecimal digits:
+//!
+//! - words of hexadecimal digits stand for themselves, `C` for the charset and the language, `U(alice)` for
+//!   the printer-uri `ipp://localhost/ipp/print/alice`;
+//! - `TAG NAME = VALUE` is an attribute, without a NAME a further value. A value is made of digits and of
+//!   texts in double quotes, each of them as often as `*N` behind it says;
+//! - `job ACCOUNT N STATE REASON` is the group of job N as it is answered to the request that made it;
+//! - `refused STATUS ID WORD` is the whole answer to a refused request of version 1.1.
+
+use crate::fault::Fault;
+use std::alloc::Global;
+
+const CHARSET_AND_LANGUAGE: &str =
+    "470012617474726962757465732d6368617273657400057574662d3848001b617474726962757465732d6e61747572616c2d6c616e67756167650002656e";
+
+/// Puts the digits of a line of the notation behind the text.
+pub fn spell(alloc: Global, text: &mut String, line: &str) -> Result<(), Fault> {
+    if let Some(job) = line.strip_prefix("job ") {
+        return spell_job(alloc, text, job);
+    }
+    if let Some(refusal) = line.strip_prefix("refused ") {
+        return spell_refusal(alloc, text, refusal);
+    }
+    match line.split_once(" = ") {
+        Some((tag_and_name, value)) => spell_attribute(alloc, text, tag_and_name, value),
+        None => spell_words(alloc, text, line),
+    }
+}
+
+fn spell_job(alloc: Global, text: &mut String, job: &str) -> Result<(), Fault> {
+    let words: Vec<&str> = job.split(' ').collect(alloc)?;
+    let [account, number, state, reason] = words.as_slice() else {
+        return Err(Fault::Notation("a job has four words"));
+    };
+    let uri = format!(in alloc; "\"ipp://localhost/ipp/print/{account}/{number}\"")?;
+    let number: u32 = number.parse()?;
+    let number = format!(in alloc; "{number:08x}")?;
+    let state = format!(in alloc; "0000000{state}")?;
+    let reason = format!(in alloc; "\"{reason}\"")?;
+    text.push_str("02")?;
+    spell_attribute(alloc, text, "45 job-uri", uri.as_str())?;
+    spell_attribute(alloc, text, "21 job-id", number.as_str())?;
+    spell_attribute(alloc, text, "23 job-state", state.as_str())?;
+    spell_attribute(alloc, text, "44 job-state-reasons", reason.as_str())
+}
+
+fn spell_refusal(alloc: Global, text: &mut String, refusal: &str) -> Result<(), Fault> {
+    let words: Vec<&str> = refusal.split(' ').collect(alloc)?;
+    let [status, id, word] = words.as_slice() else {
+        return Err(Fault::Notation("a refusal has three words"));
+    };
+    let header = format!(in alloc; "0101{status}{id}01{CHARSET_AND_LANGUAGE}")?;
+    let word = format!(in alloc; "\"{word}\"")?;
+    text.push_str(header.as_str())?;
+    spell_attribute(alloc, text, "41 status-message", word.as_str())?;
+    text.push_str("03")?;
+    Ok(())
+}
+
+fn spell_words(alloc: Global, text: &mut String, line: &str) -> Result<(), Fault> {
+    for word in line.split(' ') {
+        if word == "C" {
+            text.push_str(CHARSET_AND_LANGUAGE)?;
+        } else if let Some(name) = printer(word) {
+            let uri = format!(in alloc; "\"ipp://localhost/ipp/print/{name}\"")?;
+            spell_attribute(alloc, text, "45 printer-uri", uri.as_str())?;
+        } else {
+            text.push_str(word)?;
+        }
+    }
+    Ok(())
+}
+
+fn printer(word: &str) -> Option<&str> {
+    word.strip_prefix("U(")?.strip_suffix(")")
+}
+
+fn spell_attribute(
+    alloc: Global,
+    text: &mut String,
+    tag_and_name: &str,
+    value: &str,
+) -> Result<(), Fault> {
+    let (tag, name) = tag_and_name.split_once(' ').unwrap_or((tag_and_name, ""));
+    text.push_str(tag)?;
+    spell_field(alloc, text, hex::encode(alloc, name.as_bytes())?.as_str())?;
+    spell_field(alloc, text, digits_of(alloc, value)?.as_str())
+}
+
+/// The digits of a value's parts, each as often as it is to stand.
+fn digits_of(alloc: Global, value: &str) -> Result<String, Fault> {
+    let mut digits = String::new(alloc);
+    let mut part = String::new(alloc);
+    let mut is_text = false;
+    for piece in value.split('"') {
+        if is_text {
+            part = hex::encode(alloc, piece.as_bytes())?;
+            digits.push_str(part.as_str())?;
+        } else {
+            for word in piece.split(' ') {
+                let (word, times) = word.split_once('*').unwrap_or((word, "1"));
+                if !word.is_empty() {
+                    part = String::from_str(alloc, word)?;
+                    digits.push_str(part.as_str())?;
+                }
+                let times: u32 = times.parse()?;
+                for _ in 1..times {
+                    digits.push_str(part.as_str())?;
+                }
+            }
+        }
+        is_text = !is_text;
+    }
+    Ok(digits)
+}
+
+/// A length in two bytes, and the bytes.
+fn spell_field(alloc: Global, text: &mut String, digits: &str) -> Result<(), Fault> {
+    let length = format!(in alloc; "{:04x}", digits.len() / 2)?;
+    text.push_str(length.as_str())?;
+    text.push_str(digits)?;
+    Ok(())
+}

@@ -1,0 +1,189 @@
+//! What commands answer, and how it is printed.
+
+use ipp_coding::List;
+use room_rules::{Account, Document, Job, JobState, Name, Standing};
+use room_state::Tally;
+use room_store::{OpenFault, StoreFault};
+use sqlite::ErrorCode;
+use std::io;
+use std::io::Write;
+
+#[derive(Drop)]
+pub enum Answer {
+    Ok,
+    Account(Option<Account>),
+    Flag(Option<bool>),
+    Choice(bool),
+    Number(Option<u32>),
+    Units(u64),
+    Integer(i64),
+    Count(usize),
+    Tally(Tally),
+    Job(Option<Job>),
+    Jobs(List<Job>),
+    Documents(List<Document>),
+    /// Why a call was refused.
+    Store(StoreFault),
+    Open(OpenFault),
+    Statement(sqlite::Error),
+}
+
+impl Answer {
+    /// Prints its lines, each with a line feed.
+    pub fn print<W: Write>(&self, output: &mut W) -> io::Result<()> {
+        match self {
+            Answer::Ok => writeln!(output, "ok"),
+            Answer::Account(None) | Answer::Flag(None) | Answer::Number(None) | Answer::Job(None) =>
+                writeln!(output, "none"),
+            Answer::Account(Some(account)) => {
+                writeln!(
+                    output,
+                    "opened {} next {}",
+                    account.opened, account.next_job
+                )
+            }
+            Answer::Flag(Some(on)) => writeln!(output, "{}", if *on { "on" } else { "off" }),
+            Answer::Choice(yes) => writeln!(output, "{}", if *yes { "yes" } else { "no" }),
+            Answer::Number(Some(number)) => writeln!(output, "{number}"),
+            Answer::Units(units) => writeln!(output, "{units}"),
+            Answer::Integer(integer) => writeln!(output, "{integer}"),
+            Answer::Count(count) => writeln!(output, "{count}"),
+            Answer::Tally(tally) => print_tally(output, tally),
+            Answer::Job(Some(job)) => print_job(output, job),
+            Answer::Jobs(jobs) => print_jobs(output, jobs.as_slice()),
+            Answer::Documents(documents) => print_documents(output, documents.as_slice()),
+            Answer::Store(fault) => writeln!(output, "{}", store_word(*fault)),
+            Answer::Open(fault) => print_open_fault(output, *fault),
+            Answer::Statement(error) => writeln!(output, "{}", statement_word(*error)),
+        }
+    }
+}
+
+fn print_tally<W: Write>(output: &mut W, tally: &Tally) -> io::Result<()> {
+    let doing = if tally.is_processing {
+        "processing"
+    } else {
+        "idle"
+    };
+    writeln!(
+        output,
+        "unfinished {} {doing} reserved {} charged {}",
+        tally.unfinished, tally.reserved, tally.charged
+    )
+}
+
+fn print_job<W: Write>(output: &mut W, job: &Job) -> io::Result<()> {
+    write!(output, "{} ", job.job)?;
+    print_bytes(output, job.name.as_slice())?;
+    output.write_all(b" ")?;
+    print_bytes(output, job.password.as_slice())?;
+    output.write_all(b" ")?;
+    print_standing(output, &job.standing)
+}
+
+fn print_standing<W: Write>(output: &mut W, standing: &Standing) -> io::Result<()> {
+    let open = if standing.is_open { "open" } else { "closed" };
+    let stopping = if standing.stopping {
+        "stopping"
+    } else {
+        "going"
+    };
+    write!(output, "{} {open} {stopping} ", state_word(standing.state))?;
+    write!(
+        output,
+        "{} {} {} {} ",
+        standing.copies, standing.impressions, standing.reserved, standing.charged
+    )?;
+    write!(output, "{} {} ", standing.documents, standing.rate)?;
+    print_name(output, standing.device)?;
+    write!(output, " {} ", standing.created)?;
+    print_moment(output, standing.started)?;
+    output.write_all(b" ")?;
+    print_moment(output, standing.ended)?;
+    output.write_all(b"\n")
+}
+
+fn print_name<W: Write>(output: &mut W, name: Option<Name>) -> io::Result<()> {
+    match name {
+        Some(name) => output.write_all(name.bytes()),
+        None => output.write_all(b"-"),
+    }
+}
+
+fn print_moment<W: Write>(output: &mut W, moment: Option<u64>) -> io::Result<()> {
+    match moment {
+        Some(moment) => write!(output, "{moment}"),
+        None => output.write_all(b"-"),
+    }
+}
+
+fn print_jobs<W: Write>(output: &mut W, jobs: &[Job]) -> io::Result<()> {
+    if jobs.is_empty() {
+        return output.write_all(b"none\n");
+    }
+    for job in jobs {
+        write!(output, "{} ", job.job)?;
+        print_bytes(output, job.name.as_slice())?;
+        output.write_all(b"\n")?;
+    }
+    Ok(())
+}
+
+fn print_documents<W: Write>(output: &mut W, documents: &[Document]) -> io::Result<()> {
+    if documents.is_empty() {
+        return output.write_all(b"none\n");
+    }
+    for document in documents {
+        let format = document.format.media_type();
+        write!(output, "{} {} {format} ", document.job, document.number)?;
+        print_bytes(output, document.bytes.as_slice())?;
+        output.write_all(b"\n")?;
+    }
+    Ok(())
+}
+
+fn print_bytes<W: Write>(output: &mut W, bytes: &[u8]) -> io::Result<()> {
+    if bytes.is_empty() {
+        return output.write_all(b"-");
+    }
+    for byte in bytes {
+        write!(output, "{byte:02x}")?;
+    }
+    Ok(())
+}
+
+fn print_open_fault<W: Write>(output: &mut W, fault: OpenFault) -> io::Result<()> {
+    match fault {
+        OpenFault::NotOurs => writeln!(output, "not-ours"),
+        OpenFault::WrongVersion(version) => writeln!(output, "version {version}"),
+        OpenFault::Storage => writeln!(output, "storage"),
+        OpenFault::Memory => writeln!(output, "memory"),
+    }
+}
+
+fn state_word(state: JobState) -> &'static str {
+    match state {
+        JobState::Held => "held",
+        JobState::Pending => "pending",
+        JobState::Processing => "processing",
+        JobState::Canceled => "canceled",
+        JobState::Aborted => "aborted",
+        JobState::Completed => "completed",
+    }
+}
+
+fn store_word(fault: StoreFault) -> &'static str {
+    match fault {
+        StoreFault::Storage => "storage",
+        StoreFault::Memory => "memory",
+        StoreFault::Moment => "moment",
+        StoreFault::Damaged => "damaged",
+    }
+}
+
+fn statement_word(error: sqlite::Error) -> &'static str {
+    match error {
+        sqlite::Error::SqliteFailure(ErrorCode::OutOfMemory) => "memory",
+        _ => "refused",
+    }
+}

@@ -1,0 +1,109 @@
+//! The commands that read rows, each of which makes one call:
+//!
+//! - `account NAME` answers `opened MOMENT next NUMBER`, `device NAME` whether it is `on` or `off`, `rate NAME`
+//!   and `grant NAME MONTH` a number, each of them `none` where there is no row;
+//! - `is-device-on` answers `yes` or `no`, `granted NAME MONTH` a number;
+//! - `tally NAME` answers `unfinished COUNT idle|processing reserved UNITS charged UNITS`;
+//! - `job NAME NUMBER` answers the words that `set-job` takes behind the account;
+//! - `unfinished NAME LIMIT` and `ended NAME LIMIT` answer the number and the name of each job;
+//! - `documents NAME JOB` answers the job, the number, the format and the bytes of each document.
+
+use crate::answer::Answer;
+use crate::fault::Fault;
+use crate::fields::Fields;
+use room_rules::Name;
+use room_statements::{
+    ended_jobs, find_account, find_device, find_documents, find_grant, find_job, find_rate,
+    granted_to, is_device_on, tally_jobs, unfinished_jobs,
+};
+use sqlite::{Alter, Connection};
+use std::alloc::Global;
+
+#[derive(Clone, Copy)]
+pub enum Ask {
+    Account { name: Name },
+    Device { name: Name },
+    IsDeviceOn,
+    Rate { name: Name },
+    Grant { name: Name, month: u32 },
+    Granted { name: Name, month: u32 },
+    Tally { name: Name },
+    Job { name: Name, job: u32 },
+    Unfinished { name: Name, limit: Option<u32> },
+    Ended { name: Name, limit: Option<u32> },
+    Documents { name: Name, job: u32 },
+}
+
+impl Ask {
+    /// What a command of the kind asks for, if it reads rows.
+    pub fn read(kind: &str, fields: &mut Fields<'_>) -> Result<Option<Ask>, Fault> {
+        let ask = match kind {
+            "account" => Ask::Account {
+                name: fields.name()?,
+            },
+            "device" => Ask::Device {
+                name: fields.name()?,
+            },
+            "is-device-on" => Ask::IsDeviceOn,
+            "rate" => Ask::Rate {
+                name: fields.name()?,
+            },
+            "grant" => Ask::Grant {
+                name: fields.name()?,
+                month: fields.number()?,
+            },
+            "granted" => Ask::Granted {
+                name: fields.name()?,
+                month: fields.number()?,
+            },
+            "tally" => Ask::Tally {
+                name: fields.name()?,
+            },
+            "job" => Ask::Job {
+                name: fields.name()?,
+                job: fields.number()?,
+            },
+            "unfinished" => Ask::Unfinished {
+                name: fields.name()?,
+                limit: fields.number_or_none()?,
+            },
+            "ended" => Ask::Ended {
+                name: fields.name()?,
+                limit: fields.number_or_none()?,
+            },
+            "documents" => Ask::Documents {
+                name: fields.name()?,
+                job: fields.number()?,
+            },
+            _ => return Ok(None),
+        };
+        fields.end()?;
+        Ok(Some(ask))
+    }
+
+    pub fn call<S: Alter>(
+        self,
+        alloc: Global,
+        connection: &mut Connection<S>,
+    ) -> Result<Answer, Fault> {
+        Ok(match self {
+            Ask::Account { name } => Answer::Account(find_account(connection, name)?),
+            Ask::Device { name } => Answer::Flag(find_device(connection, name)?),
+            Ask::IsDeviceOn => Answer::Choice(is_device_on(connection)?),
+            Ask::Rate { name } => Answer::Number(find_rate(connection, name)?),
+            Ask::Grant { name, month } => Answer::Number(find_grant(connection, name, month)?),
+            Ask::Granted { name, month } => Answer::Units(granted_to(connection, name, month)?),
+            Ask::Tally { name } => Answer::Tally(tally_jobs(connection, name)?),
+            Ask::Job { name, job } => Answer::Job(find_job(connection, name, job)?),
+            Ask::Unfinished { name, limit } => {
+                Answer::Jobs(unfinished_jobs(alloc, connection, name, limit)?)
+            }
+            Ask::Ended { name, limit } => {
+                Answer::Jobs(ended_jobs(alloc, connection, name, limit)?)
+            }
+            Ask::Documents { name, job } => {
+                Answer::Documents(find_documents(alloc, connection, name, job)?)
+            }
+        })
+    }
+}

@@ -1,0 +1,171 @@
+//! The database that the commands of a row run on. A call that is refused memory is made once more, so that a
+//! row answers the same where one request for memory is refused; so is a call on a store that the storage
+//! refuses, since the storage may have been refused memory.
+
+use crate::answer::Answer;
+use crate::command::{Command, StoreCall};
+use crate::fault::{Fault, Wrong};
+use room_store::{OpenFault, Refused, Store};
+use sqlite::{Alter, Connection, File, FileStore, MemStore};
+use std::fs;
+
+#[derive(Drop)]
+pub enum Database {
+    Memory(Connection<MemStore>),
+    File(Connection<FileStore<File>>),
+}
+
+impl Database {
+    /// An empty one in memory.
+    pub fn new(rt: &HostRuntime) -> Result<Database, Fault> {
+        Ok(Database::Memory(Connection::open_in_memory(rt.alloc())?))
+    }
+
+    fn in_file(rt: &HostRuntime, name: &str) -> Result<Database, Fault> {
+        match Connection::open(rt, name) {
+            Ok(connection) => Ok(Database::File(connection)),
+            Err(_) => Ok(Database::File(Connection::open(rt, name)?)),
+        }
+    }
+
+    /// The database after a command, and what the command answers.
+    pub fn run(self, rt: &HostRuntime, command: &Command<'_>) -> Result<(Database, Answer), Fault> {
+        match command {
+            Command::File(name) => {
+                drop(self);
+                Ok((Database::in_file(rt, name)?, Answer::Ok))
+            }
+            Command::Memory => Ok((Database::new(rt)?, Answer::Ok)),
+            Command::Remove(name) => {
+                drop(self);
+                let _ = fs::remove_file(rt, name);
+                Ok((Database::new(rt)?, Answer::Ok))
+            }
+            _ => match self {
+                Database::Memory(connection) => {
+                    let (connection, answer) = run_on(rt, connection, command)?;
+                    Ok((Database::Memory(connection), answer))
+                }
+                Database::File(connection) => {
+                    let (connection, answer) = run_on(rt, connection, command)?;
+                    Ok((Database::File(connection), answer))
+                }
+            },
+        }
+    }
+}
+
+fn run_on<S: Alter + Drop>(
+    rt: &HostRuntime,
+    connection: Connection<S>,
+    command: &Command<'_>,
+) -> Result<(Connection<S>, Answer), Fault> {
+    if let Command::Store(call) = command {
+        return store(connection, *call);
+    }
+    let mut connection = connection;
+    let mut answer = answered(rt, &mut connection, command);
+    if is_refused_memory(&answer) {
+        answer = answered(rt, &mut connection, command);
+    }
+    match answer {
+        Ok(answer) => Ok((connection, answer)),
+        Err(Fault::Store(fault)) => Ok((connection, Answer::Store(fault))),
+        Err(Fault::Statement(error)) => Ok((connection, Answer::Statement(error))),
+        Err(fault) => Err(fault),
+    }
+}
+
+fn is_refused_memory(answer: &Result<Answer, Fault>) -> bool {
+    match answer {
+        Ok(_) => false,
+        Err(fault) => fault.is_refused_memory(),
+    }
+}
+
+fn answered<S: Alter>(
+    rt: &HostRuntime,
+    connection: &mut Connection<S>,
+    command: &Command<'_>,
+) -> Result<Answer, Fault> {
+    match command {
+        Command::Ask(ask) => ask.call(rt.alloc(), connection),
+        Command::Change(change) => {
+            change.call(connection)?;
+            Ok(Answer::Ok)
+        }
+        Command::Sql(text) => run_batch(connection, text),
+        Command::Read(file) => {
+            let text = read_text(rt, file)?;
+            run_batch(connection, text.as_str())
+        }
+        Command::Number(text) => number(connection, text),
+        Command::Begin => {
+            connection.execute_batch("BEGIN")?;
+            Ok(Answer::Ok)
+        }
+        Command::Tables => Ok(Answer::Count(tables(connection))),
+        Command::Store(_) | Command::File(_) | Command::Memory | Command::Remove(_) => {
+            Err(Fault::Notation(Wrong::Command))
+        }
+    }
+}
+
+/// What a file says. Where it can't be read, it is read once more.
+pub fn read_text(rt: &HostRuntime, file: &str) -> Result<String, Fault> {
+    match fs::read_to_string(rt, file) {
+        Ok(text) => Ok(text),
+        Err(_) => Ok(fs::read_to_string(rt, file)?),
+    }
+}
+
+fn run_batch<S: Alter>(connection: &mut Connection<S>, text: &str) -> Result<Answer, Fault> {
+    if !connection.is_autocommit() {
+        return Err(Fault::Notation(Wrong::InTransaction));
+    }
+    let mut transaction = connection.transaction();
+    transaction.execute_batch(text)?;
+    transaction.commit()?;
+    Ok(Answer::Ok)
+}
+
+fn number<S: Alter>(connection: &mut Connection<S>, text: &str) -> Result<Answer, Fault> {
+    Ok(Answer::Integer(connection.query_row(text, &[])?.get(0)?))
+}
+
+fn tables<S: Alter>(connection: &Connection<S>) -> usize {
+    connection.schema().tables.as_slice().len()
+}
+
+fn store<S: Alter + Drop>(
+    connection: Connection<S>,
+    call: StoreCall,
+) -> Result<(Connection<S>, Answer), Fault> {
+    let (connection, answer) = store_once(connection, call)?;
+    match answer {
+        Answer::Open(OpenFault::Memory | OpenFault::Storage) => store_once(connection, call),
+        _ => Ok((connection, answer)),
+    }
+}
+
+/// A call that is refused has to leave as many tables as there were.
+fn store_once<S: Alter + Drop>(
+    connection: Connection<S>,
+    call: StoreCall,
+) -> Result<(Connection<S>, Answer), Fault> {
+    let before = tables(&connection);
+    let result = match call {
+        StoreCall::Create => Store::create(connection),
+        StoreCall::Open => Store::open(connection),
+        StoreCall::Migrate => Store::migrate(connection),
+    };
+    match result {
+        Ok(store) => Ok((store.close(), Answer::Ok)),
+        Err(Refused { connection, fault }) => {
+            if tables(&connection) != before {
+                return Err(Fault::Changed);
+            }
+            Ok((connection, Answer::Open(fault)))
+        }
+    }
+}

@@ -1,0 +1,119 @@
+//! Why nothing could be measured, or no row held.
+use room_fields::FieldFault;
+use room_store::{OpenFault, StoreFault};
+use sqlite::ErrorCode;
+use std::alloc::{AllocError, AllocFailed};
+use std::io;
+use thiserror::Error;
+
+#[derive(Debug, Drop, Error)]
+pub enum Fault {
+    /// A line that the notation of rows does not have.
+    #[error("{0}")]
+    Notation(Wrong),
+    #[error("{0}")]
+    Store(StoreFault),
+    #[error("{0}")]
+    Open(OpenFault),
+    #[error("{0}")]
+    Statement(sqlite::Error),
+    /// What is filled in or set is not what the tables take.
+    #[error("the rows that are filled in are not sound")]
+    Filling,
+    /// A call that was refused left other tables behind.
+    #[error("a call that was refused changed the tables")]
+    Changed,
+    #[error("memory ran out")]
+    Memory,
+    #[error("{0}")]
+    Io(io::Error),
+}
+
+/// What is wrong in the lines of rows.
+#[derive(Clone, Copy, Debug, Error)]
+pub enum Wrong {
+    #[error("a file begins with a row's title")]
+    NoTitle,
+    #[error("a line is no line of a row")]
+    Line,
+    #[error("a line goes on with no command")]
+    NoCommand,
+    #[error("there is no such command")]
+    Command,
+    #[error("a word is missing")]
+    MissingWord,
+    #[error("a word too many")]
+    FurtherWord,
+    #[error("a word is no name")]
+    Name,
+    #[error("a word is no number")]
+    Number,
+    #[error("a word is none of the two that may stand there")]
+    Choice,
+    #[error("a word is no row of hexadecimal digits")]
+    Bytes,
+    #[error("a word is no format")]
+    Format,
+    #[error("a word is no state")]
+    State,
+    #[error("a transaction is open")]
+    InTransaction,
+    #[error("an answer is no text")]
+    Answer,
+}
+
+impl Fault {
+    /// Whether a call was refused memory.
+    pub fn is_refused_memory(&self) -> bool {
+        match self {
+            Fault::Store(StoreFault::Memory) => true,
+            Fault::Statement(sqlite::Error::SqliteFailure(ErrorCode::OutOfMemory)) => true,
+            _ => false,
+        }
+    }
+}
+
+impl From<StoreFault> for Fault {
+    fn from(fault: StoreFault) -> Fault {
+        Fault::Store(fault)
+    }
+}
+
+impl From<OpenFault> for Fault {
+    fn from(fault: OpenFault) -> Fault {
+        Fault::Open(fault)
+    }
+}
+
+impl From<sqlite::Error> for Fault {
+    fn from(error: sqlite::Error) -> Fault {
+        Fault::Statement(error)
+    }
+}
+
+impl From<FieldFault> for Fault {
+    fn from(fault: FieldFault) -> Fault {
+        match fault {
+            FieldFault::Malformed => Fault::Notation(Wrong::Bytes),
+            FieldFault::Memory => Fault::Memory,
+        }
+    }
+}
+
+impl From<io::Error> for Fault {
+    fn from(error: io::Error) -> Fault {
+        Fault::Io(error)
+    }
+}
+
+impl From<AllocError> for Fault {
+    fn from(_error: AllocError) -> Fault {
+        Fault::Memory
+    }
+}
+
+impl<T: Drop> From<AllocFailed<T>> for Fault {
+    fn from(_error: AllocFailed<T>) -> Fault {
+        Fault::Memory
+    }
+}
