@@ -1,6 +1,7 @@
 //! Files of rows. The line `# TITLE` begins a row, which starts on an empty database in memory; the lines behind
 //! it are its commands and what they answer. Where memory is refused outside of the calls, the row is held once
-//! more: with `measure` left out, every row holds whichever one request for memory is refused.
+//! more. So a row holds whichever one request for memory is refused: `rt try --fail-alloc N -- FILE.rows`
+//! refuses one.
 
 use crate::command::Command;
 use crate::database::{Database, read_text};
