@@ -4,10 +4,10 @@ ghost use Rattle.sqlite.specs.Held.{state};
 ghost use Rattle.room_tables.specs.Tables.{no_schema};
 ghost use Rattle.room_tables.specs.Making.{IsNew, IsOpened, IsOpenFault};
 ghost use Rattle.room_tables.specs.Calls.{IsSame};
-ghost use Rattle.room_tables.specs.Keyed.{HasSchema};
+ghost use Rattle.room_tables.specs.Keyed.{AreNumbered, HasSchema};
 ghost use Rattle.room_tables.specs.Accounts.{AgreeOnRows, Holds};
 ghost use Rattle.room_tables.specs.Devices.{Devices, HoldsDevices};
-ghost use Rattle.room_tables.specs.Migrating.{HasFirstSchema, HoldsFirstDevices, IsMigrated, IsMigrateFault};
+ghost use Rattle.room_tables.specs.Migrating.{HoldsFirstDevices, IsMigrated, IsMigrateFault};
 ghost use Rattle.room_state.specs.Rooms.{RoomValue};
 
 use room_tables::{OpenFault, check, is_blank, make_tables, migrate_tables};
@@ -65,11 +65,13 @@ impl<S: Alter> Store<S> {
         }
     }
 
-    /// Opens a database of version 2 as it is. The schema is compared first: `NotOurs` tells that it is
-    /// none of ours, or has no version, and `WrongVersion` that it is one of another version. `Storage`
-    /// tells also that the connection is in a transaction.
+    /// Opens a database of version 2 as it is. The version is read first, wherever the first table is that
+    /// of the version: `WrongVersion` tells one that is not 2, whatever other tables there are, and
+    /// `NotOurs` that none can be read, or that it is 2 over other tables. `Storage` tells also that the
+    /// connection is in a transaction.
     pub fn open(mut connection: Connection<S>) -> Result<Store<S>, Refused<S>>
         ensures opened { IfOk result (λ store. HasCleanDisk (state S.Store store) → IsOpened (state S.Store connection).now × IsSame (state S.Store connection) (state S.Store store)) }
+        ensures has_schema { IfOk result (λ store. HasCleanDisk (state S.Store store) → AreNumbered (state S.Store connection).now.schema.tables (state S.Store connection).now → HasSchema (state S.Store store).now) }
         ensures fault { IfErr result (λ refused. HasCleanDisk (state S.Store refused.connection) → IsOpenFault (state S.Store connection).now refused.fault) }
         ensures unchanged { IfErr result (λ refused. HasCleanDisk (state S.Store refused.connection) → IsTrue (state S.Store refused.connection).is_open → (state S.Store refused.connection).now ≡ (state S.Store connection).now) }
     {
@@ -86,11 +88,13 @@ impl<S: Alter> Store<S> {
     }
 
     /// Makes version 2 of a database of version 1: each device has rate 1, and each account keeps its rows.
-    /// Version 2 is opened as it is. The schema is compared first, as `open` does. `Storage` tells also that
-    /// a database of version 1 has the table `rates` already, or that the connection is in a transaction.
+    /// Version 2 is opened as it is. The version is read first, as `open` does: `WrongVersion` tells one that
+    /// is neither 1 nor 2, `NotOurs` that none can be read, or that it is over other tables than its own.
+    /// `Storage` tells also that a database of version 1 has the tables of version 2, among them the table
+    /// `rates` that would be made, or that the connection is in a transaction.
     pub fn migrate(mut connection: Connection<S>) -> Result<Store<S>, Refused<S>>
         ensures migrated { IfOk result (λ store. HasCleanDisk (state S.Store store) → ((IsOpened (state S.Store connection).now × IsSame (state S.Store connection) (state S.Store store)) ⊎ IsMigrated (state S.Store connection).now (state S.Store store).now)) }
-        ensures has_schema { IfOk result (λ store. HasCleanDisk (state S.Store store) → (HasFirstSchema (state S.Store connection).now ⊎ HasSchema (state S.Store connection).now) → HasSchema (state S.Store store).now) }
+        ensures has_schema { IfOk result (λ store. HasCleanDisk (state S.Store store) → AreNumbered (state S.Store connection).now.schema.tables (state S.Store connection).now → HasSchema (state S.Store store).now) }
         ensures rows { IfOk result (λ store. HasCleanDisk (state S.Store store) → (name : List ℕ) → AgreeOnRows name (state S.Store connection).now (state S.Store store).now) }
         ensures rooms { IfOk result (λ store. HasCleanDisk (state S.Store store) → (name : List ℕ) (room : Option RoomValue) → Holds (state S.Store connection).now name room → Holds (state S.Store store).now name room) }
         ensures devices { IfOk result (λ store. HasCleanDisk (state S.Store store) → (devices : Devices) → HoldsFirstDevices (state S.Store connection).now devices → HoldsDevices (state S.Store store).now devices) }

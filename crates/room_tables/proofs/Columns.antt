@@ -125,6 +125,10 @@ pub each_behind : (vs : Row) (place : ℕ) (r : Row) → EachIs (place + 1) vs r
 each_behind [] place r are = tt
 each_behind (v ∷ vs) place r are = (column_behind r place ∙ are.0, each_behind vs (place + 1) r are.1)
 
+pub each_before : (vs : Row) (place : ℕ) (r : Row) → EachIs place vs (drop 1 r) → EachIs (place + 1) vs r
+each_before [] place r are = tt
+each_before (v ∷ vs) place r are = (sym (column_behind r place) ∙ are.0, each_before vs (place + 1) r are.1)
+
 pub cells_behind : (n place : ℕ) (r : Row) → cells_from n (place + 1) r ≡ cells_from n place (drop 1 r)
 cells_behind zero place r = refl
 cells_behind (suc n) place r = ap (λ v. v ∷ cells_from n (place + 1 + 1) r) (sym (column_behind r place)) ∙ ap (λ vs. column (drop 1 r) place ∷ vs) (cells_behind n (place + 1) r)

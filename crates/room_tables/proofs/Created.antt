@@ -1,7 +1,7 @@
 -- What the statements leave that make the tables.
 use Rattle.std.proofs.Common.{◌≡◌, ◌≢◌, arith, suc, ℕ, pos, List, [], ◌∷◌, drop, find, option_map, None, Ok, refl, sym, ap, subst, ◌∙◌, inl, inr}
 use Rattle.std.proofs.lemmas.Bool.{cases_eq}
-use Rattle.sqlite_value.specs.declared.value.Value.TheVariants.{Null, Int, Text}
+use Rattle.sqlite_value.specs.declared.value.Value.TheVariants.{Int, Text}
 use Rattle.sqlite_value.specs.Order.{Row}
 use Rattle.sqlite_trees.specs.Tree.{Trees}
 use Rattle.sqlite_trees.specs.View.{IsShaped}
@@ -24,7 +24,7 @@ use Rattle.sqlite.specs.State.{State, Writes, Executes, mode_of}
 use Rattle.sqlite.proofs.Callers.{statement_of, runs_as, one_step}
 use Rattle.room_tables.specs.Tables.{room_schema, meta, account, job, document, grants, device, rates}
 use Rattle.room_tables.specs.Keyed.{has_key, row_at}
-use Rattle.room_tables.specs.Making.{IsBlank, IsNew}
+use Rattle.room_tables.specs.Making.{IsBlank, IsNew, version_row}
 use Rattle.room_tables.proofs.MakingTexts.{Makes, version_text, version_terms, version_is, version_plain}
 use Rattle.room_tables.proofs.Upserts.{went, same_value, cast_integer, cast_null, integer_equal}
 
@@ -63,9 +63,6 @@ creates schema text table makes old new count h blank =
 
 -- ---- the row of the version
 
-abbrev version_row : Row
-version_row = Int (pos 1) ∷ Null ∷ Int (pos 2) ∷ []
-
 apart : (m : ℕ) → suc m ≢ 0
 apart m e = omega (arith, e)
 
@@ -86,8 +83,8 @@ numbers_version old new count h blank =
     let counted = went written.2 in
     let trees : new.now.trees ≡ written.0 = ap (λ (d : Database). d.trees) now ∙ ap (λ (it : Written). it.trees) (same_value counted.2) ∙ same_value counted.1 in
     let step = one_step room_schema Enforced db written.0 (edit_of db meta [] Chosen 0 sourced.0) refl written.1 in
-    let edit : edited db (edit_of db meta [] Chosen 0 sourced.0) ≡ version_row ∷ [] = ap (λ all. edited db (edit_of db meta [] Chosen 0 all)) sourced.1.1 ∙ rw (none, cast_null, cast_integer (pos 1), cast_integer (pos 2)) refl in
-    let rows : new.now.trees 0 ≡ version_row ∷ [] = ap (λ (t : Trees). t 0) trees ∙ step.rows ∙ edit in
+    let edit : edited db (edit_of db meta [] Chosen 0 sourced.0) ≡ version_row (pos 2) ∷ [] = ap (λ all. edited db (edit_of db meta [] Chosen 0 all)) sourced.1.1 ∙ rw (none, cast_null, cast_integer (pos 1), cast_integer (pos 2)) refl in
+    let rows : new.now.trees 0 ≡ version_row (pos 2) ∷ [] = ap (λ (t : Trees). t 0) trees ∙ step.rows ∙ edit in
     let others : (t : Table) → Has room_schema.tables t → t.tree ≢ 0 → new.now.trees t.tree ≡ [] = λ t listed other.
     ap (λ (f : Trees). f t.tree) trees ∙ all_has (λ u. u.tree ≢ 0 → written.0 u.tree ≡ db u.tree) room_schema.tables t step.tables listed other ∙ all_has (λ u. db u.tree ≡ []) room_schema.tables t blank.1 listed in
     record {
@@ -99,7 +96,8 @@ numbers_version old new count h blank =
           | inr other ↦ subst (IsShaped shape.Table) (sym (others t listed other)) (tt, tt)
         ]);
       };
-      version_two = (version_row, (subst (λ all. Has all version_row) (sym rows) (inl refl), integer_equal (pos 1)), refl);
+      one_version = rows;
+      version_two = (version_row (pos 2), (subst (λ all. Has all (version_row (pos 2))) (sym rows) (inl refl), integer_equal (pos 1)), refl);
       no_row = all_from (λ t. t.tree ≢ 0 → new.now.trees t.tree ≡ []) room_schema.tables others;
       no_account = λ name. record {
         no_account = nothing_at account (Text name ∷ []) new.now (others account (inr (inl refl)) (apart 0));

@@ -14,9 +14,11 @@ pub mod KeyedTables
 pub mod KeyedRows
 pub mod Settings
 pub mod NoneTwice
+pub mod RowOfKey
 pub mod RowsUnder
 pub mod MapRows
 pub mod RatingText
 pub mod RatedLemmas
 pub mod VersionTwo
 pub mod AgreedRows
+pub mod SameByKey

@@ -1,16 +1,19 @@
 -- What the text means that asks for the version, and what it finds.
-use Rattle.std.proofs.Common.{◌≡◌, ◌≢◌, Result, Ok, Err, IfOk, MatchOption, ℕ, ℤ, true, List, [], ◌∷◌, codes, Option, None, Some, refl, sym, ap, subst, ◌∙◌, inl, inr}
+use Rattle.std.proofs.Common.{◌≡◌, ◌≢◌, Result, Ok, Err, IfOk, MatchOption, ℕ, ℤ, true, List, [], ◌∷◌, codes, Option, None, Some, refl, sym, ap, subst, slice_get, ◌∙◌, inl, inr}
 use Rattle.std.proofs.Math.Bool.{and-true}
 use Rattle.sqlite_tied.specs.Compute.{everything}
 use Rattle.sqlite_value.specs.declared.value.Value.TheVariants.{Int}
 use Rattle.sqlite_value.specs.Order.{Row, column}
 use Rattle.sqlite_sql.specs.Term.{col}
 use Rattle.sqlite_schema.specs.declared.schema.Schema.{Schema}
+use Rattle.sqlite_schema.specs.declared.schema.Table.{Table}
+use Rattle.sqlite_schema.specs.declared.schema.Index.{Index}
+use Rattle.sqlite_schema.specs.declared.schema.View.{View}
 use Rattle.sqlite.specs.Effect.{Database}
 use Rattle.sqlite.specs.Listing.{understood}
-use Rattle.room_tables.specs.Tables.{room_schema, first_schema}
+use Rattle.room_tables.specs.Tables.{meta}
 use Rattle.room_tables.specs.declared.fault.OpenFault.{OpenFault}
-use Rattle.room_tables.specs.Making.{IsOurs, version_tests, IsVersionRow, HasVersion, LacksVersion}
+use Rattle.room_tables.specs.Making.{KeepsVersion, version_tests, IsVersionRow, HasVersion, LacksVersion}
 use Rattle.room_tables.specs.Queries.{Means, Takes, of_table, passes, shows_of, shown_of, IsFirst}
 use Rattle.room_tables.proofs.Queries.{finds_shown}
 use Rattle.room_tables.proofs.Reading.{empty_filter}
@@ -18,27 +21,31 @@ use Rattle.room_tables.proofs.Reading.{empty_filter}
 abbrev pub find_version_text : List ℕ
 find_version_text = codes "SELECT version FROM meta WHERE id = 1"
 
-means_now : Means room_schema find_version_text (of_table 0 version_tests (col 1 2 ∷ []) []) (codes "version" ∷ []) 0
+-- whatever stands behind the first table
+means_behind : (tables : List Table) (indexes : List Index) (views : List View) → Means (record { tables = meta ∷ tables; indexes = indexes; views = views }) find_version_text (of_table 0 version_tests (col 1 2 ∷ []) []) (codes "version" ∷ []) 0
 unfolding understood everything
-means_now = record { is = refl; lists_nothing = refl; is_plain = (refl, refl); takes = refl; is_whole = refl }
+means_behind tables indexes views = record { is = refl; lists_nothing = refl; is_plain = (refl, refl); takes = refl; is_whole = refl }
 
-means_first : Means first_schema find_version_text (of_table 0 version_tests (col 1 2 ∷ []) []) (codes "version" ∷ []) 0
-unfolding understood everything
-means_first = record { is = refl; lists_nothing = refl; is_plain = (refl, refl); takes = refl; is_whole = refl }
+means_over : (tables : List Table) (indexes : List Index) (views : List View) → slice_get tables 0 ≡ Some meta → Means (record { tables = tables; indexes = indexes; views = views }) find_version_text (of_table 0 version_tests (col 1 2 ∷ []) []) (codes "version" ∷ []) 0
+means_over [] indexes views first = absurd cc
+means_over (table ∷ tables) indexes views first =
+    let this : table ≡ meta = cc in
+    subst (λ (t : Table). Means (record { tables = t ∷ tables; indexes = indexes; views = views }) find_version_text (of_table 0 version_tests (col 1 2 ∷ []) []) (codes "version" ∷ []) 0) (sym this) (means_behind tables indexes views)
 
-pub find_version_is : (schema : Schema) → IsOurs schema → Means schema find_version_text (of_table 0 version_tests (col 1 2 ∷ []) []) (codes "version" ∷ []) 0
-find_version_is schema (inl current) = subst (λ s. Means s find_version_text (of_table 0 version_tests (col 1 2 ∷ []) []) (codes "version" ∷ []) 0) (sym current) means_now
-find_version_is schema (inr first) = subst (λ s. Means s find_version_text (of_table 0 version_tests (col 1 2 ∷ []) []) (codes "version" ∷ []) 0) (sym first) means_first
+pub find_version_is : (schema : Schema) → KeepsVersion schema → Means schema find_version_text (of_table 0 version_tests (col 1 2 ∷ []) []) (codes "version" ∷ []) 0
+find_version_is schema first = means_over schema.tables schema.indexes schema.views first
 
-takes_now : Takes room_schema (of_table 0 version_tests (col 1 2 ∷ []) []) [] 0
-takes_now = record { given = refl; typed = refl }
+takes_behind : (tables : List Table) (indexes : List Index) (views : List View) → Takes (record { tables = meta ∷ tables; indexes = indexes; views = views }) (of_table 0 version_tests (col 1 2 ∷ []) []) [] 0
+takes_behind tables indexes views = record { given = refl; typed = refl }
 
-takes_first : Takes first_schema (of_table 0 version_tests (col 1 2 ∷ []) []) [] 0
-takes_first = record { given = refl; typed = refl }
+takes_over : (tables : List Table) (indexes : List Index) (views : List View) → slice_get tables 0 ≡ Some meta → Takes (record { tables = tables; indexes = indexes; views = views }) (of_table 0 version_tests (col 1 2 ∷ []) []) [] 0
+takes_over [] indexes views first = absurd cc
+takes_over (table ∷ tables) indexes views first =
+    let this : table ≡ meta = cc in
+    subst (λ (t : Table). Takes (record { tables = t ∷ tables; indexes = indexes; views = views }) (of_table 0 version_tests (col 1 2 ∷ []) []) [] 0) (sym this) (takes_behind tables indexes views)
 
-pub find_version_takes : (schema : Schema) → IsOurs schema → Takes schema (of_table 0 version_tests (col 1 2 ∷ []) []) [] 0
-find_version_takes schema (inl current) = subst (λ s. Takes s (of_table 0 version_tests (col 1 2 ∷ []) []) [] 0) (sym current) takes_now
-find_version_takes schema (inr first) = subst (λ s. Takes s (of_table 0 version_tests (col 1 2 ∷ []) []) [] 0) (sym first) takes_first
+pub find_version_takes : (schema : Schema) → KeepsVersion schema → Takes schema (of_table 0 version_tests (col 1 2 ∷ []) []) [] 0
+find_version_takes schema first = takes_over schema.tables schema.indexes schema.views first
 
 -- ---- what it finds
 

@@ -23,12 +23,16 @@ row_at table key db = option_map (drop 1) (find (has_key table key) (db.trees ta
 abbrev pub rows_under : Table → List ℕ → Row → Database → List Row
 rows_under table places beginning db = map (drop 1) (filter (λ row. agree plain places row places (Null ∷ beginning)) (db.trees table.tree))
 
--- It is a database with the schema of the store, and in no table does a row number come twice, which
--- the engine keeps and no clause of a connection says.
+-- in none of the tables does a row number come twice, which the engine keeps and no clause of a
+-- connection says
+abbrev pub AreNumbered : List Table → Database → Type 0
+AreNumbered tables db = AllByRecursion (λ table. IsShaped shape.Table (db.trees table.tree)) tables
+
+-- it is a database with the schema of the store
 pub record HasSchema (db : Database) : Type 0 where
   pub schema_is : db.schema ≡ room_schema
   pub is_database : IsDatabase db
-  pub numbered : AllByRecursion (λ table. IsShaped shape.Table (db.trees table.tree)) room_schema.tables
+  pub numbered : AreNumbered room_schema.tables db
 
 -- each table but this one is as it was
 abbrev pub OnlyChanges : Table → Database → Database → Type 0

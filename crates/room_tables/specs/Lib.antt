@@ -10,3 +10,4 @@ pub mod Making
 pub mod Migrating
 pub mod Faults
 pub mod ReadBack
+pub mod SameRows

@@ -1,7 +1,7 @@
 -- A database as it is made, and what it is found to be when it is opened (all this project's own).
-use Rattle.std.specs.Prelude.{◌≡◌, ◌≢◌, ◌⊎◌, ⊤, List, ℕ, ℤ, pos, true, false, [], ◌∷◌, None, IsTrue}
+use Rattle.std.specs.Prelude.{◌≡◌, ◌≢◌, ◌⊎◌, ⊤, List, ℕ, ℤ, pos, true, [], ◌∷◌, None, Some, slice_get}
 use Rattle.std.specs.List.{AllByRecursion}
-use Rattle.sqlite_value.specs.declared.value.Value.TheVariants.{Int}
+use Rattle.sqlite_value.specs.declared.value.Value.TheVariants.{Int, Null}
 use Rattle.sqlite_value.specs.declared.keys.Collation.TheVariants.{Binary}
 use Rattle.sqlite_value.specs.Order.{Row, column}
 use Rattle.sqlite_trees.specs.Tree.{rowid}
@@ -12,9 +12,11 @@ use Rattle.sqlite_schema.specs.declared.schema.Schema.{Schema}
 use Rattle.sqlite_schema.specs.Rules.{equal}
 use Rattle.sqlite_rules.specs.Lists.{Has}
 use Rattle.sqlite_catalog.specs.Change.{created}
-use Rattle.sqlite.specs.Effect.{Database}
+use Rattle.sqlite.specs.Effect.{Database, IsDatabase}
 use Rattle.room_tables.specs.Tables.{no_schema, first_schema, room_schema, meta, account, job, document, grants}
 use Rattle.room_tables.specs.declared.fault.OpenFault.{OpenFault}
+use Rattle.room_tables.specs.declared.schema.Layout.{Layout}
+use Rattle.room_tables.specs.declared.schema.Layout.TheVariants.{Current, First, Other}
 use Rattle.room_tables.specs.declared.version.Edition.{Edition}
 use Rattle.room_tables.specs.declared.fault.OpenFault.TheVariants.{NotOurs, WrongVersion, Storage, Memory}
 use Rattle.room_tables.specs.Keyed.{HasSchema}
@@ -60,10 +62,15 @@ LacksVersion db = ((row : Row) → IsVersionRow db row → ⊥) ⊎ ((row : Row)
 
 -- ---- as it is made
 
--- the tables of version 2, in which there is the row of the version and no other, so that every account
--- is absent and there is no device
+-- the row of a version: the number 1, which is its id and is kept beside the columns, and the version
+abbrev pub version_row : ℤ → Row
+version_row version = Int (pos 1) ∷ Null ∷ Int version ∷ []
+
+-- the tables of version 2, in which there is the row (1, 2) of the version and no other, so that every
+-- account is absent and there is no device
 pub record IsNew (db : Database) : Type 0 where
   pub has_schema : HasSchema db
+  pub one_version : db.trees meta.tree ≡ version_row (pos 2) ∷ []
   pub version_two : HasVersion db (pos 2)
   pub no_row : AllByRecursion (λ table. table.tree ≢ meta.tree → db.trees table.tree ≡ []) room_schema.tables
   pub no_account : (name : List ℕ) → HoldsNothing db name
@@ -71,31 +78,44 @@ pub record IsNew (db : Database) : Type 0 where
 
 -- ---- as it is opened
 
--- a schema of ours, of either version
-abbrev pub IsOurs : Schema → Type 0
-IsOurs schema = (schema ≡ room_schema) ⊎ (schema ≡ first_schema)
+-- its first table is that of the version, as every version makes it; whatever else the schema has
+abbrev pub KeepsVersion : Schema → Type 0
+KeepsVersion schema = slice_get schema.tables 0 ≡ Some meta
 
--- the schema of version 2, which has rates, or that of version 1, and a version
+abbrev pub IsLaidOut : Schema → Layout → Type 0
+IsLaidOut schema Current = schema ≡ room_schema
+IsLaidOut schema First = schema ≡ first_schema
+IsLaidOut schema Other = (schema ≢ room_schema) × (schema ≢ first_schema)
+
+-- it has a version, and tables that are laid out so
 pub record IsEdition (db : Database) (edition : Edition) : Type 0 where
-  pub with_rates : IsTrue edition.has_rates → db.schema ≡ room_schema
-  pub without_rates : edition.has_rates ≡ false → db.schema ≡ first_schema
+  pub is_database : IsDatabase db
+  pub keeps_version : KeepsVersion db.schema
+  pub laid_out : IsLaidOut db.schema edition.layout
   pub has_version : HasVersion db edition.version
 
 abbrev pub IsNoEdition : Database → OpenFault → Type 0
-IsNoEdition db NotOurs = (IsOurs db.schema → ⊥) ⊎ LacksVersion db
+IsNoEdition db NotOurs = (KeepsVersion db.schema → ⊥) ⊎ LacksVersion db
 IsNoEdition db (WrongVersion version) = ⊥
 IsNoEdition db Storage = ⊤
 IsNoEdition db Memory = ⊤
 
-abbrev pub IsOpened : Database → Type 0
-IsOpened db = (db.schema ≡ room_schema) × HasVersion db (pos 2)
+pub record IsOpened (db : Database) : Type 0 where
+  pub schema_is : db.schema ≡ room_schema
+  pub is_database : IsDatabase db
+  pub version_two : HasVersion db (pos 2)
 
--- it is none of ours: another schema, or one without a version, or that of version 1 with version 2
+-- it has the version, and not the tables of that version
+abbrev pub IsMislaid : Database → ℤ → Schema → Type 0
+IsMislaid db version schema = HasVersion db version × (db.schema ≢ schema)
+
+-- it is none of ours: no version can be read, or it is 2 over other tables
 abbrev pub IsNotOurs : Database → Type 0
-IsNotOurs db = (IsOurs db.schema → ⊥) ⊎ (LacksVersion db ⊎ ((db.schema ≡ first_schema) × HasVersion db (pos 2)))
+IsNotOurs db = (KeepsVersion db.schema → ⊥) ⊎ (LacksVersion db ⊎ IsMislaid db (pos 2) room_schema)
 
+-- whatever its tables are beside that of the version
 abbrev pub IsOfVersion : Database → ℤ → Type 0
-IsOfVersion db version = IsOurs db.schema × HasVersion db version × (version ≢ pos 2)
+IsOfVersion db version = KeepsVersion db.schema × HasVersion db version × (version ≢ pos 2)
 
 -- why it could not be opened; want of memory and a failure of the storage say nothing of it
 abbrev pub IsOpenFault : Database → OpenFault → Type 0

@@ -1,5 +1,5 @@
 -- What becomes of a database of version 1 when it is migrated (all this project's own).
-use Rattle.std.specs.Prelude.{◌≡◌, ◌≢◌, ⊤, ℕ, ℤ, pos, List, [], option_map, IfSome}
+use Rattle.std.specs.Prelude.{◌≡◌, ◌≢◌, ◌⊎◌, ⊤, ℕ, ℤ, pos, List, [], option_map, IfSome}
 use Rattle.std.specs.List.{AllByRecursion}
 use Rattle.sqlite_trees.specs.View.{IsShaped}
 use Rattle.sqlite_trees.specs.declared.store.Shape.TheVariants as shape
@@ -7,21 +7,17 @@ use Rattle.sqlite.specs.Effect.{Database, IsDatabase}
 use Rattle.room_tables.specs.Tables.{first_schema, room_schema, meta, rates}
 use Rattle.room_tables.specs.declared.fault.OpenFault.{OpenFault}
 use Rattle.room_tables.specs.declared.fault.OpenFault.TheVariants.{NotOurs, WrongVersion, Storage, Memory}
-use Rattle.room_tables.specs.Keyed.{HasSchema, OnlyChanges}
+use Rattle.room_tables.specs.Keyed.{AreNumbered, OnlyChanges}
 use Rattle.room_tables.specs.Cells.{units_cells, device_cells}
 use Rattle.room_tables.specs.Devices.{Devices, device_at, rate_at, IsDevice}
-use Rattle.room_tables.specs.Making.{HasVersion, IsOurs, IsNotOurs}
+use Rattle.room_tables.specs.Making.{HasVersion, KeepsVersion, IsMislaid, IsNotOurs}
 
 -- ---- a database of version 1
 
-abbrev pub IsFirst : Database → Type 0
-IsFirst db = (db.schema ≡ first_schema) × HasVersion db (pos 1)
-
--- It is a database with the schema of version 1, and in no table does a row number come twice.
-pub record HasFirstSchema (db : Database) : Type 0 where
+pub record IsFirst (db : Database) : Type 0 where
   pub schema_is : db.schema ≡ first_schema
   pub is_database : IsDatabase db
-  pub numbered : AllByRecursion (λ table. IsShaped shape.Table (db.trees table.tree)) first_schema.tables
+  pub version_one : HasVersion db (pos 1)
 
 -- each device has one row, and counts one unit for an impression
 pub record HoldsFirstDevices (db : Database) (devices : Devices) : Type 0 where
@@ -45,7 +41,8 @@ pub record IsMigrated (old new : Database) : Type 0 where
   pub version_two : HasVersion new (pos 2)
   pub kept : KeepsFirst old new
   pub rated : AreRatedOne new
-  pub sound : HasFirstSchema old → HasSchema new
+  pub is_database : IsDatabase new
+  pub numbered : AreNumbered first_schema.tables old → AreNumbered room_schema.tables new
 
 -- ---- the statements on the way
 
@@ -70,13 +67,13 @@ pub record NotesVersionTwo (old new : Database) : Type 0 where
 
 -- ---- why it is not migrated
 
--- a version that there is none of, on a schema that is ours
+-- a version that there is none of, whatever its tables are beside that of the version
 abbrev pub IsOfOtherVersion : Database → ℤ → Type 0
-IsOfOtherVersion db version = IsOurs db.schema × HasVersion db version × (version ≢ pos 1) × (version ≢ pos 2)
+IsOfOtherVersion db version = KeepsVersion db.schema × HasVersion db version × (version ≢ pos 1) × (version ≢ pos 2)
 
 -- want of memory and a failure of the storage say nothing of it
 abbrev pub IsMigrateFault : Database → OpenFault → Type 0
-IsMigrateFault db NotOurs = IsNotOurs db
+IsMigrateFault db NotOurs = IsNotOurs db ⊎ IsMislaid db (pos 1) first_schema
 IsMigrateFault db (WrongVersion version) = IsOfOtherVersion db version
 IsMigrateFault db Storage = ⊤
 IsMigrateFault db Memory = ⊤

@@ -1,8 +1,15 @@
 //! What the definitions of rows promise.
 
 ghost use Rattle.room_tables.specs.ReadBack.{RowsAreReadBack};
+ghost use Rattle.room_tables.specs.SameRows.{SameByKeyIsSameByTable};
 
 /// A row that was written is read back as the value that it was written for.
 pub fn rows_are_read_back()
     ensures { RowsAreReadBack }
+{}
+
+/// Two databases that agree on the rows of an account, key by key, have the same rows of it, table by
+/// table, and the other way round: those whose account is exactly the text, each as often, in any order.
+pub fn same_by_key_is_same_by_table()
+    ensures { SameByKeyIsSameByTable }
 {}

@@ -5,6 +5,7 @@ ghost use Rattle.sqlite_value.specs.Keys.{plain};
 ghost use Rattle.sqlite_schema.specs.declared.schema.Kind.TheVariants.{Integer, Text as TextKind, Blob as BlobKind};
 ghost use Rattle.room_tables.specs.Tables.{column_of, keyed, meta, account, job, document, grants, device, rates, no_schema, first_schema, room_schema};
 ghost use Rattle.room_tables.specs.Forms.{column_formed};
+ghost use Rattle.room_tables.specs.Making.{IsLaidOut, KeepsVersion};
 
 use sqlite_items::Items;
 use sqlite_schema::code::Terms;
@@ -46,8 +47,41 @@ fn blob(name: &'static str) -> ColumnForm
     }
 }
 
+/// How the tables of a database are laid out.
+#[derive(Clone, Copy, Debug, PartialEq, Eq)]
+pub(crate) enum Layout {
+    /// As those of version 2.
+    Current,
+    /// As those of version 1.
+    First,
+    /// Otherwise.
+    Other,
+}
+
+pub(crate) fn layout_of(schema: &Schema) -> Layout
+    ensures { IsLaidOut schema.now result }
+{
+    if is_room_schema(schema) {
+        Layout::Current
+    } else if is_first_schema(schema) {
+        Layout::First
+    } else {
+        Layout::Other
+    }
+}
+
+/// Whether the first table is that of the version.
+pub(crate) fn keeps_version(schema: &Schema) -> bool
+    ensures { IsTrue result ↔ KeepsVersion schema.now }
+{
+    match schema.tables.as_slice() {
+        [first, ..] => is_meta(first),
+        _ => false,
+    }
+}
+
 /// Whether a schema is that of version 2.
-pub(crate) fn is_room_schema(schema: &Schema) -> bool
+fn is_room_schema(schema: &Schema) -> bool
     ensures { IsTrue result ↔ schema.now ≡ room_schema }
 {
     are_room_tables(schema.tables.as_slice())
@@ -56,7 +90,7 @@ pub(crate) fn is_room_schema(schema: &Schema) -> bool
 }
 
 /// Whether a schema is that of version 1.
-pub(crate) fn is_first_schema(schema: &Schema) -> bool
+fn is_first_schema(schema: &Schema) -> bool
     ensures { IsTrue result ↔ schema.now ≡ first_schema }
 {
     are_first_tables(schema.tables.as_slice())

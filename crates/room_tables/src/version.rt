@@ -8,12 +8,12 @@ ghost use Rattle.sqlite.specs.State.{HasCleanDisk};
 ghost use Rattle.sqlite.specs.Held.{state};
 ghost use Rattle.room_tables.specs.Calls.{Goes, Stays, IsSame};
 ghost use Rattle.room_tables.specs.Queries.{FindsRow};
-ghost use Rattle.room_tables.specs.Making.{HasVersion, LacksVersion, IsOurs, IsEdition, IsNoEdition, IsOpened, IsOpenFault, version_tests};
+ghost use Rattle.room_tables.specs.Making.{HasVersion, LacksVersion, KeepsVersion, IsEdition, IsNoEdition, IsOpened, IsOpenFault, version_tests};
 ghost use Rattle.room_tables.specs.Migrating.{IsFirst, IsMigrateFault};
 
 use crate::fault::OpenFault;
 use crate::rows::find_row;
-use crate::schema::{is_first_schema, is_room_schema};
+use crate::schema::{Layout, keeps_version, layout_of};
 use sqlite::{Alter, Connection, Error, ErrorCode, Row};
 
 /// The version that the store keeps.
@@ -22,10 +22,10 @@ const VERSION: i64 = 2;
 /// The version that can be migrated.
 const OLDER_VERSION: i64 = 1;
 
-/// What a database of ours has: the schema with the table `rates` or that without it, and its version.
+/// A database that has a version: how its tables are laid out, and the version.
 #[derive(Clone, Copy)]
 struct Edition {
-    has_rates: bool,
+    layout: Layout,
     version: i64,
 }
 
@@ -55,33 +55,33 @@ pub(crate) fn is_older<S: Alter>(connection: &mut Connection<S>) -> Result<bool,
 
 /// Whether it is an edition that the store can be opened on.
 fn judge(edition: Edition) -> Result<(), OpenFault>
-    ensures accepted { OnOk result (IsTrue edition.has_rates × (edition.version ≡ pos 2)) }
-    ensures refused { IfErr result (λ fault. ((edition.version ≢ pos 2) × (fault ≡ OpenFault.WrongVersion edition.version)) ⊎ ((edition.version ≡ pos 2) × (edition.has_rates ≡ false) × (fault ≡ OpenFault.NotOurs))) }
+    ensures accepted { OnOk result ((edition.layout ≡ Layout.Current) × (edition.version ≡ pos 2)) }
+    ensures refused { IfErr result (λ fault. ((edition.version ≢ pos 2) × (fault ≡ OpenFault.WrongVersion edition.version)) ⊎ ((edition.version ≡ pos 2) × (edition.layout ≢ Layout.Current) × (fault ≡ OpenFault.NotOurs))) }
 {
     if edition.version != VERSION {
         return Err(OpenFault::WrongVersion(edition.version));
     }
-    if edition.has_rates {
-        Ok(())
-    } else {
-        Err(OpenFault::NotOurs)
+    match edition.layout {
+        Layout::Current => Ok(()),
+        Layout::First | Layout::Other => Err(OpenFault::NotOurs),
     }
 }
 
 /// Whether it is the edition that can be migrated. If not, it is judged as an open judges it.
 fn judge_older(edition: Edition) -> Result<bool, OpenFault>
-    ensures accepted { IfOk result (λ older. (IsTrue older → (edition.has_rates ≡ false) × (edition.version ≡ pos 1)) × (older ≡ false → IsTrue edition.has_rates × (edition.version ≡ pos 2))) }
-    ensures refused { IfErr result (λ fault. ((edition.version ≢ pos 1) × (edition.version ≢ pos 2) × (fault ≡ OpenFault.WrongVersion edition.version)) ⊎ (((edition.version ≡ pos 2) × (edition.has_rates ≡ false) × (fault ≡ OpenFault.NotOurs)) ⊎ ((edition.version ≡ pos 1) × IsTrue edition.has_rates × (fault ≡ OpenFault.Storage)))) }
+    ensures accepted { IfOk result (λ older. (IsTrue older → (edition.layout ≡ Layout.First) × (edition.version ≡ pos 1)) × (older ≡ false → (edition.layout ≡ Layout.Current) × (edition.version ≡ pos 2))) }
+    ensures refused { IfErr result (λ fault. ((edition.version ≢ pos 1) × (edition.version ≢ pos 2) × (fault ≡ OpenFault.WrongVersion edition.version)) ⊎ (((edition.version ≡ pos 2) × (edition.layout ≢ Layout.Current) × (fault ≡ OpenFault.NotOurs)) ⊎ (((edition.version ≡ pos 1) × (edition.layout ≡ Layout.Other) × (fault ≡ OpenFault.NotOurs)) ⊎ ((edition.version ≡ pos 1) × (edition.layout ≡ Layout.Current) × (fault ≡ OpenFault.Storage))))) }
 {
     if edition.version != OLDER_VERSION {
         judge(edition)?;
         return Ok(false);
     }
-    // The table that a migration makes would be there already.
-    if edition.has_rates {
-        return Err(OpenFault::Storage);
+    match edition.layout {
+        Layout::First => Ok(true),
+        // The table that a migration makes would be there already.
+        Layout::Current => Err(OpenFault::Storage),
+        Layout::Other => Err(OpenFault::NotOurs),
     }
-    Ok(true)
 }
 
 /// The edition that a database is, where it is one.
@@ -92,23 +92,24 @@ fn find_edition<S: Alter>(connection: &mut Connection<S>) -> Result<Edition, Ope
     ensures same { HasCleanDisk (state S.Store connection.new) → OnOk result (IsSame (state S.Store connection.old) (state S.Store connection.new)) }
     ensures stays { HasCleanDisk (state S.Store connection.new) → Stays (state S.Store connection.old) (state S.Store connection.new) }
 {
-    let has_rates = is_room_schema(connection.schema());
-    if !has_rates && !is_first_schema(connection.schema()) {
+    if !keeps_version(connection.schema()) {
         return Err(OpenFault::NotOurs);
     }
+    let layout = layout_of(connection.schema());
     match find_version(connection)? {
         None => Err(OpenFault::NotOurs),
-        Some(version) => Ok(Edition { has_rates, version }),
+        Some(version) => Ok(Edition { layout, version }),
     }
 }
 
 /// The version that the row of `meta` tells, where it tells one.
 fn find_version<S: Alter>(connection: &mut Connection<S>) -> Result<Option<i64>, OpenFault>
     ensures goes { Goes (state S.Store connection.old) (state S.Store connection.new) }
-    ensures found { HasCleanDisk (state S.Store connection.new) → IsOurs (state S.Store connection.old).now.schema → IfOk result (λ found. MatchOption found (LacksVersion (state S.Store connection.old).now) (HasVersion (state S.Store connection.old).now)) }
+    ensures found { HasCleanDisk (state S.Store connection.new) → KeepsVersion (state S.Store connection.old).now.schema → IfOk result (λ found. MatchOption found (LacksVersion (state S.Store connection.old).now) (HasVersion (state S.Store connection.old).now)) }
     ensures fault { IfErr result (λ fault. (fault ≡ OpenFault.Storage) ⊎ (fault ≡ OpenFault.Memory)) }
-    ensures same { HasCleanDisk (state S.Store connection.new) → IsOurs (state S.Store connection.old).now.schema → OnOk result (IsSame (state S.Store connection.old) (state S.Store connection.new)) }
-    ensures stays { HasCleanDisk (state S.Store connection.new) → IsOurs (state S.Store connection.old).now.schema → Stays (state S.Store connection.old) (state S.Store connection.new) }
+    ensures opened { HasCleanDisk (state S.Store connection.new) → OnOk result (IsTrue (state S.Store connection.old).is_open × IsTrue (state S.Store connection.new).is_open) }
+    ensures same { HasCleanDisk (state S.Store connection.new) → KeepsVersion (state S.Store connection.old).now.schema → OnOk result (IsSame (state S.Store connection.old) (state S.Store connection.new)) }
+    ensures stays { HasCleanDisk (state S.Store connection.new) → KeepsVersion (state S.Store connection.old).now.schema → Stays (state S.Store connection.old) (state S.Store connection.new) }
 {
     match version_row(connection)? {
         Some(row) => version_from(&row),
@@ -118,7 +119,8 @@ fn find_version<S: Alter>(connection: &mut Connection<S>) -> Result<Option<i64>,
 
 fn version_row<S: Alter>(connection: &mut Connection<S>) -> Result<Option<Row>, Error>
     ensures goes { Goes (state S.Store connection.old) (state S.Store connection.new) }
-    ensures finds { HasCleanDisk (state S.Store connection.new) → IsOurs (state S.Store connection.old).now.schema → FindsRow (state S.Store connection.old) (state S.Store connection.new) 0 version_tests (col 1 2 ∷ []) [] result }
+    ensures opened { HasCleanDisk (state S.Store connection.new) → OnOk result (IsTrue (state S.Store connection.old).is_open × IsTrue (state S.Store connection.new).is_open) }
+    ensures finds { HasCleanDisk (state S.Store connection.new) → KeepsVersion (state S.Store connection.old).now.schema → FindsRow (state S.Store connection.old) (state S.Store connection.new) 0 version_tests (col 1 2 ∷ []) [] result }
 {
     find_row(connection, "SELECT version FROM meta WHERE id = 1", &[])
 }
