@@ -10,3 +10,4 @@ pub mod JobRequests
 pub mod Queues
 pub mod Printers
 pub mod Machine
+pub mod DeviceEvents

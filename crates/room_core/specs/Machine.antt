@@ -18,14 +18,14 @@ use Rattle.room_core.specs.Queues.{listed}
 use Rattle.room_core.specs.Requests.{Response, asked_job}
 use Rattle.room_core.specs.Stations as station
 use Rattle.room_core.specs.Steps.{Step, refusing}
-use Rattle.room_rules.specs.declared.device.Device.{Device}
 use Rattle.room_rules.specs.declared.refusal.Word.TheVariants.{NoAccount, Exists}
+use Rattle.room_rules.specs.Devices.{Devices}
 use Rattle.room_state.specs.Rooms.{RoomValue, empty_room}
 use Rattle.room_texts.specs.Words.{word_text}
 
 -- ---- an IPP request
 
-abbrev pub responded : RoomValue → List Device → List ℕ → ℕ → PlainAsk → Operation → Response
+abbrev pub responded : RoomValue → Devices → List ℕ → ℕ → PlainAsk → Operation → Response
 responded room devices account now ask PrintJob = made room account now ask
 responded room devices account now ask ValidateJob = validated room ask
 responded room devices account now ask CreateJob = made room account now ask
@@ -38,18 +38,18 @@ responded room devices account now ask HoldJob = acted room ask (hold_of room as
 responded room devices account now ask ReleaseJob = acted room ask (release_of room now ask)
 
 -- the checks that need no room come first
-abbrev pub responded_to : RoomValue → List Device → List ℕ → ℕ → Header → Result PlainAsk PlainRefusal → Response
+abbrev pub responded_to : RoomValue → Devices → List ℕ → ℕ → Header → Result PlainAsk PlainRefusal → Response
 responded_to room devices account now header (Err refused) = record { text = refused_text header refused.refusal refused.unsupported; room = room }
 responded_to room devices account now header (Ok ask) = responded room devices account now ask ask.operation
 
-abbrev pub requested : RoomValue → List Device → ℕ → List ℕ → List ℕ → Step
+abbrev pub requested : RoomValue → Devices → ℕ → List ℕ → List ℕ → Step
 requested room devices now account body =
     if nat_lt (length body) 8 then record { reply = reply.Short; room = room }
     else (let response = responded_to room devices account now (header_in body) (ask_of account body) in record { reply = reply.Ipp response.text; room = response.room })
 
 -- ---- an account that is open. A device's own event is of no account
 
-abbrev pub answered_open : RoomValue → List Device → ℕ → Event → Step
+abbrev pub answered_open : RoomValue → Devices → ℕ → Event → Step
 answered_open room devices now (event.Open account) = refusing room Exists
 answered_open room devices now (event.Ipp account body) = requested room devices now account body.now
 answered_open room devices now (event.Release device account job password impressions) =
@@ -84,6 +84,6 @@ pub record Answer : Type 0 where
   pub reply : Reply
   pub room : Option RoomValue
 
-abbrev pub answered : Option RoomValue → List Device → ℕ → Event → Answer
+abbrev pub answered : Option RoomValue → Devices → ℕ → Event → Answer
 answered None devices now e = record { reply = reply_unopened e; room = room_unopened now e }
 answered (Some room) devices now e = record { reply = (answered_open room devices now e).reply; room = Some (answered_open room devices now e).room }

@@ -13,7 +13,7 @@ use Rattle.room_rules.specs.declared.job.Standing.{Standing}
 use Rattle.room_rules.specs.declared.refusal.Refusal.{Refusal}
 use Rattle.room_rules.specs.declared.refusal.Word.{Word}
 use Rattle.room_rules.specs.declared.refusal.Word.TheVariants.{NoJob}
-use Rattle.room_rules.specs.Devices.{device_at}
+use Rattle.room_rules.specs.Devices.{Devices}
 use Rattle.room_rules.specs.Moves.{move}
 use Rattle.room_state.specs.Documents.{documents_of}
 use Rattle.room_state.specs.Rooms.{RoomValue}
@@ -35,9 +35,9 @@ by_word (Err refusal) = Err refusal.word
 
 -- ---- release
 
-abbrev pub release_of : RoomValue → List Device → ℕ → List ℕ → ℕ → List ℕ → ℕ → Result Standing Word
+abbrev pub release_of : RoomValue → Devices → ℕ → List ℕ → ℕ → List ℕ → ℕ → Result Standing Word
 release_of room devices now device number password impressions =
-    and_then (ready_device (device_at devices device)) (λ (ready : Device).
+    and_then (ready_device (get devices device)) (λ (ready : Device).
     and_then (named_job room number) (λ (job : Job).
     by_word (move (StationRelease job.password device password impressions ready.rate (left_in room now)) job.standing)))
 
@@ -49,9 +49,9 @@ released room now number (Ok standing) =
 
 -- ---- start
 
-abbrev pub start_of : RoomValue → List Device → ℕ → List ℕ → ℕ → Result Standing Word
+abbrev pub start_of : RoomValue → Devices → ℕ → List ℕ → ℕ → Result Standing Word
 start_of room devices now device number =
-    and_then (ready_device (device_at devices device)) (λ (ready : Device).
+    and_then (ready_device (get devices device)) (λ (ready : Device).
     and_then (named_job room number) (λ (job : Job).
     by_word (move (StationStart device ready.rate now) job.standing)))
 
@@ -65,9 +65,9 @@ started room number (Ok standing) = record {
 
 -- ---- settle
 
-abbrev pub settle_of : RoomValue → List Device → ℕ → List ℕ → ℕ → ℕ → Bool → Result Standing Word
+abbrev pub settle_of : RoomValue → Devices → ℕ → List ℕ → ℕ → ℕ → Bool → Result Standing Word
 settle_of room devices now device number impressions failed =
-    and_then (known_device (device_at devices device)) (λ (known : Device).
+    and_then (known_device (get devices device)) (λ (known : Device).
     and_then (named_job room number) (λ (job : Job).
     by_word (move (StationSettle device impressions failed now) job.standing)))
 

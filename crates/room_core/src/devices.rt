@@ -1,23 +1,23 @@
 //! Look-ups in the list of devices, in which the first record of a name counts.
 
 ghost use Rattle.std.specs.Prelude.{◌≡◌, IfSome, option_copied};
+ghost use Rattle.std.specs.FinMap.{get};
 ghost use Rattle.room_core.specs.Rates.{HasRate, AreRated};
-ghost use Rattle.room_core.specs.Printers.{is_device_on};
-ghost use Rattle.room_rules.specs.Devices.{device_at, is_of_name, is_on_at};
+ghost use Rattle.room_rules.specs.Devices.{device_map, is_of_name, is_on_in, is_some_on};
 
 use room_rules::{Device, Name};
 
 /// The device with the name.
 pub(crate) fn device_at(devices: &[Device], name: Name) -> Option<Device>
-    requires { AreRated devices.now }
-    ensures device { result ≡ device_at devices.now name }
+    requires { AreRated (device_map devices.now) }
+    ensures device { result ≡ get (device_map devices.now) name }
     ensures rate { IfSome result HasRate }
 {
     first_device(devices, name).copied()
 }
 
 fn first_device(devices: &[Device], name: Name) -> Option<&Device>
-    ensures { option_copied result ≡ device_at devices.now name }
+    ensures { option_copied result ≡ get (device_map devices.now) name }
 {
     devices.iter().find(|device| is_of_name(device, name))
 }
@@ -30,13 +30,13 @@ fn is_of_name(device: &Device, name: Name) -> bool
 
 /// Whether some device takes jobs.
 pub(crate) fn is_device_on(devices: &[Device]) -> bool
-    ensures { result ≡ is_device_on devices.now }
+    ensures { result ≡ is_some_on (device_map devices.now) }
 {
     devices.iter().any(|device| is_on_at(devices, device.name))
 }
 
 fn is_on_at(devices: &[Device], name: Name) -> bool
-    ensures { result ≡ is_on_at devices.now name }
+    ensures { result ≡ is_on_in (device_map devices.now) name }
 {
     match first_device(devices, name) {
         None => false,

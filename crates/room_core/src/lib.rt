@@ -2,6 +2,7 @@
 //! it. No storage.
 #![tactic(auto)]
 
+mod device_events;
 mod devices;
 mod event;
 mod fitting;
@@ -16,6 +17,7 @@ mod quota;
 mod respond;
 mod stations;
 
+pub use device_events::answer_device;
 pub use event::{Event, Reply};
 pub use fitting::fits;
 pub use job_requests::{has_data, restood, sent_document};

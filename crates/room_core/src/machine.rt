@@ -4,6 +4,7 @@ ghost use Rattle.room_asks.specs.Asks.{IsAsk, ask_of, plain_ask};
 ghost use Rattle.room_core.specs.Fits.{fits};
 ghost use Rattle.room_core.specs.Machine.{answered, answered_open, reply_unopened, room_unopened, requested, responded, responded_to};
 ghost use Rattle.room_core.specs.Rates.{AreRated};
+ghost use Rattle.room_rules.specs.Devices.{device_map};
 ghost use Rattle.room_rules.specs.Limits.{last_moment};
 
 use crate::event::{Event, Reply};
@@ -34,9 +35,9 @@ pub fn answer(
     e: &Event<'_>,
 ) -> Result<Reply, CoreFault>
     requires fits { IsTrue (fits e.now) }
-    requires rates { AreRated devices.now }
-    ensures reply { IfOk result (λ reply. reply ≡ (answered room.old devices.now now e.entry.now).reply) }
-    ensures room { OnOk result (room.new ≡ (answered room.old devices.now now e.entry.now).room) }
+    requires rates { AreRated (device_map devices.now) }
+    ensures reply { IfOk result (λ reply. reply ≡ (answered room.old (device_map devices.now) now e.entry.now).reply) }
+    ensures room { OnOk result (room.new ≡ (answered room.old (device_map devices.now) now e.entry.now).room) }
     ensures moment { IsErrOf result CoreFault.Moment ↔ (last_moment < now) }
     ensures unchanged { OnErr result (room.new ≡ room.old) }
 {
@@ -84,9 +85,9 @@ fn answer_open(
 ) -> Result<Reply, CoreFault>
     requires moment { now ≤ last_moment }
     requires fits { IsTrue (fits e.now) }
-    requires rates { AreRated devices.now }
-    ensures reply { IfOk result (λ reply. reply ≡ (answered_open room.old devices.now now e.entry.now).reply) }
-    ensures room { OnOk result (room.new ≡ (answered_open room.old devices.now now e.entry.now).room) }
+    requires rates { AreRated (device_map devices.now) }
+    ensures reply { IfOk result (λ reply. reply ≡ (answered_open room.old (device_map devices.now) now e.entry.now).reply) }
+    ensures room { OnOk result (room.new ≡ (answered_open room.old (device_map devices.now) now e.entry.now).room) }
     ensures memory { IfErr result (λ fault. fault ≡ CoreFault.Memory) }
     ensures unchanged { OnErr result (room.new ≡ room.old) }
 {
@@ -130,8 +131,8 @@ fn answer_request(
     body: &[u8],
 ) -> Result<Reply, CoreFault>
     requires moment { now ≤ last_moment }
-    ensures reply { IfOk result (λ reply. reply ≡ (requested room.old devices.now now account body.now).reply) }
-    ensures room { OnOk result (room.new ≡ (requested room.old devices.now now account body.now).room) }
+    ensures reply { IfOk result (λ reply. reply ≡ (requested room.old (device_map devices.now) now account body.now).reply) }
+    ensures room { OnOk result (room.new ≡ (requested room.old (device_map devices.now) now account body.now).room) }
     ensures memory { IfErr result (λ fault. fault ≡ CoreFault.Memory) }
     ensures unchanged { OnErr result (room.new ≡ room.old) }
 {
@@ -153,8 +154,8 @@ fn response(
 ) -> Result<List<u8>, CoreFault>
     requires moment { now ≤ last_moment }
     requires length { 8 ≤ length body.now }
-    ensures text { IfOk result (λ text. text ≡ (responded_to room.old devices.now account now header (ask_of account body.now)).text) }
-    ensures room { OnOk result (room.new ≡ (responded_to room.old devices.now account now header (ask_of account body.now)).room) }
+    ensures text { IfOk result (λ text. text ≡ (responded_to room.old (device_map devices.now) account now header (ask_of account body.now)).text) }
+    ensures room { OnOk result (room.new ≡ (responded_to room.old (device_map devices.now) account now header (ask_of account body.now)).room) }
     ensures memory { IfErr result (λ fault. fault ≡ CoreFault.Memory) }
     ensures unchanged { OnErr result (room.new ≡ room.old) }
 {
@@ -181,8 +182,8 @@ fn respond(
 ) -> Result<List<u8>, CoreFault>
     requires ask { IsAsk (plain_ask ask.now) }
     requires moment { now ≤ last_moment }
-    ensures text { IfOk result (λ text. text ≡ (responded room.old devices.now account now (plain_ask ask.entry.now) ask.entry.now.operation).text) }
-    ensures room { OnOk result (room.new ≡ (responded room.old devices.now account now (plain_ask ask.entry.now) ask.entry.now.operation).room) }
+    ensures text { IfOk result (λ text. text ≡ (responded room.old (device_map devices.now) account now (plain_ask ask.entry.now) ask.entry.now.operation).text) }
+    ensures room { OnOk result (room.new ≡ (responded room.old (device_map devices.now) account now (plain_ask ask.entry.now) ask.entry.now.operation).room) }
     ensures memory { IfErr result (λ fault. fault ≡ CoreFault.Memory) }
     ensures unchanged { OnErr result (room.new ≡ room.old) }
 {

@@ -8,6 +8,7 @@ ghost use Rattle.room_answers.specs.Parts.{part_of};
 ghost use Rattle.room_core.specs.Moving.{CanMove};
 ghost use Rattle.room_core.specs.Rates.{AreRated};
 ghost use Rattle.room_core.specs.Stations.{release_of, released, start_of, started, settle_of, settled};
+ghost use Rattle.room_rules.specs.Devices.{device_map};
 ghost use Rattle.room_rules.specs.Limits.{most_impressions, last_moment};
 ghost use Rattle.room_state.specs.Documents.{documents_of};
 
@@ -54,10 +55,10 @@ pub(crate) fn release(
     impressions: u32,
 ) -> Result<Reply, CoreFault>
     requires moment { at.now.now ≤ last_moment }
-    requires rates { AreRated at.now.devices.now }
+    requires rates { AreRated (device_map at.now.devices.now) }
     requires impressions { impressions ≤ most_impressions }
-    ensures reply { IfOk result (λ reply. reply ≡ (released room.old at.entry.now.now number (release_of room.old at.entry.now.devices.now at.entry.now.now at.entry.now.device number password.now impressions)).reply) }
-    ensures room { OnOk result (room.new ≡ (released room.old at.entry.now.now number (release_of room.old at.entry.now.devices.now at.entry.now.now at.entry.now.device number password.now impressions)).room) }
+    ensures reply { IfOk result (λ reply. reply ≡ (released room.old at.entry.now.now number (release_of room.old (device_map at.entry.now.devices.now) at.entry.now.now at.entry.now.device number password.now impressions)).reply) }
+    ensures room { OnOk result (room.new ≡ (released room.old at.entry.now.now number (release_of room.old (device_map at.entry.now.devices.now) at.entry.now.now at.entry.now.device number password.now impressions)).room) }
     ensures memory { IfErr result (λ fault. fault ≡ CoreFault.Memory) }
     ensures unchanged { OnErr result (room.new ≡ room.old) }
 {
@@ -73,9 +74,9 @@ pub(crate) fn start(
     number: u32,
 ) -> Result<Reply, CoreFault>
     requires moment { at.now.now ≤ last_moment }
-    requires rates { AreRated at.now.devices.now }
-    ensures reply { IfOk result (λ reply. reply ≡ (started room.old number (start_of room.old at.entry.now.devices.now at.entry.now.now at.entry.now.device number)).reply) }
-    ensures room { OnOk result (room.new ≡ (started room.old number (start_of room.old at.entry.now.devices.now at.entry.now.now at.entry.now.device number)).room) }
+    requires rates { AreRated (device_map at.now.devices.now) }
+    ensures reply { IfOk result (λ reply. reply ≡ (started room.old number (start_of room.old (device_map at.entry.now.devices.now) at.entry.now.now at.entry.now.device number)).reply) }
+    ensures room { OnOk result (room.new ≡ (started room.old number (start_of room.old (device_map at.entry.now.devices.now) at.entry.now.now at.entry.now.device number)).room) }
     ensures memory { IfErr result (λ fault. fault ≡ CoreFault.Memory) }
     ensures unchanged { OnErr result (room.new ≡ room.old) }
 {
@@ -94,10 +95,10 @@ pub(crate) fn settle(
     failed: bool,
 ) -> Result<Reply, CoreFault>
     requires moment { at.now.now ≤ last_moment }
-    requires rates { AreRated at.now.devices.now }
+    requires rates { AreRated (device_map at.now.devices.now) }
     requires impressions { impressions ≤ most_impressions }
-    ensures reply { IfOk result (λ reply. reply ≡ (settled room.old at.entry.now.now number (settle_of room.old at.entry.now.devices.now at.entry.now.now at.entry.now.device number impressions failed)).reply) }
-    ensures room { OnOk result (room.new ≡ (settled room.old at.entry.now.now number (settle_of room.old at.entry.now.devices.now at.entry.now.now at.entry.now.device number impressions failed)).room) }
+    ensures reply { IfOk result (λ reply. reply ≡ (settled room.old at.entry.now.now number (settle_of room.old (device_map at.entry.now.devices.now) at.entry.now.now at.entry.now.device number impressions failed)).reply) }
+    ensures room { OnOk result (room.new ≡ (settled room.old at.entry.now.now number (settle_of room.old (device_map at.entry.now.devices.now) at.entry.now.now at.entry.now.device number impressions failed)).room) }
     ensures memory { IfErr result (λ fault. fault ≡ CoreFault.Memory) }
     ensures unchanged { OnErr result (room.new ≡ room.old) }
 {
@@ -114,9 +115,9 @@ fn release_of(
     impressions: u32,
 ) -> Result<Standing, Word>
     requires moment { at.now.now ≤ last_moment }
-    requires rates { AreRated at.now.devices.now }
+    requires rates { AreRated (device_map at.now.devices.now) }
     requires impressions { impressions ≤ most_impressions }
-    ensures standing { result ≡ release_of room.now at.entry.now.devices.now at.entry.now.now at.entry.now.device number password.now impressions }
+    ensures standing { result ≡ release_of room.now (device_map at.entry.now.devices.now) at.entry.now.now at.entry.now.device number password.now impressions }
     ensures can_move { IfOk result (CanMove room.now number) }
 {
     let ready = ready_device(device_at(at.devices, at.device))?;
@@ -158,8 +159,8 @@ fn tell_released(
 /// What becomes of the job as the device of the station takes it.
 fn start_of(room: &Room, at: &Station<'_>, number: u32) -> Result<Standing, Word>
     requires moment { at.now.now ≤ last_moment }
-    requires rates { AreRated at.now.devices.now }
-    ensures standing { result ≡ start_of room.now at.entry.now.devices.now at.entry.now.now at.entry.now.device number }
+    requires rates { AreRated (device_map at.now.devices.now) }
+    ensures standing { result ≡ start_of room.now (device_map at.entry.now.devices.now) at.entry.now.now at.entry.now.device number }
     ensures can_move { IfOk result (CanMove room.now number) }
 {
     let ready = ready_device(device_at(at.devices, at.device))?;
@@ -227,9 +228,9 @@ fn settle_of(
     failed: bool,
 ) -> Result<Standing, Word>
     requires moment { at.now.now ≤ last_moment }
-    requires rates { AreRated at.now.devices.now }
+    requires rates { AreRated (device_map at.now.devices.now) }
     requires impressions { impressions ≤ most_impressions }
-    ensures standing { result ≡ settle_of room.now at.entry.now.devices.now at.entry.now.now at.entry.now.device number impressions failed }
+    ensures standing { result ≡ settle_of room.now (device_map at.entry.now.devices.now) at.entry.now.now at.entry.now.device number impressions failed }
     ensures can_move { IfOk result (CanMove room.now number) }
 {
     known_device(device_at(at.devices, at.device))?;

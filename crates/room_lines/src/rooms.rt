@@ -1,12 +1,12 @@
 //! The rooms and devices of a database that lives in memory for one run.
-ghost use Rattle.std.specs.Prelude.{◌≤◌, IsTrue};
-ghost use Rattle.room_rules.specs.Limits.{most_rate};
+ghost use Rattle.std.specs.Prelude.{◌≡◌, IfOk, OnOk, OnErr, IsTrue};
+ghost use Rattle.room_core.specs.DeviceEvents.{device_answered};
 ghost use Rattle.room_core.specs.Fits.{fits};
+ghost use Rattle.room_lines.specs.DeviceEvents.{devices_of, IsToldOfDevices};
 
 use crate::devices::Devices;
 use crate::lines::Line;
-use ipp_coding::List;
-use room_core::{CoreFault, Event, LAST_MOMENT, Name, Reply, Room};
+use room_core::{CoreFault, Event, Name, Reply, Room};
 use std::alloc::{AllocError, Global};
 use std::collections::BTreeMap;
 
@@ -44,10 +44,12 @@ impl Rooms {
     /// every room and every device is as before.
     pub fn answer(&mut self, now: u64, event: &Event<'_>) -> Result<Reply, CoreFault>
         requires { IsTrue (fits event.now) }
+        ensures told { IfOk result (λ reply. IsToldOfDevices (devices_of self.old) event.entry.now reply) }
+        ensures devices { OnOk result (devices_of self.new ≡ (device_answered (devices_of self.old) event.entry.now).devices) }
+        ensures unchanged { OnErr result (devices_of self.new ≡ devices_of self.old) }
     {
         match event {
-            Event::Device { name, on } => self.turn_device(now, *name, *on),
-            Event::Rate { name, units } => self.rate_device(now, *name, *units),
+            Event::Device { .. } | Event::Rate { .. } => self.devices.answer(self.alloc, now, event),
             Event::Open { account }
             | Event::Ipp { account, .. }
             | Event::Release { account, .. }
@@ -64,6 +66,7 @@ impl Rooms {
         event: &Event<'_>,
     ) -> Result<Reply, CoreFault>
         requires { IsTrue (fits event.now) }
+        ensures { devices_of self.new ≡ devices_of self.old }
     {
         match self.rooms.entry(account) {
             Ok(entry) => room_core::answer(
@@ -76,33 +79,4 @@ impl Rooms {
             Err(_) => Err(CoreFault::Memory),
         }
     }
-
-    fn turn_device(&mut self, now: u64, name: Name, on: bool) -> Result<Reply, CoreFault> {
-        if now > LAST_MOMENT {
-            return Err(CoreFault::Moment);
-        }
-        let reply = line(self.alloc, b"ok")?;
-        self.devices.turn(name, on)?;
-        Ok(reply)
-    }
-
-    fn rate_device(&mut self, now: u64, name: Name, units: u32) -> Result<Reply, CoreFault>
-        requires { (1 ≤ units) × (units ≤ most_rate) }
-    {
-        if now > LAST_MOMENT {
-            return Err(CoreFault::Moment);
-        }
-        let known = line(self.alloc, b"ok")?;
-        let unknown = line(self.alloc, b"no-device")?;
-        if self.devices.rate(name, units) {
-            Ok(known)
-        } else {
-            Ok(unknown)
-        }
-    }
-}
-
-fn line(alloc: Global, text: &[u8]) -> Result<Reply, CoreFault> {
-    let items = Vec::from_slice(alloc, text)?;
-    Ok(Reply::Line(List { items }))
 }

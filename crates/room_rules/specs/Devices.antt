@@ -1,32 +1,52 @@
--- What a list of devices says of each name: the first record of a name counts (this project's own).
-use Rattle.std.specs.Prelude.{◌≡◌, ℕ, Bool, false, if◌then◌else◌, nat_eq, List, Option, Some}
+-- The devices: a map from names. A list of devices stands for the map in which the first record of a
+-- name counts (all this project's own).
+use Rattle.std.specs.Prelude.{ℕ, Bool, false, nat_eq, List, map}
+use Rattle.std.specs.declared.cmp.Ordering.{Ordering}
 use Rattle.std.specs.Option.{option_map_or}
-use Rattle.std.specs.List.{find}
-use Rattle.std.specs.Cmp.Lexicographic.{pointwise}
+use Rattle.std.specs.List.{list_any}
+use Rattle.std.specs.Ordering.{nat_cmp}
+use Rattle.std.specs.Cmp.Lexicographic.{pointwise, slice_cmp}
+use Rattle.std.specs.FinMap.{FinMap, from_entries, get, insert, values}
 use Rattle.room_rules.specs.declared.device.Device.{Device}
+
+-- names go by their bytes
+abbrev pub name_cmp : List ℕ → List ℕ → Ordering
+name_cmp = slice_cmp nat_cmp
+
+abbrev pub Devices : Type 0
+Devices = FinMap name_cmp Device
+
+-- ---- the map that a list of devices stands for
+
+abbrev pub by_name : Device → List ℕ × Device
+by_name device = (device.name, device)
+
+abbrev pub device_map : List Device → Devices
+device_map devices = from_entries (map by_name devices)
 
 abbrev pub is_of_name : List ℕ → Device → Bool
 is_of_name name device = pointwise nat_eq device.name name
 
-abbrev pub device_at : List Device → List ℕ → Option Device
-device_at devices name = find (is_of_name name) devices
+-- ---- what the map says
 
--- the name has this device, and each other name what it had
-abbrev pub SetsDevice : List Device → List Device → Device → Type 0
-SetsDevice old new device =
-    (name : List ℕ) → device_at new name ≡ (if pointwise nat_eq device.name name then Some device else device_at old name)
+-- some device takes jobs
+abbrev pub is_some_on : Devices → Bool
+is_some_on devices = list_any (λ (device : Device). device.on) (values devices)
+
+-- whether a name's device takes jobs; a name that is unknown has none
+abbrev pub is_on_in : Devices → List ℕ → Bool
+is_on_in devices name = option_map_or (λ (device : Device). device.on) (get devices name) false
 
 -- a new device has rate 1, a known one keeps its rate
-abbrev pub rate_at : List Device → List ℕ → ℕ
-rate_at devices name = option_map_or (λ device. device.rate) (device_at devices name) 1
+abbrev pub rate_of : Devices → List ℕ → ℕ
+rate_of devices name = option_map_or (λ (device : Device). device.rate) (get devices name) 1
 
-abbrev pub is_on_at : List Device → List ℕ → Bool
-is_on_at devices name = option_map_or (λ device. device.on) (device_at devices name) false
+-- ---- as one device of it changes
 
--- the name's device once it is turned on or off
-abbrev pub turned_at : List Device → List ℕ → Bool → Device
-turned_at devices name on = record { name = name; on = on; rate = rate_at devices name }
+-- the name's device is turned on or off
+abbrev pub turned : Devices → List ℕ → Bool → Devices
+turned devices name on = insert devices name (record { name = name; on = on; rate = rate_of devices name })
 
--- the name's device once it has another rate
-abbrev pub rated_at : List Device → List ℕ → ℕ → Device
-rated_at devices name units = record { name = name; on = is_on_at devices name; rate = units }
+-- the name's device has another rate
+abbrev pub rated : Devices → List ℕ → ℕ → Devices
+rated devices name units = insert devices name (record { name = name; on = is_on_in devices name; rate = units })

@@ -1,6 +1,7 @@
-ghost use Rattle.std.specs.Prelude.{◌≡◌, ◌≤◌, false, position, is_some, IsTrue, OnOk, OnErr, IsOkUnless};
+ghost use Rattle.std.specs.Prelude.{◌≡◌, ◌≤◌, ◌+◌, false, if◌then◌else◌, position, vec_len, IsTrue, OnOk, OnErr, IsOkUnless};
+ghost use Rattle.std.specs.FinMap.{contains_key};
 ghost use Rattle.room_rules.specs.Limits.{most_rate};
-ghost use Rattle.room_rules.specs.Devices.{is_of_name, device_at, SetsDevice, turned_at, rated_at};
+ghost use Rattle.room_rules.specs.Devices.{device_map, is_of_name, turned, rated};
 
 use crate::fault::CoreFault;
 use crate::name::Name;
@@ -16,11 +17,14 @@ pub struct Device {
 }
 
 /// Sets whether the device with the name takes jobs. A new one is added, at rate 1; one that is
-/// known keeps its rate. Every other device is as before. It can fail for want of memory alone, and
-/// then changes nothing.
+/// known keeps its rate and gets no second record. Every other device is as before. It can fail for
+/// want of memory alone, and then changes nothing.
 pub fn set_device(devices: &mut Vec<Device>, name: Name, on: bool) -> Result<(), CoreFault>
-    ensures ok { OnOk result
-        (SetsDevice devices.old.items devices.new.items (turned_at devices.old.items name on)) }
+    ensures turned { OnOk result
+        (device_map devices.new.items ≡ turned (device_map devices.old.items) name on) }
+    ensures length { OnOk result (vec_len devices.new ≡
+        (if contains_key (device_map devices.old.items) name
+        then vec_len devices.old else vec_len devices.old + 1)) }
     ensures fault { IsOkUnless result CoreFault.Memory }
     ensures err { OnErr result (devices.new.items ≡ devices.old.items) }
 {
@@ -36,9 +40,9 @@ pub fn set_device(devices: &mut Vec<Device>, name: Name, on: bool) -> Result<(),
 /// memory.
 pub fn set_rate(devices: &mut [Device], name: Name, units: u32) -> bool
     requires { (1 ≤ units) × (units ≤ most_rate) }
-    ensures known { result ≡ is_some (device_at devices.old name) }
-    ensures set { IsTrue result →
-        SetsDevice devices.old devices.new (rated_at devices.old name units) }
+    ensures known { result ≡ contains_key (device_map devices.old) name }
+    ensures rated { IsTrue result →
+        device_map devices.new ≡ rated (device_map devices.old) name units }
     ensures unknown { result ≡ false → devices.new ≡ devices.old }
 {
     match place_of(devices, name) {

@@ -1,5 +1,6 @@
 -- The statements on the table `device`: what their texts mean, and what they leave.
 use Rattle.std.proofs.Common.{◌≡◌, ◌≢◌, ℕ, Bool, List, [], ◌∷◌, codes, Some, option_map, refl, ap, ◌∙◌}
+use Rattle.std.specs.FinMap.{get}
 use Rattle.sqlite_tied.specs.Compute.{everything}
 use Rattle.sqlite_value.specs.declared.value.Value.TheVariants.{Text}
 use Rattle.sqlite_value.specs.Order.{Row, column}
@@ -43,5 +44,5 @@ sets name value = record { command = refl; is_plain = (refl, refl); rows = refl;
 
 pub unsound : (db : Database) (name : List ℕ) (row : Row) → Some row ≡ option_map (λ cells. column cells 1 ∷ []) (device_at db name) → ((value : Bool) → column row 0 ≢ flag value) → AreSoundDevices db → ⊥
 unsound db name row shown damaged held =
-    let is = shown_of (λ cells. column cells 1 ∷ []) device_cells row (held.0 name) (shown ∙ ap (option_map (λ cells. column cells 1 ∷ [])) (held.1.device_rows name)) in
+    let is = shown_of (λ cells. column cells 1 ∷ []) device_cells row (get held.0 name) (shown ∙ ap (option_map (λ cells. column cells 1 ∷ [])) (held.1.device_rows name)) in
     damaged is.0.on (ap (λ r. column r 0) is.2)

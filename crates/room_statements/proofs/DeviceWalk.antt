@@ -2,6 +2,7 @@
 use Rattle.std.proofs.Common.{◌≡◌, ℕ, Bool, true, false, ◌||◌, List, [], ◌∷◌, ◌++◌, map, filter, drop, codes, Option, Some, None, option_map, IsPermutation, refl, sym, ap, ◌∙◌, ◌⊎◌, inl, inr, IsTrue, ◌↔◌}
 use Rattle.std.proofs.lemmas.Bool.{cases_Bool, true≢false}
 use Rattle.std.proofs.lemmas.List.Sorted.{IsPermutation-sym}
+use Rattle.std.specs.FinMap.{get}
 use Rattle.sqlite_tied.specs.Compute.{everything}
 use Rattle.sqlite_value.specs.declared.value.Value.TheVariants.{Text}
 use Rattle.sqlite_value.specs.Order.{Row, column}
@@ -123,7 +124,7 @@ module _ (db : Database) (has : HasSchema db) where
       let there = permuted_has (map second (db.trees 9)) ((it.given ++ it.row ∷ []) ++ it.more) it.row it.are_shown (refused_there it.given it.row it.more) in
       let r = has_mapped second (db.trees 9) it.row there in
       let row = device_row r.0 r.1 in
-      let flagged = of_device row.0 (held.0 row.0) (drop 1 r.0) (sym row.1 ∙ held.1.device_rows row.0) in
+      let flagged = of_device row.0 (get held.0 row.0) (drop 1 r.0) (sym row.1 ∙ held.1.device_rows row.0) in
       it.refused flagged.0 (ap (λ x. column x 0) r.2 ∙ sym (without_number r.0 1) ∙ flagged.1)
     where
       of_device : (name : List ℕ) (o : Option Device) (cells : Row) → Some cells ≡ option_map device_cells o → (accepting : Bool) × (column cells 1 ≡ flag accepting)

@@ -1,5 +1,6 @@
 -- The statements on the table `rates`: what their texts mean, and what they leave.
 use Rattle.std.proofs.Common.{◌≡◌, ◌≢◌, ◌≤◌, ℕ, List, [], ◌∷◌, codes, Some, option_map, IfSome, refl, ap, subst, ◌∙◌}
+use Rattle.std.specs.FinMap.{get}
 use Rattle.sqlite_tied.specs.Compute.{everything}
 use Rattle.sqlite_value.specs.declared.value.Value.TheVariants.{Text}
 use Rattle.sqlite_value.specs.Order.{Row, column}
@@ -44,6 +45,6 @@ sets name value = record { command = refl; is_plain = (refl, refl); rows = refl;
 
 pub unsound : (db : Database) (name : List ℕ) (row : Row) → Some row ≡ option_map (λ cells. column cells 1 ∷ []) (rate_at db name) → ((value : ℕ) → 1 ≤ value → value ≤ most_rate → column row 0 ≢ number value) → AreSoundDevices db → ⊥
 unsound db name row shown damaged held =
-    let is = shown_of (λ cells. column cells 1 ∷ []) rate_cells row (held.0 name) (shown ∙ ap (option_map (λ cells. column cells 1 ∷ [])) (held.1.rate_rows name)) in
+    let is = shown_of (λ cells. column cells 1 ∷ []) rate_cells row (get held.0 name) (shown ∙ ap (option_map (λ cells. column cells 1 ∷ [])) (held.1.rate_rows name)) in
     let kept : IsDevice name is.0 = subst (λ o. IfSome o (IsDevice name)) is.1 (held.1.are_devices name) in
     damaged is.0.rate kept.rate_from_one kept.rate_at_most (ap (λ r. column r 0) is.2)

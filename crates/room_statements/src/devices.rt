@@ -4,10 +4,11 @@ ghost use Rattle.std.specs.Prelude.{◌≡◌, ◌↔◌, ℕ, List, true, [], �
 ghost use Rattle.sqlite_value.specs.Order.{column};
 ghost use Rattle.sqlite.specs.State.{HasCleanDisk, KeepsCommit, Survives};
 ghost use Rattle.sqlite.specs.Held.{state};
+ghost use Rattle.room_rules.specs.Devices.{Devices, is_some_on};
 ghost use Rattle.room_tables.specs.Tables.{device as device_table};
 ghost use Rattle.room_tables.specs.Keyed.{HasSchema, SetsRow};
 ghost use Rattle.room_tables.specs.Cells.{on_cells};
-ghost use Rattle.room_tables.specs.Devices.{device_at, AreSoundDevices, GathersOn, refuses_flag};
+ghost use Rattle.room_tables.specs.Devices.{device_at, HoldsDevices, AreSoundDevices, GathersOn, refuses_flag};
 ghost use Rattle.room_tables.specs.Calls.{Goes, Stays, IsSame, Gets};
 ghost use Rattle.room_statements.specs.Walks.{WalksOver};
 
@@ -49,11 +50,12 @@ fn device_row<S: Alter>(connection: &mut Connection<S>, name: Name) -> Result<Op
     )
 }
 
-/// Whether some device takes jobs now. `Damaged` tells that a row that is there can be none of sound rows.
+/// Whether some device takes jobs now, of the rows or, where they are sound, of the map that they are. `Damaged` tells that a row that is there can be none of sound rows.
 pub fn is_device_on<S: Alter>(connection: &mut Connection<S>) -> Result<bool, StoreFault>
     ensures goes { Goes (state S.Store connection.old) (state S.Store connection.new) }
     ensures opened { HasCleanDisk (state S.Store connection.new) → OnOk result (IsTrue (state S.Store connection.old).is_open × IsTrue (state S.Store connection.new).is_open) }
     ensures found { HasCleanDisk (state S.Store connection.new) → HasSchema (state S.Store connection.old).now → IfOk result (λ on. IsTrue on ↔ ((name : List ℕ) × (device_at (state S.Store connection.old).now name ≡ Some (on_cells name true)))) }
+    ensures of_map { HasCleanDisk (state S.Store connection.new) → HasSchema (state S.Store connection.old).now → IfOk result (λ on. (devices : Devices) → HoldsDevices (state S.Store connection.old).now devices → on ≡ is_some_on devices) }
     ensures damaged { HasCleanDisk (state S.Store connection.new) → HasSchema (state S.Store connection.old).now → result ≡ Err StoreFault.Damaged → AreSoundDevices (state S.Store connection.old).now → ⊥ }
     ensures same { HasCleanDisk (state S.Store connection.new) → HasSchema (state S.Store connection.old).now → OnOk result (IsSame (state S.Store connection.old) (state S.Store connection.new)) }
     ensures stays { HasCleanDisk (state S.Store connection.new) → HasSchema (state S.Store connection.old).now → Stays (state S.Store connection.old) (state S.Store connection.new) }

@@ -6,7 +6,8 @@ ghost use Rattle.room_tables.specs.Making.{IsNew, IsOpened, IsOpenFault};
 ghost use Rattle.room_tables.specs.Calls.{IsSame};
 ghost use Rattle.room_tables.specs.Keyed.{AreNumbered, HasSchema};
 ghost use Rattle.room_tables.specs.Accounts.{AgreeOnRows, Holds};
-ghost use Rattle.room_tables.specs.Devices.{Devices, HoldsDevices};
+ghost use Rattle.room_rules.specs.Devices.{Devices};
+ghost use Rattle.room_tables.specs.Devices.{HoldsDevices};
 ghost use Rattle.room_tables.specs.Migrating.{HoldsFirstDevices, IsMigrated, IsMigrateFault};
 ghost use Rattle.room_state.specs.Rooms.{RoomValue};
 

@@ -1,6 +1,9 @@
 -- What the statements leave that make the tables.
-use Rattle.std.proofs.Common.{◌≡◌, ◌≢◌, arith, suc, ℕ, pos, List, [], ◌∷◌, drop, find, option_map, None, Ok, refl, sym, ap, subst, ◌∙◌, inl, inr}
+use Rattle.std.proofs.Common.{◌≡◌, ◌≢◌, arith, suc, ℕ, pos, List, [], ◌∷◌, drop, find, Option, option_map, IfSome, None, Ok, refl, sym, ap, subst, ◌∙◌, inl, inr}
 use Rattle.std.proofs.lemmas.Bool.{cases_eq}
+use Rattle.std.specs.FinMap.{get-empty}
+use Rattle.room_rules.specs.declared.device.Device.{Device}
+use Rattle.room_rules.specs.Devices.{name_cmp}
 use Rattle.sqlite_value.specs.declared.value.Value.TheVariants.{Int, Text}
 use Rattle.sqlite_value.specs.Order.{Row}
 use Rattle.sqlite_trees.specs.Tree.{Trees}
@@ -25,6 +28,8 @@ use Rattle.sqlite.proofs.Callers.{statement_of, runs_as, one_step}
 use Rattle.room_tables.specs.Tables.{room_schema, meta, account, job, document, grants, device, rates}
 use Rattle.room_tables.specs.Keyed.{has_key, row_at}
 use Rattle.room_tables.specs.Making.{IsBlank, IsNew, version_row}
+use Rattle.room_tables.specs.Cells.{device_cells, rate_cells}
+use Rattle.room_tables.specs.Devices.{IsDevice}
 use Rattle.room_tables.proofs.MakingTexts.{Makes, version_text, version_terms, version_is, version_plain}
 use Rattle.room_tables.proofs.Upserts.{went, same_value, cast_integer, cast_null, integer_equal}
 
@@ -106,8 +111,8 @@ numbers_version old new count h blank =
         no_grant = λ month. nothing_at grants (Text name ∷ Int month ∷ []) new.now (others grants (inr (inr (inr (inr (inl refl))))) (apart 6));
       };
       no_device = record {
-        are_devices = λ name. tt;
-        device_rows = λ name. nothing_at device (Text name ∷ []) new.now (others device (inr (inr (inr (inr (inr (inl refl)))))) (apart 8));
-        rate_rows = λ name. nothing_at rates (Text name ∷ []) new.now (others rates (inr (inr (inr (inr (inr (inr (inl refl))))))) (apart 10));
+        are_devices = λ name. subst (λ (device : Option Device). IfSome device (IsDevice name)) (sym (get-empty name_cmp name)) tt;
+        device_rows = λ name. nothing_at device (Text name ∷ []) new.now (others device (inr (inr (inr (inr (inr (inl refl)))))) (apart 8)) ∙ sym (ap (option_map device_cells) (get-empty name_cmp name));
+        rate_rows = λ name. nothing_at rates (Text name ∷ []) new.now (others rates (inr (inr (inr (inr (inr (inr (inl refl))))))) (apart 10)) ∙ sym (ap (option_map rate_cells) (get-empty name_cmp name));
       };
     }

@@ -22,3 +22,4 @@ pub mod RatedLemmas
 pub mod VersionTwo
 pub mod AgreedRows
 pub mod SameByKey
+pub mod DeviceRows

@@ -1,6 +1,7 @@
 -- A database as it is made, and what it is found to be when it is opened (all this project's own).
-use Rattle.std.specs.Prelude.{◌≡◌, ◌≢◌, ◌⊎◌, ⊤, List, ℕ, ℤ, pos, true, [], ◌∷◌, None, Some, slice_get}
+use Rattle.std.specs.Prelude.{◌≡◌, ◌≢◌, ◌⊎◌, ⊤, List, ℕ, ℤ, pos, true, [], ◌∷◌, Some, slice_get}
 use Rattle.std.specs.List.{AllByRecursion}
+use Rattle.std.specs.FinMap.{empty}
 use Rattle.sqlite_value.specs.declared.value.Value.TheVariants.{Int, Null}
 use Rattle.sqlite_value.specs.declared.keys.Collation.TheVariants.{Binary}
 use Rattle.sqlite_value.specs.Order.{Row, column}
@@ -74,7 +75,7 @@ pub record IsNew (db : Database) : Type 0 where
   pub version_two : HasVersion db (pos 2)
   pub no_row : AllByRecursion (λ table. table.tree ≢ meta.tree → db.trees table.tree ≡ []) room_schema.tables
   pub no_account : (name : List ℕ) → HoldsNothing db name
-  pub no_device : HoldsDevices db (λ _. None)
+  pub no_device : HoldsDevices db empty
 
 -- ---- as it is opened
 

@@ -1,15 +1,17 @@
 -- What becomes of a database of version 1 when it is migrated (all this project's own).
 use Rattle.std.specs.Prelude.{◌≡◌, ◌≢◌, ◌⊎◌, ⊤, ℕ, ℤ, pos, List, [], option_map, IfSome}
 use Rattle.std.specs.List.{AllByRecursion}
+use Rattle.std.specs.FinMap.{get}
 use Rattle.sqlite_trees.specs.View.{IsShaped}
 use Rattle.sqlite_trees.specs.declared.store.Shape.TheVariants as shape
 use Rattle.sqlite.specs.Effect.{Database, IsDatabase}
+use Rattle.room_rules.specs.Devices.{Devices}
 use Rattle.room_tables.specs.Tables.{first_schema, room_schema, meta, rates}
 use Rattle.room_tables.specs.declared.fault.OpenFault.{OpenFault}
 use Rattle.room_tables.specs.declared.fault.OpenFault.TheVariants.{NotOurs, WrongVersion, Storage, Memory}
 use Rattle.room_tables.specs.Keyed.{AreNumbered, OnlyChanges}
 use Rattle.room_tables.specs.Cells.{units_cells, device_cells}
-use Rattle.room_tables.specs.Devices.{Devices, device_at, rate_at, IsDevice}
+use Rattle.room_tables.specs.Devices.{device_at, rate_at, IsDevice}
 use Rattle.room_tables.specs.Making.{HasVersion, KeepsVersion, IsMislaid, IsNotOurs}
 
 -- ---- a database of version 1
@@ -22,8 +24,8 @@ pub record IsFirst (db : Database) : Type 0 where
 -- each device has one row, and counts one unit for an impression
 pub record HoldsFirstDevices (db : Database) (devices : Devices) : Type 0 where
   pub schema_is : db.schema ≡ first_schema
-  pub are_devices : (name : List ℕ) → IfSome (devices name) (λ device. IsDevice name device × (device.rate ≡ 1))
-  pub device_rows : (name : List ℕ) → device_at db name ≡ option_map device_cells (devices name)
+  pub are_devices : (name : List ℕ) → IfSome (get devices name) (λ device. IsDevice name device × (device.rate ≡ 1))
+  pub device_rows : (name : List ℕ) → device_at db name ≡ option_map device_cells (get devices name)
 
 -- ---- as it is migrated
 

@@ -1,5 +1,6 @@
 //! What the definitions of rows promise.
 
+ghost use Rattle.room_tables.specs.Devices.{AreOfOneMap};
 ghost use Rattle.room_tables.specs.ReadBack.{RowsAreReadBack};
 ghost use Rattle.room_tables.specs.SameRows.{SameByKeyIsSameByTable};
 
@@ -12,4 +13,9 @@ pub fn rows_are_read_back()
 /// table, and the other way round: those whose account is exactly the text, each as often, in any order.
 pub fn same_by_key_is_same_by_table()
     ensures { SameByKeyIsSameByTable }
+{}
+
+/// Sound rows of devices are those of one map.
+pub fn device_rows_are_of_one_map()
+    ensures { AreOfOneMap }
 {}

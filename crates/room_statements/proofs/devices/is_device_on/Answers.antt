@@ -4,6 +4,7 @@ use Rattle.sqlite.specs.Held.{state}
 use Rattle.room_statements.specs.declared.devices.AnyOn.{AnyOn}
 use Rattle.room_tables.specs.declared.fault.StoreFault.TheVariants.{Damaged}
 use Rattle.room_tables.proofs.KeyedRows.{same_fault}
+use Rattle.room_tables.proofs.DeviceRows.{tells_some_on}
 use Rattle.room_statements.proofs.DeviceWalk.{on_exactly, flags_unsound}
 use Rattle.room_statements.proofs.devices.is_device_on.Goals as goal
 
@@ -16,3 +17,8 @@ returns-in_err-walk_devices-clause-damaged g c clean has is_damaged =
 pub returns-clause-found : goal.returns-clause-found
 returns-clause-found g c clean has =
     on_exactly (state g.S.Store c.args.connection.now).now has (λ (found : AnyOn). found.is_on) (record { is_on = false }) c.walk_devices.new.found refl (c.in_ok-walk_devices.ensures.walks clean has).all
+
+pub returns-clause-of_map : goal.returns-clause-of_map
+returns-clause-of_map g c clean has devices =
+    let db = (state g.S.Store c.args.connection.now).now in
+    tells_some_on db devices c.walk_devices.new.found.is_on (on_exactly db has (λ (found : AnyOn). found.is_on) (record { is_on = false }) c.walk_devices.new.found refl (c.in_ok-walk_devices.ensures.walks clean has).all)
