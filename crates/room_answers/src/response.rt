@@ -78,7 +78,7 @@ pub fn ended(out: Vec<u8>) -> Result<List<u8>, CoreFault>
     ensures memory { IfErr result (λ fault. fault ≡ CoreFault.Memory) }
 {
     let mut items = out;
-    put_end(&mut items)?;
+    put_end(&mut items).map_err(|fault| CoreFault::of_part(fault))?;
     Ok(List { items })
 }
 

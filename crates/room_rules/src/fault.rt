@@ -1,4 +1,5 @@
 ghost use Rattle.std.specs.Prelude.{◌≡◌};
+ghost use Rattle.ipp_coding.specs.declared.fault.PutFault.TheVariants as put;
 ghost use Rattle.room_rules.specs.declared.fault.CoreFault.TheVariants.{Memory};
 
 use ipp_coding::PutFault;
@@ -22,19 +23,23 @@ impl From<AllocError> for CoreFault {
     }
 }
 
-/// What this crate writes is short, named and well tagged: only memory can be wanting for it.
-impl From<PutFault> for CoreFault {
-    ghost from_gives = { λ _ e. e ≡ Memory };
-
-    fn from(_fault: PutFault) -> CoreFault {
-        CoreFault::Memory
-    }
-}
-
 impl<T: Drop> From<AllocFailed<T>> for CoreFault {
     ghost from_gives = { λ _ e. e ≡ Memory };
 
     fn from(_error: AllocFailed<T>) -> CoreFault {
         CoreFault::Memory
+    }
+}
+
+impl CoreFault {
+    /// The fault of a part of a message that nothing but want of memory refused.
+    pub fn of_part(fault: PutFault) -> CoreFault
+        requires { fault ≡ put.Memory }
+        ensures { result ≡ Memory }
+    {
+        match fault {
+            PutFault::Memory => CoreFault::Memory,
+            PutFault::TooLong | PutFault::EmptyName | PutFault::BadTag => unreachable!(),
+        }
     }
 }

@@ -4,3 +4,4 @@ pub mod Rows
 pub mod JobRows
 pub mod PrinterRows
 pub mod Selections
+pub mod Lengths

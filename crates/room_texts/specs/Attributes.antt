@@ -1,7 +1,8 @@
 -- Attributes of one name, with values of one or more syntaxes (RFC 8011 section 5.1).
-use Rattle.std.specs.Prelude.{ℕ, Bool, if◌then◌else◌, List, [], ◌∷◌}
+use Rattle.std.specs.Prelude.{ℕ, ◌<◌, Bool, if◌then◌else◌, List, [], ◌∷◌, length}
 use Rattle.std.specs.Int.{w32, to_be_bytes}
 use Rattle.ipp_coding.specs.Plain.{PlainValue, PlainAttribute}
+use Rattle.ipp_coding.specs.Spelling.{Fits}
 
 abbrev pub value_with : ℕ → List ℕ → PlainValue
 value_with tag bytes = record { tag = tag; bytes = bytes }
@@ -28,3 +29,8 @@ unknown = single 0x12 []
 
 abbrev pub no_value : List PlainValue
 no_value = single 0x13 []
+
+-- an attribute has a name, no longer than a name may be (RFC 8010 section 3.1.4)
+pub record IsAttributeName (name : List ℕ) : Type 0 where
+  pub named : 0 < length name
+  pub fits : Fits name

@@ -1,15 +1,17 @@
 //! Attributes of a group.
 
-ghost use Rattle.std.specs.Prelude.{◌≡◌, ◌++◌, ◌<◌, IfErr, OnOk, OnErr, map, take, length};
+ghost use Rattle.std.specs.Prelude.{◌≡◌, [], ◌∷◌, ◌++◌, ◌≤◌, None, IfErr, OnOk, OnErr, map, take, length};
 ghost use Rattle.std.specs.List.{flat_map, AllByRecursion};
 ghost use Rattle.ipp_coding.specs.Plain.{plain_value, plain_attribute};
-ghost use Rattle.ipp_coding.specs.Spelling.{attribute_spelling, further_spelling, IsAttribute};
-ghost use Rattle.room_texts.specs.Attributes.{attribute_with, boolean, number};
+ghost use Rattle.ipp_coding.specs.Spelling.{attribute_spelling, further_spelling, AreValues, Fits, IsAttribute, IsValue};
+ghost use Rattle.ipp_coding.specs.Writing.{group_refusal};
+ghost use Rattle.room_texts.specs.Attributes.{attribute_with, boolean, number, IsAttributeName};
+ghost use Rattle.room_texts.specs.Limits.{IsPlace};
 ghost use Rattle.room_texts.specs.Places.{plain_place, printer_uri};
 ghost use Rattle.room_texts.specs.Times.{moment_values};
 
 use crate::place::Place;
-use ipp_coding::{Attribute, Value, put_attribute, put_more};
+use ipp_coding::{Attribute, Value, put_attribute, put_group, put_more};
 use room_rules::CoreFault;
 
 // Tags of values (RFC 8010 section 3.5.2).
@@ -37,6 +39,16 @@ pub(crate) const LANGUAGE: u8 = 0x48;
 
 pub(crate) const MEDIA_TYPE: u8 = 0x49;
 
+/// Appends the tag that begins a group.
+pub(crate) fn begin_group(out: &mut Vec<u8>, tag: u8) -> Result<(), CoreFault>
+    requires { group_refusal tag ≡ None }
+    ensures appended { OnOk result (out.new.items ≡ out.old.items ++ tag ∷ []) }
+    ensures memory { IfErr result (λ fault. fault ≡ CoreFault.Memory) }
+    ensures unchanged { OnErr result (out.new.items ≡ out.old.items) }
+{
+    put_group(out, tag).map_err(|fault| CoreFault::of_part(fault))
+}
+
 /// Appends an attribute of one value.
 pub(crate) fn put_single(
     out: &mut Vec<u8>,
@@ -44,12 +56,14 @@ pub(crate) fn put_single(
     name: &[u8],
     value: &[u8],
 ) -> Result<(), CoreFault>
+    requires name { IsAttributeName name.now }
+    requires tag { 0x10 ≤ tag }
+    requires value { Fits value.now }
     ensures appended { OnOk result (out.new.items ≡ out.old.items ++ attribute_spelling (attribute_with name.now tag value.now)) }
     ensures memory { IfErr result (λ fault. fault ≡ CoreFault.Memory) }
     ensures unchanged { OnErr result (out.new.items ≡ out.old.items) }
 {
-    put_attribute(out, tag, name, value)?;
-    Ok(())
+    put_attribute(out, tag, name, value).map_err(|fault| CoreFault::of_part(fault))
 }
 
 /// Appends an attribute of one integer or enum.
@@ -59,6 +73,9 @@ pub(crate) fn put_number(
     name: &[u8],
     value: u32,
 ) -> Result<(), CoreFault>
+    requires name { IsAttributeName name.now }
+    requires tag { 0x10 ≤ tag }
+    requires value { value ≤ 2147483647 }
     ensures appended { OnOk result (out.new.items ≡ out.old.items ++ attribute_spelling (attribute_with name.now tag (number value))) }
     ensures memory { IfErr result (λ fault. fault ≡ CoreFault.Memory) }
     ensures unchanged { OnErr result (out.new.items ≡ out.old.items) }
@@ -68,6 +85,7 @@ pub(crate) fn put_number(
 
 /// Appends an attribute of one boolean.
 pub(crate) fn put_boolean(out: &mut Vec<u8>, name: &[u8], value: bool) -> Result<(), CoreFault>
+    requires { IsAttributeName name.now }
     ensures appended { OnOk result (out.new.items ≡ out.old.items ++ attribute_spelling (attribute_with name.now 0x22 (boolean value))) }
     ensures memory { IfErr result (λ fault. fault ≡ CoreFault.Memory) }
     ensures unchanged { OnErr result (out.new.items ≡ out.old.items) }
@@ -85,6 +103,7 @@ pub(crate) fn put_moment(
     at: &Place<'_>,
     moment: Option<u64>,
 ) -> Result<(), CoreFault>
+    requires { IsAttributeName name.now }
     ensures appended { OnOk result (out.new.items ≡ out.old.items ++ attribute_spelling (record { name = name.now; values = moment_values (plain_place at.entry.now) moment })) }
     ensures memory { IfErr result (λ fault. fault ≡ CoreFault.Memory) }
     ensures unchanged { OnErr result (out.new.items ≡ out.old.items) }
@@ -101,6 +120,8 @@ pub(crate) fn put_printer_uri(
     name: &[u8],
     at: &Place<'_>,
 ) -> Result<(), CoreFault>
+    requires name { IsAttributeName name.now }
+    requires place { IsPlace (plain_place at.now) }
     ensures appended { OnOk result (out.new.items ≡ out.old.items ++ attribute_spelling (attribute_with name.now 0x45 (printer_uri (plain_place at.entry.now)))) }
     ensures memory { IfErr result (λ fault. fault ≡ CoreFault.Memory) }
     ensures unchanged { OnErr result (out.new.items ≡ out.old.items) }
@@ -131,22 +152,36 @@ pub(crate) fn put_values(
     name: &[u8],
     values: &[Value<'_>],
 ) -> Result<(), CoreFault>
-    requires { 0 < length values.now }
+    requires name { IsAttributeName name.now }
+    requires values { AreValues (map plain_value values.now) }
     ensures appended { OnOk result (out.new.items ≡ out.old.items ++ attribute_spelling (record { name = name.now; values = map plain_value values.now })) }
     ensures memory { IfErr result (λ fault. fault ≡ CoreFault.Memory) }
     ensures front { take (length out.old.items) out.new.items ≡ out.old.items }
 {
-    put_attribute(out, values[0].tag, name, values[0].bytes)?;
+    let first = values[0];
+    put_attribute(out, first.tag, name, first.bytes).map_err(|fault| CoreFault::of_part(fault))?;
     put_further(out, &values[1..])
 }
 
+/// Appends further values of the attribute before them.
+#[tactic(auto, using(crate::proofs::Values::each_is_value))]
 fn put_further(out: &mut Vec<u8>, values: &[Value<'_>]) -> Result<(), CoreFault>
+    requires { AllByRecursion IsValue (map plain_value values.now) }
     ensures appended { OnOk result (out.new.items ≡ out.old.items ++ flat_map further_spelling (map plain_value values.now)) }
     ensures memory { IfErr result (λ fault. fault ≡ CoreFault.Memory) }
     ensures front { take (length out.old.items) out.new.items ≡ out.old.items }
 {
     for value in values {
-        put_more(out, value.tag, value.bytes)?;
+        put_value(out, *value)?;
     }
     Ok(())
+}
+
+fn put_value(out: &mut Vec<u8>, value: Value<'_>) -> Result<(), CoreFault>
+    requires { IsValue (plain_value value) }
+    ensures appended { OnOk result (out.new.items ≡ out.old.items ++ further_spelling (plain_value value.entry)) }
+    ensures memory { IfErr result (λ fault. fault ≡ CoreFault.Memory) }
+    ensures unchanged { OnErr result (out.new.items ≡ out.old.items) }
+{
+    put_more(out, value.tag, value.bytes).map_err(|fault| CoreFault::of_part(fault))
 }

@@ -2,20 +2,19 @@
 
 ghost use Rattle.std.specs.Prelude.{◌≡◌, ◌++◌, ◌≤◌, ◌*◌, ◌/◌, IfErr, OnOk, OnErr, map, take, length};
 ghost use Rattle.std.specs.List.{flat_map};
-ghost use Rattle.ipp_coding.specs.Spelling.{attribute_spelling, group_spelling};
-ghost use Rattle.room_texts.specs.Attributes.{attribute_with};
+ghost use Rattle.ipp_coding.specs.Spelling.{attribute_spelling, group_spelling, Fits};
+ghost use Rattle.room_texts.specs.Attributes.{attribute_with, IsAttributeName};
 ghost use Rattle.room_texts.specs.JobAttributes.{job_group, job_row, impressions_values, state_number, state_reason};
 ghost use Rattle.room_texts.specs.Limits.{IsPlace, IsShowable};
 ghost use Rattle.room_texts.specs.Places.{plain_place, job_uri};
 ghost use Rattle.room_texts.specs.Tables.{asked_names, row_attribute, row_text};
 
 use crate::attribute::{
-    CHARSET, ENUM, INTEGER, KEYWORD, LANGUAGE, NAME, UNKNOWN, URI, put_moment, put_number,
-    put_printer_uri, put_single,
+    CHARSET, ENUM, INTEGER, KEYWORD, LANGUAGE, NAME, UNKNOWN, URI, begin_group, put_moment,
+    put_number, put_printer_uri, put_single,
 };
 use crate::place::Place;
 use crate::selection::Selection;
-use ipp_coding::put_group;
 use room_rules::{CoreFault, Job, JobState, Standing};
 
 /// An attribute that a job shows.
@@ -66,7 +65,8 @@ pub(crate) const JOB_ATTRIBUTES: [JobAttribute; 18] = [
 impl JobAttribute {
     #[tactic(auto, unfolding(crate::specs::JobAttributes::job_attributes))]
     pub(crate) fn name(self) -> &'static [u8]
-        ensures { result.now ≡ (job_row self).name }
+        ensures row { result.now ≡ (job_row self).name }
+        ensures name { IsAttributeName result.now }
     {
         match self {
             JobAttribute::Uri => b"job-uri",
@@ -145,12 +145,13 @@ fn append_job(
     job: &Job,
     selection: &Selection<'_>,
 ) -> Result<(), CoreFault>
+    requires place { IsPlace (plain_place at.now) }
     requires job { IsShowable job.now }
     ensures appended { OnOk result (out.new.items ≡ out.old.items ++ group_spelling (job_group (plain_place at.entry.now) job.now selection.now)) }
     ensures memory { IfErr result (λ fault. fault ≡ CoreFault.Memory) }
     ensures front { take (length out.old.items) out.new.items ≡ out.old.items }
 {
-    put_group(out, 0x02)?;
+    begin_group(out, 0x02)?;
     put_job_attributes(out, at, job, selection, &JOB_ATTRIBUTES)?;
     Ok(())
 }
@@ -163,6 +164,7 @@ fn put_job_attributes(
     selection: &Selection<'_>,
     attributes: &[JobAttribute],
 ) -> Result<(), CoreFault>
+    requires place { IsPlace (plain_place at.now) }
     requires job { IsShowable job.now }
     ensures appended { OnOk result (out.new.items ≡ out.old.items ++ flat_map (row_text selection.now (plain_place at.entry.now) job.now) (map job_row attributes.now)) }
     ensures memory { IfErr result (λ fault. fault ≡ CoreFault.Memory) }
@@ -181,6 +183,7 @@ fn put_where_wanted(
     selection: &Selection<'_>,
     attribute: JobAttribute,
 ) -> Result<(), CoreFault>
+    requires place { IsPlace (plain_place at.now) }
     requires job { IsShowable job.now }
     ensures appended { OnOk result (out.new.items ≡ out.old.items ++ row_text selection.now (plain_place at.entry.now) job.now (job_row attribute)) }
     ensures memory { IfErr result (λ fault. fault ≡ CoreFault.Memory) }
@@ -199,6 +202,7 @@ fn put_job_attribute(
     job: &Job,
     attribute: JobAttribute,
 ) -> Result<(), CoreFault>
+    requires place { IsPlace (plain_place at.now) }
     requires job { IsShowable job.now }
     ensures appended { OnOk result (out.new.items ≡ out.old.items ++ attribute_spelling (row_attribute (plain_place at.entry.now) job.now (job_row attribute))) }
     ensures memory { IfErr result (λ fault. fault ≡ CoreFault.Memory) }
@@ -235,7 +239,8 @@ fn put_job_attribute(
 
 /// The job-state as an enum (RFC 8011 section 5.3.7).
 fn state_number(state: JobState) -> u32
-    ensures { result ≡ state_number state }
+    ensures number { result ≡ state_number state }
+    ensures integer { result ≤ 2147483647 }
 {
     match state {
         JobState::Pending => 3,
@@ -248,7 +253,8 @@ fn state_number(state: JobState) -> u32
 }
 
 fn state_reason(standing: &Standing) -> &'static [u8]
-    ensures { result.now ≡ state_reason standing.now.state standing.now.is_open standing.now.stopping }
+    ensures reason { result.now ≡ state_reason standing.now.state standing.now.is_open standing.now.stopping }
+    ensures fits { Fits result.now }
 {
     match standing.state {
         JobState::Held if standing.is_open => b"job-incoming",
@@ -266,12 +272,15 @@ fn state_reason(standing: &Standing) -> &'static [u8]
 fn impressions_completed(standing: &Standing) -> u32
     requires rate { 1 ≤ standing.now.rate }
     requires charged { standing.now.charged ≤ 2147483647 * standing.now.rate }
-    ensures { result ≡ standing.now.charged / standing.now.rate }
+    ensures quotient { result ≡ standing.now.charged / standing.now.rate }
+    ensures integer { result ≤ 2147483647 }
 {
     (standing.charged / u64::from(standing.rate)) as u32
 }
 
 fn put_impressions(out: &mut Vec<u8>, name: &[u8], impressions: u32) -> Result<(), CoreFault>
+    requires name { IsAttributeName name.now }
+    requires impressions { impressions ≤ 2147483647 }
     ensures appended { OnOk result (out.new.items ≡ out.old.items ++ attribute_spelling (record { name = name.now; values = impressions_values impressions })) }
     ensures memory { IfErr result (λ fault. fault ≡ CoreFault.Memory) }
     ensures unchanged { OnErr result (out.new.items ≡ out.old.items) }
@@ -283,6 +292,9 @@ fn put_impressions(out: &mut Vec<u8>, name: &[u8], impressions: u32) -> Result<(
 }
 
 fn put_job_uri(out: &mut Vec<u8>, name: &[u8], at: &Place<'_>, job: u32) -> Result<(), CoreFault>
+    requires name { IsAttributeName name.now }
+    requires place { IsPlace (plain_place at.now) }
+    requires job { job ≤ 999999 }
     ensures appended { OnOk result (out.new.items ≡ out.old.items ++ attribute_spelling (attribute_with name.now 0x45 (job_uri (plain_place at.entry.now) job))) }
     ensures memory { IfErr result (λ fault. fault ≡ CoreFault.Memory) }
     ensures unchanged { OnErr result (out.new.items ≡ out.old.items) }

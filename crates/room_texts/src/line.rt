@@ -1,6 +1,7 @@
 //! The lines that a station is told.
 
-ghost use Rattle.std.specs.Prelude.{◌≡◌, ◌++◌, IfOk, IfErr, OnOk, OnErr, string_bytes};
+ghost use Rattle.std.specs.Prelude.{◌≡◌, ◌++◌, ◌≤◌, length, IfOk, IfErr, OnOk, OnErr, string_bytes};
+ghost use Rattle.ipp_coding.specs.Spelling.{Fits};
 ghost use Rattle.room_texts.specs.Lines.{success_text};
 ghost use Rattle.room_texts.specs.Words.{word_numbers, word_text};
 
@@ -31,9 +32,10 @@ pub enum Success {
     },
 }
 
-/// Appends the text of a word.
+/// Appends the text of a word, which is short enough for a value.
 pub fn put_line(out: &mut Vec<u8>, word: Word) -> Result<(), CoreFault>
     ensures appended { OnOk result (out.new.items ≡ out.old.items ++ word_text word) }
+    ensures fits { Fits (word_text word) }
     ensures memory { IfErr result (λ fault. fault ≡ CoreFault.Memory) }
     ensures unchanged { OnErr result (out.new.items ≡ out.old.items) }
 {
@@ -48,13 +50,28 @@ pub fn put_line(out: &mut Vec<u8>, word: Word) -> Result<(), CoreFault>
 
 /// What follows a word; nothing for most, which takes no memory.
 fn word_numbers(alloc: Global, word: Word) -> Result<String, AllocError>
-    ensures { IfOk result (λ text. string_bytes text ≡ word_numbers word) }
+    ensures numbers { IfOk result (λ text. string_bytes text ≡ word_numbers word) }
+    ensures short { length (word_numbers word) ≤ 42 }
 {
     match word {
-        Word::Quota { need, left } => format!(in alloc; " {need} {left}"),
-        Word::Conflict { held } => format!(in alloc; " {held}"),
+        Word::Quota { need, left } => quota_numbers(alloc, need, left),
+        Word::Conflict { held } => conflict_number(alloc, held),
         _ => Ok(String::new(alloc)),
     }
+}
+
+fn quota_numbers(alloc: Global, need: u64, left: i64) -> Result<String, AllocError>
+    ensures numbers { IfOk result (λ text. string_bytes text ≡ word_numbers (Word.Quota need left)) }
+    ensures short { length (word_numbers (Word.Quota need left)) ≤ 42 }
+{
+    format!(in alloc; " {need} {left}")
+}
+
+fn conflict_number(alloc: Global, held: u32) -> Result<String, AllocError>
+    ensures number { IfOk result (λ text. string_bytes text ≡ word_numbers (Word.Conflict held)) }
+    ensures short { length (word_numbers (Word.Conflict held)) ≤ 11 }
+{
+    format!(in alloc; " {held}")
 }
 
 /// Appends the line that tells a success.

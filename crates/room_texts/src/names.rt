@@ -1,13 +1,14 @@
 //! The words as texts.
 
-ghost use Rattle.std.specs.Prelude.{◌≡◌};
+ghost use Rattle.std.specs.Prelude.{◌≡◌, ◌≤◌, length};
 ghost use Rattle.room_texts.specs.Words.{word_name};
 
 use room_rules::Word;
 
 /// The word without its numbers.
 pub(crate) fn word_name(word: Word) -> &'static [u8]
-    ensures { result.now ≡ word_name word }
+    ensures name { result.now ≡ word_name word }
+    ensures short { length result.now ≤ 27 }
 {
     match word {
         Word::Version => b"version",

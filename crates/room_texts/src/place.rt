@@ -1,4 +1,5 @@
-ghost use Rattle.std.specs.Prelude.{◌≡◌, IfOk};
+ghost use Rattle.std.specs.Prelude.{◌≡◌, ◌≤◌, length, IfOk};
+ghost use Rattle.room_texts.specs.Limits.{IsPlace};
 ghost use Rattle.room_texts.specs.Places.{plain_place, printer_uri, job_uri};
 ghost use Rattle.room_texts.specs.Times.{up};
 
@@ -24,7 +25,9 @@ pub struct Place<'a> {
 impl<'a> Place<'a> {
     /// The URI of the account's queue.
     pub(crate) fn printer_uri(&self, alloc: Global) -> Result<Vec<u8>, AllocError>
-        ensures { IfOk result (λ uri. uri.items ≡ printer_uri (plain_place self.entry.now)) }
+        requires { IsPlace (plain_place self.now) }
+        ensures uri { IfOk result (λ uri. uri.items ≡ printer_uri (plain_place self.entry.now)) }
+        ensures short { IfOk result (λ uri. length uri.items ≤ 1066) }
     {
         let mut uri = Vec::new(alloc);
         uri.extend_from_slice(self.base)?;
@@ -35,7 +38,10 @@ impl<'a> Place<'a> {
 
     /// The URI of a job in it.
     pub(crate) fn job_uri(&self, alloc: Global, job: u32) -> Result<Vec<u8>, AllocError>
-        ensures { IfOk result (λ uri. uri.items ≡ job_uri (plain_place self.entry.now) job) }
+        requires place { IsPlace (plain_place self.now) }
+        requires job { job ≤ 999999 }
+        ensures uri { IfOk result (λ uri. uri.items ≡ job_uri (plain_place self.entry.now) job) }
+        ensures short { IfOk result (λ uri. length uri.items ≤ 1073) }
     {
         let mut uri = self.printer_uri(alloc)?;
         let number = format!(in alloc; "/{job}")?;
@@ -45,7 +51,8 @@ impl<'a> Place<'a> {
 
     /// A moment as the printer tells it: in seconds since the account was opened, counted from 1.
     pub(crate) fn up(&self, moment: u64) -> u32
-        ensures { result ≡ up (plain_place self.entry.now) moment }
+        ensures up { result ≡ up (plain_place self.entry.now) moment }
+        ensures integer { result ≤ 2147483647 }
     {
         (moment.saturating_sub(self.opened).min(GREATEST - 1) + 1) as u32
     }

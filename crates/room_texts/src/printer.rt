@@ -3,9 +3,9 @@
 ghost use Rattle.std.specs.Prelude.{◌≡◌, ◌++◌, [], ◌∷◌, ◌==◌, if◌then◌else◌, codes, IfErr, OnOk, OnErr, map, take, length};
 ghost use Rattle.std.specs.List.{flat_map};
 ghost use Rattle.ipp_coding.specs.Plain.{plain_value};
-ghost use Rattle.ipp_coding.specs.Spelling.{attribute_spelling, group_spelling};
+ghost use Rattle.ipp_coding.specs.Spelling.{attribute_spelling, group_spelling, Fits, IsValue};
 ghost use Rattle.room_rules.specs.declared.format.Format.{Format};
-ghost use Rattle.room_texts.specs.Attributes.{number, value_with};
+ghost use Rattle.room_texts.specs.Attributes.{number, value_with, IsAttributeName};
 ghost use Rattle.room_rules.specs.Formats.{media_type, formats};
 ghost use Rattle.room_texts.specs.Limits.{IsPlace, IsPrinter};
 ghost use Rattle.room_texts.specs.Places.{plain_place};
@@ -13,12 +13,12 @@ ghost use Rattle.room_texts.specs.PrinterAttributes.{operations, printer_group, 
 ghost use Rattle.room_texts.specs.Tables.{asked_names, row_attribute, row_text};
 
 use crate::attribute::{
-    CHARSET, ENUM, INTEGER, KEYWORD, LANGUAGE, MEDIA_TYPE, NAME, RANGE, put_boolean, put_number,
-    put_printer_uri, put_single, put_values,
+    CHARSET, ENUM, INTEGER, KEYWORD, LANGUAGE, MEDIA_TYPE, NAME, RANGE, begin_group, put_boolean,
+    put_number, put_printer_uri, put_single, put_values,
 };
 use crate::place::Place;
 use crate::selection::is_wanted;
-use ipp_coding::{Value, put_group};
+use ipp_coding::Value;
 use room_rules::{CoreFault, Format};
 
 /// What a printer is doing.
@@ -96,7 +96,8 @@ const PRINTER_ATTRIBUTES: [PrinterAttribute; 26] = [
 impl PrinterAttribute {
     #[tactic(auto, unfolding(crate::specs::PrinterAttributes::printer_attributes))]
     fn name(self) -> &'static [u8]
-        ensures { result.now ≡ (printer_row self).name }
+        ensures row { result.now ≡ (printer_row self).name }
+        ensures name { IsAttributeName result.now }
     {
         match self {
             PrinterAttribute::Uri => b"printer-uri-supported",
@@ -170,11 +171,13 @@ fn append_printer(
     now: PrinterNow,
     wanted: Option<&[&[u8]]>,
 ) -> Result<(), CoreFault>
+    requires place { IsPlace (plain_place at.now) }
+    requires printer { IsPrinter now }
     ensures appended { OnOk result (out.new.items ≡ out.old.items ++ group_spelling (printer_group (plain_place at.entry.now) now (asked_names wanted.entry))) }
     ensures memory { IfErr result (λ fault. fault ≡ CoreFault.Memory) }
     ensures front { take (length out.old.items) out.new.items ≡ out.old.items }
 {
-    put_group(out, 0x04)?;
+    begin_group(out, 0x04)?;
     put_printer_attributes(out, at, now, wanted, &PRINTER_ATTRIBUTES)?;
     Ok(())
 }
@@ -187,6 +190,8 @@ fn put_printer_attributes(
     wanted: Option<&[&[u8]]>,
     attributes: &[PrinterAttribute],
 ) -> Result<(), CoreFault>
+    requires place { IsPlace (plain_place at.now) }
+    requires printer { IsPrinter now }
     ensures appended { OnOk result (out.new.items ≡ out.old.items ++ flat_map (row_text (asked_names wanted.entry) (plain_place at.entry.now) now) (map printer_row attributes.now)) }
     ensures memory { IfErr result (λ fault. fault ≡ CoreFault.Memory) }
     ensures front { take (length out.old.items) out.new.items ≡ out.old.items }
@@ -204,6 +209,8 @@ fn put_where_wanted(
     wanted: Option<&[&[u8]]>,
     attribute: PrinterAttribute,
 ) -> Result<(), CoreFault>
+    requires place { IsPlace (plain_place at.now) }
+    requires printer { IsPrinter now }
     ensures appended { OnOk result (out.new.items ≡ out.old.items ++ row_text (asked_names wanted.entry) (plain_place at.entry.now) now (printer_row attribute)) }
     ensures memory { IfErr result (λ fault. fault ≡ CoreFault.Memory) }
     ensures front { take (length out.old.items) out.new.items ≡ out.old.items }
@@ -221,6 +228,8 @@ fn put_printer_attribute(
     now: PrinterNow,
     attribute: PrinterAttribute,
 ) -> Result<(), CoreFault>
+    requires place { IsPlace (plain_place at.now) }
+    requires printer { IsPrinter now }
     ensures appended { OnOk result (out.new.items ≡ out.old.items ++ attribute_spelling (row_attribute (plain_place at.entry.now) now (printer_row attribute))) }
     ensures memory { IfErr result (λ fault. fault ≡ CoreFault.Memory) }
     ensures front { take (length out.old.items) out.new.items ≡ out.old.items }
@@ -267,12 +276,14 @@ fn put_printer_attribute(
 }
 
 fn state_reason(state: u32) -> &'static [u8]
-    ensures { result.now ≡ (if state == 5 then codes "other" else codes "none") }
+    ensures reason { result.now ≡ (if state == 5 then codes "other" else codes "none") }
+    ensures fits { Fits result.now }
 {
     if state == 5 { b"other" } else { b"none" }
 }
 
 fn put_versions(out: &mut Vec<u8>, name: &[u8]) -> Result<(), CoreFault>
+    requires { IsAttributeName name.now }
     ensures appended { OnOk result (out.new.items ≡ out.old.items ++ attribute_spelling (record { name = name.now; values = value_with 0x44 (codes "1.1") ∷ value_with 0x44 (codes "2.0") ∷ [] })) }
     ensures memory { IfErr result (λ fault. fault ≡ CoreFault.Memory) }
     ensures front { take (length out.old.items) out.new.items ≡ out.old.items }
@@ -289,6 +300,7 @@ fn put_versions(out: &mut Vec<u8>, name: &[u8]) -> Result<(), CoreFault>
 }
 
 fn put_operations(out: &mut Vec<u8>, name: &[u8]) -> Result<(), CoreFault>
+    requires { IsAttributeName name.now }
     ensures appended { OnOk result (out.new.items ≡ out.old.items ++ attribute_spelling (record { name = name.now; values = map (λ operation. value_with 0x23 (number operation)) operations })) }
     ensures memory { IfErr result (λ fault. fault ≡ CoreFault.Memory) }
     ensures front { take (length out.old.items) out.new.items ≡ out.old.items }
@@ -339,6 +351,7 @@ fn put_operations(out: &mut Vec<u8>, name: &[u8]) -> Result<(), CoreFault>
 }
 
 fn put_formats(out: &mut Vec<u8>, name: &[u8]) -> Result<(), CoreFault>
+    requires { IsAttributeName name.now }
     ensures appended { OnOk result (out.new.items ≡ out.old.items ++ attribute_spelling (record { name = name.now; values = map (λ (format : Format). value_with 0x49 (media_type format)) formats })) }
     ensures memory { IfErr result (λ fault. fault ≡ CoreFault.Memory) }
     ensures front { take (length out.old.items) out.new.items ≡ out.old.items }
@@ -356,7 +369,8 @@ fn put_formats(out: &mut Vec<u8>, name: &[u8]) -> Result<(), CoreFault>
 }
 
 fn format_value(format: Format) -> Value<'static>
-    ensures { plain_value result ≡ value_with 0x49 (media_type format) }
+    ensures plain { plain_value result ≡ value_with 0x49 (media_type format) }
+    ensures value { IsValue (plain_value result) }
 {
     Value {
         tag: MEDIA_TYPE,

@@ -3,13 +3,13 @@
 ghost use Rattle.std.specs.Prelude.{◌≡◌, ◌++◌, ◌∷◌, [], Some, IfErr, OnOk, OnErr, map, option_map, take, length};
 ghost use Rattle.std.specs.List.{flat_map, AllByRecursion};
 ghost use Rattle.ipp_coding.specs.Plain.{plain_attribute};
-ghost use Rattle.ipp_coding.specs.Spelling.{attribute_spelling, group_spelling, IsAttribute};
+ghost use Rattle.ipp_coding.specs.Spelling.{attribute_spelling, group_spelling, header_spelling, IsAttribute};
 ghost use Rattle.room_texts.specs.Replies.{reply_header, reply_text, status_message, operation_group, unsupported_groups, internal_error_text};
 ghost use Rattle.room_texts.specs.Words.{word_text};
 
-use crate::attribute::{put_attributes, put_single};
+use crate::attribute::{begin_group, put_attributes, put_single};
 use crate::line::put_line;
-use ipp_coding::{Attribute, Header, put_group, put_header};
+use ipp_coding::{Attribute, Header, put_header};
 use room_rules::{CoreFault, Word};
 
 /// Appends the reply to the request that has the header `h`, up to the groups of jobs or of the
@@ -46,9 +46,18 @@ fn append_reply(
     ensures memory { IfErr result (λ fault. fault ≡ CoreFault.Memory) }
     ensures front { take (length out.old.items) out.new.items ≡ out.old.items }
 {
-    put_header(out, reply_header(h, status))?;
+    put_reply_header(out, h, status)?;
     put_operation_group(out, word)?;
     put_unsupported(out, unsupported)
+}
+
+fn put_reply_header(out: &mut Vec<u8>, request: Header, status: u16) -> Result<(), CoreFault>
+    ensures appended { OnOk result (out.new.items ≡ out.old.items ++ header_spelling (reply_header request status)) }
+    ensures memory { IfErr result (λ fault. fault ≡ CoreFault.Memory) }
+    ensures unchanged { OnErr result (out.new.items ≡ out.old.items) }
+{
+    let header = reply_header(request, status);
+    put_header(out, header).map_err(|fault| CoreFault::of_part(fault))
 }
 
 /// The header of the reply: version 1.1 to a request of version 0.x or 1.x, else 2.0.
@@ -73,7 +82,7 @@ fn put_operation_group(out: &mut Vec<u8>, word: Option<Word>) -> Result<(), Core
     ensures memory { IfErr result (λ fault. fault ≡ CoreFault.Memory) }
     ensures front { take (length out.old.items) out.new.items ≡ out.old.items }
 {
-    put_group(out, 0x01)?;
+    begin_group(out, 0x01)?;
     put_single(out, 0x47, b"attributes-charset", b"utf-8")?;
     put_single(out, 0x48, b"attributes-natural-language", b"en")?;
     put_status_message(out, word)?;
@@ -104,7 +113,7 @@ fn put_unsupported(out: &mut Vec<u8>, unsupported: &[Attribute<'_>]) -> Result<(
     if unsupported.is_empty() {
         return Ok(());
     }
-    put_group(out, 0x05)?;
+    begin_group(out, 0x05)?;
     put_attributes(out, unsupported)
 }
 

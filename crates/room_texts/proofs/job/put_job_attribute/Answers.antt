@@ -6,5 +6,5 @@ use Rattle.room_texts.proofs.job.put_job_attribute.Goals as goal
 pub returns-in-PrinterUri-clause-appended : goal.returns-in-PrinterUri-clause-appended
 unfolding job_attributes
 returns-in-PrinterUri-clause-appended c =
-    let name : c.name-name.result.now ≡ codes "job-printer-uri" = c.name-name.ensures ∙ ap (λ (a : JobAttribute). (job_row a).name) c.in-PrinterUri.is in
+    let name : c.name-name.result.now ≡ codes "job-printer-uri" = c.name-name.ensures.row ∙ ap (λ (a : JobAttribute). (job_row a).name) c.in-PrinterUri.is in
     rw c.in-PrinterUri.is (rw name at c.put_printer_uri.ensures.appended)

@@ -7,5 +7,5 @@ use Rattle.room_texts.proofs.printer.put_formats.Goals as goal
 pub returns-clause-appended : goal.returns-clause-appended
 returns-clause-appended c =
     subst (λ (values : List PlainValue). OnOk c.put_values.result (c.put_values.new.out.items ≡ c.args.out.now.items ++ attribute_spelling (record { name = c.args.name.now; values = values })))
-    (one_more_value _ _ _ _ c.format_value.ensures (one_more_value _ _ _ _ c.format_value-2.ensures (one_more_value _ _ _ _ c.format_value-3.ensures (one_more_value _ _ _ _ c.format_value-4.ensures (one_more_value _ _ _ _ c.format_value-5.ensures (one_more_value _ _ _ _ c.format_value-6.ensures (one_more_value _ _ [] [] c.format_value-7.ensures refl)))))))
+    (one_more_value _ _ _ _ c.format_value.ensures.plain (one_more_value _ _ _ _ c.format_value-2.ensures.plain (one_more_value _ _ _ _ c.format_value-3.ensures.plain (one_more_value _ _ _ _ c.format_value-4.ensures.plain (one_more_value _ _ _ _ c.format_value-5.ensures.plain (one_more_value _ _ _ _ c.format_value-6.ensures.plain (one_more_value _ _ [] [] c.format_value-7.ensures.plain refl)))))))
     c.put_values.ensures.appended

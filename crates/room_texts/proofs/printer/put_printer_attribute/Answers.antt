@@ -6,5 +6,5 @@ use Rattle.room_texts.proofs.printer.put_printer_attribute.Goals as goal
 pub returns-in-Security-clause-appended : goal.returns-in-Security-clause-appended
 unfolding printer_attributes
 returns-in-Security-clause-appended c =
-    let name : c.name-name.result.now ≡ codes "uri-security-supported" = c.name-name.ensures ∙ ap (λ (a : PrinterAttribute). (printer_row a).name) c.in-Security.is in
+    let name : c.name-name.result.now ≡ codes "uri-security-supported" = c.name-name.ensures.row ∙ ap (λ (a : PrinterAttribute). (printer_row a).name) c.in-Security.is in
     rw c.in-Security.is (rw name at c.put_single-in-Security.ensures.appended)

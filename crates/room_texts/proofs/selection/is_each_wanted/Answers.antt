@@ -9,7 +9,7 @@ loop-index-preserved c =
     record {
       long = simp length-set c.loop-index.invariant.long;
       so_far = one_more_told _ c.args.attributes.now c.loop-index.selected c.loop-index.index _ c.is_wanted.result c.loop-index.invariant.long within
-          (rw (c.name.ensures, c.group.ensures) at c.is_wanted.ensures) c.loop-index.invariant.so_far;
+          (rw (c.name.ensures.row, c.group.ensures) at c.is_wanted.ensures) c.loop-index.invariant.so_far;
     }
 
 pub returns : goal.returns
