@@ -1,5 +1,6 @@
 //! The rooms and devices of a database that lives in memory for one run.
 ghost use Rattle.std.specs.Prelude.{◌≡◌, IfOk, OnOk, OnErr, IsTrue};
+ghost use Rattle.std.specs.FinMap.{empty};
 ghost use Rattle.room_core.specs.DeviceEvents.{device_answered};
 ghost use Rattle.room_core.specs.Fits.{fits};
 ghost use Rattle.room_lines.specs.DeviceEvents.{devices_of, IsToldOfDevices};
@@ -20,7 +21,9 @@ pub struct Rooms {
 
 impl Rooms {
     /// A database with no accounts and no devices.
-    pub fn new(alloc: Global) -> Rooms {
+    pub fn new(alloc: Global) -> Rooms
+        ensures { devices_of result ≡ empty }
+    {
         Rooms {
             alloc,
             rooms: BTreeMap::new(alloc),
@@ -49,7 +52,9 @@ impl Rooms {
         ensures unchanged { OnErr result (devices_of self.new ≡ devices_of self.old) }
     {
         match event {
-            Event::Device { .. } | Event::Rate { .. } => self.devices.answer(self.alloc, now, event),
+            Event::Device { .. } | Event::Rate { .. } => self
+                .devices
+                .answer(self.alloc, now, event),
             Event::Open { account }
             | Event::Ipp { account, .. }
             | Event::Release { account, .. }
