@@ -1,10 +1,13 @@
 //! One account's machine by itself: an account that is opened, events that do not fit, moments that are none.
 
+ghost use Rattle.std.specs.List.{AllByRecursion};
 ghost use Rattle.std.specs.Prelude.{IsTrue};
 ghost use Rattle.room_core.specs.Fits.{fits};
+ghost use Rattle.room_core.specs.Rates.{HasRate};
 
 use crate::examples::{ANSWER, REQUEST};
-use room_core::{CoreFault, Event, Name, Reply, Room, answer, fits};
+use room_core::{CoreFault, Device, Event, Name, Reply, Room, answer, fits};
+use std::alloc::Global;
 use std::process::Abort;
 
 const NEXT_CENTURY: u64 = 4_102_444_800;
@@ -55,17 +58,32 @@ fn moments_come_first(rt: HostRuntime) {
     };
     let mut room = None;
     for event in &[short, Event::Open { account }] {
-        let late = answer(rt.alloc(), &mut room, &[], NEXT_CENTURY, event);
+        let late = answer_with(rt.alloc(), &mut room, &[], NEXT_CENTURY, event);
         assert!(rt; matches!(&late, Err(CoreFault::Moment)));
         assert!(rt; room.is_none());
     }
+}
+
+/// The answer at a moment. It promises nothing here: a test looks at what runs.
+#[tactic(auto, using(room_core::proofs::Rates::all_are_rated))]
+fn answer_with(
+    alloc: Global,
+    room: &mut Option<Room>,
+    devices: &[Device],
+    now: u64,
+    event: &Event<'_>,
+) -> Result<Reply, CoreFault>
+    requires fits { IsTrue (fits event.now) }
+    requires rates { AllByRecursion HasRate devices.now }
+{
+    answer(alloc, room, devices, now, event)
 }
 
 /// The answer at the moment 1000, where no device is known.
 fn answered(rt: &(impl Abort + AllocGlobal), room: &mut Option<Room>, event: &Event<'_>) -> Reply
     requires { IsTrue (fits event.now) }
 {
-    answer(rt.alloc(), room, &[], 1000, event)
+    answer_with(rt.alloc(), room, &[], 1000, event)
         .ok()
         .expect(rt, "an answer")
 }
