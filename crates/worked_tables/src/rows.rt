@@ -1,6 +1,6 @@
 //! Files of rows. The line `# TITLE` begins a row, which starts on an empty database in memory; the lines behind
 //! it are its commands and what they answer. Where memory is refused outside of the calls, the row is held once
-//! more. So a row holds whichever one request for memory is refused: `rt try --fail-alloc N -- FILE.rows`
+//! more. So a row should hold whichever one request for memory is refused: `rt try --fail-alloc N -- FILE.rows`
 //! refuses one.
 
 use crate::command::Command;
