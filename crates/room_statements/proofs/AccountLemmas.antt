@@ -20,6 +20,7 @@ use Rattle.room_tables.specs.Queries.{Means, Takes, of_table, FindsRow}
 use Rattle.room_tables.proofs.Reading.{gets, without_number}
 use Rattle.room_tables.specs.Cells.{number, account_cells}
 use Rattle.room_tables.specs.Accounts.{account_at, account_of, IsAccount, IsSound}
+use Rattle.room_statements.specs.SoundRows.{IsRowOf}
 use Rattle.room_tables.proofs.KeyedTables.{account_in, account_key}
 use Rattle.room_tables.proofs.KeyedRows.{same_row, row_found}
 use Rattle.room_tables.proofs.Settings.{IsSetting}
@@ -75,10 +76,14 @@ module _ (db : Database) (has : HasSchema db) (name : List ℕ) (row : Row) (sho
   pub account_found : (it : Account) → (column row 0 ≡ number it.opened) × (column row 1 ≡ number it.next_job) → account_at db name ≡ Some (account_cells name it)
   account_found it read = row_found (Text name ∷ []) account_in (account_key name) db has (number it.opened ∷ number it.next_job ∷ []) refl row shown (read.0, (read.1, tt))
 
-  pub account_unsound : ((it : Account) → IsAccount it → column row 0 ≡ number it.opened → column row 1 ≢ number it.next_job) → IsSound db name → ⊥
-  account_unsound damaged (None, held) = absurd (let none = held.no_account in let e = rw none at shown in cc)
-  account_unsound damaged (Some room, held) =
-      let e : Some row ≡ Some (number room.opened ∷ number room.next ∷ []) = shown ∙ ap (option_map (λ cells. column cells 1 ∷ column cells 2 ∷ [])) held.rows.account_row in
-      let same = same_row e in
-      damaged (account_of room) (record { opened_in_range = held.is_room.opened_in_range; next_from_one = held.is_room.next_from_one; next_in_range = held.is_room.next_in_range })
-      (ap (λ r. column r 0) same) (ap (λ r. column r 1) same)
+  pub account_unsound : ((it : Account) → IsAccount it → column row 0 ≡ number it.opened → column row 1 ≢ number it.next_job) → IsRowOf (account_cells name) IsAccount (account_at db name) → ⊥
+  account_unsound damaged (None, range, is) = absurd (let e = rw is at shown in cc)
+  account_unsound damaged (Some it, range, is) =
+      let same = same_row (shown ∙ ap (option_map (λ cells. column cells 1 ∷ column cells 2 ∷ [])) is) in
+      damaged it range (ap (λ r. column r 0) same) (ap (λ r. column r 1) same)
+
+pub account_read : (db : Database) (name : List ℕ) → IsSound db name → IsRowOf (account_cells name) IsAccount (account_at db name)
+account_read db name (None, held) = (None, tt, held.no_account)
+account_read db name (Some room, held) =
+    let rules = held.is_room in
+    (Some (account_of room), record { opened_in_range = rules.opened_in_range; next_from_one = rules.next_from_one; next_in_range = rules.next_in_range }, held.rows.account_row)

@@ -1,19 +1,22 @@
 -- The statements on the table `device`: what their texts mean, and what they leave.
-use Rattle.std.proofs.Common.{◌≡◌, ◌≢◌, ℕ, Bool, List, [], ◌∷◌, codes, Some, option_map, refl, ap, ◌∙◌}
+use Rattle.std.proofs.Common.{◌≡◌, ◌≢◌, ℕ, Bool, List, [], ◌∷◌, codes, Option, None, Some, option_map, IfSome, refl, ap, subst, ◌∙◌}
+use Rattle.std.specs.Prelude.{⊤}
 use Rattle.std.specs.FinMap.{get}
 use Rattle.sqlite_tied.specs.Compute.{everything}
 use Rattle.sqlite_value.specs.declared.value.Value.TheVariants.{Text}
 use Rattle.sqlite_value.specs.Order.{Row, column}
 use Rattle.sqlite.specs.Effect.{Database}
 use Rattle.sqlite.specs.Listing.{understood}
+use Rattle.room_rules.specs.declared.device.Device.{Device}
 use Rattle.room_tables.specs.Tables.{room_schema}
 use Rattle.room_tables.specs.Queries.{Means, Takes, of_table}
-use Rattle.room_tables.specs.Cells.{flag, device_cells}
-use Rattle.room_tables.specs.Devices.{device_at, AreSoundDevices}
+use Rattle.room_tables.specs.Cells.{flag, on_cells, device_cells}
+use Rattle.room_tables.specs.Devices.{device_at, IsDevice, AreSoundDevices}
 use Rattle.room_tables.proofs.KeyedTables.{device_in, device_key}
-use Rattle.room_tables.proofs.KeyedRows.{shown_of}
+use Rattle.room_tables.proofs.KeyedRows.{same_row}
 use Rattle.room_tables.proofs.Settings.{IsSetting}
 use Rattle.room_tables.proofs.Upserts.{cast_integer}
+use Rattle.room_statements.specs.SoundRows.{IsRowOf}
 use Rattle.room_statements.proofs.NamedValues.{tests, shows, becomes, terms}
 
 -- ---- the read by its key
@@ -42,7 +45,16 @@ sets name value = record { command = refl; is_plain = (refl, refl); rows = refl;
 
 -- ---- what is read of the row
 
-pub unsound : (db : Database) (name : List ℕ) (row : Row) → Some row ≡ option_map (λ cells. column cells 1 ∷ []) (device_at db name) → ((value : Bool) → column row 0 ≢ flag value) → AreSoundDevices db → ⊥
-unsound db name row shown damaged held =
-    let is = shown_of (λ cells. column cells 1 ∷ []) device_cells row (get held.0 name) (shown ∙ ap (option_map (λ cells. column cells 1 ∷ [])) (held.1.device_rows name)) in
-    damaged is.0.on (ap (λ r. column r 0) is.2)
+pub unsound : (db : Database) (name : List ℕ) (row : Row) → Some row ≡ option_map (λ cells. column cells 1 ∷ []) (device_at db name) → ((value : Bool) → column row 0 ≢ flag value)
+    → IsRowOf (on_cells name) (λ _. ⊤) (device_at db name) → ⊥
+unsound db name row shown damaged (None, range, is) = absurd (let e = rw is at shown in cc)
+unsound db name row shown damaged (Some on, range, is) = damaged on (ap (λ r. column r 0) (same_row (shown ∙ ap (option_map (λ cells. column cells 1 ∷ [])) is)))
+
+pub device_read : (db : Database) (name : List ℕ) → AreSoundDevices db → IsRowOf (on_cells name) (λ _. ⊤) (device_at db name)
+device_read db name (devices, held) = of_map (get devices name) refl
+  where
+    of_map : (o : Option Device) → get devices name ≡ o → IsRowOf (on_cells name) (λ _. ⊤) (device_at db name)
+    of_map None e = (None, tt, held.device_rows name ∙ ap (option_map device_cells) e)
+    of_map (Some it) e =
+        let kept : IsDevice name it = subst (λ o. IfSome o (IsDevice name)) e (held.are_devices name) in
+        (Some it.on, tt, held.device_rows name ∙ ap (option_map device_cells) e ∙ ap (λ n. Some (on_cells n it.on)) kept.named)

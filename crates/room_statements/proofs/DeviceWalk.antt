@@ -1,5 +1,6 @@
 -- The walk over the table `device`: what its text means, and what it comes to.
 use Rattle.std.proofs.Common.{◌≡◌, ℕ, Bool, true, false, ◌||◌, List, [], ◌∷◌, ◌++◌, map, filter, drop, codes, Option, Some, None, option_map, IsPermutation, refl, sym, ap, ◌∙◌, ◌⊎◌, inl, inr, IsTrue, ◌↔◌}
+use Rattle.std.specs.Prelude.{⊤}
 use Rattle.std.proofs.lemmas.Bool.{cases_Bool, true≢false}
 use Rattle.std.proofs.lemmas.List.Sorted.{IsPermutation-sym}
 use Rattle.std.specs.FinMap.{get}
@@ -17,6 +18,7 @@ use Rattle.room_tables.specs.Keyed.{HasSchema}
 use Rattle.room_tables.specs.Queries.{Means, Takes, of_table, passes, shows_of}
 use Rattle.room_tables.specs.Cells.{flag, on_cells, device_cells}
 use Rattle.room_tables.specs.Devices.{device_at, AreSoundDevices, GathersOn, refuses_flag}
+use Rattle.room_statements.specs.SoundRows.{AreRowsOf, device_rows}
 use Rattle.room_statements.specs.Walks.{GathersAll, WalksAll, RefusesOne}
 use Rattle.room_tables.proofs.KeyedRows.{same_row, text_at}
 use Rattle.room_tables.proofs.Queries.{permuted_has}
@@ -119,14 +121,19 @@ module _ (db : Database) (has : HasSchema db) where
     pub on_exactly : IsTrue (on last) ↔ ((name : List ℕ) × (device_at db name ≡ Some (on_cells name true)))
     on_exactly = (is_on, has_on)
 
-  pub flags_unsound : {G : Type 0} (step : G → Row → G → Type 0) (first : G) → RefusesOne step (λ a row. refuses_flag row) (map second (db.trees 9)) first → AreSoundDevices db → ⊥
-  flags_unsound step first it held =
+  pub flags_unsound : {G : Type 0} (step : G → Row → G → Type 0) (first : G) → RefusesOne step (λ a row. refuses_flag row) (map second (db.trees 9)) first → AreRowsOf (λ (it : List ℕ × Bool). on_cells it.0 it.1) (λ _. ⊤) (device_rows db) → ⊥
+  flags_unsound step first it rows =
       let there = permuted_has (map second (db.trees 9)) ((it.given ++ it.row ∷ []) ++ it.more) it.row it.are_shown (refused_there it.given it.row it.more) in
       let r = has_mapped second (db.trees 9) it.row there in
-      let row = device_row r.0 r.1 in
-      let flagged = of_device row.0 (get held.0 row.0) (drop 1 r.0) (sym row.1 ∙ held.1.device_rows row.0) in
-      it.refused flagged.0 (ap (λ x. column x 0) r.2 ∙ sym (without_number r.0 1) ∙ flagged.1)
+      let told = rows (drop 1 r.0) (mapped_has (drop 1) (db.trees 9) r.0 r.1) in
+      it.refused told.0.1 (ap (λ x. column x 0) r.2 ∙ sym (without_number r.0 1) ∙ ap (λ l. column l 1) told.2)
+
+  pub devices_read : AreSoundDevices db → AreRowsOf (λ (it : List ℕ × Bool). on_cells it.0 it.1) (λ _. ⊤) (device_rows db)
+  devices_read (devices, held) x h =
+      let r = has_mapped (drop 1) (db.trees 9) x h in
+      let named = device_row r.0 r.1 in
+      of_device (get devices named.0) (ap Some r.2 ∙ sym named.1 ∙ held.device_rows named.0)
     where
-      of_device : (name : List ℕ) (o : Option Device) (cells : Row) → Some cells ≡ option_map device_cells o → (accepting : Bool) × (column cells 1 ≡ flag accepting)
-      of_device name None cells e = absurd (let no = e in cc)
-      of_device name (Some d) cells e = (d.on, ap (λ l. column l 1) (same_row e))
+      of_device : (o : Option Device) → Some x ≡ option_map device_cells o → (it : List ℕ × Bool) × ⊤ × (x ≡ on_cells it.0 it.1)
+      of_device None e = absurd (let no = e in cc)
+      of_device (Some d) e = ((d.name, d.on), tt, same_row e)

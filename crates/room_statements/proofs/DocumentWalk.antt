@@ -1,5 +1,5 @@
 -- The walk over the documents of a job: what its text means, and what it comes to.
-use Rattle.std.proofs.Common.{◌≡◌, ℕ, zero, suc, ◌+◌, ◌-◌, ◌≤◌, ℤ, pos, negsuc, true, ◌&&◌, nat_le, is_some, List, [], ◌∷◌, ◌++◌, length, drop, codes, get_or, slice_set, Option, Some, None, option_map, option_to_list, flat_map, refl, sym, ap, subst, ◌∙◌, ◌⊎◌, inl, inr, arith}
+use Rattle.std.proofs.Common.{◌≡◌, ℕ, zero, suc, ◌+◌, ◌-◌, ◌≤◌, ℤ, pos, negsuc, true, ◌&&◌, nat_le, is_some, List, [], ◌∷◌, ◌++◌, length, drop, filter, codes, get_or, slice_set, Option, Some, None, option_map, option_to_list, flat_map, refl, sym, ap, subst, ◌∙◌, ◌⊎◌, inl, inr, arith}
 use Rattle.std.specs.FinMap.{get}
 use Rattle.std.proofs.lemmas.Bool.{cases_eq, and_parts, true≢false}
 use Rattle.std.proofs.lemmas.Bool.Decides.{nat_tests}
@@ -26,6 +26,7 @@ use Rattle.room_tables.specs.Queries.{Means, Takes, of_table, is_given, shown_of
 use Rattle.room_tables.specs.Cells.{number, document_cells}
 use Rattle.room_tables.specs.Accounts.{document_at, under_pair, HoldsRoom, IsSound}
 use Rattle.room_statements.specs.Documents.{is_of_job, shown_documents, ShowsDocument, IsDocumentOf, GathersDocument, refuses_document}
+use Rattle.room_statements.specs.SoundRows.{AreRowsOf, document_rows}
 use Rattle.room_statements.specs.Walks.{GathersAll, WalksAll, RefusesOne}
 use Rattle.room_tables.proofs.KeyedRows.{same_row, integer_at}
 use Rattle.room_tables.proofs.Queries.{permuted_has}
@@ -85,19 +86,27 @@ module _ (db : Database) (has : HasSchema db) (name : List ℕ) (job : ℕ) wher
     placed : IsPlaced row
     shown : x ≡ behind row
 
+  placed_row : (r : Row) → Has (filter (is_of_job name job) (db.trees 5)) r → IsPlaced r
+  placed_row r h =
+      let there = has_filtered (is_of_job name job) (db.trees 5) r h in
+      let placed = row_under (Text name ∷ number job ∷ []) Int document_in (document_key name (pos job)) (refl, (refl, tt)) (λ n. refl) db has number_there r there.0 there.1 in
+      record { number = placed.0; at_place = placed.1 }
+
   shown_row : (x : Row) → Has (shown_documents db name job) x → IsShownOf x
-  shown_row x h =
-      let r = has_mapped behind _ x h in
-      let there = has_filtered (is_of_job name job) (db.trees 5) r.0 r.1 in
-      let placed = row_under (Text name ∷ number job ∷ []) Int document_in (document_key name (pos job)) (refl, (refl, tt)) (λ n. refl) db has number_there r.0 there.0 there.1 in
-      record { row = r.0; placed = record { number = placed.0; at_place = placed.1 }; shown = r.2 }
+  shown_row x h = let r = has_mapped behind _ x h in record { row = r.0; placed = placed_row r.0 r.1; shown = r.2 }
+
+  tells_it : (r x : Row) (it : Document) → x ≡ behind r → drop 1 r ≡ document_cells name it → ShowsDocument x it
+  tells_it r x it shown cells =
+      let at = λ (n : ℕ). sym (without_number r n) ∙ ap (λ l. column l n) cells in
+      record { number = ap (λ l. column l 0) shown ∙ at 2; format = ap (λ l. column l 1) shown ∙ at 3; bytes = ap (λ l. column l 2) shown ∙ at 4 }
 
   -- ---- they are those of the room
 
   module _ (room : RoomValue) (held : HoldsRoom db name room) where
-    record IsInRoom (x : Row) : Type 0 where
+    record IsInRoom (r x : Row) : Type 0 where
       document : Document
       there : get room.documents (job, document.number) ≡ Some document
+      cells : drop 1 r ≡ document_cells name document
       tells : ShowsDocument x document
       in_range : IsDocumentOf job document
 
@@ -113,12 +122,7 @@ module _ (db : Database) (has : HasSchema db) (name : List ℕ) (job : ℕ) wher
             let most = (held.is_room.jobs job it e).standing.ranges.documents_at_most in
             grind (arith, nat_tests)
 
-    tells_it : (r x : Row) (it : Document) → x ≡ behind r → drop 1 r ≡ document_cells name it → ShowsDocument x it
-    tells_it r x it shown cells =
-        let at = λ (n : ℕ). sym (without_number r n) ∙ ap (λ l. column l n) cells in
-        record { number = ap (λ l. column l 0) shown ∙ at 2; format = ap (λ l. column l 1) shown ∙ at 3; bytes = ap (λ l. column l 2) shown ∙ at 4 }
-
-    in_place : (r x : Row) (n : ℕ) → x ≡ behind r → (o : Option Document) → get room.documents (job, n) ≡ o → Some (drop 1 r) ≡ option_map (document_cells name) o → IsInRoom x
+    in_place : (r x : Row) (n : ℕ) → x ≡ behind r → (o : Option Document) → get room.documents (job, n) ≡ o → Some (drop 1 r) ≡ option_map (document_cells name) o → IsInRoom r x
     in_place r x n shown None e is = absurd (let no = is in cc)
     in_place r x n shown (Some it) e is =
         let at = held.is_room.documents (job, n) it e in
@@ -126,14 +130,15 @@ module _ (db : Database) (has : HasSchema db) (name : List ℕ) (job : ℕ) wher
         record {
           document = it;
           there = ap (λ m. get room.documents (job, m)) at.numbered ∙ e;
+          cells = same_row is;
           tells = tells_it r x it shown (same_row is);
           in_range = record { of_job = at.of_job; from_one = rw at.numbered range.0; to_last = rw at.numbered range.1; fits = at.fits };
         }
 
-    in_room : (x : Row) → IsShownOf x → IsInRoom x
+    in_room : (x : Row) (it : IsShownOf x) → IsInRoom it.row x
     in_room x it = by_number it.placed.number (sym it.placed.at_place ∙ held.rows.document_rows (pos job) it.placed.number)
       where
-        by_number : (n : ℤ) → Some (drop 1 it.row) ≡ option_map (document_cells name) (under_pair room.documents (pos job) n) → IsInRoom x
+        by_number : (n : ℤ) → Some (drop 1 it.row) ≡ option_map (document_cells name) (under_pair room.documents (pos job) n) → IsInRoom it.row x
         by_number (pos n) is = in_place it.row x n it.shown (get room.documents (job, n)) refl is
         by_number (negsuc n) is = absurd (let no = is in cc)
 
@@ -291,15 +296,23 @@ module _ {G : Type 0} (job_in : G → ℕ) (places : G → List (Option Document
           ap (flat_map option_to_list) (eight (places last) (kept_long first last walked.0 long walked.2))
           ∙ rw (place_is 0, place_is 1, place_is 2, place_is 3, place_is 4, place_is 5, place_is 6, place_is 7) refl
 
-    pub documents_unsound : RefusesOne step (λ g row. refuses_document (job_in g) row) (shown_documents db name job) first → IsSound db name → ⊥
-    documents_unsound it sound =
+    pub documents_unsound : RefusesOne step (λ g row. refuses_document (job_in g) row) (shown_documents db name job) first → AreRowsOf (document_cells name) (IsDocumentOf job) (document_rows db name job) → ⊥
+    documents_unsound it rows =
         let there = permuted_has (shown_documents db name job) ((it.given ++ it.row ∷ []) ++ it.more) it.row it.are_shown (has_left (it.given ++ it.row ∷ []) it.more it.row (has_right it.given (it.row ∷ []) it.row (inl refl))) in
-        let shown = shown_row db has name job it.row there in
-        by_room sound shown
-      where
-        by_room : IsSound db name → IsShownOf db has name job it.row → ⊥
-        by_room (None, held) shown = absurd (let none = held.no_document (pos job) shown.placed.number in let some = shown.placed.at_place in let e = sym none ∙ some in cc)
-        by_room (Some room, held) shown =
-            let found = in_room db has name job room held it.row shown in
-            let kept = kept_job first it.so_far it.given it.gathered ∙ is_job in
-            it.refused found.document (subst (λ j. IsDocumentOf j found.document) (sym kept) found.in_range) found.tells
+        let r = has_mapped behind _ it.row there in
+        let told = rows (drop 1 r.0) (mapped_has (drop 1) _ r.0 r.1) in
+        let kept = kept_job first it.so_far it.given it.gathered ∙ is_job in
+        it.refused told.0 (subst (λ j. IsDocumentOf j told.0) (sym kept) told.1) (tells_it db has name job r.0 it.row told.0 r.2 told.2)
+
+-- ---- sound rows can be read
+
+pub documents_read : (db : Database) → HasSchema db → (name : List ℕ) (job : ℕ) → IsSound db name → AreRowsOf (document_cells name) (IsDocumentOf job) (document_rows db name job)
+documents_read db has name job sound row h =
+    let r = has_mapped (drop 1) _ row h in
+    by_room sound r.0 (placed_row db has name job r.0 r.1) r.2
+  where
+    by_room : IsSound db name → (r : Row) → IsPlaced db has name job r → row ≡ drop 1 r → (x : Document) × IsDocumentOf job x × (row ≡ document_cells name x)
+    by_room (None, held) r placed is = absurd (let none = held.no_document (pos job) placed.number in let some = placed.at_place in let e = sym none ∙ some in cc)
+    by_room (Some room, held) r placed is =
+        let found = in_room db has name job room held (behind r) (record { row = r; placed = placed; shown = refl }) in
+        (found.document, found.in_range, is ∙ found.cells)

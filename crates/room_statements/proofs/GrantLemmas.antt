@@ -20,9 +20,10 @@ use Rattle.room_tables.specs.Cells.{number, grant_cells}
 use Rattle.room_tables.specs.Accounts.{grant_at, IsSound}
 use Rattle.room_tables.specs.Calls.{Gets}
 use Rattle.room_rules.specs.Limits.{most_pages}
+use Rattle.room_statements.specs.SoundRows.{IsRowOf}
 use Rattle.room_tables.proofs.Reading.{gets, without_number}
 use Rattle.room_tables.proofs.KeyedTables.{grants_in, grants_key}
-use Rattle.room_tables.proofs.KeyedRows.{shown_of, row_found}
+use Rattle.room_tables.proofs.KeyedRows.{same_row, row_found}
 use Rattle.room_tables.proofs.Settings.{IsSetting}
 use Rattle.room_tables.proofs.Upserts.{cast_integer}
 
@@ -76,8 +77,14 @@ module _ (db : Database) (has : HasSchema db) (name : List ℕ) (month : ℕ) (r
   pub grant_found : (pages : ℕ) → column row 0 ≡ number pages → grant_at db name (pos month) ≡ Some (grant_cells name month pages)
   grant_found pages read = row_found (Text name ∷ number month ∷ []) grants_in (grants_key name (pos month)) db has (number pages ∷ []) refl row shown (read, tt)
 
-  pub grant_unsound : ((pages : ℕ) → pages ≤ most_pages → column row 0 ≢ number pages) → IsSound db name → ⊥
-  grant_unsound damaged (None, held) = absurd (let none = held.no_grant (pos month) in let e = rw none at shown in cc)
-  grant_unsound damaged (Some room, held) =
-      let is = shown_of (λ cells. column cells 2 ∷ []) (grant_cells name month) row (get room.grants month) (shown ∙ ap (option_map (λ cells. column cells 2 ∷ [])) (held.rows.grant_rows (pos month))) in
-      damaged is.0 (held.is_room.grants month is.0 is.1).pages_fit (ap (λ r. column r 0) is.2)
+  pub grant_unsound : ((pages : ℕ) → pages ≤ most_pages → column row 0 ≢ number pages) → IsRowOf (grant_cells name month) (λ pages. pages ≤ most_pages) (grant_at db name (pos month)) → ⊥
+  grant_unsound damaged (None, range, is) = absurd (let e = rw is at shown in cc)
+  grant_unsound damaged (Some pages, range, is) = damaged pages range (ap (λ r. column r 0) (same_row (shown ∙ ap (option_map (λ cells. column cells 2 ∷ [])) is)))
+
+pub grant_read : (db : Database) (name : List ℕ) (month : ℕ) → IsSound db name → IsRowOf (grant_cells name month) (λ pages. pages ≤ most_pages) (grant_at db name (pos month))
+grant_read db name month (None, held) = (None, tt, held.no_grant (pos month))
+grant_read db name month (Some room, held) = of_room (get room.grants month) refl
+  where
+    of_room : (o : Option ℕ) → get room.grants month ≡ o → IsRowOf (grant_cells name month) (λ pages. pages ≤ most_pages) (grant_at db name (pos month))
+    of_room None e = (None, tt, held.rows.grant_rows (pos month) ∙ ap (option_map (grant_cells name month)) e)
+    of_room (Some pages) e = (Some pages, (held.is_room.grants month pages e).pages_fit, held.rows.grant_rows (pos month) ∙ ap (option_map (grant_cells name month)) e)

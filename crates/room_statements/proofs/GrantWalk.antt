@@ -13,16 +13,16 @@ use Rattle.sqlite_sql.specs.Term.{Term, col}
 use Rattle.sqlite_rules.proofs.ProbeLemmas.{has_mapped}
 use Rattle.sqlite.specs.Effect.{Database}
 use Rattle.sqlite.specs.Listing.{understood}
-use Rattle.room_state.specs.Rooms.{RoomValue}
-use Rattle.room_state.specs.Sums.{granted_to, pages_by}
+use Rattle.room_state.specs.Sums.{pages_by}
 use Rattle.room_state.specs.Tallies.{most_units}
 use Rattle.room_state.proofs.Bounds.{granted_bound}
 use Rattle.room_tables.specs.Tables.{room_schema, grants}
 use Rattle.room_tables.specs.Keyed.{HasSchema, rows_under}
 use Rattle.room_tables.specs.Queries.{Means, Takes, of_table, is_given, shown_of}
 use Rattle.room_tables.specs.Cells.{grant_cells}
-use Rattle.room_tables.specs.Accounts.{HoldsRoom, IsSound}
+use Rattle.room_tables.specs.Accounts.{IsSound}
 use Rattle.room_statements.specs.Totals.{granted_cells, TellsGrant, AddsGrant, refuses_grant}
+use Rattle.room_statements.specs.SoundRows.{grant_rows, CanBeAdded}
 use Rattle.room_statements.specs.Walks.{GathersAll, WalksAll, RefusesOne}
 use Rattle.room_statements.specs.declared.grants.Granted.{Granted}
 use Rattle.room_statements.proofs.AccountRows.{rows_of_grants, no_grants}
@@ -97,35 +97,38 @@ told_of name grant = granted_cells (grant_cells name grant.0 grant.1)
 
 module _ (db : Database) (has : HasSchema db) (name : List ℕ) (month : ℕ) where
   abbrev shown : List Row
-  shown = map granted_cells (rows_under grants (1 ∷ []) (Text name ∷ []) db)
+  shown = map granted_cells (grant_rows db name)
 
   abbrev first : Granted
   first = record { month = month; pages = 0 }
 
-  module _ (room : RoomValue) (held : HoldsRoom db name room) where
-    shown_told : IsPermutation shown (map (told_of name) (entries room.grants))
-    shown_told = subst (IsPermutation shown) (map-map granted_cells (λ (e : ℕ × ℕ). grant_cells name e.0 e.1) (entries room.grants))
-        (IsPermutation-map granted_cells (rows_under grants (1 ∷ []) (Text name ∷ []) db) (map (λ (e : ℕ × ℕ). grant_cells name e.0 e.1) (entries room.grants)) (rows_of_grants db has name room held))
+  -- where they are those of some grants
+  module _ (granted : List (ℕ × ℕ)) (theirs : IsPermutation (grant_rows db name) (map (λ grant. grant_cells name grant.0 grant.1) granted)) where
+    shown_told : IsPermutation shown (map (told_of name) granted)
+    shown_told = subst (IsPermutation shown) (map-map granted_cells (λ (grant : ℕ × ℕ). grant_cells name grant.0 grant.1) granted)
+        (IsPermutation-map granted_cells (grant_rows db name) (map (λ (grant : ℕ × ℕ). grant_cells name grant.0 grant.1) granted) theirs)
 
-    sum_told : sum_by (pages_on month) shown ≡ granted_to room month
-    sum_told = sym (sum_by-IsPermutation (pages_on month) shown (map (told_of name) (entries room.grants)) shown_told) ∙ sum_mapped (told_of name) (pages_on month) (entries room.grants)
+    sum_told : sum_by (pages_on month) shown ≡ sum_by (pages_by month) granted
+    sum_told = sym (sum_by-IsPermutation (pages_on month) shown (map (told_of name) granted) shown_told) ∙ sum_mapped (told_of name) (pages_on month) granted
 
-    pub pages_granted : (last : Granted) → WalksAll adds_grant refuses_it shown first last → last.pages ≡ granted_to room month
+    pub pages_granted : (last : Granted) → WalksAll adds_grant refuses_it shown first last → last.pages ≡ sum_by (pages_by month) granted
     pages_granted last (given, same, gathered) = omega (arith, (adds_up first last given gathered).pages, sum_by-IsPermutation (pages_on month) shown given same, sum_told)
 
-    -- a grant of the room is never refused
-    none_refused : RefusesOne adds_grant refuses_it shown first → ⊥
-    none_refused it =
-        let there = permuted_has (map (told_of name) (entries room.grants)) shown it.row (IsPermutation-sym _ _ shown_told) (refused_there adds_grant refuses_it shown first it) in
-        let here = has_mapped (told_of name) (entries room.grants) it.row there in
+    -- a grant of them is never refused where they come to no more than grants can
+    none_refused : sum_by (pages_by month) granted ≤ most_units → RefusesOne adds_grant refuses_it shown first → ⊥
+    none_refused bounds it =
+        let there = permuted_has (map (told_of name) granted) shown it.row (IsPermutation-sym _ _ shown_told) (refused_there adds_grant refuses_it shown first it) in
+        let here = has_mapped (told_of name) granted it.row there in
         let told : TellsGrant it.row here.0.0 here.0.1 = record { month = ap (λ r. column r 0) here.2; pages = ap (λ r. column r 1) here.2 } in
         let adds = adds_up first it.so_far it.given it.gathered in
         let one = pages_told month it.row here.0.0 here.0.1 told in
         let over : most_units < it.so_far.pages + pages_by month (here.0.0, here.0.1) =
         subst (λ now. most_units < it.so_far.pages + pages_by now (here.0.0, here.0.1)) adds.month (it.refused here.0.0 here.0.1 told) in
-        omega (arith, over, one, adds.pages, refused_within adds_grant refuses_it shown first it (pages_on month), sum_told, granted_bound room month held.is_room)
+        omega (arith, over, one, adds.pages, refused_within adds_grant refuses_it shown first it (pages_on month), sum_told, bounds)
 
-  pub grants_unsound : RefusesOne adds_grant refuses_it shown first → IsSound db name → ⊥
-  grants_unsound it (None, held) =
-      permuted_has [] shown it.row (IsPermutation-sym _ _ (IsPermutation-map granted_cells (rows_under grants (1 ∷ []) (Text name ∷ []) db) [] (no_grants db has name held))) (refused_there adds_grant refuses_it shown first it)
-  grants_unsound it (Some room, held) = none_refused room held it
+  pub grants_unsound : RefusesOne adds_grant refuses_it shown first → CanBeAdded name month (grant_rows db name) → ⊥
+  grants_unsound it can = none_refused can.granted can.are_theirs can.in_bounds it
+
+  pub grants_added : IsSound db name → CanBeAdded name month (grant_rows db name)
+  grants_added (None, held) = record { granted = []; are_theirs = no_grants db has name held; in_bounds = omega arith }
+  grants_added (Some room, held) = record { granted = entries room.grants; are_theirs = rows_of_grants db has name room held; in_bounds = granted_bound room month held.is_room }

@@ -16,12 +16,13 @@ use Rattle.room_tables.specs.Queries.{Means, Takes, of_table, is_given, FindsRow
 use Rattle.room_tables.specs.Accounts.{job_at, IsSound}
 use Rattle.room_tables.specs.Calls.{Gets}
 use Rattle.room_statements.specs.Shown.{behind_key, ShowsJob, IsJob}
+use Rattle.room_statements.specs.SoundRows.{IsRowOf}
 use Rattle.room_tables.proofs.Reading.{gets}
 use Rattle.sqlite_value.specs.declared.value.Value.TheVariants.{Text, Blob}
 use Rattle.room_tables.specs.Cells.{number, standing_cells, job_cells}
 use Rattle.room_tables.proofs.Columns.{EachIs}
 use Rattle.room_tables.proofs.KeyedTables.{job_in, job_key}
-use Rattle.room_tables.proofs.KeyedRows.{shown_of, row_found}
+use Rattle.room_tables.proofs.KeyedRows.{same_row, row_found}
 
 abbrev pub find_text : List ℕ
 find_text = codes "SELECT name, password, state, open, stopping, copies, impressions, reserved, charged, documents, rate, device, created, started, ended FROM job WHERE account = ?1 AND job = ?2"
@@ -68,9 +69,16 @@ module _ (db : Database) (has : HasSchema db) (name : List ℕ) (n : ℕ) (row :
       let at = λ (place : ℕ). ap (λ r. column r place) same in
       record { name = at 0; password = at 1; standing = record { state = at 2; is_open = at 3; stopping = at 4; copies = at 5; impressions = at 6; reserved = at 7; charged = at 8; documents = at 9; rate = at 10; device = at 11; created = at 12; started = at 13; ended = at 14 } }
 
-  pub job_unsound : ((it : Job) → IsJob it → ShowsJob row it → ⊥) → IsSound db name → ⊥
-  job_unsound damaged (None, held) = absurd (let none = held.no_job (pos n) in let e = rw none at shown in cc)
-  job_unsound damaged (Some room, held) =
-      let is = shown_of behind_key (job_cells name) row (get room.jobs n) (shown ∙ ap (option_map behind_key) (held.rows.job_rows (pos n))) in
-      let kept = held.is_room.jobs n is.0 is.1 in
-      damaged is.0 (record { name_fits = kept.name_fits; password_fits = kept.password_fits; standing = kept.standing }) (shows_it is.0 is.2)
+  pub job_unsound : ((it : Job) → IsJob it → ShowsJob row it → ⊥) → IsRowOf (job_cells name) (λ it. (it.job ≡ n) × IsJob it) (job_at db name (pos n)) → ⊥
+  job_unsound damaged (None, range, is) = absurd (let e = rw is at shown in cc)
+  job_unsound damaged (Some it, range, is) = damaged it range.1 (shows_it it (same_row (shown ∙ ap (option_map behind_key) is)))
+
+pub job_read : (db : Database) (name : List ℕ) (n : ℕ) → IsSound db name → IsRowOf (job_cells name) (λ it. (it.job ≡ n) × IsJob it) (job_at db name (pos n))
+job_read db name n (None, held) = (None, tt, held.no_job (pos n))
+job_read db name n (Some room, held) = of_room (get room.jobs n) refl
+  where
+    of_room : (o : Option Job) → get room.jobs n ≡ o → IsRowOf (job_cells name) (λ it. (it.job ≡ n) × IsJob it) (job_at db name (pos n))
+    of_room None e = (None, tt, held.rows.job_rows (pos n) ∙ ap (option_map (job_cells name)) e)
+    of_room (Some it) e =
+        let kept = held.is_room.jobs n it e in
+        (Some it, (kept.numbered, record { name_fits = kept.name_fits; password_fits = kept.password_fits; standing = kept.standing }), held.rows.job_rows (pos n) ∙ ap (option_map (job_cells name)) e)

@@ -19,3 +19,4 @@ pub mod QueueSorts
 pub mod QueueRows
 pub mod QueueJobs
 pub mod DocumentWalk
+pub mod SoundReads

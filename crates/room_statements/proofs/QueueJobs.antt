@@ -2,6 +2,7 @@
 use Rattle.std.proofs.Common.{◌≡◌, ℕ, List, [], ◌∷◌, ◌++◌, map, append-nil, append_assoc, None, Some, refl, sym, ap, subst, ◌∙◌, arith}
 use Rattle.std.specs.List.{AllByRecursion}
 use Rattle.std.specs.FinMap.{values}
+use Rattle.std.proofs.lemmas.List.Sorted.{IsPermutation-sym}
 use Rattle.sqlite_value.specs.Order.{Row}
 use Rattle.sqlite_rules.specs.Lists.{Has}
 use Rattle.sqlite_rules.proofs.ListLemmas.{all_has}
@@ -10,12 +11,16 @@ use Rattle.sqlite.specs.Effect.{Database}
 use Rattle.room_rules.specs.declared.job.Job.{Job}
 use Rattle.room_state.specs.Rooms.{RoomValue}
 use Rattle.room_state.proofs.JobMaps.{values_keep}
+use Rattle.room_tables.specs.Keyed.{HasSchema}
 use Rattle.room_tables.specs.Cells.{job_cells}
 use Rattle.room_tables.specs.Accounts.{HoldsRoom, IsSound}
 use Rattle.room_rules.specs.Names.{IsNameOrNone}
-use Rattle.room_statements.specs.Queues.{numbered_cells, IsNumbered, ShowsNumbered, ListsJob, refuses_numbered, AreListed}
+use Rattle.room_statements.specs.Queues.{numbered_cells, listed_cells, IsNumbered, ShowsNumbered, ListsJob, refuses_numbered, AreListed}
+use Rattle.room_statements.specs.SoundRows.{AreRowsOf, job_rows}
 use Rattle.room_statements.specs.Walks.{GathersAll, GathersShown, RefusesShown}
 use Rattle.room_tables.proofs.Columns.{EachIs, each_is}
+use Rattle.room_tables.proofs.Queries.{permuted_has}
+use Rattle.room_statements.proofs.AccountRows.{no_jobs, rows_of_jobs}
 use Rattle.room_tables.proofs.ReadBackLemmas.{rows_are_read_back}
 use Rattle.room_statements.proofs.WalkLemmas.{refused_there}
 
@@ -67,17 +72,22 @@ all_numbered first last (row ∷ rows) (next, step, more) sound = all_numbered n
     put_last (job ∷ jobs) it all is = (all.0, put_last jobs it all.1 is)
 
 -- what holds of each job holds of those that are chosen
-module _ (chosen : List Job → List Job) (keeps : (P : Job → Type 0) (jobs : List Job) → AllByRecursion P jobs → AllByRecursion P (chosen jobs)) (db : Database) (name : List ℕ) where
-  pub jobs_listed : (room : RoomValue) → HoldsRoom db name room → (first last : List Job) → first ≡ [] → GathersShown ListsJob (λ _ row. refuses_numbered row) (AreListed chosen db name) first last
+module _ (chosen : List Job → List Job) (keeps : (P : Job → Type 0) (jobs : List Job) → AllByRecursion P jobs → AllByRecursion P (chosen jobs)) (read : List Row) (db : Database) (name : List ℕ) where
+  pub jobs_listed : (room : RoomValue) → HoldsRoom db name room → (first last : List Job) → first ≡ [] → GathersShown ListsJob (λ _ row. refuses_numbered row) (AreListed chosen read db name) first last
       → last ≡ chosen (values room.jobs)
   jobs_listed room held first last none (given, shown, gathered) =
       gathered_so (chosen (values room.jobs)) first last (keeps IsNumbered (values room.jobs) (room_numbered db name room held)) (subst (λ rows. GathersAll ListsJob first rows last) (shown.of_room room held) gathered)
       ∙ ap (λ (l : List Job). l ++ chosen (values room.jobs)) none
 
-  pub jobs_unsound : (first : List Job) → RefusesShown ListsJob (λ _ row. refuses_numbered row) (AreListed chosen db name) first → IsSound db name → ⊥
-  jobs_unsound first it (None, held) = subst (λ rows. Has rows it.row) (it.are_shown.of_none held) (refused_there it.given it.row it.more)
-  jobs_unsound first it (Some room, held) =
-      let jobs = chosen (values room.jobs) in
-      let told = has_mapped numbered_cells jobs it.row (subst (λ rows. Has rows it.row) (it.are_shown.of_room room held) (refused_there it.given it.row it.more)) in
-      let sound = all_has IsNumbered jobs told.0 (keeps IsNumbered (values room.jobs) (room_numbered db name room held)) told.1 in
-      it.refused told.0 sound (subst (λ row. ShowsNumbered row told.0) (sym told.2) (tells_itself told.0))
+  pub jobs_unsound : (first : List Job) → RefusesShown ListsJob (λ _ row. refuses_numbered row) (AreListed chosen read db name) first → AreRowsOf (job_cells name) IsNumbered read → ⊥
+  jobs_unsound first it rows =
+      let one = it.are_shown.are_read it.row (refused_there it.given it.row it.more) in
+      let told = rows one.0 one.1 in
+      it.refused told.0 told.1 (subst (λ row. ShowsNumbered row told.0) (sym (one.2 ∙ ap listed_cells told.2)) (tells_itself told.0))
+
+-- sound rows can be read
+pub jobs_read : (db : Database) → HasSchema db → (name : List ℕ) → IsSound db name → AreRowsOf (job_cells name) IsNumbered (job_rows db name)
+jobs_read db has name (None, held) row h = absurd (permuted_has [] (job_rows db name) row (IsPermutation-sym _ _ (no_jobs db has name held)) h)
+jobs_read db has name (Some room, held) row h =
+    let it = has_mapped (job_cells name) (values room.jobs) row (permuted_has (map (job_cells name) (values room.jobs)) (job_rows db name) row (IsPermutation-sym _ _ (rows_of_jobs db has name room held)) h) in
+    (it.0, all_has IsNumbered (values room.jobs) it.0 (room_numbered db name room held) it.1, it.2)

@@ -3,7 +3,7 @@ use Rattle.std.proofs.Common.{◌≡◌, ℕ, zero, suc, Bool, true, false, not,
 use Rattle.std.specs.List.{AllByRecursion}
 use Rattle.std.specs.List.Sorted.{IsPermutation}
 use Rattle.std.specs.FinMap.{values}
-use Rattle.std.proofs.lemmas.Bool.{true≢false}
+use Rattle.std.proofs.lemmas.Bool.{true≢false, and_parts}
 use Rattle.std.proofs.lemmas.List.{take-map}
 use Rattle.std.proofs.lemmas.List.Sorted.{IsPermutation-map, IsPermutation-trans}
 use Rattle.sqlite_value.specs.declared.value.Value.TheVariants.{Text}
@@ -13,6 +13,9 @@ use Rattle.sqlite_trees.specs.Tree.{IsAscending}
 use Rattle.sqlite_trees.proofs.ListLemmas.{map-map, filter-map, filter_same, all_of, all-permutation, IsPermutation-filter, ascending-map}
 use Rattle.sqlite_sql.specs.Query.{Query, Output, output, output_cmp, page}
 use Rattle.sqlite_sql.specs.Term.{Term, col}
+use Rattle.sqlite_rules.specs.Lists.{Has}
+use Rattle.sqlite_rules.proofs.ListLemmas.{has_kept}
+use Rattle.sqlite_rules.proofs.ProbeLemmas.{mapped_has}
 use Rattle.sqlite.specs.Effect.{Database}
 use Rattle.room_rules.specs.declared.job.Job.{Job}
 use Rattle.room_rules.specs.declared.job.JobState.{JobState}
@@ -25,14 +28,15 @@ use Rattle.room_state.proofs.JobMaps.{values_keep, values_rise}
 use Rattle.room_state.proofs.QueueOrders.{with_end, not_completed_rise, completed_permutes, completed_fall}
 use Rattle.room_tables.specs.Tables.{job}
 use Rattle.room_tables.specs.Keyed.{HasSchema, rows_under}
-use Rattle.room_tables.specs.Queries.{first_of_table, passes, IsShownBy}
+use Rattle.room_tables.specs.Queries.{first_of_table, passes, shows_of, IsShownBy}
 use Rattle.room_tables.specs.Cells.{job_cells}
-use Rattle.room_tables.specs.Accounts.{HoldsRoom, HoldsNothing}
-use Rattle.room_statements.specs.Queues.{numbered_cells, AreListed}
-use Rattle.room_tables.proofs.Queries.{env, answer_in_order}
-use Rattle.room_statements.proofs.AccountRows.{no_jobs, rows_of_jobs}
+use Rattle.room_tables.specs.Accounts.{HoldsRoom}
+use Rattle.room_statements.specs.Queues.{numbered_cells, listed_cells, AreListed}
+use Rattle.room_statements.specs.SoundRows.{job_rows, unfinished_rows, ended_rows, tells_unfinished, tells_ended}
+use Rattle.room_tables.proofs.Queries.{env, answer_in_order, answer_shows}
+use Rattle.room_statements.proofs.AccountRows.{rows_of_jobs}
 use Rattle.room_statements.proofs.QueueTexts.{shows, params, unfinished_tests, unfinished_order, unfinished_query, ended_tests, ended_order, ended_query}
-use Rattle.room_statements.proofs.QueueTests.{of_account, is_early, early_state, is_late, late_state, asks_early, asks_late}
+use Rattle.room_statements.proofs.QueueTests.{of_account, early_state, late_state, asks_early, asks_late}
 use Rattle.room_statements.proofs.QueueSorts.{told_by, job_told, by_number, early_outputs, early_rise, by_end, late_outputs, late_fall}
 
 filter_both : (p q : Row → Bool) (rows : List Row) → filter (λ r. p r && q r) rows ≡ filter q (filter p rows)
@@ -74,6 +78,15 @@ module _ (tests : List Term) (order : List (Term × Key)) (name : List ℕ) (lim
       subst (λ l. IsPermutation l (map (job_told sorts name) wanted)) (sym (passing_rows (db.trees 3))) (subst (IsPermutation (map (told_by sorts) (filter state_test (rows_under job (1 ∷ []) (Text name ∷ []) db)))) (map-map (told_by sorts) (job_cells name) wanted) permuted) in
       answer_in_order 3 tests shows order (col 0 1) db.trees (params name limit) rows answer (map (job_told sorts name) wanted) all (ascending-map (λ a b. output_cmp query a b ≡ Less) (job_told sorts name) wanted up) ∙ limited_so wanted limit refl
 
+  -- each row that is shown is one of the account's that pass the test of the state
+  pub rows_read : (shown_cells : (r : Row) → shows_of shows (params name limit) r ≡ listed_cells (drop 1 r)) (db : Database) (rows : List Row) → IsShownBy query db.trees (params name limit) rows
+      → (x : Row) → Has rows x → (cells : Row) × Has (filter state_test (job_rows db name)) cells × (x ≡ listed_cells cells)
+  rows_read shown_cells db rows answer x h =
+      let r = answer_shows 3 tests shows order (col 0 1) db.trees (params name limit) rows answer x h in
+      let passed = and_parts (of_account name r.0) (state_test (drop 1 r.0)) (sym (asks r.0) ∙ r.2) in
+      let of_theirs = mapped_has (drop 1) (filter (of_account name) (db.trees 3)) r.0 (has_kept (of_account name) (db.trees 3) r.0 r.1 passed.0) in
+      (drop 1 r.0, has_kept state_test (job_rows db name) (drop 1 r.0) of_theirs passed.1, r.3 ∙ shown_cells r.0)
+
 -- ---- those that have not ended
 
 module _ (name : List ℕ) (limit : Option ℕ) where
@@ -88,24 +101,20 @@ module _ (name : List ℕ) (limit : Option ℕ) where
       subst (IsPermutation (filter state_test (rows_under job (1 ∷ []) (Text name ∷ []) db))) (kept_jobs state_test test same (values room.jobs))
       (IsPermutation-filter state_test (rows_under job (1 ∷ []) (Text name ∷ []) db) (map (job_cells name) (values room.jobs)) (rows_of_jobs db has name room held))
 
-  no_rows : (db : Database) → HasSchema db → (state_test : Row → Bool) → HoldsNothing db name → IsPermutation (filter state_test (rows_under job (1 ∷ []) (Text name ∷ []) db)) []
-  no_rows db has state_test held = IsPermutation-filter state_test (rows_under job (1 ∷ []) (Text name ∷ []) db) [] (no_jobs db has name held)
-
-  nothing_kept : (most : Option ℕ) → map numbered_cells (at_most most []) ≡ []
-  nothing_kept None = refl
-  nothing_kept (Some zero) = refl
-  nothing_kept (Some (suc n)) = refl
+  cells_listed : (r : Row) → shows_of shows (params name limit) r ≡ listed_cells (drop 1 r)
+  cells_listed [] = refl
+  cells_listed (v ∷ r) = refl
 
   room_rises : (db : Database) (room : RoomValue) → HoldsRoom db name room → NumbersRise (values room.jobs)
   room_rises db room held = values_rise room.jobs (λ n it is. (held.is_room.jobs n it is).numbered)
 
-  pub unfinished_listed : (db : Database) → HasSchema db → (rows : List Row) → IsShownBy unfinished_query db.trees (params name limit) rows → AreListed (λ all. at_most limit (not_completed all)) db name rows
+  pub unfinished_listed : (db : Database) → HasSchema db → (rows : List Row) → IsShownBy unfinished_query db.trees (params name limit) rows → AreListed (λ all. at_most limit (not_completed all)) (unfinished_rows db name) db name rows
   unfinished_listed db has rows answer = record {
     of_room = λ room held.
-        rows_told unfinished_tests unfinished_order name limit is_early by_number (asks_early name limit) (early_outputs name limit) db rows answer (not_completed (values room.jobs))
-        (kept_rows db has is_early (λ (it : Job). is_unfinished it.standing.state) (λ (it : Job). early_state it.standing.state) room held)
+        rows_told unfinished_tests unfinished_order name limit tells_unfinished by_number (asks_early name limit) (early_outputs name limit) db rows answer (not_completed (values room.jobs))
+        (kept_rows db has tells_unfinished (λ (it : Job). is_unfinished it.standing.state) (λ (it : Job). early_state it.standing.state) room held)
         (early_rise name limit (not_completed (values room.jobs)) (not_completed_rise (values room.jobs) (room_rises db room held)));
-    of_none = λ held. rows_told unfinished_tests unfinished_order name limit is_early by_number (asks_early name limit) (early_outputs name limit) db rows answer [] (no_rows db has is_early held) tt ∙ nothing_kept limit;
+    are_read = rows_read unfinished_tests unfinished_order name limit tells_unfinished by_number (asks_early name limit) (early_outputs name limit) cells_listed db rows answer;
   }
 
   by_state_ended : (it : Job) (s : JobState) → KeepsToState s it.standing → is_unfinished s ≡ false → IsSome it.standing.ended
@@ -127,13 +136,13 @@ module _ (name : List ℕ) (limit : Option ℕ) where
   room_sound : (db : Database) (room : RoomValue) → HoldsRoom db name room → AllByRecursion (λ (it : Job). IsStanding it.standing) (values room.jobs)
   room_sound db room held = values_keep (λ _ (it : Job). IsStanding it.standing) room.jobs (λ n it is. let at = held.is_room.jobs n it is in (at.numbered, at.standing))
 
-  pub ended_listed : (db : Database) → HasSchema db → (rows : List Row) → IsShownBy ended_query db.trees (params name limit) rows → AreListed (λ all. at_most limit (completed all)) db name rows
+  pub ended_listed : (db : Database) → HasSchema db → (rows : List Row) → IsShownBy ended_query db.trees (params name limit) rows → AreListed (λ all. at_most limit (completed all)) (ended_rows db name) db name rows
   ended_listed db has rows answer = record {
     of_room = λ room held.
         let jobs = values room.jobs in
         let same = completed_permutes jobs in
-        rows_told ended_tests ended_order name limit is_late by_end (asks_late name limit) (late_outputs name limit) db rows answer (completed jobs)
-        (IsPermutation-trans _ _ _ (kept_rows db has is_late (λ (it : Job). not (is_unfinished it.standing.state)) (λ (it : Job). late_state it.standing.state) room held) (IsPermutation-map (job_cells name) (with_end jobs) (completed jobs) same))
+        rows_told ended_tests ended_order name limit tells_ended by_end (asks_late name limit) (late_outputs name limit) db rows answer (completed jobs)
+        (IsPermutation-trans _ _ _ (kept_rows db has tells_ended (λ (it : Job). not (is_unfinished it.standing.state)) (λ (it : Job). late_state it.standing.state) room held) (IsPermutation-map (job_cells name) (with_end jobs) (completed jobs) same))
         (late_fall name limit (completed jobs) (all-permutation (λ (it : Job). IsSome it.standing.ended) (with_end jobs) (completed jobs) same (have_ended jobs (room_sound db room held))) (completed_fall jobs (room_rises db room held)));
-    of_none = λ held. rows_told ended_tests ended_order name limit is_late by_end (asks_late name limit) (late_outputs name limit) db rows answer [] (no_rows db has is_late held) tt ∙ nothing_kept limit;
+    are_read = rows_read ended_tests ended_order name limit tells_ended by_end (asks_late name limit) (late_outputs name limit) cells_listed db rows answer;
   }

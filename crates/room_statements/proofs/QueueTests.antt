@@ -14,6 +14,7 @@ use Rattle.room_rules.specs.declared.job.JobState.TheVariants.{Held, Pending, Pr
 use Rattle.room_state.specs.RoomRules.{is_unfinished}
 use Rattle.room_tables.specs.Queries.{passes}
 use Rattle.room_tables.specs.Cells.{number, state_number}
+use Rattle.room_statements.specs.SoundRows.{tells_unfinished, tells_ended}
 use Rattle.room_statements.proofs.QueueTexts.{params, unfinished_tests, ended_tests}
 
 -- the tests ask for the account, and then for the state
@@ -27,9 +28,6 @@ regrouped false b = refl
 
 -- ---- a state
 
-abbrev pub is_early : Row → Bool
-is_early cells = is_true (binary (Compare Le Binary) (column cells 4) (Int (pos 5)))
-
 pub early_state : (s : JobState) → is_true (binary (Compare Le Binary) (number (state_number s)) (Int (pos 5))) ≡ is_unfinished s
 unfolding binary
 early_state Held = rw (value_cmp-Int (pos 4) (pos 5)) refl
@@ -38,9 +36,6 @@ early_state Processing = rw (value_cmp-Int (pos 5) (pos 5)) refl
 early_state Canceled = rw (value_cmp-Int (pos 7) (pos 5)) refl
 early_state Aborted = rw (value_cmp-Int (pos 8) (pos 5)) refl
 early_state Completed = rw (value_cmp-Int (pos 9) (pos 5)) refl
-
-abbrev pub is_late : Row → Bool
-is_late cells = is_true (binary (Compare Ge Binary) (column cells 4) (Int (pos 7)))
 
 pub late_state : (s : JobState) → is_true (binary (Compare Ge Binary) (number (state_number s)) (Int (pos 7))) ≡ not (is_unfinished s)
 unfolding binary
@@ -54,12 +49,12 @@ late_state Completed = rw (value_cmp-Int (pos 9) (pos 7)) refl
 -- ---- a row
 
 module _ (name : List ℕ) (limit : Option ℕ) where
-  pub asks_early : (r : Row) → passes unfinished_tests (params name limit) r ≡ (of_account name r && is_early (drop 1 r))
+  pub asks_early : (r : Row) → passes unfinished_tests (params name limit) r ≡ (of_account name r && tells_unfinished (drop 1 r))
   unfolding first_key
   asks_early [] = regrouped _ _
   asks_early (v ∷ r) = regrouped _ _
 
-  pub asks_late : (r : Row) → passes ended_tests (params name limit) r ≡ (of_account name r && is_late (drop 1 r))
+  pub asks_late : (r : Row) → passes ended_tests (params name limit) r ≡ (of_account name r && tells_ended (drop 1 r))
   unfolding first_key
   asks_late [] = regrouped _ _
   asks_late (v ∷ r) = regrouped _ _

@@ -1,5 +1,5 @@
 -- The statements on the table `rates`: what their texts mean, and what they leave.
-use Rattle.std.proofs.Common.{◌≡◌, ◌≢◌, ◌≤◌, ℕ, List, [], ◌∷◌, codes, Some, option_map, IfSome, refl, ap, subst, ◌∙◌}
+use Rattle.std.proofs.Common.{◌≡◌, ◌≢◌, ◌≤◌, ℕ, List, [], ◌∷◌, codes, Option, None, Some, option_map, IfSome, refl, ap, subst, ◌∙◌}
 use Rattle.std.specs.FinMap.{get}
 use Rattle.sqlite_tied.specs.Compute.{everything}
 use Rattle.sqlite_value.specs.declared.value.Value.TheVariants.{Text}
@@ -7,14 +7,16 @@ use Rattle.sqlite_value.specs.Order.{Row, column}
 use Rattle.sqlite.specs.Effect.{Database}
 use Rattle.sqlite.specs.Listing.{understood}
 use Rattle.room_rules.specs.Limits.{most_rate}
+use Rattle.room_rules.specs.declared.device.Device.{Device}
 use Rattle.room_tables.specs.Tables.{room_schema}
 use Rattle.room_tables.specs.Queries.{Means, Takes, of_table}
-use Rattle.room_tables.specs.Cells.{number, rate_cells}
+use Rattle.room_tables.specs.Cells.{number, units_cells, rate_cells}
 use Rattle.room_tables.specs.Devices.{rate_at, IsDevice, AreSoundDevices}
 use Rattle.room_tables.proofs.KeyedTables.{rates_in, rates_key}
-use Rattle.room_tables.proofs.KeyedRows.{shown_of}
+use Rattle.room_tables.proofs.KeyedRows.{same_row}
 use Rattle.room_tables.proofs.Settings.{IsSetting}
 use Rattle.room_tables.proofs.Upserts.{cast_integer}
+use Rattle.room_statements.specs.SoundRows.{IsRowOf}
 use Rattle.room_statements.proofs.NamedValues.{tests, shows, becomes, terms}
 
 -- ---- the read by its key
@@ -43,8 +45,19 @@ sets name value = record { command = refl; is_plain = (refl, refl); rows = refl;
 
 -- ---- what is read of the row
 
-pub unsound : (db : Database) (name : List ℕ) (row : Row) → Some row ≡ option_map (λ cells. column cells 1 ∷ []) (rate_at db name) → ((value : ℕ) → 1 ≤ value → value ≤ most_rate → column row 0 ≢ number value) → AreSoundDevices db → ⊥
-unsound db name row shown damaged held =
-    let is = shown_of (λ cells. column cells 1 ∷ []) rate_cells row (get held.0 name) (shown ∙ ap (option_map (λ cells. column cells 1 ∷ [])) (held.1.rate_rows name)) in
-    let kept : IsDevice name is.0 = subst (λ o. IfSome o (IsDevice name)) is.1 (held.1.are_devices name) in
-    damaged is.0.rate kept.rate_from_one kept.rate_at_most (ap (λ r. column r 0) is.2)
+abbrev is_rate : ℕ → Type 0
+is_rate units = (1 ≤ units) × (units ≤ most_rate)
+
+pub unsound : (db : Database) (name : List ℕ) (row : Row) → Some row ≡ option_map (λ cells. column cells 1 ∷ []) (rate_at db name) → ((value : ℕ) → 1 ≤ value → value ≤ most_rate → column row 0 ≢ number value)
+    → IsRowOf (units_cells name) is_rate (rate_at db name) → ⊥
+unsound db name row shown damaged (None, range, is) = absurd (let e = rw is at shown in cc)
+unsound db name row shown damaged (Some units, range, is) = damaged units range.0 range.1 (ap (λ r. column r 0) (same_row (shown ∙ ap (option_map (λ cells. column cells 1 ∷ [])) is)))
+
+pub rate_read : (db : Database) (name : List ℕ) → AreSoundDevices db → IsRowOf (units_cells name) is_rate (rate_at db name)
+rate_read db name (devices, held) = of_map (get devices name) refl
+  where
+    of_map : (o : Option Device) → get devices name ≡ o → IsRowOf (units_cells name) is_rate (rate_at db name)
+    of_map None e = (None, tt, held.rate_rows name ∙ ap (option_map rate_cells) e)
+    of_map (Some it) e =
+        let kept : IsDevice name it = subst (λ o. IfSome o (IsDevice name)) e (held.are_devices name) in
+        (Some it.rate, (kept.rate_from_one, kept.rate_at_most), held.rate_rows name ∙ ap (option_map rate_cells) e ∙ ap (λ n. Some (units_cells n it.rate)) kept.named)

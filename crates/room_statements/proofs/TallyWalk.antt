@@ -19,17 +19,17 @@ use Rattle.room_rules.specs.Limits.{most_unfinished}
 use Rattle.room_rules.specs.declared.job.Job.{Job}
 use Rattle.room_rules.specs.declared.job.JobState.{JobState}
 use Rattle.room_state.specs.declared.tally.Tally.{Tally}
-use Rattle.room_state.specs.Rooms.{RoomValue}
-use Rattle.room_state.specs.RoomRules.{is_unfinished, unfinished_count}
-use Rattle.room_state.specs.Sums.{is_processing, reserved_in, charged_in}
+use Rattle.room_state.specs.RoomRules.{is_unfinished}
+use Rattle.room_state.specs.Sums.{is_processing}
 use Rattle.room_state.specs.Tallies.{tally_of, counted, is_in_bounds, most_units}
 use Rattle.room_state.proofs.TallyLemmas.{three_lower, counted_some, room_in_bounds}
 use Rattle.room_tables.specs.Tables.{room_schema, job}
 use Rattle.room_tables.specs.Keyed.{HasSchema, rows_under}
 use Rattle.room_tables.specs.Queries.{Means, Takes, of_table, is_given, shown_of}
 use Rattle.room_tables.specs.Cells.{job_cells}
-use Rattle.room_tables.specs.Accounts.{HoldsRoom, IsSound}
+use Rattle.room_tables.specs.Accounts.{IsSound}
 use Rattle.room_statements.specs.Totals.{counted_cells, TellsCounted, CountsJob, refuses_job}
+use Rattle.room_statements.specs.SoundRows.{job_rows, CanBeCounted}
 use Rattle.room_statements.specs.Walks.{GathersAll, HasGathered, WalksAll, RefusesOne}
 use Rattle.room_statements.proofs.AccountRows.{rows_of_jobs, no_jobs}
 use Rattle.room_tables.proofs.Queries.{permuted_has}
@@ -148,39 +148,39 @@ told_of name it = counted_cells (job_cells name it)
 
 module _ (db : Database) (has : HasSchema db) (name : List ℕ) where
   abbrev shown : List Row
-  shown = map counted_cells (rows_under job (1 ∷ []) (Text name ∷ []) db)
+  shown = map counted_cells (job_rows db name)
 
-  module _ (room : RoomValue) (held : HoldsRoom db name room) where
-    shown_told : IsPermutation shown (map (told_of name) (values room.jobs))
-    shown_told = subst (IsPermutation shown) (map-map counted_cells (job_cells name) (values room.jobs))
-        (IsPermutation-map counted_cells (rows_under job (1 ∷ []) (Text name ∷ []) db) (map (job_cells name) (values room.jobs)) (rows_of_jobs db has name room held))
+  -- where they are those of some jobs
+  module _ (jobs : List Job) (theirs : IsPermutation (job_rows db name) (map (job_cells name) jobs)) where
+    shown_told : IsPermutation shown (map (told_of name) jobs)
+    shown_told = subst (IsPermutation shown) (map-map counted_cells (job_cells name) jobs) (IsPermutation-map counted_cells (job_rows db name) (map (job_cells name) jobs) theirs)
 
-    sum_told : (f : Row → ℕ) → sum_by f shown ≡ sum_by (λ it. f (told_of name it)) (values room.jobs)
-    sum_told f = sym (sum_by-IsPermutation f shown (map (told_of name) (values room.jobs)) shown_told) ∙ sum_mapped (told_of name) f (values room.jobs)
+    sum_told : (f : Row → ℕ) → sum_by f shown ≡ sum_by (λ it. f (told_of name it)) jobs
+    sum_told f = sym (sum_by-IsPermutation f shown (map (told_of name) jobs) shown_told) ∙ sum_mapped (told_of name) f jobs
 
-    unfinished_told : sum_by unfinished_on shown ≡ unfinished_count room
-    unfinished_told = sum_told unfinished_on ∙ (λ i. sum_by (λ (it : Job). cond (is_unfinished (state_read it.standing.state i)) 1 0) (values room.jobs))
+    unfinished_told : sum_by unfinished_on shown ≡ (tally_of jobs).unfinished
+    unfinished_told = sum_told unfinished_on ∙ (λ i. sum_by (λ (it : Job). cond (is_unfinished (state_read it.standing.state i)) 1 0) jobs)
 
-    processing_told : list_any processing_on shown ≡ list_any (λ it. is_processing it.standing.state) (values room.jobs)
+    processing_told : list_any processing_on shown ≡ list_any (λ it. is_processing it.standing.state) jobs
     processing_told =
-        list_any-IsPermutation processing_on shown (map (told_of name) (values room.jobs)) shown_told ∙ any_mapped (told_of name) processing_on (values room.jobs)
-        ∙ (λ i. list_any (λ (it : Job). is_processing (state_read it.standing.state i)) (values room.jobs))
+        list_any-IsPermutation processing_on shown (map (told_of name) jobs) shown_told ∙ any_mapped (told_of name) processing_on jobs
+        ∙ (λ i. list_any (λ (it : Job). is_processing (state_read it.standing.state i)) jobs)
 
-    pub tally_counted : (last : Tally) → WalksAll CountsJob refuses_job shown (tally_of []) last → last ≡ tally_of (values room.jobs)
+    pub tally_counted : (last : Tally) → WalksAll CountsJob refuses_job shown (tally_of []) last → last ≡ tally_of jobs
     tally_counted last (given, same, gathered) =
         let adds = adds_up (tally_of []) last given gathered in
         let total = λ (f : Row → ℕ). sum_by-IsPermutation f shown given same in
-        let unfinished : last.unfinished ≡ unfinished_count room = omega (arith, adds.unfinished, total unfinished_on, unfinished_told) in
+        let unfinished : last.unfinished ≡ (tally_of jobs).unfinished = omega (arith, adds.unfinished, total unfinished_on, unfinished_told) in
         let processing = adds.is_processing ∙ sym (list_any-IsPermutation processing_on shown given same) ∙ processing_told in
-        let reserved : last.reserved ≡ reserved_in room = omega (arith, adds.reserved, total reserved_on, sum_told reserved_on) in
-        let charged : last.charged ≡ charged_in room = omega (arith, adds.charged, total charged_on, sum_told charged_on) in
+        let reserved : last.reserved ≡ (tally_of jobs).reserved = omega (arith, adds.reserved, total reserved_on, sum_told reserved_on) in
+        let charged : last.charged ≡ (tally_of jobs).charged = omega (arith, adds.charged, total charged_on, sum_told charged_on) in
         λ i. record { unfinished = unfinished i; is_processing = processing i; reserved = reserved i; charged = charged i }
 
-    -- a job of the room is never refused
-    none_refused : RefusesOne CountsJob refuses_job shown (tally_of []) → ⊥
-    none_refused it =
-        let there = permuted_has (map (told_of name) (values room.jobs)) shown it.row (IsPermutation-sym _ _ shown_told) (refused_there CountsJob refuses_job shown (tally_of []) it) in
-        let here = has_mapped (told_of name) (values room.jobs) it.row there in
+    -- a job of them is never refused where they come to no more than jobs can
+    none_refused : IsTrue (is_in_bounds (tally_of jobs)) → RefusesOne CountsJob refuses_job shown (tally_of []) → ⊥
+    none_refused bounds it =
+        let there = permuted_has (map (told_of name) jobs) shown it.row (IsPermutation-sym _ _ shown_told) (refused_there CountsJob refuses_job shown (tally_of []) it) in
+        let here = has_mapped (told_of name) jobs it.row there in
         let s = here.0.standing in
         let told : TellsCounted it.row s.state s.reserved s.charged = record { state = ap (λ r. column r 0) here.2; reserved = ap (λ r. column r 1) here.2; charged = ap (λ r. column r 2) here.2 } in
         let adds = adds_up (tally_of []) it.so_far it.given it.gathered in
@@ -189,14 +189,16 @@ module _ (db : Database) (has : HasSchema db) (name : List ℕ) where
         let one : unfinished_on it.row ≡ cond (is_unfinished s.state) 1 0 = ap (λ x. cond (is_unfinished x) 1 0) state in
         let units : reserved_on it.row ≡ s.reserved = ap (λ v. natural_in (integer_in v)) told.reserved in
         let more : charged_on it.row ≡ s.charged = ap (λ v. natural_in (integer_in v)) told.charged in
-        let unfinished : it.so_far.unfinished + cond (is_unfinished s.state) 1 0 ≤ unfinished_count room = omega (arith, adds.unfinished, within unfinished_on, unfinished_told, one) in
-        let reserved : it.so_far.reserved + s.reserved ≤ reserved_in room = omega (arith, adds.reserved, within reserved_on, sum_told reserved_on, units) in
-        let charged : it.so_far.charged + s.charged ≤ charged_in room = omega (arith, adds.charged, within charged_on, sum_told charged_on, more) in
-        let fits : IsTrue (is_in_bounds (counted it.so_far s.state s.reserved s.charged)) = three_lower _ _ _ _ _ _ unfinished reserved charged (room_in_bounds room held.is_room) in
+        let unfinished : it.so_far.unfinished + cond (is_unfinished s.state) 1 0 ≤ (tally_of jobs).unfinished = omega (arith, adds.unfinished, within unfinished_on, unfinished_told, one) in
+        let reserved : it.so_far.reserved + s.reserved ≤ (tally_of jobs).reserved = omega (arith, adds.reserved, within reserved_on, sum_told reserved_on, units) in
+        let charged : it.so_far.charged + s.charged ≤ (tally_of jobs).charged = omega (arith, adds.charged, within charged_on, sum_told charged_on, more) in
+        let fits : IsTrue (is_in_bounds (counted it.so_far s.state s.reserved s.charged)) = three_lower _ _ _ _ _ _ unfinished reserved charged bounds in
         let no = sym (counted_some it.so_far s.state s.reserved s.charged fits) ∙ it.refused s.state s.reserved s.charged told in
         cc
 
-  pub jobs_unsound : RefusesOne CountsJob refuses_job shown (tally_of []) → IsSound db name → ⊥
-  jobs_unsound it (None, held) =
-      permuted_has [] shown it.row (IsPermutation-sym _ _ (IsPermutation-map counted_cells (rows_under job (1 ∷ []) (Text name ∷ []) db) [] (no_jobs db has name held))) (refused_there CountsJob refuses_job shown (tally_of []) it)
-  jobs_unsound it (Some room, held) = none_refused room held it
+  pub jobs_unsound : RefusesOne CountsJob refuses_job shown (tally_of []) → CanBeCounted name (job_rows db name) → ⊥
+  jobs_unsound it can = none_refused can.jobs can.are_theirs can.in_bounds it
+
+  pub jobs_counted : IsSound db name → CanBeCounted name (job_rows db name)
+  jobs_counted (None, held) = record { jobs = []; are_theirs = no_jobs db has name held; in_bounds = refl }
+  jobs_counted (Some room, held) = record { jobs = values room.jobs; are_theirs = rows_of_jobs db has name room held; in_bounds = room_in_bounds room held.is_room }

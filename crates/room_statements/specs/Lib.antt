@@ -3,3 +3,4 @@ pub mod Documents
 pub mod Shown
 pub mod Totals
 pub mod Queues
+pub mod SoundRows

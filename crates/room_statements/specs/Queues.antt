@@ -3,13 +3,14 @@ use Rattle.std.specs.Prelude.{◌≡◌, ℕ, ◌<◌, ◌≤◌, ℤ, pos, negs
 use Rattle.std.specs.FinMap.{values}
 use Rattle.sqlite_value.specs.declared.value.Value.TheVariants.{Blob}
 use Rattle.sqlite_value.specs.Order.{Row, column}
+use Rattle.sqlite_rules.specs.Lists.{Has}
 use Rattle.sqlite.specs.Effect.{Database}
 use Rattle.room_rules.specs.Limits.{last_next_job}
 use Rattle.room_rules.specs.declared.job.Job.{Job}
 use Rattle.room_state.specs.Rooms.{RoomValue}
 use Rattle.room_tables.specs.Cells.{number, standing_cells}
-use Rattle.room_tables.specs.Accounts.{HoldsRoom, HoldsNothing}
-use Rattle.room_statements.specs.Shown.{ShowsJob, IsJob}
+use Rattle.room_tables.specs.Accounts.{HoldsRoom}
+use Rattle.room_statements.specs.Shown.{behind_key, ShowsJob, IsJob}
 
 -- as LIMIT counts, where a number below 0 is none (lang_select.html)
 abbrev pub limit_number : Option ℕ → ℤ
@@ -40,7 +41,12 @@ pub record ListsJob (first : List Job) (row : Row) (last : List Job) : Type 0 wh
 abbrev pub refuses_numbered : Row → Type 0
 refuses_numbered row = (job : Job) → IsNumbered job → ShowsNumbered row job → ⊥
 
--- the rows are those of the jobs that are chosen of the account's room, in their order, and none without a room
-pub record AreListed (chosen : List Job → List Job) (db : Database) (name : List ℕ) (rows : List Row) : Type 0 where
+-- of a row of the table, the cells behind the key, and then its number
+abbrev pub listed_cells : Row → Row
+listed_cells cells = behind_key cells ++ column cells 1 ∷ []
+
+-- each of the rows is one of those that were to be read, and where they are a room's, they are those of the jobs
+-- that are chosen of it, in their order
+pub record AreListed (chosen : List Job → List Job) (read : List Row) (db : Database) (name : List ℕ) (rows : List Row) : Type 0 where
   pub of_room : (room : RoomValue) → HoldsRoom db name room → rows ≡ map numbered_cells (chosen (values room.jobs))
-  pub of_none : HoldsNothing db name → rows ≡ []
+  pub are_read : (row : Row) → Has rows row → (cells : Row) × Has read cells × (row ≡ listed_cells cells)

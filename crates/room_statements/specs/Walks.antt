@@ -2,10 +2,13 @@
 use Rattle.std.specs.Prelude.{◌≡◌, ℕ, List, [], ◌∷◌, ◌++◌, IsPermutation, Result, Err, OnOk}
 use Rattle.sqlite_value.specs.Order.{Row}
 use Rattle.sqlite_sql.specs.Query.{Query}
-use Rattle.sqlite.specs.State.{State}
+use Rattle.sqlite_trees.specs.declared.store.Store.{Ghosts}
+use Rattle.sqlite.specs.Effect.{Database}
+use Rattle.sqlite.specs.State.{State, HasCleanDisk}
+use Rattle.sqlite.specs.Held.{Held, state}
 use Rattle.room_tables.specs.declared.fault.StoreFault.{StoreFault}
 use Rattle.room_tables.specs.declared.fault.StoreFault.TheVariants.{Damaged}
-use Rattle.room_tables.specs.Calls.{IsSame, Stays}
+use Rattle.room_tables.specs.Calls.{IsSame, Stays, OfStore}
 use Rattle.room_tables.specs.Queries.{HasNoSums, Means, Takes, IsShownBy}
 
 -- row by row, each step from what the one before left
@@ -43,6 +46,10 @@ module _ {G : Type 0} (step : G → Row → G → Type 0) (refuses : G → Row �
   Walks old new text params first last result =
       (query : Query) (names : List (List ℕ)) (parameters : ℕ) → HasNoSums query → Means old.now.schema text query names parameters
       → Takes old.now.schema query params parameters → WalksShown old new (IsShownBy query old.now.trees params) first last result
+
+  -- over the store's tables, of which so much is shown
+  abbrev pub WalksStore : {S : Type 0} → Ghosts S → Held S → Held S → (Database → List Row → Type 0) → G → G → Result (Unit {0}) StoreFault → Type 0
+  WalksStore store old new IsShown first last result = OfStore store old new (λ db. WalksShown (state store old) (state store new) (IsShown db) first last result)
 
   -- ---- over rows that are shown in some order
 

@@ -1,16 +1,15 @@
 //! The rows of the table `device`.
 
-ghost use Rattle.std.specs.Prelude.{◌≡◌, ◌↔◌, ℕ, List, true, [], ◌∷◌, map, Some, Err, option_map, IfOk, OnOk, IsTrue};
+ghost use Rattle.std.specs.Prelude.{◌≡◌, ◌↔◌, ℕ, Bool, ⊤, List, true, [], ◌∷◌, map, Some, Err, option_map, IfOk, IsTrue, IsPermutation};
 ghost use Rattle.sqlite_value.specs.Order.{column};
-ghost use Rattle.sqlite.specs.State.{HasCleanDisk, KeepsCommit, Survives};
-ghost use Rattle.sqlite.specs.Held.{state};
 ghost use Rattle.room_rules.specs.Devices.{Devices, is_some_on};
 ghost use Rattle.room_tables.specs.Tables.{device as device_table};
-ghost use Rattle.room_tables.specs.Keyed.{HasSchema, SetsRow};
+ghost use Rattle.room_tables.specs.Keyed.{SetsRow};
 ghost use Rattle.room_tables.specs.Cells.{on_cells};
-ghost use Rattle.room_tables.specs.Devices.{device_at, HoldsDevices, AreSoundDevices, GathersOn, refuses_flag};
-ghost use Rattle.room_tables.specs.Calls.{Goes, Stays, IsSame, Gets};
-ghost use Rattle.room_statements.specs.Walks.{WalksOver};
+ghost use Rattle.room_tables.specs.Devices.{device_at, HoldsDevices, GathersOn, refuses_flag};
+ghost use Rattle.room_statements.specs.Walks.{WalksStore};
+ghost use Rattle.room_tables.specs.Calls.{Changes, GetsRow, GoesOn, OfStore, ReadsStore, StaysInside};
+ghost use Rattle.room_statements.specs.SoundRows.{device_rows, AreRowsOf, IsRowOf};
 
 use crate::values::{flag, flag_at};
 use crate::walking::{Gather, walk};
@@ -25,12 +24,9 @@ pub fn find_device<S: Alter>(
     connection: &mut Connection<S>,
     name: Name,
 ) -> Result<Option<bool>, StoreFault>
-    ensures goes { Goes (state S.Store connection.old) (state S.Store connection.new) }
-    ensures opened { HasCleanDisk (state S.Store connection.new) → OnOk result (IsTrue (state S.Store connection.old).is_open × IsTrue (state S.Store connection.new).is_open) }
-    ensures found { HasCleanDisk (state S.Store connection.new) → HasSchema (state S.Store connection.old).now → IfOk result (λ found. device_at (state S.Store connection.old).now name ≡ option_map (on_cells name) found) }
-    ensures damaged { HasCleanDisk (state S.Store connection.new) → HasSchema (state S.Store connection.old).now → result ≡ Err StoreFault.Damaged → AreSoundDevices (state S.Store connection.old).now → ⊥ }
-    ensures same { HasCleanDisk (state S.Store connection.new) → HasSchema (state S.Store connection.old).now → OnOk result (IsSame (state S.Store connection.old) (state S.Store connection.new)) }
-    ensures stays { HasCleanDisk (state S.Store connection.new) → HasSchema (state S.Store connection.old).now → Stays (state S.Store connection.old) (state S.Store connection.new) }
+    ensures found { OfStore S.Store connection.old connection.new (λ db. IfOk result (λ found. device_at db name ≡ option_map (on_cells name) found)) }
+    ensures damaged { OfStore S.Store connection.old connection.new (λ db. result ≡ Err StoreFault.Damaged → IsRowOf (on_cells name) (λ _. ⊤) (device_at db name) → ⊥) }
+    ensures reads { ReadsStore S.Store connection.old connection.new result }
 {
     match device_row(connection, name)? {
         Some(row) => Ok(Some(flag_at(&row, 0)?)),
@@ -39,9 +35,8 @@ pub fn find_device<S: Alter>(
 }
 
 fn device_row<S: Alter>(connection: &mut Connection<S>, name: Name) -> Result<Option<Row>, Error>
-    ensures goes { Goes (state S.Store connection.old) (state S.Store connection.new) }
-    ensures opened { HasCleanDisk (state S.Store connection.new) → OnOk result (IsTrue (state S.Store connection.old).is_open × IsTrue (state S.Store connection.new).is_open) }
-    ensures gets { HasCleanDisk (state S.Store connection.new) → HasSchema (state S.Store connection.old).now → Gets (state S.Store connection.old) (state S.Store connection.new) (device_at (state S.Store connection.old).now name) (λ cells. column cells 1 ∷ []) result }
+    ensures gets { GetsRow S.Store connection.old connection.new (λ db. device_at db name) (λ cells. column cells 1 ∷ []) result }
+    ensures going { GoesOn S.Store connection.old connection.new result }
 {
     find_row(
         connection,
@@ -52,13 +47,10 @@ fn device_row<S: Alter>(connection: &mut Connection<S>, name: Name) -> Result<Op
 
 /// Whether some device takes jobs now, of the rows or, where they are sound, of the map that they are. `Damaged` tells that a row that is there can be none of sound rows.
 pub fn is_device_on<S: Alter>(connection: &mut Connection<S>) -> Result<bool, StoreFault>
-    ensures goes { Goes (state S.Store connection.old) (state S.Store connection.new) }
-    ensures opened { HasCleanDisk (state S.Store connection.new) → OnOk result (IsTrue (state S.Store connection.old).is_open × IsTrue (state S.Store connection.new).is_open) }
-    ensures found { HasCleanDisk (state S.Store connection.new) → HasSchema (state S.Store connection.old).now → IfOk result (λ on. IsTrue on ↔ ((name : List ℕ) × (device_at (state S.Store connection.old).now name ≡ Some (on_cells name true)))) }
-    ensures of_map { HasCleanDisk (state S.Store connection.new) → HasSchema (state S.Store connection.old).now → IfOk result (λ on. (devices : Devices) → HoldsDevices (state S.Store connection.old).now devices → on ≡ is_some_on devices) }
-    ensures damaged { HasCleanDisk (state S.Store connection.new) → HasSchema (state S.Store connection.old).now → result ≡ Err StoreFault.Damaged → AreSoundDevices (state S.Store connection.old).now → ⊥ }
-    ensures same { HasCleanDisk (state S.Store connection.new) → HasSchema (state S.Store connection.old).now → OnOk result (IsSame (state S.Store connection.old) (state S.Store connection.new)) }
-    ensures stays { HasCleanDisk (state S.Store connection.new) → HasSchema (state S.Store connection.old).now → Stays (state S.Store connection.old) (state S.Store connection.new) }
+    ensures found { OfStore S.Store connection.old connection.new (λ db. IfOk result (λ on. IsTrue on ↔ ((name : List ℕ) × (device_at db name ≡ Some (on_cells name true))))) }
+    ensures of_map { OfStore S.Store connection.old connection.new (λ db. IfOk result (λ on. (devices : Devices) → HoldsDevices db devices → on ≡ is_some_on devices)) }
+    ensures damaged { OfStore S.Store connection.old connection.new (λ db. result ≡ Err StoreFault.Damaged → AreRowsOf (λ (it : List ℕ × Bool). on_cells it.0 it.1) (λ _. ⊤) (device_rows db) → ⊥) }
+    ensures reads { ReadsStore S.Store connection.old connection.new result }
 {
     let mut found = AnyOn { is_on: false };
     walk_devices(connection, &mut found)?;
@@ -90,9 +82,8 @@ fn walk_devices<S: Alter>(
     connection: &mut Connection<S>,
     found: &mut AnyOn,
 ) -> Result<(), StoreFault>
-    ensures goes { Goes (state S.Store connection.old) (state S.Store connection.new) }
-    ensures opened { HasCleanDisk (state S.Store connection.new) → OnOk result (IsTrue (state S.Store connection.old).is_open × IsTrue (state S.Store connection.new).is_open) }
-    ensures walks { HasCleanDisk (state S.Store connection.new) → HasSchema (state S.Store connection.old).now → WalksOver (λ first row last. GathersOn first.is_on row last.is_on) (λ first row. refuses_flag row) (state S.Store connection.old) (state S.Store connection.new) (map (λ row. column row 2 ∷ []) ((state S.Store connection.old).now.trees device_table.tree)) found.old found.new result }
+    ensures walks { WalksStore (λ first row last. GathersOn first.is_on row last.is_on) (λ first row. refuses_flag row) S.Store connection.old connection.new (λ db. IsPermutation (map (λ row. column row 2 ∷ []) (db.trees device_table.tree))) found.old found.new result }
+    ensures going { GoesOn S.Store connection.old connection.new result }
 {
     walk(connection, "SELECT accepting FROM device", &[], found)
 }
@@ -103,11 +94,8 @@ pub fn set_device<S: Alter>(
     name: Name,
     on: bool,
 ) -> Result<(), Error>
-    ensures same_reference { transaction.new.conn.ghost_name ≡ transaction.old.conn.ghost_name }
-    ensures sets { HasCleanDisk (state S.Store transaction.new.conn.now) → OnOk result (HasSchema (state S.Store transaction.old.conn.now).now → HasSchema (state S.Store transaction.new.conn.now).now × SetsRow device_table (on_cells name on) (state S.Store transaction.old.conn.now).now (state S.Store transaction.new.conn.now).now) }
-    ensures mode { HasCleanDisk (state S.Store transaction.new.conn.now) → OnOk result (IsTrue transaction.new.conn.now.in_transaction) }
-    ensures kept { HasCleanDisk (state S.Store transaction.new.conn.now) → KeepsCommit (state S.Store transaction.old.conn.now) (state S.Store transaction.new.conn.now) }
-    ensures survives { Survives (state S.Store transaction.old.conn.now) (state S.Store transaction.new.conn.now) (λ _. ⊥) }
+    ensures sets { Changes S.Store transaction.old.conn.now transaction.new.conn.now result (SetsRow device_table (on_cells name on)) }
+    ensures inside { StaysInside S.Store transaction.old.conn transaction.new.conn result }
 {
     write(
         transaction,

@@ -1,21 +1,20 @@
 //! The rows of the table `document`.
 
-ghost use Rattle.std.specs.Prelude.{◌≡◌, [], ◌∷◌, Err, IfOk, IfErr, OnOk, IsTrue};
+ghost use Rattle.std.specs.Prelude.{◌≡◌, [], ◌∷◌, Err, IfOk, IfErr, IsPermutation};
 ghost use Rattle.std.specs.List.{flat_map};
 ghost use Rattle.std.specs.Option.{option_to_list};
 ghost use Rattle.sqlite_value.specs.declared.value.Value.TheVariants.{Text};
-ghost use Rattle.sqlite.specs.State.{HasCleanDisk, KeepsCommit, Survives};
-ghost use Rattle.sqlite.specs.Held.{state};
 ghost use Rattle.room_rules.specs.declared.job.Document.{Document as DocumentValue};
 ghost use Rattle.room_state.specs.Documents.{documents_of};
 ghost use Rattle.room_state.specs.Rooms.{RoomValue};
 ghost use Rattle.room_tables.specs.Tables.{document as document_table};
-ghost use Rattle.room_tables.specs.Keyed.{HasSchema, RemovesRows, SetsRow};
+ghost use Rattle.room_tables.specs.Keyed.{RemovesRows, SetsRow};
 ghost use Rattle.room_tables.specs.Cells.{number, document_cells};
-ghost use Rattle.room_tables.specs.Accounts.{HoldsRoom, IsSound};
-ghost use Rattle.room_tables.specs.Calls.{Goes, Stays, IsSame};
+ghost use Rattle.room_tables.specs.Accounts.{HoldsRoom};
+ghost use Rattle.room_statements.specs.Walks.{WalksStore};
+ghost use Rattle.room_tables.specs.Calls.{Changes, GoesOn, OfStore, ReadsStore, StaysInside};
 ghost use Rattle.room_statements.specs.Documents.{IsDocumentOf, ShowsDocument, GathersDocument, refuses_document, shown_documents};
-ghost use Rattle.room_statements.specs.Walks.{WalksOver};
+ghost use Rattle.room_statements.specs.SoundRows.{document_rows, AreRowsOf};
 
 use crate::values::{bytes_at, format_at, format_text, number, short_at};
 use crate::walking::{Gather, walk};
@@ -34,12 +33,9 @@ pub fn find_documents<S: Alter>(
     name: Name,
     job: u32,
 ) -> Result<List<Document>, StoreFault>
-    ensures goes { Goes (state S.Store connection.old) (state S.Store connection.new) }
-    ensures opened { HasCleanDisk (state S.Store connection.new) → OnOk result (IsTrue (state S.Store connection.old).is_open × IsTrue (state S.Store connection.new).is_open) }
-    ensures listed { HasCleanDisk (state S.Store connection.new) → HasSchema (state S.Store connection.old).now → (room : RoomValue) → HoldsRoom (state S.Store connection.old).now name room → IfOk result (λ documents. documents ≡ documents_of room job) }
-    ensures damaged { HasCleanDisk (state S.Store connection.new) → HasSchema (state S.Store connection.old).now → result ≡ Err StoreFault.Damaged → IsSound (state S.Store connection.old).now name → ⊥ }
-    ensures same { HasCleanDisk (state S.Store connection.new) → HasSchema (state S.Store connection.old).now → OnOk result (IsSame (state S.Store connection.old) (state S.Store connection.new)) }
-    ensures stays { HasCleanDisk (state S.Store connection.new) → HasSchema (state S.Store connection.old).now → Stays (state S.Store connection.old) (state S.Store connection.new) }
+    ensures listed { OfStore S.Store connection.old connection.new (λ db. (room : RoomValue) → HoldsRoom db name room → IfOk result (λ documents. documents ≡ documents_of room job)) }
+    ensures damaged { OfStore S.Store connection.old connection.new (λ db. result ≡ Err StoreFault.Damaged → AreRowsOf (document_cells name) (IsDocumentOf job) (document_rows db name job) → ⊥) }
+    ensures reads { ReadsStore S.Store connection.old connection.new result }
 {
     let mut found = Found {
         job,
@@ -97,9 +93,8 @@ fn walk_documents<S: Alter>(
     name: Name,
     found: &mut Found,
 ) -> Result<(), StoreFault>
-    ensures goes { Goes (state S.Store connection.old) (state S.Store connection.new) }
-    ensures opened { HasCleanDisk (state S.Store connection.new) → OnOk result (IsTrue (state S.Store connection.old).is_open × IsTrue (state S.Store connection.new).is_open) }
-    ensures walks { HasCleanDisk (state S.Store connection.new) → HasSchema (state S.Store connection.old).now → WalksOver (λ first row last. (last.job ≡ first.job) × GathersDocument first.job first.places row last.places) (λ first row. refuses_document first.job row) (state S.Store connection.old) (state S.Store connection.new) (shown_documents (state S.Store connection.old).now name found.old.job) found.old found.new result }
+    ensures walks { WalksStore (λ first row last. (last.job ≡ first.job) × GathersDocument first.job first.places row last.places) (λ first row. refuses_document first.job row) S.Store connection.old connection.new (λ db. IsPermutation (shown_documents db name found.old.job)) found.old found.new result }
+    ensures going { GoesOn S.Store connection.old connection.new result }
 {
     walk(
         connection,
@@ -132,11 +127,8 @@ pub fn set_document<S: Alter>(
     format: Format,
     bytes: &[u8],
 ) -> Result<(), Error>
-    ensures same_reference { transaction.new.conn.ghost_name ≡ transaction.old.conn.ghost_name }
-    ensures sets { HasCleanDisk (state S.Store transaction.new.conn.now) → OnOk result (HasSchema (state S.Store transaction.old.conn.now).now → HasSchema (state S.Store transaction.new.conn.now).now × SetsRow document_table (document_cells name (record { job = job; number = number_in_job; format = format; bytes = bytes.now })) (state S.Store transaction.old.conn.now).now (state S.Store transaction.new.conn.now).now) }
-    ensures mode { HasCleanDisk (state S.Store transaction.new.conn.now) → OnOk result (IsTrue transaction.new.conn.now.in_transaction) }
-    ensures kept { HasCleanDisk (state S.Store transaction.new.conn.now) → KeepsCommit (state S.Store transaction.old.conn.now) (state S.Store transaction.new.conn.now) }
-    ensures survives { Survives (state S.Store transaction.old.conn.now) (state S.Store transaction.new.conn.now) (λ _. ⊥) }
+    ensures sets { Changes S.Store transaction.old.conn.now transaction.new.conn.now result (SetsRow document_table (document_cells name (record { job = job; number = number_in_job; format = format; bytes = bytes.now }))) }
+    ensures inside { StaysInside S.Store transaction.old.conn transaction.new.conn result }
 {
     write(
         transaction,
@@ -157,11 +149,8 @@ pub fn remove_documents<S: Alter>(
     name: Name,
     job: u32,
 ) -> Result<(), Error>
-    ensures same_reference { transaction.new.conn.ghost_name ≡ transaction.old.conn.ghost_name }
-    ensures removes { HasCleanDisk (state S.Store transaction.new.conn.now) → OnOk result (HasSchema (state S.Store transaction.old.conn.now).now → HasSchema (state S.Store transaction.new.conn.now).now × RemovesRows document_table (Text name ∷ number job ∷ []) (1 ∷ 2 ∷ []) (state S.Store transaction.old.conn.now).now (state S.Store transaction.new.conn.now).now) }
-    ensures mode { HasCleanDisk (state S.Store transaction.new.conn.now) → OnOk result (IsTrue transaction.new.conn.now.in_transaction) }
-    ensures kept { HasCleanDisk (state S.Store transaction.new.conn.now) → KeepsCommit (state S.Store transaction.old.conn.now) (state S.Store transaction.new.conn.now) }
-    ensures survives { Survives (state S.Store transaction.old.conn.now) (state S.Store transaction.new.conn.now) (λ _. ⊥) }
+    ensures removes { Changes S.Store transaction.old.conn.now transaction.new.conn.now result (RemovesRows document_table (Text name ∷ number job ∷ []) (1 ∷ 2 ∷ [])) }
+    ensures inside { StaysInside S.Store transaction.old.conn transaction.new.conn result }
 {
     write(
         transaction,

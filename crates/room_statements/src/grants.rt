@@ -1,21 +1,19 @@
 //! The rows of the table `grants`.
 
-ghost use Rattle.std.specs.Prelude.{◌≡◌, ◌≢◌, ℕ, ◌≤◌, pos, [], ◌∷◌, map, Err, option_map, IfOk, IfSome, OnOk, IsTrue};
+ghost use Rattle.std.specs.Prelude.{◌≡◌, ◌≢◌, ℕ, ◌≤◌, pos, [], ◌∷◌, map, Err, option_map, IfOk, IfSome, OnOk, IsPermutation};
 ghost use Rattle.sqlite_value.specs.Order.{column};
-ghost use Rattle.sqlite_value.specs.declared.value.Value.TheVariants.{Text};
-ghost use Rattle.sqlite.specs.State.{HasCleanDisk, KeepsCommit, Survives};
-ghost use Rattle.sqlite.specs.Held.{state};
 ghost use Rattle.room_rules.specs.Limits.{most_pages};
 ghost use Rattle.room_state.specs.Rooms.{RoomValue};
 ghost use Rattle.room_state.specs.Sums.{granted_to};
 ghost use Rattle.room_state.specs.Tallies.{most_units};
 ghost use Rattle.room_tables.specs.Tables.{grants as grants_table};
-ghost use Rattle.room_tables.specs.Keyed.{HasSchema, SetsRow, rows_under};
+ghost use Rattle.room_tables.specs.Keyed.{SetsRow};
 ghost use Rattle.room_tables.specs.Cells.{number, grant_cells};
-ghost use Rattle.room_tables.specs.Accounts.{grant_at, HoldsRoom, IsSound};
+ghost use Rattle.room_tables.specs.Accounts.{grant_at, HoldsRoom};
 ghost use Rattle.room_statements.specs.Totals.{granted_cells, AddsGrant, refuses_grant};
-ghost use Rattle.room_tables.specs.Calls.{Goes, Stays, IsSame, Gets};
-ghost use Rattle.room_statements.specs.Walks.{HasGathered, WalksOver};
+ghost use Rattle.room_tables.specs.Calls.{Changes, GetsRow, GoesOn, OfStore, ReadsStore, StaysInside};
+ghost use Rattle.room_statements.specs.Walks.{HasGathered, WalksStore};
+ghost use Rattle.room_statements.specs.SoundRows.{grant_rows, CanBeAdded, IsRowOf};
 
 use crate::values::{number, number_at};
 use crate::walking::{Gather, walk};
@@ -32,13 +30,10 @@ pub fn find_grant<S: Alter>(
     name: Name,
     month: u32,
 ) -> Result<Option<u32>, StoreFault>
-    ensures goes { Goes (state S.Store connection.old) (state S.Store connection.new) }
-    ensures opened { HasCleanDisk (state S.Store connection.new) → OnOk result (IsTrue (state S.Store connection.old).is_open × IsTrue (state S.Store connection.new).is_open) }
-    ensures found { HasCleanDisk (state S.Store connection.new) → HasSchema (state S.Store connection.old).now → IfOk result (λ found. grant_at (state S.Store connection.old).now name (pos month) ≡ option_map (grant_cells name month) found) }
+    ensures found { OfStore S.Store connection.old connection.new (λ db. IfOk result (λ found. grant_at db name (pos month) ≡ option_map (grant_cells name month) found)) }
     ensures in_range { IfOk result (λ found. IfSome found (λ pages. pages ≤ most_pages)) }
-    ensures damaged { HasCleanDisk (state S.Store connection.new) → HasSchema (state S.Store connection.old).now → result ≡ Err StoreFault.Damaged → IsSound (state S.Store connection.old).now name → ⊥ }
-    ensures same { HasCleanDisk (state S.Store connection.new) → HasSchema (state S.Store connection.old).now → OnOk result (IsSame (state S.Store connection.old) (state S.Store connection.new)) }
-    ensures stays { HasCleanDisk (state S.Store connection.new) → HasSchema (state S.Store connection.old).now → Stays (state S.Store connection.old) (state S.Store connection.new) }
+    ensures damaged { OfStore S.Store connection.old connection.new (λ db. result ≡ Err StoreFault.Damaged → IsRowOf (grant_cells name month) (λ pages. pages ≤ most_pages) (grant_at db name (pos month)) → ⊥) }
+    ensures reads { ReadsStore S.Store connection.old connection.new result }
 {
     match grant_row(connection, name, month)? {
         Some(row) => Ok(Some(pages_from(&row)?)),
@@ -51,9 +46,8 @@ fn grant_row<S: Alter>(
     name: Name,
     month: u32,
 ) -> Result<Option<Row>, Error>
-    ensures goes { Goes (state S.Store connection.old) (state S.Store connection.new) }
-    ensures opened { HasCleanDisk (state S.Store connection.new) → OnOk result (IsTrue (state S.Store connection.old).is_open × IsTrue (state S.Store connection.new).is_open) }
-    ensures gets { HasCleanDisk (state S.Store connection.new) → HasSchema (state S.Store connection.old).now → Gets (state S.Store connection.old) (state S.Store connection.new) (grant_at (state S.Store connection.old).now name (pos month)) (λ cells. column cells 2 ∷ []) result }
+    ensures gets { GetsRow S.Store connection.old connection.new (λ db. grant_at db name (pos month)) (λ cells. column cells 2 ∷ []) result }
+    ensures going { GoesOn S.Store connection.old connection.new result }
 {
     find_row(
         connection,
@@ -81,13 +75,10 @@ pub fn granted_to<S: Alter>(
     name: Name,
     month: u32,
 ) -> Result<u64, StoreFault>
-    ensures goes { Goes (state S.Store connection.old) (state S.Store connection.new) }
-    ensures opened { HasCleanDisk (state S.Store connection.new) → OnOk result (IsTrue (state S.Store connection.old).is_open × IsTrue (state S.Store connection.new).is_open) }
-    ensures granted { HasCleanDisk (state S.Store connection.new) → HasSchema (state S.Store connection.old).now → (room : RoomValue) → HoldsRoom (state S.Store connection.old).now name room → IfOk result (λ pages. pages ≡ granted_to room month) }
+    ensures granted { OfStore S.Store connection.old connection.new (λ db. (room : RoomValue) → HoldsRoom db name room → IfOk result (λ pages. pages ≡ granted_to room month)) }
     ensures in_range { IfOk result (λ pages. pages ≤ most_units) }
-    ensures damaged { HasCleanDisk (state S.Store connection.new) → HasSchema (state S.Store connection.old).now → result ≡ Err StoreFault.Damaged → IsSound (state S.Store connection.old).now name → ⊥ }
-    ensures same { HasCleanDisk (state S.Store connection.new) → HasSchema (state S.Store connection.old).now → OnOk result (IsSame (state S.Store connection.old) (state S.Store connection.new)) }
-    ensures stays { HasCleanDisk (state S.Store connection.new) → HasSchema (state S.Store connection.old).now → Stays (state S.Store connection.old) (state S.Store connection.new) }
+    ensures damaged { OfStore S.Store connection.old connection.new (λ db. result ≡ Err StoreFault.Damaged → CanBeAdded name month (grant_rows db name) → ⊥) }
+    ensures reads { ReadsStore S.Store connection.old connection.new result }
 {
     let mut granted = Granted { month, pages: 0 };
     walk_grants(connection, name, &mut granted)?;
@@ -127,10 +118,9 @@ fn walk_grants<S: Alter>(
     name: Name,
     granted: &mut Granted,
 ) -> Result<(), StoreFault>
-    ensures goes { Goes (state S.Store connection.old) (state S.Store connection.new) }
-    ensures opened { HasCleanDisk (state S.Store connection.new) → OnOk result (IsTrue (state S.Store connection.old).is_open × IsTrue (state S.Store connection.new).is_open) }
     ensures gathers { OnOk result (HasGathered (λ first row last. (last.month ≡ first.month) × AddsGrant first.month first.pages row last.pages) granted.old granted.new) }
-    ensures walks { HasCleanDisk (state S.Store connection.new) → HasSchema (state S.Store connection.old).now → WalksOver (λ first row last. (last.month ≡ first.month) × AddsGrant first.month first.pages row last.pages) (λ first row. refuses_grant first.month first.pages row) (state S.Store connection.old) (state S.Store connection.new) (map granted_cells (rows_under grants_table (1 ∷ []) (Text name ∷ []) (state S.Store connection.old).now)) granted.old granted.new result }
+    ensures walks { WalksStore (λ first row last. (last.month ≡ first.month) × AddsGrant first.month first.pages row last.pages) (λ first row. refuses_grant first.month first.pages row) S.Store connection.old connection.new (λ db. IsPermutation (map granted_cells (grant_rows db name))) granted.old granted.new result }
+    ensures going { GoesOn S.Store connection.old connection.new result }
 {
     walk(
         connection,
@@ -147,11 +137,8 @@ pub fn set_grant<S: Alter>(
     month: u32,
     pages: u32,
 ) -> Result<(), Error>
-    ensures same_reference { transaction.new.conn.ghost_name ≡ transaction.old.conn.ghost_name }
-    ensures sets { HasCleanDisk (state S.Store transaction.new.conn.now) → OnOk result (HasSchema (state S.Store transaction.old.conn.now).now → HasSchema (state S.Store transaction.new.conn.now).now × SetsRow grants_table (grant_cells name month pages) (state S.Store transaction.old.conn.now).now (state S.Store transaction.new.conn.now).now) }
-    ensures mode { HasCleanDisk (state S.Store transaction.new.conn.now) → OnOk result (IsTrue transaction.new.conn.now.in_transaction) }
-    ensures kept { HasCleanDisk (state S.Store transaction.new.conn.now) → KeepsCommit (state S.Store transaction.old.conn.now) (state S.Store transaction.new.conn.now) }
-    ensures survives { Survives (state S.Store transaction.old.conn.now) (state S.Store transaction.new.conn.now) (λ _. ⊥) }
+    ensures sets { Changes S.Store transaction.old.conn.now transaction.new.conn.now result (SetsRow grants_table (grant_cells name month pages)) }
+    ensures inside { StaysInside S.Store transaction.old.conn transaction.new.conn result }
 {
     write(
         transaction,

@@ -1,18 +1,17 @@
 //! The rows of the table `job`.
 
-ghost use Rattle.std.specs.Prelude.{◌≡◌, Err, pos, IfOk, IfSome, OnOk, IsTrue, option_map};
-ghost use Rattle.sqlite.specs.State.{HasCleanDisk, KeepsCommit, Survives};
-ghost use Rattle.sqlite.specs.Held.{state};
+ghost use Rattle.std.specs.Prelude.{◌≡◌, Err, pos, IfOk, IfSome, option_map};
 ghost use Rattle.room_rules.specs.Standings.{HasRanges, IsStanding};
 ghost use Rattle.room_rules.specs.declared.job.Job.{Job as JobValue};
 ghost use Rattle.room_rules.specs.declared.job.Standing.{Standing as StandingValue};
 ghost use Rattle.room_tables.specs.Tables.{job as job_table};
-ghost use Rattle.room_tables.specs.Keyed.{HasSchema, SetsRow};
+ghost use Rattle.room_tables.specs.Keyed.{SetsRow};
 ghost use Rattle.room_tables.specs.Cells.{job_cells};
-ghost use Rattle.room_tables.specs.Accounts.{job_at, IsSound};
-ghost use Rattle.room_tables.specs.Calls.{Goes, Stays, IsSame, Gets};
+ghost use Rattle.room_tables.specs.Accounts.{job_at};
+ghost use Rattle.room_tables.specs.Calls.{Changes, GetsRow, GoesOn, OfStore, ReadsStore, StaysInside};
 ghost use Rattle.room_rules.specs.Names.{IsNameOrNone};
 ghost use Rattle.room_statements.specs.Shown.{behind_key, ShowsStanding, ShowsJob, IsJob};
+ghost use Rattle.room_statements.specs.SoundRows.{IsRowOf};
 
 use crate::values::{
     bytes_at, device_at, device_text, flag, flag_at, moment, moment_at, number, number_at,
@@ -30,13 +29,10 @@ pub fn find_job<S: Alter>(
     name: Name,
     number: u32,
 ) -> Result<Option<Job>, StoreFault>
-    ensures goes { Goes (state S.Store connection.old) (state S.Store connection.new) }
-    ensures opened { HasCleanDisk (state S.Store connection.new) → OnOk result (IsTrue (state S.Store connection.old).is_open × IsTrue (state S.Store connection.new).is_open) }
-    ensures found { HasCleanDisk (state S.Store connection.new) → HasSchema (state S.Store connection.old).now → IfOk result (λ found. job_at (state S.Store connection.old).now name (pos number) ≡ option_map (job_cells name) found) }
+    ensures found { OfStore S.Store connection.old connection.new (λ db. IfOk result (λ found. job_at db name (pos number) ≡ option_map (job_cells name) found)) }
     ensures in_range { IfOk result (λ found. IfSome found (λ job. (job.job ≡ number) × IsJob job)) }
-    ensures damaged { HasCleanDisk (state S.Store connection.new) → HasSchema (state S.Store connection.old).now → result ≡ Err StoreFault.Damaged → IsSound (state S.Store connection.old).now name → ⊥ }
-    ensures same { HasCleanDisk (state S.Store connection.new) → HasSchema (state S.Store connection.old).now → OnOk result (IsSame (state S.Store connection.old) (state S.Store connection.new)) }
-    ensures stays { HasCleanDisk (state S.Store connection.new) → HasSchema (state S.Store connection.old).now → Stays (state S.Store connection.old) (state S.Store connection.new) }
+    ensures damaged { OfStore S.Store connection.old connection.new (λ db. result ≡ Err StoreFault.Damaged → IsRowOf (job_cells name) (λ job. (job.job ≡ number) × IsJob job) (job_at db name (pos number)) → ⊥) }
+    ensures reads { ReadsStore S.Store connection.old connection.new result }
 {
     match job_row(connection, name, number)? {
         Some(row) => Ok(Some(job_from(&row, number)?)),
@@ -49,9 +45,8 @@ fn job_row<S: Alter>(
     name: Name,
     job: u32,
 ) -> Result<Option<Row>, Error>
-    ensures goes { Goes (state S.Store connection.old) (state S.Store connection.new) }
-    ensures opened { HasCleanDisk (state S.Store connection.new) → OnOk result (IsTrue (state S.Store connection.old).is_open × IsTrue (state S.Store connection.new).is_open) }
-    ensures gets { HasCleanDisk (state S.Store connection.new) → HasSchema (state S.Store connection.old).now → Gets (state S.Store connection.old) (state S.Store connection.new) (job_at (state S.Store connection.old).now name (pos job)) behind_key result }
+    ensures gets { GetsRow S.Store connection.old connection.new (λ db. job_at db name (pos job)) behind_key result }
+    ensures going { GoesOn S.Store connection.old connection.new result }
 {
     find_row(
         connection,
@@ -123,11 +118,8 @@ pub fn set_job<S: Alter>(
     job: &Job,
 ) -> Result<(), Error>
     requires { IsStanding job.now.standing }
-    ensures same_reference { transaction.new.conn.ghost_name ≡ transaction.old.conn.ghost_name }
-    ensures sets { HasCleanDisk (state S.Store transaction.new.conn.now) → OnOk result (HasSchema (state S.Store transaction.old.conn.now).now → HasSchema (state S.Store transaction.new.conn.now).now × SetsRow job_table (job_cells name job.now) (state S.Store transaction.old.conn.now).now (state S.Store transaction.new.conn.now).now) }
-    ensures mode { HasCleanDisk (state S.Store transaction.new.conn.now) → OnOk result (IsTrue transaction.new.conn.now.in_transaction) }
-    ensures kept { HasCleanDisk (state S.Store transaction.new.conn.now) → KeepsCommit (state S.Store transaction.old.conn.now) (state S.Store transaction.new.conn.now) }
-    ensures survives { Survives (state S.Store transaction.old.conn.now) (state S.Store transaction.new.conn.now) (λ _. ⊥) }
+    ensures sets { Changes S.Store transaction.old.conn.now transaction.new.conn.now result (SetsRow job_table (job_cells name job.now)) }
+    ensures inside { StaysInside S.Store transaction.old.conn transaction.new.conn result }
 {
     let s = &job.standing;
     write(

@@ -1,17 +1,16 @@
 //! The jobs of an account in the orders of Get-Jobs.
 
-ghost use Rattle.std.specs.Prelude.{◌≡◌, Err, IfOk, OnOk, IsTrue};
+ghost use Rattle.std.specs.Prelude.{◌≡◌, Err, IfOk, OnOk};
 ghost use Rattle.std.specs.List.{AllByRecursion};
 ghost use Rattle.std.specs.FinMap.{values};
-ghost use Rattle.sqlite.specs.State.{HasCleanDisk};
-ghost use Rattle.sqlite.specs.Held.{state};
 ghost use Rattle.room_state.specs.Rooms.{RoomValue};
 ghost use Rattle.room_state.specs.Queues.{not_completed, completed, at_most};
-ghost use Rattle.room_tables.specs.Keyed.{HasSchema};
-ghost use Rattle.room_tables.specs.Accounts.{HoldsRoom, IsSound};
-ghost use Rattle.room_tables.specs.Calls.{Goes, Stays, IsSame};
+ghost use Rattle.room_tables.specs.Accounts.{HoldsRoom};
+ghost use Rattle.room_tables.specs.Cells.{job_cells};
+ghost use Rattle.room_tables.specs.Calls.{GoesOn, OfStore, ReadsStore};
 ghost use Rattle.room_statements.specs.Queues.{IsNumbered, ShowsNumbered, ListsJob, refuses_numbered, AreListed};
-ghost use Rattle.room_statements.specs.Walks.{HasGathered, WalksShown};
+ghost use Rattle.room_statements.specs.Walks.{HasGathered, WalksStore};
+ghost use Rattle.room_statements.specs.SoundRows.{ended_rows, unfinished_rows, AreRowsOf};
 
 use crate::jobs::job_from;
 use crate::values::{limit_of, short_at};
@@ -31,13 +30,10 @@ pub fn unfinished_jobs<S: Alter>(
     name: Name,
     limit: Option<u32>,
 ) -> Result<List<Job>, StoreFault>
-    ensures goes { Goes (state S.Store connection.old) (state S.Store connection.new) }
-    ensures opened { HasCleanDisk (state S.Store connection.new) → OnOk result (IsTrue (state S.Store connection.old).is_open × IsTrue (state S.Store connection.new).is_open) }
-    ensures listed { HasCleanDisk (state S.Store connection.new) → HasSchema (state S.Store connection.old).now → (room : RoomValue) → HoldsRoom (state S.Store connection.old).now name room → IfOk result (λ jobs. jobs ≡ at_most limit (not_completed (values room.jobs))) }
+    ensures listed { OfStore S.Store connection.old connection.new (λ db. (room : RoomValue) → HoldsRoom db name room → IfOk result (λ jobs. jobs ≡ at_most limit (not_completed (values room.jobs)))) }
     ensures numbered { IfOk result (AllByRecursion IsNumbered) }
-    ensures damaged { HasCleanDisk (state S.Store connection.new) → HasSchema (state S.Store connection.old).now → result ≡ Err StoreFault.Damaged → IsSound (state S.Store connection.old).now name → ⊥ }
-    ensures same { HasCleanDisk (state S.Store connection.new) → HasSchema (state S.Store connection.old).now → OnOk result (IsSame (state S.Store connection.old) (state S.Store connection.new)) }
-    ensures stays { HasCleanDisk (state S.Store connection.new) → HasSchema (state S.Store connection.old).now → Stays (state S.Store connection.old) (state S.Store connection.new) }
+    ensures damaged { OfStore S.Store connection.old connection.new (λ db. result ≡ Err StoreFault.Damaged → AreRowsOf (job_cells name) IsNumbered (unfinished_rows db name) → ⊥) }
+    ensures reads { ReadsStore S.Store connection.old connection.new result }
 {
     let mut jobs = List {
         items: Vec::new(alloc),
@@ -52,10 +48,9 @@ fn walk_unfinished<S: Alter>(
     limit: Option<u32>,
     jobs: &mut List<Job>,
 ) -> Result<(), StoreFault>
-    ensures goes { Goes (state S.Store connection.old) (state S.Store connection.new) }
-    ensures opened { HasCleanDisk (state S.Store connection.new) → OnOk result (IsTrue (state S.Store connection.old).is_open × IsTrue (state S.Store connection.new).is_open) }
     ensures gathers { OnOk result (HasGathered ListsJob jobs.old jobs.new) }
-    ensures walks { HasCleanDisk (state S.Store connection.new) → HasSchema (state S.Store connection.old).now → WalksShown ListsJob (λ _ row. refuses_numbered row) (state S.Store connection.old) (state S.Store connection.new) (AreListed (λ all. at_most limit (not_completed all)) (state S.Store connection.old).now name) jobs.old jobs.new result }
+    ensures walks { WalksStore ListsJob (λ _ row. refuses_numbered row) S.Store connection.old connection.new (λ db. AreListed (λ all. at_most limit (not_completed all)) (unfinished_rows db name) db name) jobs.old jobs.new result }
+    ensures going { GoesOn S.Store connection.old connection.new result }
 {
     walk(
         connection,
@@ -74,13 +69,10 @@ pub fn ended_jobs<S: Alter>(
     name: Name,
     limit: Option<u32>,
 ) -> Result<List<Job>, StoreFault>
-    ensures goes { Goes (state S.Store connection.old) (state S.Store connection.new) }
-    ensures opened { HasCleanDisk (state S.Store connection.new) → OnOk result (IsTrue (state S.Store connection.old).is_open × IsTrue (state S.Store connection.new).is_open) }
-    ensures listed { HasCleanDisk (state S.Store connection.new) → HasSchema (state S.Store connection.old).now → (room : RoomValue) → HoldsRoom (state S.Store connection.old).now name room → IfOk result (λ jobs. jobs ≡ at_most limit (completed (values room.jobs))) }
+    ensures listed { OfStore S.Store connection.old connection.new (λ db. (room : RoomValue) → HoldsRoom db name room → IfOk result (λ jobs. jobs ≡ at_most limit (completed (values room.jobs)))) }
     ensures numbered { IfOk result (AllByRecursion IsNumbered) }
-    ensures damaged { HasCleanDisk (state S.Store connection.new) → HasSchema (state S.Store connection.old).now → result ≡ Err StoreFault.Damaged → IsSound (state S.Store connection.old).now name → ⊥ }
-    ensures same { HasCleanDisk (state S.Store connection.new) → HasSchema (state S.Store connection.old).now → OnOk result (IsSame (state S.Store connection.old) (state S.Store connection.new)) }
-    ensures stays { HasCleanDisk (state S.Store connection.new) → HasSchema (state S.Store connection.old).now → Stays (state S.Store connection.old) (state S.Store connection.new) }
+    ensures damaged { OfStore S.Store connection.old connection.new (λ db. result ≡ Err StoreFault.Damaged → AreRowsOf (job_cells name) IsNumbered (ended_rows db name) → ⊥) }
+    ensures reads { ReadsStore S.Store connection.old connection.new result }
 {
     let mut jobs = List {
         items: Vec::new(alloc),
@@ -95,10 +87,9 @@ fn walk_ended<S: Alter>(
     limit: Option<u32>,
     jobs: &mut List<Job>,
 ) -> Result<(), StoreFault>
-    ensures goes { Goes (state S.Store connection.old) (state S.Store connection.new) }
-    ensures opened { HasCleanDisk (state S.Store connection.new) → OnOk result (IsTrue (state S.Store connection.old).is_open × IsTrue (state S.Store connection.new).is_open) }
     ensures gathers { OnOk result (HasGathered ListsJob jobs.old jobs.new) }
-    ensures walks { HasCleanDisk (state S.Store connection.new) → HasSchema (state S.Store connection.old).now → WalksShown ListsJob (λ _ row. refuses_numbered row) (state S.Store connection.old) (state S.Store connection.new) (AreListed (λ all. at_most limit (completed all)) (state S.Store connection.old).now name) jobs.old jobs.new result }
+    ensures walks { WalksStore ListsJob (λ _ row. refuses_numbered row) S.Store connection.old connection.new (λ db. AreListed (λ all. at_most limit (completed all)) (ended_rows db name) db name) jobs.old jobs.new result }
+    ensures going { GoesOn S.Store connection.old connection.new result }
 {
     walk(
         connection,

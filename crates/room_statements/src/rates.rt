@@ -1,15 +1,14 @@
 //! The rows of the table `rates`.
 
-ghost use Rattle.std.specs.Prelude.{◌≡◌, ◌≢◌, ◌≤◌, ℕ, [], ◌∷◌, Err, option_map, IfOk, IfSome, OnOk, IsTrue};
+ghost use Rattle.std.specs.Prelude.{◌≡◌, ◌≢◌, ◌≤◌, ℕ, [], ◌∷◌, Err, option_map, IfOk, IfSome};
 ghost use Rattle.sqlite_value.specs.Order.{column};
-ghost use Rattle.sqlite.specs.State.{HasCleanDisk, KeepsCommit, Survives};
-ghost use Rattle.sqlite.specs.Held.{state};
 ghost use Rattle.room_rules.specs.Limits.{most_rate};
 ghost use Rattle.room_tables.specs.Tables.{rates as rates_table};
-ghost use Rattle.room_tables.specs.Keyed.{HasSchema, SetsRow};
+ghost use Rattle.room_tables.specs.Keyed.{SetsRow};
 ghost use Rattle.room_tables.specs.Cells.{number, units_cells};
-ghost use Rattle.room_tables.specs.Devices.{rate_at, AreSoundDevices};
-ghost use Rattle.room_tables.specs.Calls.{Goes, Stays, IsSame, Gets};
+ghost use Rattle.room_tables.specs.Devices.{rate_at};
+ghost use Rattle.room_tables.specs.Calls.{Changes, GetsRow, GoesOn, OfStore, ReadsStore, StaysInside};
+ghost use Rattle.room_statements.specs.SoundRows.{IsRowOf};
 
 use crate::values::{number, number_at};
 use room_rules::{MOST_RATE, Name};
@@ -23,13 +22,10 @@ pub fn find_rate<S: Alter>(
     connection: &mut Connection<S>,
     name: Name,
 ) -> Result<Option<u32>, StoreFault>
-    ensures goes { Goes (state S.Store connection.old) (state S.Store connection.new) }
-    ensures opened { HasCleanDisk (state S.Store connection.new) → OnOk result (IsTrue (state S.Store connection.old).is_open × IsTrue (state S.Store connection.new).is_open) }
-    ensures found { HasCleanDisk (state S.Store connection.new) → HasSchema (state S.Store connection.old).now → IfOk result (λ found. rate_at (state S.Store connection.old).now name ≡ option_map (units_cells name) found) }
+    ensures found { OfStore S.Store connection.old connection.new (λ db. IfOk result (λ found. rate_at db name ≡ option_map (units_cells name) found)) }
     ensures in_range { IfOk result (λ found. IfSome found (λ units. (1 ≤ units) × (units ≤ most_rate))) }
-    ensures damaged { HasCleanDisk (state S.Store connection.new) → HasSchema (state S.Store connection.old).now → result ≡ Err StoreFault.Damaged → AreSoundDevices (state S.Store connection.old).now → ⊥ }
-    ensures same { HasCleanDisk (state S.Store connection.new) → HasSchema (state S.Store connection.old).now → OnOk result (IsSame (state S.Store connection.old) (state S.Store connection.new)) }
-    ensures stays { HasCleanDisk (state S.Store connection.new) → HasSchema (state S.Store connection.old).now → Stays (state S.Store connection.old) (state S.Store connection.new) }
+    ensures damaged { OfStore S.Store connection.old connection.new (λ db. result ≡ Err StoreFault.Damaged → IsRowOf (units_cells name) (λ units. (1 ≤ units) × (units ≤ most_rate)) (rate_at db name) → ⊥) }
+    ensures reads { ReadsStore S.Store connection.old connection.new result }
 {
     match rate_row(connection, name)? {
         Some(row) => Ok(Some(units_from(&row)?)),
@@ -38,9 +34,8 @@ pub fn find_rate<S: Alter>(
 }
 
 fn rate_row<S: Alter>(connection: &mut Connection<S>, name: Name) -> Result<Option<Row>, Error>
-    ensures goes { Goes (state S.Store connection.old) (state S.Store connection.new) }
-    ensures opened { HasCleanDisk (state S.Store connection.new) → OnOk result (IsTrue (state S.Store connection.old).is_open × IsTrue (state S.Store connection.new).is_open) }
-    ensures gets { HasCleanDisk (state S.Store connection.new) → HasSchema (state S.Store connection.old).now → Gets (state S.Store connection.old) (state S.Store connection.new) (rate_at (state S.Store connection.old).now name) (λ cells. column cells 1 ∷ []) result }
+    ensures gets { GetsRow S.Store connection.old connection.new (λ db. rate_at db name) (λ cells. column cells 1 ∷ []) result }
+    ensures going { GoesOn S.Store connection.old connection.new result }
 {
     find_row(
         connection,
@@ -67,11 +62,8 @@ pub fn set_rate<S: Alter>(
     name: Name,
     units: u32,
 ) -> Result<(), Error>
-    ensures same_reference { transaction.new.conn.ghost_name ≡ transaction.old.conn.ghost_name }
-    ensures sets { HasCleanDisk (state S.Store transaction.new.conn.now) → OnOk result (HasSchema (state S.Store transaction.old.conn.now).now → HasSchema (state S.Store transaction.new.conn.now).now × SetsRow rates_table (units_cells name units) (state S.Store transaction.old.conn.now).now (state S.Store transaction.new.conn.now).now) }
-    ensures mode { HasCleanDisk (state S.Store transaction.new.conn.now) → OnOk result (IsTrue transaction.new.conn.now.in_transaction) }
-    ensures kept { HasCleanDisk (state S.Store transaction.new.conn.now) → KeepsCommit (state S.Store transaction.old.conn.now) (state S.Store transaction.new.conn.now) }
-    ensures survives { Survives (state S.Store transaction.old.conn.now) (state S.Store transaction.new.conn.now) (λ _. ⊥) }
+    ensures sets { Changes S.Store transaction.old.conn.now transaction.new.conn.now result (SetsRow rates_table (units_cells name units)) }
+    ensures inside { StaysInside S.Store transaction.old.conn transaction.new.conn result }
 {
     write(
         transaction,

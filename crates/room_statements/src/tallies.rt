@@ -1,19 +1,15 @@
 //! What is counted of the rows of an account's jobs.
 
-ghost use Rattle.std.specs.Prelude.{◌≡◌, ◌≤◌, [], ◌∷◌, map, Err, IfOk, OnOk, IsTrue};
+ghost use Rattle.std.specs.Prelude.{◌≡◌, ◌≤◌, map, Err, IfOk, OnOk, IsPermutation};
 ghost use Rattle.std.specs.FinMap.{values};
-ghost use Rattle.sqlite_value.specs.declared.value.Value.TheVariants.{Text};
-ghost use Rattle.sqlite.specs.State.{HasCleanDisk};
-ghost use Rattle.sqlite.specs.Held.{state};
 ghost use Rattle.room_rules.specs.Limits.{most_unfinished};
 ghost use Rattle.room_state.specs.Rooms.{RoomValue};
 ghost use Rattle.room_state.specs.Tallies.{tally_of, most_units};
-ghost use Rattle.room_tables.specs.Tables.{job as job_table};
-ghost use Rattle.room_tables.specs.Keyed.{HasSchema, rows_under};
-ghost use Rattle.room_tables.specs.Accounts.{HoldsRoom, IsSound};
+ghost use Rattle.room_tables.specs.Accounts.{HoldsRoom};
 ghost use Rattle.room_statements.specs.Totals.{counted_cells, CountsJob, refuses_job};
-ghost use Rattle.room_tables.specs.Calls.{Goes, Stays, IsSame};
-ghost use Rattle.room_statements.specs.Walks.{HasGathered, WalksOver};
+ghost use Rattle.room_tables.specs.Calls.{GoesOn, OfStore, ReadsStore};
+ghost use Rattle.room_statements.specs.Walks.{HasGathered, WalksStore};
+ghost use Rattle.room_statements.specs.SoundRows.{job_rows, CanBeCounted};
 
 use crate::values::{number_at, state_at};
 use crate::walking::{Gather, walk};
@@ -26,14 +22,11 @@ use sqlite_value::value::ValueRef;
 /// What is counted of all jobs of the account. `Damaged` tells that a row that is there can be none of
 /// sound rows.
 pub fn tally_jobs<S: Alter>(connection: &mut Connection<S>, name: Name) -> Result<Tally, StoreFault>
-    ensures goes { Goes (state S.Store connection.old) (state S.Store connection.new) }
-    ensures opened { HasCleanDisk (state S.Store connection.new) → OnOk result (IsTrue (state S.Store connection.old).is_open × IsTrue (state S.Store connection.new).is_open) }
-    ensures counted { HasCleanDisk (state S.Store connection.new) → HasSchema (state S.Store connection.old).now → (room : RoomValue) → HoldsRoom (state S.Store connection.old).now name room → IfOk result (λ tally. tally ≡ tally_of (values room.jobs)) }
+    ensures counted { OfStore S.Store connection.old connection.new (λ db. (room : RoomValue) → HoldsRoom db name room → IfOk result (λ tally. tally ≡ tally_of (values room.jobs))) }
     ensures few { IfOk result (λ tally. tally.unfinished ≤ most_unfinished) }
     ensures bounds { IfOk result (λ tally. (tally.reserved ≤ most_units) × (tally.charged ≤ most_units)) }
-    ensures damaged { HasCleanDisk (state S.Store connection.new) → HasSchema (state S.Store connection.old).now → result ≡ Err StoreFault.Damaged → IsSound (state S.Store connection.old).now name → ⊥ }
-    ensures same { HasCleanDisk (state S.Store connection.new) → HasSchema (state S.Store connection.old).now → OnOk result (IsSame (state S.Store connection.old) (state S.Store connection.new)) }
-    ensures stays { HasCleanDisk (state S.Store connection.new) → HasSchema (state S.Store connection.old).now → Stays (state S.Store connection.old) (state S.Store connection.new) }
+    ensures damaged { OfStore S.Store connection.old connection.new (λ db. result ≡ Err StoreFault.Damaged → CanBeCounted name (job_rows db name) → ⊥) }
+    ensures reads { ReadsStore S.Store connection.old connection.new result }
 {
     let mut tally = Tally::new();
     walk_jobs(connection, name, &mut tally)?;
@@ -62,10 +55,9 @@ fn walk_jobs<S: Alter>(
     name: Name,
     tally: &mut Tally,
 ) -> Result<(), StoreFault>
-    ensures goes { Goes (state S.Store connection.old) (state S.Store connection.new) }
-    ensures opened { HasCleanDisk (state S.Store connection.new) → OnOk result (IsTrue (state S.Store connection.old).is_open × IsTrue (state S.Store connection.new).is_open) }
     ensures gathers { OnOk result (HasGathered CountsJob tally.old tally.new) }
-    ensures walks { HasCleanDisk (state S.Store connection.new) → HasSchema (state S.Store connection.old).now → WalksOver CountsJob refuses_job (state S.Store connection.old) (state S.Store connection.new) (map counted_cells (rows_under job_table (1 ∷ []) (Text name ∷ []) (state S.Store connection.old).now)) tally.old tally.new result }
+    ensures walks { WalksStore CountsJob refuses_job S.Store connection.old connection.new (λ db. IsPermutation (map counted_cells (job_rows db name))) tally.old tally.new result }
+    ensures going { GoesOn S.Store connection.old connection.new result }
 {
     walk(
         connection,

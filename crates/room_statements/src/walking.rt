@@ -1,10 +1,10 @@
 //! A walk over the rows that a query shows, one at a time.
 
-ghost use Rattle.std.specs.Prelude.{◌≡◌, Err, OnOk, IsTrue};
+ghost use Rattle.std.specs.Prelude.{◌≡◌, Err, OnOk};
 ghost use Rattle.sqlite.specs.State.{HasCleanDisk};
 ghost use Rattle.sqlite.specs.Held.{state};
 ghost use Rattle.sqlite.specs.Values.{bound};
-ghost use Rattle.room_tables.specs.Calls.{Goes};
+ghost use Rattle.room_tables.specs.Calls.{GoesOn};
 ghost use Rattle.room_statements.specs.Walks.{HasGathered, Walks};
 
 use room_tables::StoreFault;
@@ -34,10 +34,9 @@ pub(crate) fn walk<S: Alter, G: Gather>(
     params: &[ValueRef<'_>],
     gathered: &mut G,
 ) -> Result<(), StoreFault>
-    ensures goes { Goes (state S.Store connection.old) (state S.Store connection.new) }
-    ensures opened { HasCleanDisk (state S.Store connection.new) → OnOk result (IsTrue (state S.Store connection.old).is_open × IsTrue (state S.Store connection.new).is_open) }
     ensures gathers { OnOk result (HasGathered G.step gathered.old gathered.new) }
     ensures walks { HasCleanDisk (state S.Store connection.new) → Walks G.step G.refuses (state S.Store connection.old) (state S.Store connection.new) text.now (bound params.now) gathered.old gathered.new result }
+    ensures going { GoesOn S.Store connection.old connection.new result }
 {
     let mut rows = connection.query(text, params)?;
     // No table has as many rows as this.

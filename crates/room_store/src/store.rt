@@ -1,9 +1,8 @@
-ghost use Rattle.std.specs.Prelude.{◌≡◌, ◌⊎◌, ℕ, List, Option, false, IfOk, IfErr, IsErrAnd, IsTrue};
-ghost use Rattle.sqlite.specs.State.{HasCleanDisk};
+ghost use Rattle.std.specs.Prelude.{◌≡◌, ◌⊎◌, ℕ, false, List, Option, IfOk, IfErr, IsErrAnd, MatchResult};
 ghost use Rattle.sqlite.specs.Held.{state};
 ghost use Rattle.room_tables.specs.Tables.{no_schema};
 ghost use Rattle.room_tables.specs.Making.{IsNew, IsOpened, IsOpenFault};
-ghost use Rattle.room_tables.specs.Calls.{IsSame};
+ghost use Rattle.room_tables.specs.Calls.{Goes, IsLeft, IsSame, OnDisk};
 ghost use Rattle.room_tables.specs.Keyed.{AreNumbered, HasSchema};
 ghost use Rattle.room_tables.specs.Accounts.{AgreeOnRows, Holds};
 ghost use Rattle.room_rules.specs.Devices.{Devices};
@@ -46,10 +45,11 @@ impl<S: Alter> Store<S> {
     /// Makes the tables, in one transaction. `Storage` tells also that the database has some table
     /// already, or that the connection is in a transaction.
     pub fn create(mut connection: Connection<S>) -> Result<Store<S>, Refused<S>>
-        ensures made { IfOk result (λ store. HasCleanDisk (state S.Store store) → ((state S.Store connection).now.schema ≡ no_schema) × IsNew (state S.Store store).now) }
+        ensures made { IfOk result (λ store. OnDisk S.Store connection store (λ db. (db.schema ≡ no_schema) × IsNew (state S.Store store).now)) }
         ensures fault { IfErr result (λ refused. (refused.fault ≡ OpenFault.Storage) ⊎ (refused.fault ≡ OpenFault.Memory)) }
         ensures taken { ((state S.Store connection).now.schema ≡ no_schema → ⊥) → IsErrAnd result (λ refused. refused.fault ≡ OpenFault.Storage) }
-        ensures unchanged { IfErr result (λ refused. HasCleanDisk (state S.Store refused.connection) → IsTrue (state S.Store refused.connection).is_open → (state S.Store refused.connection).now ≡ (state S.Store connection).now) }
+        ensures unchanged { IfErr result (λ refused. IsLeft S.Store connection refused.connection) }
+        ensures goes { MatchResult result (λ store. Goes (state S.Store connection) (state S.Store store)) (λ refused. Goes (state S.Store connection) (state S.Store refused.connection)) }
     {
         if !connection.is_autocommit() || !is_blank(connection.schema()) {
             return Err(Refused {
@@ -71,10 +71,11 @@ impl<S: Alter> Store<S> {
     /// `NotOurs` that none can be read, or that it is 2 over other tables. `Storage` tells also that the
     /// connection is in a transaction.
     pub fn open(mut connection: Connection<S>) -> Result<Store<S>, Refused<S>>
-        ensures opened { IfOk result (λ store. HasCleanDisk (state S.Store store) → IsOpened (state S.Store connection).now × IsSame (state S.Store connection) (state S.Store store)) }
-        ensures has_schema { IfOk result (λ store. HasCleanDisk (state S.Store store) → AreNumbered (state S.Store connection).now.schema.tables (state S.Store connection).now → HasSchema (state S.Store store).now) }
-        ensures fault { IfErr result (λ refused. HasCleanDisk (state S.Store refused.connection) → IsOpenFault (state S.Store connection).now refused.fault) }
-        ensures unchanged { IfErr result (λ refused. HasCleanDisk (state S.Store refused.connection) → IsTrue (state S.Store refused.connection).is_open → (state S.Store refused.connection).now ≡ (state S.Store connection).now) }
+        ensures opened { IfOk result (λ store. OnDisk S.Store connection store (λ db. IsOpened db × IsSame (state S.Store connection) (state S.Store store))) }
+        ensures has_schema { IfOk result (λ store. OnDisk S.Store connection store (λ db. AreNumbered db.schema.tables db → HasSchema (state S.Store store).now)) }
+        ensures fault { IfErr result (λ refused. OnDisk S.Store connection refused.connection (λ db. IsOpenFault db refused.fault)) }
+        ensures unchanged { IfErr result (λ refused. IsLeft S.Store connection refused.connection) }
+        ensures goes { MatchResult result (λ store. Goes (state S.Store connection) (state S.Store store)) (λ refused. Goes (state S.Store connection) (state S.Store refused.connection)) }
     {
         if !connection.is_autocommit() {
             return Err(Refused {
@@ -94,13 +95,14 @@ impl<S: Alter> Store<S> {
     /// `Storage` tells also that a database of version 1 has the tables of version 2, among them the table
     /// `rates` that would be made, or that the connection is in a transaction.
     pub fn migrate(mut connection: Connection<S>) -> Result<Store<S>, Refused<S>>
-        ensures migrated { IfOk result (λ store. HasCleanDisk (state S.Store store) → ((IsOpened (state S.Store connection).now × IsSame (state S.Store connection) (state S.Store store)) ⊎ IsMigrated (state S.Store connection).now (state S.Store store).now)) }
-        ensures has_schema { IfOk result (λ store. HasCleanDisk (state S.Store store) → AreNumbered (state S.Store connection).now.schema.tables (state S.Store connection).now → HasSchema (state S.Store store).now) }
-        ensures rows { IfOk result (λ store. HasCleanDisk (state S.Store store) → (name : List ℕ) → AgreeOnRows name (state S.Store connection).now (state S.Store store).now) }
-        ensures rooms { IfOk result (λ store. HasCleanDisk (state S.Store store) → (name : List ℕ) (room : Option RoomValue) → Holds (state S.Store connection).now name room → Holds (state S.Store store).now name room) }
-        ensures devices { IfOk result (λ store. HasCleanDisk (state S.Store store) → (devices : Devices) → HoldsFirstDevices (state S.Store connection).now devices → HoldsDevices (state S.Store store).now devices) }
-        ensures fault { IfErr result (λ refused. HasCleanDisk (state S.Store refused.connection) → IsMigrateFault (state S.Store connection).now refused.fault) }
-        ensures unchanged { IfErr result (λ refused. HasCleanDisk (state S.Store refused.connection) → IsTrue (state S.Store refused.connection).is_open → (state S.Store refused.connection).now ≡ (state S.Store connection).now) }
+        ensures migrated { IfOk result (λ store. OnDisk S.Store connection store (λ db. (IsOpened db × IsSame (state S.Store connection) (state S.Store store)) ⊎ IsMigrated db (state S.Store store).now)) }
+        ensures has_schema { IfOk result (λ store. OnDisk S.Store connection store (λ db. AreNumbered db.schema.tables db → HasSchema (state S.Store store).now)) }
+        ensures rows { IfOk result (λ store. OnDisk S.Store connection store (λ db. (name : List ℕ) → AgreeOnRows name db (state S.Store store).now)) }
+        ensures rooms { IfOk result (λ store. OnDisk S.Store connection store (λ db. (name : List ℕ) (room : Option RoomValue) → Holds db name room → Holds (state S.Store store).now name room)) }
+        ensures devices { IfOk result (λ store. OnDisk S.Store connection store (λ db. (devices : Devices) → HoldsFirstDevices db devices → HoldsDevices (state S.Store store).now devices)) }
+        ensures fault { IfErr result (λ refused. OnDisk S.Store connection refused.connection (λ db. IsMigrateFault db refused.fault)) }
+        ensures unchanged { IfErr result (λ refused. IsLeft S.Store connection refused.connection) }
+        ensures goes { MatchResult result (λ store. Goes (state S.Store connection) (state S.Store store)) (λ refused. Goes (state S.Store connection) (state S.Store refused.connection)) }
     {
         if !connection.is_autocommit() {
             return Err(Refused {
@@ -114,9 +116,10 @@ impl<S: Alter> Store<S> {
         }
     }
 
-    /// The connection, with its tables as they are. It takes no memory.
+    /// The connection, with its tables as they are, and in no transaction. It takes no memory.
     pub fn close(self) -> Connection<S>
-        ensures { result ≡ self }
+        ensures same { result ≡ self }
+        ensures mode { result.in_transaction ≡ false }
     {
         self.connection
     }

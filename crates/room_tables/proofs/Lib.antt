@@ -2,6 +2,7 @@ pub mod MakingTexts
 pub mod Edits
 pub mod Finds
 pub mod Queries
+pub mod Going
 pub mod Upserts
 pub mod Statements
 pub mod Transactions

@@ -1,5 +1,5 @@
 -- What a query on one table answers.
-use Rattle.std.proofs.Common.{◌≡◌, ◌≢◌, ℕ, Bool, true, cond, List, [], ◌∷◌, map, filter, length, append-nil, subst₂, nat_le, ◌^◌, negsuc, Less, None, Some, Ok, Err, refl, sym, ap, subst, ◌∙◌, inl, inr}
+use Rattle.std.proofs.Common.{◌≡◌, ◌≢◌, ℕ, zero, suc, Bool, true, take, Option, cond, List, [], ◌∷◌, map, filter, length, append-nil, subst₂, nat_le, ◌^◌, negsuc, Less, None, Some, Ok, Err, refl, sym, ap, subst, ◌∙◌, inl, inr}
 use Rattle.std.specs.List.{flat_map}
 use Rattle.std.specs.List.Sorted.{IsPermutation}
 use Rattle.std.proofs.lemmas.Bool.{cases_Bool, leb-true, true≢false}
@@ -14,7 +14,7 @@ use Rattle.sqlite_trees.specs.declared.error.StoreError.{StoreError}
 use Rattle.sqlite_trees.specs.declared.error.StoreError.TheVariants.{OutOfMemory, Io, Corrupt, Full, Broken, Unstorable}
 use Rattle.sqlite_trees.proofs.ListLemmas.{all-permutation}
 use Rattle.sqlite_sql.specs.Term.{Term, Env, lit}
-use Rattle.sqlite_sql.specs.Query.{Query, Output, output, output_cmp, page}
+use Rattle.sqlite_sql.specs.Query.{Query, Output, output, output_cmp, limited, page}
 use Rattle.sqlite_sql.specs.Program.{overlay}
 use Rattle.sqlite_sql.proofs.QueryLemmas.{no_fold_overflows, output_cmp_total}
 use Rattle.sqlite_schema.specs.declared.schema.Schema.{Schema}
@@ -52,6 +52,16 @@ nothing_laid_over trees tree = elim (cases_Bool (nat_le (2 ^ 31) tree)) [ inl is
 pub permuted_has : {X : Type 0} (xs ys : List X) (x : X) → IsPermutation xs ys → Has ys x → Has xs x
 permuted_has xs ys x same = all_has (Has xs) ys x (all-permutation (Has xs) xs ys same (all_from (Has xs) xs (λ e h. h)))
 
+has_taken : {X : Type 0} (n : ℕ) (xs : List X) (x : X) → Has (take n xs) x → Has xs x
+has_taken zero xs x h = absurd h
+has_taken (suc n) [] x h = absurd h
+has_taken (suc n) (y ∷ ys) x (inl here) = inl here
+has_taken (suc n) (y ∷ ys) x (inr later) = inr (has_taken n ys x later)
+
+has_limited : {X : Type 0} (limit : Option ℕ) (xs : List X) (x : X) → Has (limited limit xs) x → Has xs x
+has_limited None xs x h = h
+has_limited (Some n) xs x h = has_taken n xs x h
+
 abbrev pub env : Row → Row → Env
 env params row = params ∷ row ∷ []
 
@@ -84,6 +94,18 @@ module _ (tree : ℕ) (tests shows : List Term) (order : List (Term × Key)) whe
 
   pub answer_is : (trees : Trees) (params : Row) (rows : List Row) → IsShownBy (of_table tree tests shows order) trees params rows → IsPermutation (shown_of tree tests shows params trees) rows
   answer_is = answer_collated []
+
+  -- each row of it is shown of one that passes, whatever the limit
+  pub answer_shows : (limit : Term) (trees : Trees) (params : Row) (rows : List Row) → IsShownBy (first_of_table tree tests shows order limit) trees params rows
+      → (x : Row) → Has rows x → (r : Row) × Has (trees tree) r × (passes tests params r ≡ true) × (x ≡ shows_of shows params r)
+  answer_shows limit trees params rows answer x h =
+      let query = first_of_table tree tests shows order limit in
+      let paged = has_limited _ (map (λ (o : Output). o.1) answer.ordered) x (subst (λ l. Has l x) answer.shown h) in
+      let o = has_mapped (λ (o : Output). o.1) answer.ordered x paged in
+      let among = subst (λ l. Has l o.0) (kept_is [] limit trees params rows answer) (permuted_has answer.kept answer.ordered o.0 answer.same o.1) in
+      let r = has_mapped (λ row. output query (env params row)) (passing params trees) o.0 among in
+      let there = has_filtered (passes tests params) (trees tree) r.0 r.1 in
+      (r.0, there.0, there.1, o.2 ∙ ap (λ (o : Output). o.1) r.2)
 
   -- where one order of them has no ties, it is the one
   pub answer_in_order : (limit : Term) (trees : Trees) (params : Row) (rows : List Row) → IsShownBy (first_of_table tree tests shows order limit) trees params rows

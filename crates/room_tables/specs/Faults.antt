@@ -2,6 +2,8 @@
 use Rattle.sqlite.specs.declared.error.Error.{Error}
 use Rattle.sqlite.specs.declared.error.Error.TheVariants.{SqliteFailure}
 use Rattle.sqlite.specs.declared.error.ErrorCode.TheVariants.{OutOfMemory}
+use Rattle.room_rules.specs.declared.fault.CoreFault.{CoreFault}
+use Rattle.room_rules.specs.declared.fault.CoreFault.TheVariants as core
 use Rattle.room_tables.specs.declared.fault.StoreFault.{StoreFault}
 use Rattle.room_tables.specs.declared.fault.StoreFault.TheVariants as store
 use Rattle.room_tables.specs.declared.fault.OpenFault.{OpenFault}
@@ -16,6 +18,11 @@ statement_fault _ = store.Storage
 abbrev pub value_fault : Error → StoreFault
 value_fault (SqliteFailure OutOfMemory) = store.Memory
 value_fault _ = store.Damaged
+
+-- of a call of the rules
+abbrev pub core_fault : CoreFault → StoreFault
+core_fault core.Memory = store.Memory
+core_fault core.Moment = store.Moment
 
 -- of a statement that makes, opens or migrates
 abbrev pub opening_fault : Error → OpenFault

@@ -1,7 +1,8 @@
 ghost use Rattle.std.specs.Prelude.{◌≡◌};
 ghost use Rattle.room_tables.specs.declared.fault.StoreFault.TheVariants as of_store;
-ghost use Rattle.room_tables.specs.Faults.{statement_fault, opening_fault, value_fault};
+ghost use Rattle.room_tables.specs.Faults.{core_fault, statement_fault, opening_fault, value_fault};
 
+use room_rules::CoreFault;
 use sqlite::{Error, ErrorCode};
 use std::alloc::AllocFailed;
 use thiserror::Error as ErrorTrait;
@@ -44,6 +45,17 @@ impl From<Error> for StoreFault {
         match error {
             Error::SqliteFailure(ErrorCode::OutOfMemory) => StoreFault::Memory,
             _ => StoreFault::Storage,
+        }
+    }
+}
+
+impl From<CoreFault> for StoreFault {
+    ghost from_gives = { λ error fault. fault ≡ core_fault error };
+
+    fn from(error: CoreFault) -> StoreFault {
+        match error {
+            CoreFault::Memory => StoreFault::Memory,
+            CoreFault::Moment => StoreFault::Moment,
         }
     }
 }

@@ -1,10 +1,8 @@
 //! The tables, as they are made.
 
-ghost use Rattle.std.specs.Prelude.{◌≡◌, false, OnOk, OnErr, IsTrue};
-ghost use Rattle.sqlite.specs.State.{HasCleanDisk, KeepsCommit, Survives};
-ghost use Rattle.sqlite.specs.Held.{state};
+ghost use Rattle.std.specs.Prelude.{◌≡◌, false};
 ghost use Rattle.room_tables.specs.Tables.{no_schema, first_schema, room_schema};
-ghost use Rattle.room_tables.specs.Calls.{Goes, Stays};
+ghost use Rattle.room_tables.specs.Calls.{IsWhole, Makes, StaysInside};
 ghost use Rattle.room_tables.specs.Making.{with_meta, with_account, with_job, with_document, with_grants, IsBlank, IsNew};
 ghost use Rattle.room_tables.specs.Migrating.{AddsRates};
 
@@ -14,9 +12,8 @@ use sqlite::{Alter, Connection, Error, Transaction};
 /// Makes the tables of version 2, with no row but that of the version, in one transaction.
 pub fn make_tables<S: Alter>(connection: &mut Connection<S>) -> Result<(), Error>
     requires mode { connection.old.in_transaction ≡ false }
-    ensures goes { Goes (state S.Store connection.old) (state S.Store connection.new) }
-    ensures made { HasCleanDisk (state S.Store connection.new) → OnOk result ((state S.Store connection.old).now.schema ≡ no_schema → IsNew (state S.Store connection.new).now) }
-    ensures undone { HasCleanDisk (state S.Store connection.new) → OnErr result (Stays (state S.Store connection.old) (state S.Store connection.new)) }
+    ensures made { Makes S.Store connection.old connection.new result (λ before after. before.schema ≡ no_schema → IsNew after) }
+    ensures whole { IsWhole S.Store connection.old connection.new result }
 {
     let mut transaction = connection.transaction();
     make_first_tables(&mut transaction)?;
@@ -27,11 +24,8 @@ pub fn make_tables<S: Alter>(connection: &mut Connection<S>) -> Result<(), Error
 
 /// The tables of version 1.
 fn make_first_tables<S: Alter>(transaction: &mut Transaction<'_, S>) -> Result<(), Error>
-    ensures same_reference { transaction.new.conn.ghost_name ≡ transaction.old.conn.ghost_name }
-    ensures made { HasCleanDisk (state S.Store transaction.new.conn.now) → OnOk result (IsBlank no_schema (state S.Store transaction.old.conn.now).now → IsBlank first_schema (state S.Store transaction.new.conn.now).now) }
-    ensures mode { HasCleanDisk (state S.Store transaction.new.conn.now) → OnOk result (IsTrue transaction.new.conn.now.in_transaction) }
-    ensures kept { HasCleanDisk (state S.Store transaction.new.conn.now) → KeepsCommit (state S.Store transaction.old.conn.now) (state S.Store transaction.new.conn.now) }
-    ensures survives { Survives (state S.Store transaction.old.conn.now) (state S.Store transaction.new.conn.now) (λ _. ⊥) }
+    ensures made { Makes S.Store transaction.old.conn.now transaction.new.conn.now result (λ before after. IsBlank no_schema before → IsBlank first_schema after) }
+    ensures inside { StaysInside S.Store transaction.old.conn transaction.new.conn result }
 {
     make_meta(transaction)?;
     make_account(transaction)?;
@@ -42,11 +36,8 @@ fn make_first_tables<S: Alter>(transaction: &mut Transaction<'_, S>) -> Result<(
 }
 
 fn make_meta<S: Alter>(transaction: &mut Transaction<'_, S>) -> Result<(), Error>
-    ensures same_reference { transaction.new.conn.ghost_name ≡ transaction.old.conn.ghost_name }
-    ensures made { HasCleanDisk (state S.Store transaction.new.conn.now) → OnOk result (IsBlank no_schema (state S.Store transaction.old.conn.now).now → IsBlank with_meta (state S.Store transaction.new.conn.now).now) }
-    ensures mode { HasCleanDisk (state S.Store transaction.new.conn.now) → OnOk result (IsTrue transaction.new.conn.now.in_transaction) }
-    ensures kept { HasCleanDisk (state S.Store transaction.new.conn.now) → KeepsCommit (state S.Store transaction.old.conn.now) (state S.Store transaction.new.conn.now) }
-    ensures survives { Survives (state S.Store transaction.old.conn.now) (state S.Store transaction.new.conn.now) (λ _. ⊥) }
+    ensures made { Makes S.Store transaction.old.conn.now transaction.new.conn.now result (λ before after. IsBlank no_schema before → IsBlank with_meta after) }
+    ensures inside { StaysInside S.Store transaction.old.conn transaction.new.conn result }
 {
     write(
         transaction,
@@ -56,11 +47,8 @@ fn make_meta<S: Alter>(transaction: &mut Transaction<'_, S>) -> Result<(), Error
 }
 
 fn make_account<S: Alter>(transaction: &mut Transaction<'_, S>) -> Result<(), Error>
-    ensures same_reference { transaction.new.conn.ghost_name ≡ transaction.old.conn.ghost_name }
-    ensures made { HasCleanDisk (state S.Store transaction.new.conn.now) → OnOk result (IsBlank with_meta (state S.Store transaction.old.conn.now).now → IsBlank with_account (state S.Store transaction.new.conn.now).now) }
-    ensures mode { HasCleanDisk (state S.Store transaction.new.conn.now) → OnOk result (IsTrue transaction.new.conn.now.in_transaction) }
-    ensures kept { HasCleanDisk (state S.Store transaction.new.conn.now) → KeepsCommit (state S.Store transaction.old.conn.now) (state S.Store transaction.new.conn.now) }
-    ensures survives { Survives (state S.Store transaction.old.conn.now) (state S.Store transaction.new.conn.now) (λ _. ⊥) }
+    ensures made { Makes S.Store transaction.old.conn.now transaction.new.conn.now result (λ before after. IsBlank with_meta before → IsBlank with_account after) }
+    ensures inside { StaysInside S.Store transaction.old.conn transaction.new.conn result }
 {
     write(
         transaction,
@@ -70,11 +58,8 @@ fn make_account<S: Alter>(transaction: &mut Transaction<'_, S>) -> Result<(), Er
 }
 
 fn make_job<S: Alter>(transaction: &mut Transaction<'_, S>) -> Result<(), Error>
-    ensures same_reference { transaction.new.conn.ghost_name ≡ transaction.old.conn.ghost_name }
-    ensures made { HasCleanDisk (state S.Store transaction.new.conn.now) → OnOk result (IsBlank with_account (state S.Store transaction.old.conn.now).now → IsBlank with_job (state S.Store transaction.new.conn.now).now) }
-    ensures mode { HasCleanDisk (state S.Store transaction.new.conn.now) → OnOk result (IsTrue transaction.new.conn.now.in_transaction) }
-    ensures kept { HasCleanDisk (state S.Store transaction.new.conn.now) → KeepsCommit (state S.Store transaction.old.conn.now) (state S.Store transaction.new.conn.now) }
-    ensures survives { Survives (state S.Store transaction.old.conn.now) (state S.Store transaction.new.conn.now) (λ _. ⊥) }
+    ensures made { Makes S.Store transaction.old.conn.now transaction.new.conn.now result (λ before after. IsBlank with_account before → IsBlank with_job after) }
+    ensures inside { StaysInside S.Store transaction.old.conn transaction.new.conn result }
 {
     write(
         transaction,
@@ -84,11 +69,8 @@ fn make_job<S: Alter>(transaction: &mut Transaction<'_, S>) -> Result<(), Error>
 }
 
 fn make_document<S: Alter>(transaction: &mut Transaction<'_, S>) -> Result<(), Error>
-    ensures same_reference { transaction.new.conn.ghost_name ≡ transaction.old.conn.ghost_name }
-    ensures made { HasCleanDisk (state S.Store transaction.new.conn.now) → OnOk result (IsBlank with_job (state S.Store transaction.old.conn.now).now → IsBlank with_document (state S.Store transaction.new.conn.now).now) }
-    ensures mode { HasCleanDisk (state S.Store transaction.new.conn.now) → OnOk result (IsTrue transaction.new.conn.now.in_transaction) }
-    ensures kept { HasCleanDisk (state S.Store transaction.new.conn.now) → KeepsCommit (state S.Store transaction.old.conn.now) (state S.Store transaction.new.conn.now) }
-    ensures survives { Survives (state S.Store transaction.old.conn.now) (state S.Store transaction.new.conn.now) (λ _. ⊥) }
+    ensures made { Makes S.Store transaction.old.conn.now transaction.new.conn.now result (λ before after. IsBlank with_job before → IsBlank with_document after) }
+    ensures inside { StaysInside S.Store transaction.old.conn transaction.new.conn result }
 {
     write(
         transaction,
@@ -98,11 +80,8 @@ fn make_document<S: Alter>(transaction: &mut Transaction<'_, S>) -> Result<(), E
 }
 
 fn make_grants<S: Alter>(transaction: &mut Transaction<'_, S>) -> Result<(), Error>
-    ensures same_reference { transaction.new.conn.ghost_name ≡ transaction.old.conn.ghost_name }
-    ensures made { HasCleanDisk (state S.Store transaction.new.conn.now) → OnOk result (IsBlank with_document (state S.Store transaction.old.conn.now).now → IsBlank with_grants (state S.Store transaction.new.conn.now).now) }
-    ensures mode { HasCleanDisk (state S.Store transaction.new.conn.now) → OnOk result (IsTrue transaction.new.conn.now.in_transaction) }
-    ensures kept { HasCleanDisk (state S.Store transaction.new.conn.now) → KeepsCommit (state S.Store transaction.old.conn.now) (state S.Store transaction.new.conn.now) }
-    ensures survives { Survives (state S.Store transaction.old.conn.now) (state S.Store transaction.new.conn.now) (λ _. ⊥) }
+    ensures made { Makes S.Store transaction.old.conn.now transaction.new.conn.now result (λ before after. IsBlank with_document before → IsBlank with_grants after) }
+    ensures inside { StaysInside S.Store transaction.old.conn transaction.new.conn result }
 {
     write(
         transaction,
@@ -112,11 +91,8 @@ fn make_grants<S: Alter>(transaction: &mut Transaction<'_, S>) -> Result<(), Err
 }
 
 fn make_device<S: Alter>(transaction: &mut Transaction<'_, S>) -> Result<(), Error>
-    ensures same_reference { transaction.new.conn.ghost_name ≡ transaction.old.conn.ghost_name }
-    ensures made { HasCleanDisk (state S.Store transaction.new.conn.now) → OnOk result (IsBlank with_grants (state S.Store transaction.old.conn.now).now → IsBlank first_schema (state S.Store transaction.new.conn.now).now) }
-    ensures mode { HasCleanDisk (state S.Store transaction.new.conn.now) → OnOk result (IsTrue transaction.new.conn.now.in_transaction) }
-    ensures kept { HasCleanDisk (state S.Store transaction.new.conn.now) → KeepsCommit (state S.Store transaction.old.conn.now) (state S.Store transaction.new.conn.now) }
-    ensures survives { Survives (state S.Store transaction.old.conn.now) (state S.Store transaction.new.conn.now) (λ _. ⊥) }
+    ensures made { Makes S.Store transaction.old.conn.now transaction.new.conn.now result (λ before after. IsBlank with_grants before → IsBlank first_schema after) }
+    ensures inside { StaysInside S.Store transaction.old.conn transaction.new.conn result }
 {
     write(
         transaction,
@@ -126,12 +102,9 @@ fn make_device<S: Alter>(transaction: &mut Transaction<'_, S>) -> Result<(), Err
 }
 
 pub(crate) fn make_rates<S: Alter>(transaction: &mut Transaction<'_, S>) -> Result<(), Error>
-    ensures same_reference { transaction.new.conn.ghost_name ≡ transaction.old.conn.ghost_name }
-    ensures made { HasCleanDisk (state S.Store transaction.new.conn.now) → OnOk result (IsBlank first_schema (state S.Store transaction.old.conn.now).now → IsBlank room_schema (state S.Store transaction.new.conn.now).now) }
-    ensures adds { HasCleanDisk (state S.Store transaction.new.conn.now) → OnOk result ((state S.Store transaction.old.conn.now).now.schema ≡ first_schema → AddsRates (state S.Store transaction.old.conn.now).now (state S.Store transaction.new.conn.now).now) }
-    ensures mode { HasCleanDisk (state S.Store transaction.new.conn.now) → OnOk result (IsTrue transaction.new.conn.now.in_transaction) }
-    ensures kept { HasCleanDisk (state S.Store transaction.new.conn.now) → KeepsCommit (state S.Store transaction.old.conn.now) (state S.Store transaction.new.conn.now) }
-    ensures survives { Survives (state S.Store transaction.old.conn.now) (state S.Store transaction.new.conn.now) (λ _. ⊥) }
+    ensures made { Makes S.Store transaction.old.conn.now transaction.new.conn.now result (λ before after. IsBlank first_schema before → IsBlank room_schema after) }
+    ensures adds { Makes S.Store transaction.old.conn.now transaction.new.conn.now result (λ before after. before.schema ≡ first_schema → AddsRates before after) }
+    ensures inside { StaysInside S.Store transaction.old.conn transaction.new.conn result }
 {
     write(
         transaction,
@@ -141,11 +114,8 @@ pub(crate) fn make_rates<S: Alter>(transaction: &mut Transaction<'_, S>) -> Resu
 }
 
 fn note_version<S: Alter>(transaction: &mut Transaction<'_, S>) -> Result<(), Error>
-    ensures same_reference { transaction.new.conn.ghost_name ≡ transaction.old.conn.ghost_name }
-    ensures made { HasCleanDisk (state S.Store transaction.new.conn.now) → OnOk result (IsBlank room_schema (state S.Store transaction.old.conn.now).now → IsNew (state S.Store transaction.new.conn.now).now) }
-    ensures mode { HasCleanDisk (state S.Store transaction.new.conn.now) → OnOk result (IsTrue transaction.new.conn.now.in_transaction) }
-    ensures kept { HasCleanDisk (state S.Store transaction.new.conn.now) → KeepsCommit (state S.Store transaction.old.conn.now) (state S.Store transaction.new.conn.now) }
-    ensures survives { Survives (state S.Store transaction.old.conn.now) (state S.Store transaction.new.conn.now) (λ _. ⊥) }
+    ensures made { Makes S.Store transaction.old.conn.now transaction.new.conn.now result (λ before after. IsBlank room_schema before → IsNew after) }
+    ensures inside { StaysInside S.Store transaction.old.conn transaction.new.conn result }
 {
     write(
         transaction,

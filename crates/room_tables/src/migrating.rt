@@ -1,10 +1,10 @@
 //! A database of version 1 becomes one of version 2.
 
-ghost use Rattle.std.specs.Prelude.{◌≡◌, ◌⊎◌, [], false, pos, OnOk, OnErr, IfErr, IsTrue};
-ghost use Rattle.sqlite.specs.State.{HasCleanDisk, KeepsCommit, Survives};
+ghost use Rattle.std.specs.Prelude.{◌≡◌, ◌⊎◌, [], false, pos, OnOk, IfErr};
+ghost use Rattle.sqlite.specs.State.{HasCleanDisk};
 ghost use Rattle.sqlite.specs.Held.{state};
-ghost use Rattle.room_tables.specs.Tables.{first_schema, room_schema, rates};
-ghost use Rattle.room_tables.specs.Calls.{Goes, Stays, IsSame};
+ghost use Rattle.room_tables.specs.Tables.{room_schema, rates};
+ghost use Rattle.room_tables.specs.Calls.{IsSame, IsWhole, Makes, OnDisk, StaysInside};
 ghost use Rattle.room_tables.specs.Making.{HasVersion, IsOpened};
 ghost use Rattle.room_tables.specs.Migrating.{IsFirst, IsMigrated, IsMigrateFault, RatesDevices, NotesVersionTwo};
 
@@ -17,10 +17,9 @@ use sqlite::{Alter, Connection, Error, Transaction};
 /// Makes version 2 of version 1, and leaves version 2 as it is.
 pub fn migrate_tables<S: Alter>(connection: &mut Connection<S>) -> Result<(), OpenFault>
     requires mode { connection.old.in_transaction ≡ false }
-    ensures goes { Goes (state S.Store connection.old) (state S.Store connection.new) }
     ensures migrated { HasCleanDisk (state S.Store connection.new) → OnOk result ((IsOpened (state S.Store connection.old).now × IsSame (state S.Store connection.old) (state S.Store connection.new)) ⊎ IsMigrated (state S.Store connection.old).now (state S.Store connection.new).now) }
-    ensures fault { HasCleanDisk (state S.Store connection.new) → IfErr result (IsMigrateFault (state S.Store connection.old).now) }
-    ensures undone { HasCleanDisk (state S.Store connection.new) → OnErr result (Stays (state S.Store connection.old) (state S.Store connection.new)) }
+    ensures fault { OnDisk S.Store connection.old connection.new (λ db. IfErr result (IsMigrateFault db)) }
+    ensures whole { IsWhole S.Store connection.old connection.new result }
 {
     if is_older(connection)? {
         add_rates(connection)?;
@@ -32,23 +31,26 @@ pub fn migrate_tables<S: Alter>(connection: &mut Connection<S>) -> Result<(), Op
 /// transaction.
 fn add_rates<S: Alter>(connection: &mut Connection<S>) -> Result<(), Error>
     requires mode { connection.old.in_transaction ≡ false }
-    ensures goes { Goes (state S.Store connection.old) (state S.Store connection.new) }
-    ensures migrated { HasCleanDisk (state S.Store connection.new) → OnOk result (IsFirst (state S.Store connection.old).now → IsMigrated (state S.Store connection.old).now (state S.Store connection.new).now) }
-    ensures undone { HasCleanDisk (state S.Store connection.new) → OnErr result (Stays (state S.Store connection.old) (state S.Store connection.new)) }
+    ensures migrated { Makes S.Store connection.old connection.new result (λ before after. IsFirst before → IsMigrated before after) }
+    ensures whole { IsWhole S.Store connection.old connection.new result }
 {
     let mut transaction = connection.transaction();
-    make_rates(&mut transaction)?;
-    rate_devices(&mut transaction)?;
-    note_version_two(&mut transaction)?;
+    become_version_two(&mut transaction)?;
     transaction.commit()
 }
 
+fn become_version_two<S: Alter>(transaction: &mut Transaction<'_, S>) -> Result<(), Error>
+    ensures migrated { Makes S.Store transaction.old.conn.now transaction.new.conn.now result (λ before after. IsFirst before → IsMigrated before after) }
+    ensures inside { StaysInside S.Store transaction.old.conn transaction.new.conn result }
+{
+    make_rates(transaction)?;
+    rate_devices(transaction)?;
+    note_version_two(transaction)
+}
+
 fn rate_devices<S: Alter>(transaction: &mut Transaction<'_, S>) -> Result<(), Error>
-    ensures same_reference { transaction.new.conn.ghost_name ≡ transaction.old.conn.ghost_name }
-    ensures rates { HasCleanDisk (state S.Store transaction.new.conn.now) → OnOk result ((state S.Store transaction.old.conn.now).now.schema ≡ room_schema → (state S.Store transaction.old.conn.now).now.trees rates.tree ≡ [] → RatesDevices (state S.Store transaction.old.conn.now).now (state S.Store transaction.new.conn.now).now) }
-    ensures mode { HasCleanDisk (state S.Store transaction.new.conn.now) → OnOk result (IsTrue transaction.new.conn.now.in_transaction) }
-    ensures kept { HasCleanDisk (state S.Store transaction.new.conn.now) → KeepsCommit (state S.Store transaction.old.conn.now) (state S.Store transaction.new.conn.now) }
-    ensures survives { Survives (state S.Store transaction.old.conn.now) (state S.Store transaction.new.conn.now) (λ _. ⊥) }
+    ensures rates { Makes S.Store transaction.old.conn.now transaction.new.conn.now result (λ before after. before.schema ≡ room_schema → before.trees rates.tree ≡ [] → RatesDevices before after) }
+    ensures inside { StaysInside S.Store transaction.old.conn transaction.new.conn result }
 {
     write(
         transaction,
@@ -58,11 +60,8 @@ fn rate_devices<S: Alter>(transaction: &mut Transaction<'_, S>) -> Result<(), Er
 }
 
 fn note_version_two<S: Alter>(transaction: &mut Transaction<'_, S>) -> Result<(), Error>
-    ensures same_reference { transaction.new.conn.ghost_name ≡ transaction.old.conn.ghost_name }
-    ensures notes { HasCleanDisk (state S.Store transaction.new.conn.now) → OnOk result ((state S.Store transaction.old.conn.now).now.schema ≡ room_schema → HasVersion (state S.Store transaction.old.conn.now).now (pos 1) → NotesVersionTwo (state S.Store transaction.old.conn.now).now (state S.Store transaction.new.conn.now).now) }
-    ensures mode { HasCleanDisk (state S.Store transaction.new.conn.now) → OnOk result (IsTrue transaction.new.conn.now.in_transaction) }
-    ensures kept { HasCleanDisk (state S.Store transaction.new.conn.now) → KeepsCommit (state S.Store transaction.old.conn.now) (state S.Store transaction.new.conn.now) }
-    ensures survives { Survives (state S.Store transaction.old.conn.now) (state S.Store transaction.new.conn.now) (λ _. ⊥) }
+    ensures notes { Makes S.Store transaction.old.conn.now transaction.new.conn.now result (λ before after. before.schema ≡ room_schema → HasVersion before (pos 1) → NotesVersionTwo before after) }
+    ensures inside { StaysInside S.Store transaction.old.conn transaction.new.conn result }
 {
     write(transaction, "UPDATE meta SET version = 2 WHERE id = 1", &[])
 }

@@ -1,10 +1,9 @@
 //! Reading the one row that a query shows.
 
-ghost use Rattle.std.specs.Prelude.{OnOk, IsTrue};
 ghost use Rattle.sqlite.specs.State.{HasCleanDisk};
 ghost use Rattle.sqlite.specs.Held.{state};
 ghost use Rattle.sqlite.specs.Values.{bound};
-ghost use Rattle.room_tables.specs.Calls.{Goes};
+ghost use Rattle.room_tables.specs.Calls.{GoesOn};
 ghost use Rattle.room_tables.specs.Queries.{Finds};
 
 use sqlite::{Alter, Connection, Error, Row};
@@ -16,9 +15,8 @@ pub fn find_row<S: Alter>(
     text: &str,
     params: &[ValueRef<'_>],
 ) -> Result<Option<Row>, Error>
-    ensures goes { Goes (state S.Store connection.old) (state S.Store connection.new) }
-    ensures opened { HasCleanDisk (state S.Store connection.new) → OnOk result (IsTrue (state S.Store connection.old).is_open × IsTrue (state S.Store connection.new).is_open) }
     ensures finds { HasCleanDisk (state S.Store connection.new) → Finds (state S.Store connection.old) (state S.Store connection.new) text.now (bound params.now) result }
+    ensures going { GoesOn S.Store connection.old connection.new result }
 {
     match connection.query_row(text, params) {
         Ok(row) => Ok(Some(row)),

@@ -1,12 +1,12 @@
 //! Whether a database is one of ours, and of which version.
 
-ghost use Rattle.std.specs.Prelude.{◌≡◌, ◌≢◌, ◌⊎◌, ℤ, false, [], ◌∷◌, pos, IfOk, IfErr, OnOk, IsTrue, MatchOption};
+ghost use Rattle.std.specs.Prelude.{◌≡◌, ◌≢◌, ◌⊎◌, ⊤, ℤ, false, [], ◌∷◌, pos, IfOk, IfErr, OnOk, IsTrue, MatchOption};
 ghost use Rattle.sqlite_value.specs.declared.value.Value.TheVariants.{Int};
 ghost use Rattle.sqlite_value.specs.Order.{column};
 ghost use Rattle.sqlite_sql.specs.Term.{col};
 ghost use Rattle.sqlite.specs.State.{HasCleanDisk};
 ghost use Rattle.sqlite.specs.Held.{state};
-ghost use Rattle.room_tables.specs.Calls.{Goes, Stays, IsSame};
+ghost use Rattle.room_tables.specs.Calls.{GoesOn, OnDisk, OnlyReads};
 ghost use Rattle.room_tables.specs.Queries.{FindsRow};
 ghost use Rattle.room_tables.specs.Making.{HasVersion, LacksVersion, KeepsVersion, IsEdition, IsNoEdition, IsOpened, IsOpenFault, version_tests};
 ghost use Rattle.room_tables.specs.Migrating.{IsFirst, IsMigrateFault};
@@ -31,11 +31,9 @@ struct Edition {
 
 /// Whether the database is one that the store can be opened on.
 pub fn check<S: Alter>(connection: &mut Connection<S>) -> Result<(), OpenFault>
-    ensures goes { Goes (state S.Store connection.old) (state S.Store connection.new) }
-    ensures opened { HasCleanDisk (state S.Store connection.new) → OnOk result (IsOpened (state S.Store connection.old).now) }
-    ensures fault { HasCleanDisk (state S.Store connection.new) → IfErr result (IsOpenFault (state S.Store connection.old).now) }
-    ensures same { HasCleanDisk (state S.Store connection.new) → OnOk result (IsSame (state S.Store connection.old) (state S.Store connection.new)) }
-    ensures stays { HasCleanDisk (state S.Store connection.new) → Stays (state S.Store connection.old) (state S.Store connection.new) }
+    ensures opened { OnDisk S.Store connection.old connection.new (λ db. OnOk result (IsOpened db)) }
+    ensures fault { OnDisk S.Store connection.old connection.new (λ db. IfErr result (IsOpenFault db)) }
+    ensures reads { OnlyReads S.Store connection.old connection.new (λ _. ⊤) result }
 {
     let edition = find_edition(connection)?;
     judge(edition)
@@ -43,11 +41,9 @@ pub fn check<S: Alter>(connection: &mut Connection<S>) -> Result<(), OpenFault>
 
 /// Whether the database is to be migrated. If not, the store can be opened on it.
 pub(crate) fn is_older<S: Alter>(connection: &mut Connection<S>) -> Result<bool, OpenFault>
-    ensures goes { Goes (state S.Store connection.old) (state S.Store connection.new) }
-    ensures found { HasCleanDisk (state S.Store connection.new) → IfOk result (λ older. (IsTrue older → IsFirst (state S.Store connection.old).now) × (older ≡ false → IsOpened (state S.Store connection.old).now)) }
-    ensures fault { HasCleanDisk (state S.Store connection.new) → IfErr result (IsMigrateFault (state S.Store connection.old).now) }
-    ensures same { HasCleanDisk (state S.Store connection.new) → OnOk result (IsSame (state S.Store connection.old) (state S.Store connection.new)) }
-    ensures stays { HasCleanDisk (state S.Store connection.new) → Stays (state S.Store connection.old) (state S.Store connection.new) }
+    ensures found { OnDisk S.Store connection.old connection.new (λ db. IfOk result (λ older. (IsTrue older → IsFirst db) × (older ≡ false → IsOpened db))) }
+    ensures fault { OnDisk S.Store connection.old connection.new (λ db. IfErr result (IsMigrateFault db)) }
+    ensures reads { OnlyReads S.Store connection.old connection.new (λ _. ⊤) result }
 {
     let edition = find_edition(connection)?;
     judge_older(edition)
@@ -86,11 +82,9 @@ fn judge_older(edition: Edition) -> Result<bool, OpenFault>
 
 /// The edition that a database is, where it is one.
 fn find_edition<S: Alter>(connection: &mut Connection<S>) -> Result<Edition, OpenFault>
-    ensures goes { Goes (state S.Store connection.old) (state S.Store connection.new) }
-    ensures found { HasCleanDisk (state S.Store connection.new) → IfOk result (IsEdition (state S.Store connection.old).now) }
-    ensures fault { HasCleanDisk (state S.Store connection.new) → IfErr result (IsNoEdition (state S.Store connection.old).now) }
-    ensures same { HasCleanDisk (state S.Store connection.new) → OnOk result (IsSame (state S.Store connection.old) (state S.Store connection.new)) }
-    ensures stays { HasCleanDisk (state S.Store connection.new) → Stays (state S.Store connection.old) (state S.Store connection.new) }
+    ensures found { OnDisk S.Store connection.old connection.new (λ db. IfOk result (IsEdition db)) }
+    ensures fault { OnDisk S.Store connection.old connection.new (λ db. IfErr result (IsNoEdition db)) }
+    ensures reads { OnlyReads S.Store connection.old connection.new (λ _. ⊤) result }
 {
     if !keeps_version(connection.schema()) {
         return Err(OpenFault::NotOurs);
@@ -104,12 +98,9 @@ fn find_edition<S: Alter>(connection: &mut Connection<S>) -> Result<Edition, Ope
 
 /// The version that the row of `meta` tells, where it tells one.
 fn find_version<S: Alter>(connection: &mut Connection<S>) -> Result<Option<i64>, OpenFault>
-    ensures goes { Goes (state S.Store connection.old) (state S.Store connection.new) }
-    ensures found { HasCleanDisk (state S.Store connection.new) → KeepsVersion (state S.Store connection.old).now.schema → IfOk result (λ found. MatchOption found (LacksVersion (state S.Store connection.old).now) (HasVersion (state S.Store connection.old).now)) }
+    ensures found { OnDisk S.Store connection.old connection.new (λ db. KeepsVersion db.schema → IfOk result (λ found. MatchOption found (LacksVersion db) (HasVersion db))) }
     ensures fault { IfErr result (λ fault. (fault ≡ OpenFault.Storage) ⊎ (fault ≡ OpenFault.Memory)) }
-    ensures opened { HasCleanDisk (state S.Store connection.new) → OnOk result (IsTrue (state S.Store connection.old).is_open × IsTrue (state S.Store connection.new).is_open) }
-    ensures same { HasCleanDisk (state S.Store connection.new) → KeepsVersion (state S.Store connection.old).now.schema → OnOk result (IsSame (state S.Store connection.old) (state S.Store connection.new)) }
-    ensures stays { HasCleanDisk (state S.Store connection.new) → KeepsVersion (state S.Store connection.old).now.schema → Stays (state S.Store connection.old) (state S.Store connection.new) }
+    ensures reads { OnlyReads S.Store connection.old connection.new (λ db. KeepsVersion db.schema) result }
 {
     match version_row(connection)? {
         Some(row) => version_from(&row),
@@ -118,9 +109,8 @@ fn find_version<S: Alter>(connection: &mut Connection<S>) -> Result<Option<i64>,
 }
 
 fn version_row<S: Alter>(connection: &mut Connection<S>) -> Result<Option<Row>, Error>
-    ensures goes { Goes (state S.Store connection.old) (state S.Store connection.new) }
-    ensures opened { HasCleanDisk (state S.Store connection.new) → OnOk result (IsTrue (state S.Store connection.old).is_open × IsTrue (state S.Store connection.new).is_open) }
     ensures finds { HasCleanDisk (state S.Store connection.new) → KeepsVersion (state S.Store connection.old).now.schema → FindsRow (state S.Store connection.old) (state S.Store connection.new) 0 version_tests (col 1 2 ∷ []) [] result }
+    ensures going { GoesOn S.Store connection.old connection.new result }
 {
     find_row(connection, "SELECT version FROM meta WHERE id = 1", &[])
 }

@@ -1,10 +1,10 @@
 //! A statement that writes, inside a transaction.
 
-ghost use Rattle.std.specs.Prelude.{◌≡◌, OnOk, IsTrue};
-ghost use Rattle.sqlite.specs.State.{HasCleanDisk, KeepsCommit, Survives};
+ghost use Rattle.std.specs.Prelude.{OnOk};
+ghost use Rattle.sqlite.specs.State.{HasCleanDisk};
 ghost use Rattle.sqlite.specs.Held.{state};
 ghost use Rattle.sqlite.specs.Values.{bound};
-ghost use Rattle.room_tables.specs.Calls.{HasRun};
+ghost use Rattle.room_tables.specs.Calls.{HasRun, StaysInside};
 
 use sqlite::{Alter, Error, Transaction};
 use sqlite_value::value::ValueRef;
@@ -16,11 +16,8 @@ pub fn write<S: Alter>(
     text: &str,
     params: &[ValueRef<'_>],
 ) -> Result<(), Error>
-    ensures same_reference { transaction.new.conn.ghost_name ≡ transaction.old.conn.ghost_name }
     ensures runs { HasCleanDisk (state S.Store transaction.new.conn.now) → OnOk result (HasRun text.now (bound params.now) (state S.Store transaction.old.conn.now) (state S.Store transaction.new.conn.now)) }
-    ensures mode { HasCleanDisk (state S.Store transaction.new.conn.now) → OnOk result (IsTrue transaction.new.conn.now.in_transaction) }
-    ensures kept { HasCleanDisk (state S.Store transaction.new.conn.now) → KeepsCommit (state S.Store transaction.old.conn.now) (state S.Store transaction.new.conn.now) }
-    ensures survives { Survives (state S.Store transaction.old.conn.now) (state S.Store transaction.new.conn.now) (λ _. ⊥) }
+    ensures inside { StaysInside S.Store transaction.old.conn transaction.new.conn result }
 {
     transaction.execute(text, params)?;
     Ok(())

@@ -1,14 +1,17 @@
 use Rattle.std.proofs.Common.{◌≡◌, ◌∙◌, sym, ap, Err, arith}
+use Rattle.std.specs.FinMap.{entries}
 use Rattle.std.proofs.lemmas.Result.{err_from_is_err_and}
 use Rattle.sqlite.specs.Held.{state}
 use Rattle.room_tables.specs.declared.fault.StoreFault.TheVariants.{Damaged}
 use Rattle.room_tables.proofs.KeyedRows.{same_fault}
+use Rattle.room_statements.proofs.AccountRows.{rows_of_grants}
 use Rattle.room_statements.proofs.GrantWalk.{pages_granted, pages_within, grants_unsound}
 use Rattle.room_statements.proofs.grants.granted_to.Goals as goal
 
 pub returns-clause-granted : goal.returns-clause-granted
 returns-clause-granted g c clean has room held =
-    pages_granted (state g.S.Store c.args.connection.now).now has c.args.name c.args.month room held c.walk_grants.new.granted (c.in_ok-walk_grants.ensures.walks clean has).all
+    let db = (state g.S.Store c.args.connection.now).now in
+    pages_granted db has c.args.name c.args.month (entries room.grants) (rows_of_grants db has c.args.name room held) c.walk_grants.new.granted (c.in_ok-walk_grants.ensures.walks clean has).all
 
 pub returns-in_err-walk_grants-clause-damaged : goal.returns-in_err-walk_grants-clause-damaged
 returns-in_err-walk_grants-clause-damaged g c clean has is_damaged =

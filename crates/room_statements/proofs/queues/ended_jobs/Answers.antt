@@ -7,6 +7,7 @@ use Rattle.room_state.proofs.QueueOrders.{all_completed, all_at_most}
 use Rattle.room_tables.specs.declared.fault.StoreFault.TheVariants.{Damaged}
 use Rattle.room_tables.proofs.KeyedRows.{same_fault}
 use Rattle.room_statements.specs.Queues.{IsNumbered}
+use Rattle.room_statements.specs.SoundRows.{ended_rows}
 use Rattle.room_statements.proofs.QueueJobs.{all_numbered, jobs_listed, jobs_unsound}
 use Rattle.room_statements.proofs.queues.ended_jobs.Goals as goal
 
@@ -14,12 +15,12 @@ pub returns-in_err-walk_ended-clause-damaged : goal.returns-in_err-walk_ended-cl
 returns-in_err-walk_ended-clause-damaged g c clean has is_damaged =
     let told = err_from_is_err_and c.from_residual.result c.from_residual.ensures.1 in
     let fault : c.in_err-walk_ended.field-0.0 ≡ Damaged = sym told.2 ∙ same_fault (sym told.1 ∙ is_damaged) in
-    jobs_unsound (λ all. at_most c.args.limit (completed all)) (λ P all h. all_at_most P c.args.limit (completed all) (all_completed P all h)) (state g.S.Store c.args.connection.now).now c.args.name _
+    jobs_unsound (λ all. at_most c.args.limit (completed all)) (λ P all h. all_at_most P c.args.limit (completed all) (all_completed P all h)) (ended_rows (state g.S.Store c.args.connection.now).now c.args.name) (state g.S.Store c.args.connection.now).now c.args.name _
     ((c.in_err-walk_ended.ensures.walks clean has).damaged (ap Err fault))
 
 pub returns-clause-listed : goal.returns-clause-listed
 returns-clause-listed g c clean has room held =
-    jobs_listed (λ all. at_most c.args.limit (completed all)) (λ P all h. all_at_most P c.args.limit (completed all) (all_completed P all h)) (state g.S.Store c.args.connection.now).now c.args.name
+    jobs_listed (λ all. at_most c.args.limit (completed all)) (λ P all h. all_at_most P c.args.limit (completed all) (all_completed P all h)) (ended_rows (state g.S.Store c.args.connection.now).now c.args.name) (state g.S.Store c.args.connection.now).now c.args.name
     room held _ c.walk_ended.new.jobs c.new.ensures.items (c.in_ok-walk_ended.ensures.walks clean has).all
 
 pub returns-clause-numbered : goal.returns-clause-numbered

@@ -1,14 +1,17 @@
 use Rattle.std.proofs.Common.{◌≡◌, ◌∙◌, sym, ap, Err}
+use Rattle.std.specs.FinMap.{values}
 use Rattle.std.proofs.lemmas.Result.{err_from_is_err_and}
 use Rattle.sqlite.specs.Held.{state}
 use Rattle.room_tables.specs.declared.fault.StoreFault.TheVariants.{Damaged}
 use Rattle.room_tables.proofs.KeyedRows.{same_fault}
+use Rattle.room_statements.proofs.AccountRows.{rows_of_jobs}
 use Rattle.room_statements.proofs.TallyWalk.{tally_counted, walked_within, few_of, units_of, jobs_unsound}
 use Rattle.room_statements.proofs.tallies.tally_jobs.Goals as goal
 
 pub returns-clause-counted : goal.returns-clause-counted
 returns-clause-counted g c clean has room held =
-    tally_counted (state g.S.Store c.args.connection.now).now has c.args.name room held c.walk_jobs.new.tally (rw c.new-tally.ensures at (c.in_ok-walk_jobs.ensures.walks clean has).all)
+    let db = (state g.S.Store c.args.connection.now).now in
+    tally_counted db has c.args.name (values room.jobs) (rows_of_jobs db has c.args.name room held) c.walk_jobs.new.tally (rw c.new-tally.ensures at (c.in_ok-walk_jobs.ensures.walks clean has).all)
 
 pub returns-in_err-walk_jobs-clause-damaged : goal.returns-in_err-walk_jobs-clause-damaged
 returns-in_err-walk_jobs-clause-damaged g c clean has is_damaged =

@@ -5,6 +5,7 @@ use Rattle.sqlite.specs.Held.{state}
 use Rattle.sqlite.specs.Values.{bound}
 use Rattle.sqlite.proofs.Callers.{begun_plain, given_begin, unchanged_then}
 use Rattle.room_tables.specs.Queries.{IsShownBy}
+use Rattle.room_tables.proofs.Going.{goes_by, goes_on}
 use Rattle.room_statements.proofs.WalkLemmas.{gathers_more, begun_open, went_on, unchanged_stays, failed_stays, query_back, query_stays, all_given, some_given, walk_failed, statement_failed, walk_done}
 use Rattle.room_statements.proofs.walking.walk.Goals as goal
 
@@ -12,7 +13,7 @@ pub rows-init : goal.rows-init
 rows-init g c =
     let made = c.in_ok-rows.ensures in (
       refl,
-      record { clean = made.survives.clean; back = λ clean is_open. (begun_open g.S.Store c.args.text.now (bound c.args.params.now) c.args.connection.now c.in_ok-rows.rows.conn.now (made.begun clean)).0; mode = made.mode },
+      goes_by _ _ _ made.survives (λ clean is_open. (begun_open g.S.Store c.args.text.now (bound c.args.params.now) c.args.connection.now c.in_ok-rows.rows.conn.now (made.begun clean)).0) made.mode,
       λ clean. begun_open g.S.Store c.args.text.now (bound c.args.params.now) c.args.connection.now c.in_ok-rows.rows.conn.now (made.begun clean),
       λ clean plain.
           let begun = begun_plain g.S.Store _ _ c.args.connection.now _ plain (made.begun clean) in
@@ -30,11 +31,7 @@ rows-preserved g c =
     let before : HasCleanDisk now → HasCleanDisk was = λ clean. omega (arith, moved.survives.clean, clean) in
     let row = c.in-Some.row.now in (
       moved.same_reference ∙ c.rows.invariant.0,
-      record {
-        clean = omega (arith, goes.clean, moved.survives.clean);
-        back = λ clean is_open. (c.rows.invariant.2 (before clean)).0;
-        mode = λ outside. moved.mode (goes.mode outside);
-      },
+      goes_on old was now goes (goes_by was now _ moved.survives (λ clean is_open. (c.rows.invariant.2 (before clean)).1) moved.mode),
       λ clean. let stays = rw c.in_ok-row.was at (moved.same clean) in went_on old was now (c.rows.invariant.2 (before clean)) stays,
       λ clean plain.
           let so_far = c.rows.invariant.3 (before clean) plain in
@@ -49,10 +46,11 @@ rows-preserved g c =
           (before.0 ++ row ∷ [], gathers_more g.G.Gather.step c.args.gathered.now c.rows.gathered c.gather.new.self before.0 row before.1 c.in_ok-gather.ensures.gathered),
     )
 
-pub returns-in_err-rows-clause-goes : goal.returns-in_err-rows-clause-goes
-returns-in_err-rows-clause-goes g c =
+pub returns-in_err-rows-clause-going : goal.returns-in_err-rows-clause-going
+returns-in_err-rows-clause-going g c =
     let held = rw c.in_err-rows.was at c.query.follows.holds-at-none in
-    record { clean = held.survives.clean; back = λ clean is_open. query_back _ _ _ _ _ (held.err clean) is_open; mode = held.mode }
+    let told = err_from_is_err_and c.from_residual.result c.from_residual.ensures.1 in
+    record { goes = goes_by _ _ _ held.survives (λ clean is_open. query_back _ _ _ _ _ (held.err clean) is_open) held.mode; opened = λ clean. rw told.1 tt }
 
 pub returns-in_err-rows-clause-walks : goal.returns-in_err-rows-clause-walks
 returns-in_err-rows-clause-walks g c clean query names parameters no_sums means takes =
