@@ -18,5 +18,6 @@ pub mod QueueTests
 pub mod QueueSorts
 pub mod QueueRows
 pub mod QueueJobs
+pub mod QueuedWalk
 pub mod DocumentWalk
 pub mod SoundReads

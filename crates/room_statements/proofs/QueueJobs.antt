@@ -4,7 +4,6 @@ use Rattle.std.specs.List.{AllByRecursion}
 use Rattle.std.specs.FinMap.{values}
 use Rattle.std.proofs.lemmas.List.Sorted.{IsPermutation-sym}
 use Rattle.sqlite_value.specs.Order.{Row}
-use Rattle.sqlite_rules.specs.Lists.{Has}
 use Rattle.sqlite_rules.proofs.ListLemmas.{all_has}
 use Rattle.sqlite_rules.proofs.ProbeLemmas.{has_mapped}
 use Rattle.sqlite.specs.Effect.{Database}

@@ -1,5 +1,5 @@
 -- The jobs of an account in the orders of Get-Jobs: what the rows of the walks tell.
-use Rattle.std.proofs.Common.{◌≡◌, ℕ, zero, suc, Bool, true, false, not, ◌&&◌, List, [], ◌∷◌, map, filter, take, drop, Option, None, Some, IsSome, refl, sym, ap, subst, ◌∙◌, Less}
+use Rattle.std.proofs.Common.{◌≡◌, ℕ, Bool, true, false, not, ◌&&◌, List, [], ◌∷◌, map, filter, take, drop, Option, None, Some, IsSome, refl, sym, ap, subst, ◌∙◌, Less}
 use Rattle.std.specs.List.{AllByRecursion}
 use Rattle.std.specs.List.Sorted.{IsPermutation}
 use Rattle.std.specs.FinMap.{values}
@@ -10,7 +10,7 @@ use Rattle.sqlite_value.specs.declared.value.Value.TheVariants.{Text}
 use Rattle.sqlite_value.specs.declared.keys.Key.{Key}
 use Rattle.sqlite_value.specs.Order.{Row}
 use Rattle.sqlite_trees.specs.Tree.{IsAscending}
-use Rattle.sqlite_trees.proofs.ListLemmas.{map-map, filter-map, filter_same, all_of, all-permutation, IsPermutation-filter, ascending-map}
+use Rattle.sqlite_trees.proofs.ListLemmas.{map-map, filter-map, filter_same, all_of, all_weaker, all-permutation, IsPermutation-filter, ascending-map}
 use Rattle.sqlite_sql.specs.Query.{Query, Output, output, output_cmp, page}
 use Rattle.sqlite_sql.specs.Term.{Term, col}
 use Rattle.sqlite_rules.specs.Lists.{Has}
@@ -30,16 +30,16 @@ use Rattle.room_tables.specs.Tables.{job}
 use Rattle.room_tables.specs.Keyed.{HasSchema, rows_under}
 use Rattle.room_tables.specs.Queries.{first_of_table, passes, shows_of, IsShownBy}
 use Rattle.room_tables.specs.Cells.{job_cells}
-use Rattle.room_tables.specs.Accounts.{HoldsRoom}
+use Rattle.room_tables.specs.Accounts.{HoldsRoom, HoldsNothing}
 use Rattle.room_statements.specs.Queues.{numbered_cells, listed_cells, AreListed}
 use Rattle.room_statements.specs.SoundRows.{job_rows, unfinished_rows, ended_rows, tells_unfinished, tells_ended}
 use Rattle.room_tables.proofs.Queries.{env, answer_in_order, answer_shows}
-use Rattle.room_statements.proofs.AccountRows.{rows_of_jobs}
+use Rattle.room_statements.proofs.AccountRows.{no_jobs, rows_of_jobs}
 use Rattle.room_statements.proofs.QueueTexts.{shows, params, unfinished_tests, unfinished_order, unfinished_query, ended_tests, ended_order, ended_query}
 use Rattle.room_statements.proofs.QueueTests.{of_account, early_state, late_state, asks_early, asks_late}
 use Rattle.room_statements.proofs.QueueSorts.{told_by, job_told, by_number, early_outputs, early_rise, by_end, late_outputs, late_fall}
 
-filter_both : (p q : Row → Bool) (rows : List Row) → filter (λ r. p r && q r) rows ≡ filter q (filter p rows)
+pub filter_both : (p q : Row → Bool) (rows : List Row) → filter (λ r. p r && q r) rows ≡ filter q (filter p rows)
 filter_both p q [] = refl
 filter_both p q (r ∷ rows) = by_case (p r) (q r) refl refl (filter_both p q rows)
   where
@@ -90,15 +90,17 @@ module _ (tests : List Term) (order : List (Term × Key)) (name : List ℕ) (lim
 -- ---- those that have not ended
 
 module _ (name : List ℕ) (limit : Option ℕ) where
-  -- the rows of the jobs that are in such a state
-  kept_jobs : (state_test : Row → Bool) (test : Job → Bool) → ((it : Job) → state_test (job_cells name it) ≡ test it) → (jobs : List Job) → filter state_test (map (job_cells name) jobs) ≡ map (job_cells name) (filter test jobs)
-  kept_jobs state_test test same jobs =
-      filter-map state_test (job_cells name) jobs ∙ ap (map (job_cells name)) (filter_same (λ it. state_test (job_cells name it)) test jobs (all_of _ same jobs))
+  room_sound : (db : Database) (room : RoomValue) → HoldsRoom db name room → AllByRecursion (λ (it : Job). IsStanding it.standing) (values room.jobs)
+  room_sound db room held = values_keep (λ _ (it : Job). IsStanding it.standing) room.jobs (λ n it is. let at = held.is_room.jobs n it is in (at.numbered, at.standing))
 
-  kept_rows : (db : Database) → HasSchema db → (state_test : Row → Bool) (test : Job → Bool) → ((it : Job) → state_test (job_cells name it) ≡ test it)
+  -- the rows of the jobs that are in such a state
+  kept_jobs : (state_test : Row → Bool) (test : Job → Bool) (jobs : List Job) → AllByRecursion (λ (it : Job). state_test (job_cells name it) ≡ test it) jobs → filter state_test (map (job_cells name) jobs) ≡ map (job_cells name) (filter test jobs)
+  kept_jobs state_test test jobs same = filter-map state_test (job_cells name) jobs ∙ ap (map (job_cells name)) (filter_same (λ it. state_test (job_cells name it)) test jobs same)
+
+  kept_rows : (db : Database) → HasSchema db → (state_test : Row → Bool) (test : Job → Bool) → ((it : Job) → IsStanding it.standing → state_test (job_cells name it) ≡ test it)
       → (room : RoomValue) → HoldsRoom db name room → IsPermutation (filter state_test (rows_under job (1 ∷ []) (Text name ∷ []) db)) (map (job_cells name) (filter test (values room.jobs)))
   kept_rows db has state_test test same room held =
-      subst (IsPermutation (filter state_test (rows_under job (1 ∷ []) (Text name ∷ []) db))) (kept_jobs state_test test same (values room.jobs))
+      subst (IsPermutation (filter state_test (rows_under job (1 ∷ []) (Text name ∷ []) db))) (kept_jobs state_test test (values room.jobs) (all_weaker (λ (it : Job). IsStanding it.standing) _ same (values room.jobs) (room_sound db room held)))
       (IsPermutation-filter state_test (rows_under job (1 ∷ []) (Text name ∷ []) db) (map (job_cells name) (values room.jobs)) (rows_of_jobs db has name room held))
 
   cells_listed : (r : Row) → shows_of shows (params name limit) r ≡ listed_cells (drop 1 r)
@@ -112,7 +114,7 @@ module _ (name : List ℕ) (limit : Option ℕ) where
   unfinished_listed db has rows answer = record {
     of_room = λ room held.
         rows_told unfinished_tests unfinished_order name limit tells_unfinished by_number (asks_early name limit) (early_outputs name limit) db rows answer (not_completed (values room.jobs))
-        (kept_rows db has tells_unfinished (λ (it : Job). is_unfinished it.standing.state) (λ (it : Job). early_state it.standing.state) room held)
+        (kept_rows db has tells_unfinished (λ (it : Job). is_unfinished it.standing.state) (λ (it : Job) sound. early_state it.standing.state it.standing sound.by_state) room held)
         (early_rise name limit (not_completed (values room.jobs)) (not_completed_rise (values room.jobs) (room_rises db room held)));
     are_read = rows_read unfinished_tests unfinished_order name limit tells_unfinished by_number (asks_early name limit) (early_outputs name limit) cells_listed db rows answer;
   }
@@ -133,16 +135,21 @@ module _ (name : List ℕ) (limit : Option ℕ) where
       by_case true is rest = rw is rest
       by_case false isnt rest = rw isnt (by_state_ended it it.standing.state sound.0.by_state isnt, rest)
 
-  room_sound : (db : Database) (room : RoomValue) → HoldsRoom db name room → AllByRecursion (λ (it : Job). IsStanding it.standing) (values room.jobs)
-  room_sound db room held = values_keep (λ _ (it : Job). IsStanding it.standing) room.jobs (λ n it is. let at = held.is_room.jobs n it is in (at.numbered, at.standing))
-
   pub ended_listed : (db : Database) → HasSchema db → (rows : List Row) → IsShownBy ended_query db.trees (params name limit) rows → AreListed (λ all. at_most limit (completed all)) (ended_rows db name) db name rows
   ended_listed db has rows answer = record {
     of_room = λ room held.
         let jobs = values room.jobs in
         let same = completed_permutes jobs in
         rows_told ended_tests ended_order name limit tells_ended by_end (asks_late name limit) (late_outputs name limit) db rows answer (completed jobs)
-        (IsPermutation-trans _ _ _ (kept_rows db has tells_ended (λ (it : Job). not (is_unfinished it.standing.state)) (λ (it : Job). late_state it.standing.state) room held) (IsPermutation-map (job_cells name) (with_end jobs) (completed jobs) same))
+        (IsPermutation-trans _ _ _ (kept_rows db has tells_ended (λ (it : Job). not (is_unfinished it.standing.state)) (λ (it : Job) sound. late_state it.standing.state it.standing sound.by_state) room held) (IsPermutation-map (job_cells name) (with_end jobs) (completed jobs) same))
         (late_fall name limit (completed jobs) (all-permutation (λ (it : Job). IsSome it.standing.ended) (with_end jobs) (completed jobs) same (have_ended jobs (room_sound db room held))) (completed_fall jobs (room_rises db room held)));
     are_read = rows_read ended_tests ended_order name limit tells_ended by_end (asks_late name limit) (late_outputs name limit) cells_listed db rows answer;
   }
+
+-- the rows that tell no end are those of the jobs that have not ended
+pub unfinished_kept : (db : Database) → HasSchema db → (name : List ℕ) (room : RoomValue) → HoldsRoom db name room → IsPermutation (unfinished_rows db name) (map (job_cells name) (not_completed (values room.jobs)))
+unfinished_kept db has name room held =
+    kept_rows name None db has tells_unfinished (λ (it : Job). is_unfinished it.standing.state) (λ (it : Job) sound. early_state it.standing.state it.standing sound.by_state) room held
+
+pub none_unfinished : (db : Database) → HasSchema db → (name : List ℕ) → HoldsNothing db name → IsPermutation (unfinished_rows db name) []
+none_unfinished db has name held = IsPermutation-filter tells_unfinished (job_rows db name) [] (no_jobs db has name held)

@@ -1,19 +1,24 @@
 -- The jobs of an account in the orders of Get-Jobs: which rows the walks ask for.
-use Rattle.std.proofs.Common.{◌≡◌, ℕ, pos, Bool, true, false, not, ◌&&◌, List, [], ◌∷◌, drop, Option, refl}
+use Rattle.std.proofs.Common.{◌≡◌, ℕ, zero, suc, pos, negsuc, Bool, true, false, not, ◌&&◌, List, [], ◌∷◌, drop, Option, None, Some, IsSome, refl, sym, int_cmp, Greater, arith}
+use Rattle.std.proofs.lemmas.Bool.{true≢false}
+use Rattle.std.proofs.lemmas.Bool.Decides.{nat_tests}
+use Rattle.std.proofs.lemmas.Int.{ints}
 use Rattle.sqlite_value.specs.declared.value.Value.TheVariants.{Null, Int, Text}
 use Rattle.sqlite_value.specs.declared.keys.Collation.TheVariants.{Binary}
-use Rattle.sqlite_value.specs.Order.{Row, column}
+use Rattle.sqlite_value.specs.Order.{Row}
 use Rattle.sqlite_value.specs.Keys.{plain, first_key}
 use Rattle.sqlite_value.proofs.OrderLemmas.{value_cmp-Int}
 use Rattle.sqlite_sql.specs.declared.ops.BinaryOp.TheVariants.{Compare}
-use Rattle.sqlite_sql.specs.declared.ops.CompareOp.TheVariants.{Le, Ge}
+use Rattle.sqlite_sql.specs.declared.ops.CompareOp.TheVariants.{Eq, Ge}
 use Rattle.sqlite_sql.specs.Ops.{binary, is_true}
 use Rattle.sqlite_schema.specs.Rules.{agree}
+use Rattle.room_rules.specs.Standings.{KeepsToState}
+use Rattle.room_rules.specs.declared.job.Standing.{Standing}
 use Rattle.room_rules.specs.declared.job.JobState.{JobState}
 use Rattle.room_rules.specs.declared.job.JobState.TheVariants.{Held, Pending, Processing, Canceled, Aborted, Completed}
 use Rattle.room_state.specs.RoomRules.{is_unfinished}
 use Rattle.room_tables.specs.Queries.{passes}
-use Rattle.room_tables.specs.Cells.{number, state_number}
+use Rattle.room_tables.specs.Cells.{moment}
 use Rattle.room_statements.specs.SoundRows.{tells_unfinished, tells_ended}
 use Rattle.room_statements.proofs.QueueTexts.{params, unfinished_tests, ended_tests}
 
@@ -21,30 +26,57 @@ use Rattle.room_statements.proofs.QueueTexts.{params, unfinished_tests, ended_te
 abbrev pub of_account : List ℕ → Row → Bool
 of_account name row = agree plain (1 ∷ []) row (1 ∷ []) (Null ∷ Text name ∷ [])
 
-regrouped : (a b : Bool) → (a && (b && true)) ≡ ((a && true) && b)
+pub regrouped : (a b : Bool) → (a && (b && true)) ≡ ((a && true) && b)
 regrouped true true = refl
 regrouped true false = refl
 regrouped false b = refl
 
--- ---- a state
+-- ---- a moment of an end, or none
 
-pub early_state : (s : JobState) → is_true (binary (Compare Le Binary) (number (state_number s)) (Int (pos 5))) ≡ is_unfinished s
-unfolding binary
-early_state Held = rw (value_cmp-Int (pos 4) (pos 5)) refl
-early_state Pending = rw (value_cmp-Int (pos 3) (pos 5)) refl
-early_state Processing = rw (value_cmp-Int (pos 5) (pos 5)) refl
-early_state Canceled = rw (value_cmp-Int (pos 7) (pos 5)) refl
-early_state Aborted = rw (value_cmp-Int (pos 8) (pos 5)) refl
-early_state Completed = rw (value_cmp-Int (pos 9) (pos 5)) refl
+abbrev is_early : Option ℕ → Bool
+is_early at = is_true (binary (Compare Eq Binary) (moment at) (Int (negsuc 0)))
 
-pub late_state : (s : JobState) → is_true (binary (Compare Ge Binary) (number (state_number s)) (Int (pos 7))) ≡ not (is_unfinished s)
+abbrev is_late : Option ℕ → Bool
+is_late at = is_true (binary (Compare Ge Binary) (moment at) (Int (pos 0)))
+
+early_none : (at : Option ℕ) → at ≡ None → is_early at ≡ true
 unfolding binary
-late_state Held = rw (value_cmp-Int (pos 4) (pos 7)) refl
-late_state Pending = rw (value_cmp-Int (pos 3) (pos 7)) refl
-late_state Processing = rw (value_cmp-Int (pos 5) (pos 7)) refl
-late_state Canceled = rw (value_cmp-Int (pos 7) (pos 7)) refl
-late_state Aborted = rw (value_cmp-Int (pos 8) (pos 7)) refl
-late_state Completed = rw (value_cmp-Int (pos 9) (pos 7)) refl
+early_none at none = rw none (rw (value_cmp-Int (negsuc 0) (negsuc 0)) refl)
+
+early_some : (at : Option ℕ) → IsSome at → is_early at ≡ false
+unfolding binary
+early_some None some = absurd (true≢false (sym some))
+early_some (Some n) some = rw (value_cmp-Int (pos n) (negsuc 0)) refl
+
+late_none : (at : Option ℕ) → at ≡ None → is_late at ≡ false
+unfolding binary
+late_none at none = rw none (rw (value_cmp-Int (negsuc 0) (pos 0)) refl)
+
+int_more : (n : ℕ) → int_cmp (pos (suc n)) (pos 0) ≡ Greater
+int_more n = grind (arith, ints, nat_tests)
+
+late_some : (at : Option ℕ) → IsSome at → is_late at ≡ true
+unfolding binary
+late_some None some = absurd (true≢false (sym some))
+late_some (Some zero) some = rw (value_cmp-Int (pos 0) (pos 0)) refl
+late_some (Some (suc n)) some = rw (value_cmp-Int (pos (suc n)) (pos 0), int_more n) refl
+
+-- which of them a job has is told by its state
+pub early_state : (state : JobState) (s : Standing) → KeepsToState state s → is_early s.ended ≡ is_unfinished state
+early_state Held s keeps = early_none s.ended keeps.unfinished.has_not_ended
+early_state Pending s keeps = early_none s.ended keeps.released.unfinished.has_not_ended
+early_state Processing s keeps = early_none s.ended keeps.released.unfinished.has_not_ended
+early_state Canceled s keeps = early_some s.ended keeps.has_ended
+early_state Aborted s keeps = early_some s.ended keeps.has_ended
+early_state Completed s keeps = early_some s.ended keeps.has_ended
+
+pub late_state : (state : JobState) (s : Standing) → KeepsToState state s → is_late s.ended ≡ not (is_unfinished state)
+late_state Held s keeps = late_none s.ended keeps.unfinished.has_not_ended
+late_state Pending s keeps = late_none s.ended keeps.released.unfinished.has_not_ended
+late_state Processing s keeps = late_none s.ended keeps.released.unfinished.has_not_ended
+late_state Canceled s keeps = late_some s.ended keeps.has_ended
+late_state Aborted s keeps = late_some s.ended keeps.has_ended
+late_state Completed s keeps = late_some s.ended keeps.has_ended
 
 -- ---- a row
 

@@ -1,12 +1,12 @@
 -- The walks over an account's jobs in the orders of Get-Jobs: what their texts mean.
-use Rattle.std.proofs.Common.{ℕ, ◌++◌, pos, false, true, List, [], ◌∷◌, codes, Option, refl}
+use Rattle.std.proofs.Common.{ℕ, ◌++◌, pos, negsuc, false, true, List, [], ◌∷◌, codes, Option, refl}
 use Rattle.sqlite_tied.specs.Compute.{everything}
 use Rattle.sqlite_value.specs.declared.value.Value.TheVariants.{Int, Text}
 use Rattle.sqlite_value.specs.declared.keys.Key.{Key}
 use Rattle.sqlite_value.specs.declared.keys.Collation.TheVariants.{Binary}
 use Rattle.sqlite_value.specs.Order.{Row}
 use Rattle.sqlite_sql.specs.declared.ops.BinaryOp.TheVariants.{Compare}
-use Rattle.sqlite_sql.specs.declared.ops.CompareOp.TheVariants.{Le, Ge}
+use Rattle.sqlite_sql.specs.declared.ops.CompareOp.TheVariants.{Eq, Ge}
 use Rattle.sqlite_sql.specs.Query.{Query}
 use Rattle.sqlite_sql.specs.Term.{Term, lit, col, op2}
 use Rattle.sqlite.specs.Listing.{understood}
@@ -33,10 +33,10 @@ rising = record { collation = Binary; descending = false }
 -- ---- those that have not ended
 
 abbrev pub unfinished_text : List ℕ
-unfinished_text = codes "SELECT name, password, state, open, stopping, copies, impressions, reserved, charged, documents, rate, device, created, started, ended, job FROM job WHERE account = ?1 AND state <= 5 ORDER BY job LIMIT ?2"
+unfinished_text = codes "SELECT name, password, state, open, stopping, copies, impressions, reserved, charged, documents, rate, device, created, started, ended, job FROM job WHERE account = ?1 AND ended = -1 ORDER BY job LIMIT ?2"
 
 abbrev pub unfinished_tests : List Term
-unfinished_tests = is_given 1 1 ∷ op2 (Compare Le Binary) (col 1 5) (lit (Int (pos 5))) ∷ []
+unfinished_tests = is_given 1 1 ∷ op2 (Compare Eq Binary) (col 1 17) (lit (Int (negsuc 0))) ∷ []
 
 abbrev pub unfinished_order : List (Term × Key)
 unfinished_order = (col 1 2, rising) ∷ []
@@ -54,10 +54,10 @@ unfinished_takes name limit = record { given = refl; typed = refl }
 -- ---- those that have
 
 abbrev pub ended_text : List ℕ
-ended_text = codes "SELECT name, password, state, open, stopping, copies, impressions, reserved, charged, documents, rate, device, created, started, ended, job FROM job WHERE account = ?1 AND state >= 7 ORDER BY ended DESC, job DESC LIMIT ?2"
+ended_text = codes "SELECT name, password, state, open, stopping, copies, impressions, reserved, charged, documents, rate, device, created, started, ended, job FROM job WHERE account = ?1 AND ended >= 0 ORDER BY ended DESC, job DESC LIMIT ?2"
 
 abbrev pub ended_tests : List Term
-ended_tests = is_given 1 1 ∷ op2 (Compare Ge Binary) (col 1 5) (lit (Int (pos 7))) ∷ []
+ended_tests = is_given 1 1 ∷ op2 (Compare Ge Binary) (col 1 17) (lit (Int (pos 0))) ∷ []
 
 abbrev pub ended_order : List (Term × Key)
 ended_order = (col 1 17, falling) ∷ (col 1 2, falling) ∷ []

@@ -6,6 +6,7 @@ use Rattle.room_statements.proofs.GrantLemmas.{grant_read}
 use Rattle.room_statements.proofs.DocumentWalk.{documents_read}
 use Rattle.room_statements.proofs.QueueJobs.{jobs_read}
 use Rattle.room_statements.proofs.TallyWalk.{jobs_counted}
+use Rattle.room_statements.proofs.QueuedWalk.{queued_read}
 use Rattle.room_statements.proofs.GrantWalk.{grants_added}
 use Rattle.room_statements.proofs.DeviceLemmas.{device_read}
 use Rattle.room_statements.proofs.RateLemmas.{rate_read}
@@ -20,6 +21,7 @@ sound_rows_are_read = record {
     documents = λ number. documents_read db has name number sound;
     queues = jobs_read db has name sound;
     counted = jobs_counted db has name sound;
+    queued = queued_read db has name sound;
     added = λ month. grants_added db has name month sound;
   };
   of_devices = λ db has sound. record {

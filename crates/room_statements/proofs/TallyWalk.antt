@@ -55,7 +55,7 @@ tally_is = record { is = refl; lists_nothing = refl; is_plain = (refl, refl); ta
 pub tally_takes : (name : List ℕ) → Takes room_schema (of_table 3 tally_tests tally_shows []) (Text name ∷ []) 1
 tally_takes name = record { given = refl; typed = refl }
 
-cells_counted : (r : Row) → column r 5 ∷ column r 10 ∷ column r 11 ∷ [] ≡ counted_cells (drop 1 r)
+pub cells_counted : (r : Row) → column r 5 ∷ column r 10 ∷ column r 11 ∷ [] ≡ counted_cells (drop 1 r)
 cells_counted [] = refl
 cells_counted (v ∷ r) = refl
 
@@ -146,14 +146,14 @@ adds_up first last (r ∷ rows) (next, step, more) =
 abbrev told_of : List ℕ → Job → Row
 told_of name it = counted_cells (job_cells name it)
 
-module _ (db : Database) (has : HasSchema db) (name : List ℕ) where
+module _ (name : List ℕ) (rows : List Row) where
   abbrev shown : List Row
-  shown = map counted_cells (job_rows db name)
+  shown = map counted_cells rows
 
   -- where they are those of some jobs
-  module _ (jobs : List Job) (theirs : IsPermutation (job_rows db name) (map (job_cells name) jobs)) where
+  module _ (jobs : List Job) (theirs : IsPermutation rows (map (job_cells name) jobs)) where
     shown_told : IsPermutation shown (map (told_of name) jobs)
-    shown_told = subst (IsPermutation shown) (map-map counted_cells (job_cells name) jobs) (IsPermutation-map counted_cells (job_rows db name) (map (job_cells name) jobs) theirs)
+    shown_told = subst (IsPermutation shown) (map-map counted_cells (job_cells name) jobs) (IsPermutation-map counted_cells rows (map (job_cells name) jobs) theirs)
 
     sum_told : (f : Row → ℕ) → sum_by f shown ≡ sum_by (λ it. f (told_of name it)) jobs
     sum_told f = sym (sum_by-IsPermutation f shown (map (told_of name) jobs) shown_told) ∙ sum_mapped (told_of name) f jobs
@@ -196,9 +196,9 @@ module _ (db : Database) (has : HasSchema db) (name : List ℕ) where
         let no = sym (counted_some it.so_far s.state s.reserved s.charged fits) ∙ it.refused s.state s.reserved s.charged told in
         cc
 
-  pub jobs_unsound : RefusesOne CountsJob refuses_job shown (tally_of []) → CanBeCounted name (job_rows db name) → ⊥
+  pub jobs_unsound : RefusesOne CountsJob refuses_job shown (tally_of []) → CanBeCounted name rows → ⊥
   jobs_unsound it can = none_refused can.jobs can.are_theirs can.in_bounds it
 
-  pub jobs_counted : IsSound db name → CanBeCounted name (job_rows db name)
-  jobs_counted (None, held) = record { jobs = []; are_theirs = no_jobs db has name held; in_bounds = refl }
-  jobs_counted (Some room, held) = record { jobs = values room.jobs; are_theirs = rows_of_jobs db has name room held; in_bounds = room_in_bounds room held.is_room }
+pub jobs_counted : (db : Database) → HasSchema db → (name : List ℕ) → IsSound db name → CanBeCounted name (job_rows db name)
+jobs_counted db has name (None, held) = record { jobs = []; are_theirs = no_jobs db has name held; in_bounds = refl }
+jobs_counted db has name (Some room, held) = record { jobs = values room.jobs; are_theirs = rows_of_jobs db has name room held; in_bounds = room_in_bounds room held.is_room }

@@ -1,12 +1,12 @@
 -- What a read can find in sound rows: where it tells `Damaged`, what it read is none of these (all this project's
 -- own).
-use Rattle.std.specs.Prelude.{◌≡◌, ℕ, ◌≤◌, ℤ, pos, Bool, ⊤, List, [], ◌∷◌, map, filter, drop, IsPermutation, Option, option_map, IfSome, IsTrue}
+use Rattle.std.specs.Prelude.{◌≡◌, ℕ, ◌≤◌, pos, negsuc, Bool, ⊤, List, [], ◌∷◌, map, filter, drop, IsPermutation, Option, option_map, IfSome, IsTrue}
 use Rattle.std.specs.List.{sum_by}
 use Rattle.sqlite_value.specs.declared.value.Value.TheVariants.{Int, Text}
 use Rattle.sqlite_value.specs.declared.keys.Collation.TheVariants.{Binary}
 use Rattle.sqlite_value.specs.Order.{Row, column}
 use Rattle.sqlite_sql.specs.declared.ops.BinaryOp.TheVariants.{Compare}
-use Rattle.sqlite_sql.specs.declared.ops.CompareOp.TheVariants.{Le, Ge}
+use Rattle.sqlite_sql.specs.declared.ops.CompareOp.TheVariants.{Eq, Ge}
 use Rattle.sqlite_sql.specs.Ops.{binary, is_true}
 use Rattle.sqlite_rules.specs.Lists.{Has}
 use Rattle.sqlite.specs.Effect.{Database}
@@ -43,13 +43,12 @@ grant_rows db name = rows_under grants (1 ∷ []) (Text name ∷ []) db
 abbrev pub document_rows : Database → List ℕ → ℕ → List Row
 document_rows db name of_job = rows_under document (1 ∷ 2 ∷ []) (Text name ∷ number of_job ∷ []) db
 
--- those of its jobs whose state, by its number, comes before the end, and those where it comes behind it (RFC 8011
--- section 5.3.7)
+-- those of its jobs that tell no moment of an end, and those that tell one
 abbrev pub tells_unfinished : Row → Bool
-tells_unfinished cells = is_true (binary (Compare Le Binary) (column cells 4) (Int (pos 5)))
+tells_unfinished cells = is_true (binary (Compare Eq Binary) (column cells 16) (Int (negsuc 0)))
 
 abbrev pub tells_ended : Row → Bool
-tells_ended cells = is_true (binary (Compare Ge Binary) (column cells 4) (Int (pos 7)))
+tells_ended cells = is_true (binary (Compare Ge Binary) (column cells 16) (Int (pos 0)))
 
 abbrev pub unfinished_rows : Database → List ℕ → List Row
 unfinished_rows db name = filter tells_unfinished (job_rows db name)
@@ -84,6 +83,7 @@ pub record AccountsRead (db : Database) (name : List ℕ) : Type 0 where
   pub documents : (number : ℕ) → AreRowsOf (document_cells name) (IsDocumentOf number) (document_rows db name number)
   pub queues : AreRowsOf (job_cells name) IsNumbered (job_rows db name)
   pub counted : CanBeCounted name (job_rows db name)
+  pub queued : CanBeCounted name (unfinished_rows db name)
   pub added : (month : ℕ) → CanBeAdded name month (grant_rows db name)
 
 pub record DevicesRead (db : Database) : Type 0 where

@@ -10,6 +10,7 @@ mod law;
 mod queues;
 mod rates;
 mod tallies;
+mod unfinished;
 mod values;
 mod walking;
 
@@ -23,3 +24,4 @@ pub use queues::{ended_jobs, unfinished_jobs};
 pub use rates::{find_rate, set_rate};
 pub use room_tables::StoreFault;
 pub use tallies::tally_jobs;
+pub use unfinished::tally_unfinished;

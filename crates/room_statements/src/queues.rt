@@ -54,7 +54,7 @@ fn walk_unfinished<S: Alter>(
 {
     walk(
         connection,
-        "SELECT name, password, state, open, stopping, copies, impressions, reserved, charged, documents, rate, device, created, started, ended, job FROM job WHERE account = ?1 AND state <= 5 ORDER BY job LIMIT ?2",
+        "SELECT name, password, state, open, stopping, copies, impressions, reserved, charged, documents, rate, device, created, started, ended, job FROM job WHERE account = ?1 AND ended = -1 ORDER BY job LIMIT ?2",
         &[ValueRef::Text(name.bytes()), limit_of(limit)],
         jobs,
     )
@@ -93,7 +93,7 @@ fn walk_ended<S: Alter>(
 {
     walk(
         connection,
-        "SELECT name, password, state, open, stopping, copies, impressions, reserved, charged, documents, rate, device, created, started, ended, job FROM job WHERE account = ?1 AND state >= 7 ORDER BY ended DESC, job DESC LIMIT ?2",
+        "SELECT name, password, state, open, stopping, copies, impressions, reserved, charged, documents, rate, device, created, started, ended, job FROM job WHERE account = ?1 AND ended >= 0 ORDER BY ended DESC, job DESC LIMIT ?2",
         &[ValueRef::Text(name.bytes()), limit_of(limit)],
         jobs,
     )

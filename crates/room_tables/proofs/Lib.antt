@@ -7,6 +7,7 @@ pub mod Upserts
 pub mod Statements
 pub mod Transactions
 pub mod Created
+pub mod IndexLemmas
 pub mod Reading
 pub mod Columns
 pub mod VersionLemmas

@@ -5,15 +5,15 @@ use Rattle.sqlite_value.specs.declared.value.Value.TheVariants.{Null, Int}
 use Rattle.sqlite_sql.specs.Term.{Term, lit}
 use Rattle.sqlite_schema.specs.declared.schema.Schema.{Schema}
 use Rattle.sqlite_schema.specs.declared.schema.Table.{Table}
-use Rattle.sqlite_schema.specs.declared.command.Command.TheVariants.{CreateTable, Insert}
+use Rattle.sqlite_schema.specs.declared.command.Command.TheVariants.{CreateTable, CreateIndex, Insert}
 use Rattle.sqlite_schema.specs.declared.command.Source.TheVariants.{Values}
-use Rattle.sqlite_resolve.specs.Compile.{table_defined_by}
-use Rattle.sqlite_catalog.specs.Change.{created}
+use Rattle.sqlite_resolve.specs.Compile.{table_defined_by, index_defined_by}
+use Rattle.sqlite_catalog.specs.Change.{created, indexed}
 use Rattle.sqlite.specs.Does.{lacks_sequence}
 use Rattle.sqlite.specs.Listing.{understood}
 use Rattle.sqlite.proofs.Callers.{IsPlain, command_of, statement_of}
 use Rattle.room_tables.specs.Making.{with_meta, with_account, with_job, with_document, with_grants}
-use Rattle.room_tables.specs.Tables.{no_schema, first_schema, room_schema, meta, account, job, document, grants, device, rates}
+use Rattle.room_tables.specs.Tables.{no_schema, first_schema, rated_schema, room_schema, job_ended, meta, account, job, document, grants, device, rates}
 
 -- under the schema, the text is one statement that makes this table
 pub record Makes (schema : Schema) (text : List ℕ) (table : Table) : Type 0 where
@@ -48,9 +48,9 @@ pub first_schema_is : created with_grants device ≡ first_schema
 unfolding everything
 first_schema_is = refl
 
-pub room_schema_is : created first_schema rates ≡ room_schema
+pub rated_schema_is : created first_schema rates ≡ rated_schema
 unfolding everything
-room_schema_is = refl
+rated_schema_is = refl
 
 -- ---- each text in its turn
 
@@ -81,6 +81,31 @@ makes_device = record { command = refl; whole = refl; is_plain = (refl, refl); d
 pub makes_rates : Makes first_schema rates_text rates
 unfolding understood everything
 makes_rates = record { command = refl; whole = refl; is_plain = (refl, refl); defines = refl; counts_nothing = refl }
+
+-- ---- the index
+
+abbrev pub job_ended_text : List ℕ
+job_ended_text = codes "CREATE INDEX job_ended ON job (account, ended, job)"
+
+pub job_ended_is : command_of (understood rated_schema job_ended_text) ≡ CreateIndex 2
+unfolding understood everything
+job_ended_is = refl
+
+pub job_ended_whole : statement_of job_ended_text (understood rated_schema job_ended_text) ≡ job_ended_text
+unfolding understood everything
+job_ended_whole = refl
+
+pub job_ended_plain : IsPlain (understood rated_schema job_ended_text)
+unfolding understood everything
+job_ended_plain = (refl, refl)
+
+pub job_ended_defined : index_defined_by job job_ended_text ≡ Ok (record job_ended { tree = 0 })
+unfolding understood everything
+job_ended_defined = refl
+
+pub room_schema_is : indexed rated_schema job job_ended ≡ room_schema
+unfolding everything
+room_schema_is = refl
 
 -- ---- the row of the version
 

@@ -28,12 +28,12 @@ use Rattle.sqlite.specs.Rows.{Written}
 use Rattle.sqlite.specs.Listing.{understood}
 use Rattle.sqlite.specs.State.{State, Executes, mode_of}
 use Rattle.sqlite.proofs.Callers.{statement_of, runs_as}
-use Rattle.room_tables.specs.Tables.{first_schema, room_schema, column_of, device, rates}
+use Rattle.room_tables.specs.Tables.{first_schema, rated_schema, room_schema, column_of, device, rates}
 use Rattle.room_tables.specs.Keyed.{has_key}
 use Rattle.room_tables.specs.Queries.{passes, shows_of}
 use Rattle.room_tables.specs.Cells.{units_cells}
 use Rattle.room_tables.specs.Migrating.{AddsRates, RatesDevices}
-use Rattle.room_tables.proofs.MakingTexts.{rates_text, makes_rates, room_schema_is}
+use Rattle.room_tables.proofs.MakingTexts.{rates_text, makes_rates, rated_schema_is}
 use Rattle.room_tables.proofs.Created.{adds}
 use Rattle.room_tables.proofs.Columns.{cells_are, no_null, text_is, text_there}
 use Rattle.room_tables.proofs.Edits.{AreNumbered, edit_from, edit_adds, edit_wrote}
@@ -45,10 +45,10 @@ use Rattle.room_tables.proofs.RatingText.{rate_text, rate_shows, by_bytes, of_de
 
 -- ---- the table is made
 
-pub adds_rates : (old new : State) (count : ℕ) → Executes rates_text [] old new (Ok count) → old.now.schema ≡ first_schema → AddsRates old.now new.now
+pub adds_rates : (old new : State) (count : ℕ) → Executes rates_text [] old new (Ok count) → old.now.schema ≡ first_schema → AddsRates rated_schema old.now new.now
 adds_rates old new count h was =
     let it = adds first_schema rates_text rates makes_rates old new count h was in
-    record { schema_is = it.schema_is ∙ room_schema_is; kept = it.kept; no_rate = it.no_row }
+    record { schema_is = it.schema_is ∙ rated_schema_is; kept = it.kept; no_rate = it.no_row }
 
 -- ---- a row that is put in has the cells that it was given
 

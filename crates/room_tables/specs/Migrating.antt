@@ -4,9 +4,10 @@ use Rattle.std.specs.List.{AllByRecursion}
 use Rattle.std.specs.FinMap.{get}
 use Rattle.sqlite_trees.specs.View.{IsShaped}
 use Rattle.sqlite_trees.specs.declared.store.Shape.TheVariants as shape
+use Rattle.sqlite_schema.specs.declared.schema.Schema.{Schema}
 use Rattle.sqlite.specs.Effect.{Database, IsDatabase}
 use Rattle.room_rules.specs.Devices.{Devices}
-use Rattle.room_tables.specs.Tables.{first_schema, room_schema, meta, rates}
+use Rattle.room_tables.specs.Tables.{first_schema, rated_schema, room_schema, meta, rates}
 use Rattle.room_tables.specs.declared.fault.OpenFault.{OpenFault}
 use Rattle.room_tables.specs.declared.fault.OpenFault.TheVariants.{NotOurs, WrongVersion, Storage, Memory}
 use Rattle.room_tables.specs.Keyed.{AreNumbered, OnlyChanges}
@@ -49,10 +50,15 @@ pub record IsMigrated (old new : Database) : Type 0 where
 -- ---- the statements on the way
 
 -- the table `rates` is there, with no row, beside the tables of version 1
-pub record AddsRates (old new : Database) : Type 0 where
-  pub schema_is : new.schema ≡ room_schema
+pub record AddsRates (schema : Schema) (old new : Database) : Type 0 where
+  pub schema_is : new.schema ≡ schema
   pub kept : AllByRecursion (λ table. new.trees table.tree ≡ old.trees table.tree) first_schema.tables
   pub no_rate : new.trees rates.tree ≡ []
+
+-- the index on jobs is there, and each table is as it was
+pub record AddsIndex (old new : Database) : Type 0 where
+  pub schema_is : new.schema ≡ room_schema
+  pub kept : AllByRecursion (λ table. new.trees table.tree ≡ old.trees table.tree) rated_schema.tables
 
 pub record RatesDevices (old new : Database) : Type 0 where
   pub schema_is : new.schema ≡ room_schema

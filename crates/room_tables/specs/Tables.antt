@@ -76,10 +76,22 @@ first_schema = record {
   views = [];
 }
 
+-- on the way from version 1: its tables and the rates
+abbrev pub rated_schema : Schema
+rated_schema = record {
+  tables = meta ∷ account ∷ job ∷ document ∷ grants ∷ device ∷ rates ∷ [];
+  indexes = index_of account ∷ index_of job ∷ index_of document ∷ index_of grants ∷ index_of device ∷ index_of rates ∷ [];
+  views = [];
+}
+
+-- an account's jobs by the moment of their end, and then by their number, in the tree after all others
+abbrev pub job_ended : Index
+job_ended = record { name = codes "job_ended"; tree = 13; table = 3; columns = 1 ∷ 17 ∷ 2 ∷ []; order = plain; is_unique = false }
+
 -- version 2
 abbrev pub room_schema : Schema
 room_schema = record {
   tables = meta ∷ account ∷ job ∷ document ∷ grants ∷ device ∷ rates ∷ [];
-  indexes = index_of account ∷ index_of job ∷ index_of document ∷ index_of grants ∷ index_of device ∷ index_of rates ∷ [];
+  indexes = index_of account ∷ index_of job ∷ index_of document ∷ index_of grants ∷ index_of device ∷ index_of rates ∷ job_ended ∷ [];
   views = [];
 }

@@ -1,10 +1,10 @@
 //! The tables, as they are made.
 
 ghost use Rattle.std.specs.Prelude.{◌≡◌, false};
-ghost use Rattle.room_tables.specs.Tables.{no_schema, first_schema, room_schema};
+ghost use Rattle.room_tables.specs.Tables.{no_schema, first_schema, rated_schema, room_schema};
 ghost use Rattle.room_tables.specs.Calls.{IsWhole, Makes, StaysInside};
 ghost use Rattle.room_tables.specs.Making.{with_meta, with_account, with_job, with_document, with_grants, IsBlank, IsNew};
-ghost use Rattle.room_tables.specs.Migrating.{AddsRates};
+ghost use Rattle.room_tables.specs.Migrating.{AddsIndex, AddsRates};
 
 use crate::writing::write;
 use sqlite::{Alter, Connection, Error, Transaction};
@@ -17,7 +17,7 @@ pub fn make_tables<S: Alter>(connection: &mut Connection<S>) -> Result<(), Error
 {
     let mut transaction = connection.transaction();
     make_first_tables(&mut transaction)?;
-    make_rates(&mut transaction)?;
+    extend_tables(&mut transaction)?;
     note_version(&mut transaction)?;
     transaction.commit()
 }
@@ -101,14 +101,36 @@ fn make_device<S: Alter>(transaction: &mut Transaction<'_, S>) -> Result<(), Err
     )
 }
 
-pub(crate) fn make_rates<S: Alter>(transaction: &mut Transaction<'_, S>) -> Result<(), Error>
+/// What version 2 has beside the tables of version 1: the rates, and the index by which an account's jobs are
+/// found by their ends.
+pub(crate) fn extend_tables<S: Alter>(transaction: &mut Transaction<'_, S>) -> Result<(), Error>
     ensures made { Makes S.Store transaction.old.conn.now transaction.new.conn.now result (λ before after. IsBlank first_schema before → IsBlank room_schema after) }
-    ensures adds { Makes S.Store transaction.old.conn.now transaction.new.conn.now result (λ before after. before.schema ≡ first_schema → AddsRates before after) }
+    ensures adds { Makes S.Store transaction.old.conn.now transaction.new.conn.now result (λ before after. before.schema ≡ first_schema → AddsRates room_schema before after) }
+    ensures inside { StaysInside S.Store transaction.old.conn transaction.new.conn result }
+{
+    make_rates(transaction)?;
+    make_job_ended(transaction)
+}
+
+fn make_rates<S: Alter>(transaction: &mut Transaction<'_, S>) -> Result<(), Error>
+    ensures made { Makes S.Store transaction.old.conn.now transaction.new.conn.now result (λ before after. IsBlank first_schema before → IsBlank rated_schema after) }
+    ensures adds { Makes S.Store transaction.old.conn.now transaction.new.conn.now result (λ before after. before.schema ≡ first_schema → AddsRates rated_schema before after) }
     ensures inside { StaysInside S.Store transaction.old.conn transaction.new.conn result }
 {
     write(
         transaction,
         "CREATE TABLE rates (device TEXT NOT NULL, units INTEGER NOT NULL, PRIMARY KEY (device)) STRICT",
+        &[],
+    )
+}
+
+fn make_job_ended<S: Alter>(transaction: &mut Transaction<'_, S>) -> Result<(), Error>
+    ensures adds { Makes S.Store transaction.old.conn.now transaction.new.conn.now result (λ before after. before.schema ≡ rated_schema → AddsIndex before after) }
+    ensures inside { StaysInside S.Store transaction.old.conn transaction.new.conn result }
+{
+    write(
+        transaction,
+        "CREATE INDEX job_ended ON job (account, ended, job)",
         &[],
     )
 }

@@ -9,7 +9,7 @@ ghost use Rattle.room_tables.specs.Making.{HasVersion, IsOpened};
 ghost use Rattle.room_tables.specs.Migrating.{IsFirst, IsMigrated, IsMigrateFault, RatesDevices, NotesVersionTwo};
 
 use crate::fault::OpenFault;
-use crate::making::make_rates;
+use crate::making::extend_tables;
 use crate::version::is_older;
 use crate::writing::write;
 use sqlite::{Alter, Connection, Error, Transaction};
@@ -27,7 +27,7 @@ pub fn migrate_tables<S: Alter>(connection: &mut Connection<S>) -> Result<(), Op
     Ok(())
 }
 
-/// Gives a database of version 1 the table `rates`, a rate of 1 for each device, and version 2, in one
+/// Gives a database of version 1 what version 2 has beside it, a rate of 1 for each device, and version 2, in one
 /// transaction.
 fn add_rates<S: Alter>(connection: &mut Connection<S>) -> Result<(), Error>
     requires mode { connection.old.in_transaction ≡ false }
@@ -43,7 +43,7 @@ fn become_version_two<S: Alter>(transaction: &mut Transaction<'_, S>) -> Result<
     ensures migrated { Makes S.Store transaction.old.conn.now transaction.new.conn.now result (λ before after. IsFirst before → IsMigrated before after) }
     ensures inside { StaysInside S.Store transaction.old.conn transaction.new.conn result }
 {
-    make_rates(transaction)?;
+    extend_tables(transaction)?;
     rate_devices(transaction)?;
     note_version_two(transaction)
 }

@@ -3,7 +3,7 @@
 ghost use Rattle.std.specs.Prelude.{◌≡◌, ◌↔◌, ◌+◌, ◌<◌, ◌^◌, [], ◌∷◌, map, drop, true, false, IsTrue};
 ghost use Rattle.sqlite_value.specs.Keys.{plain};
 ghost use Rattle.sqlite_schema.specs.declared.schema.Kind.TheVariants.{Integer, Text as TextKind, Blob as BlobKind};
-ghost use Rattle.room_tables.specs.Tables.{column_of, keyed, meta, account, job, document, grants, device, rates, no_schema, first_schema, room_schema};
+ghost use Rattle.room_tables.specs.Tables.{column_of, keyed, meta, account, job, document, grants, device, rates, no_schema, first_schema, rated_schema, job_ended, room_schema};
 ghost use Rattle.room_tables.specs.Forms.{column_formed};
 ghost use Rattle.room_tables.specs.Making.{IsLaidOut, KeepsVersion};
 
@@ -309,6 +309,26 @@ fn is_column(column: &Column, form: &ColumnForm) -> bool
 
 fn are_room_indexes(indexes: &[Index]) -> bool
     ensures { IsTrue result ↔ indexes.now ≡ room_schema.indexes }
+{
+    match indexes {
+        [rated @ .., last] => are_rated_indexes(rated) && is_job_ended(last),
+        _ => false,
+    }
+}
+
+fn is_job_ended(index: &Index) -> bool
+    ensures { IsTrue result ↔ index.now ≡ job_ended }
+{
+    is_name(&index.name, "job_ended")
+        && index.tree == 13
+        && index.table == 3
+        && are_places(&index.columns, &[1, 17, 2])
+        && index.order.digits == 0
+        && !index.is_unique
+}
+
+fn are_rated_indexes(indexes: &[Index]) -> bool
+    ensures { IsTrue result ↔ indexes.now ≡ rated_schema.indexes }
 {
     match indexes {
         [first @ .., last] => {

@@ -3,7 +3,8 @@
 //! - `account NAME` answers `opened MOMENT next NUMBER`, `device NAME` whether it is `on` or `off`, `rate NAME`
 //!   and `grant NAME MONTH` a number, each of them `none` where there is no row;
 //! - `is-device-on` answers `yes` or `no`, `granted NAME MONTH` a number;
-//! - `tally NAME` answers `unfinished COUNT idle|processing reserved UNITS charged UNITS`;
+//! - `tally NAME` answers `unfinished COUNT idle|processing reserved UNITS charged UNITS` of all jobs, `queue NAME`
+//!   of those that have not ended;
 //! - `job NAME NUMBER` answers the words that `set-job` takes behind the account;
 //! - `unfinished NAME LIMIT` and `ended NAME LIMIT` answer the number and the name of each job;
 //! - `documents NAME JOB` answers the job, the number, the format and the bytes of each document.
@@ -14,7 +15,7 @@ use crate::fields::Fields;
 use room_rules::Name;
 use room_statements::{
     ended_jobs, find_account, find_device, find_documents, find_grant, find_job, find_rate,
-    granted_to, is_device_on, tally_jobs, unfinished_jobs,
+    granted_to, is_device_on, tally_jobs, tally_unfinished, unfinished_jobs,
 };
 use sqlite::{Alter, Connection};
 use std::alloc::Global;
@@ -28,6 +29,7 @@ pub enum Ask {
     Grant { name: Name, month: u32 },
     Granted { name: Name, month: u32 },
     Tally { name: Name },
+    Queue { name: Name },
     Job { name: Name, job: u32 },
     Unfinished { name: Name, limit: Option<u32> },
     Ended { name: Name, limit: Option<u32> },
@@ -57,6 +59,9 @@ impl Ask {
                 month: fields.number()?,
             },
             "tally" => Ask::Tally {
+                name: fields.name()?,
+            },
+            "queue" => Ask::Queue {
                 name: fields.name()?,
             },
             "job" => Ask::Job {
@@ -94,6 +99,7 @@ impl Ask {
             Ask::Grant { name, month } => Answer::Number(find_grant(connection, name, month)?),
             Ask::Granted { name, month } => Answer::Units(granted_to(connection, name, month)?),
             Ask::Tally { name } => Answer::Tally(tally_jobs(connection, name)?),
+            Ask::Queue { name } => Answer::Tally(tally_unfinished(connection, name)?),
             Ask::Job { name, job } => Answer::Job(find_job(connection, name, job)?),
             Ask::Unfinished { name, limit } => {
                 Answer::Jobs(unfinished_jobs(alloc, connection, name, limit)?)

@@ -6,7 +6,7 @@ use room_rules::{Account, Format};
 use room_statements::{
     ended_jobs, find_account, find_device, find_documents, find_grant, find_job, find_rate,
     granted_to, is_device_on, remove_documents, set_account, set_device, set_document, set_grant,
-    set_job, set_rate, tally_jobs, unfinished_jobs,
+    set_job, set_rate, tally_jobs, tally_unfinished, unfinished_jobs,
 };
 use sqlite::{Alter, Connection, Transaction};
 use std::alloc::Global;
@@ -22,6 +22,7 @@ pub enum Read {
     FindDevice,
     FindRate,
     TallyJobs,
+    TallyUnfinished,
     UnfinishedJobs,
     EndedJobs,
     GrantedTo,
@@ -29,13 +30,14 @@ pub enum Read {
     IsDeviceOn,
 }
 
-pub const READS: [Read; 11] = [
+pub const READS: [Read; 12] = [
     Read::FindAccount,
     Read::FindJob,
     Read::FindGrant,
     Read::FindDevice,
     Read::FindRate,
     Read::TallyJobs,
+    Read::TallyUnfinished,
     Read::UnfinishedJobs,
     Read::EndedJobs,
     Read::GrantedTo,
@@ -52,6 +54,7 @@ impl Read {
             Read::FindDevice => "find_device",
             Read::FindRate => "find_rate",
             Read::TallyJobs => "tally_jobs, 10 rows",
+            Read::TallyUnfinished => "tally_unfinished, 10 rows",
             Read::UnfinishedJobs => "unfinished_jobs, 10 rows",
             Read::EndedJobs => "ended_jobs, no row",
             Read::GrantedTo => "granted_to, 10 rows",
@@ -73,6 +76,7 @@ impl Read {
             Read::FindDevice => drop(find_device(connection, own.device)?),
             Read::FindRate => drop(find_rate(connection, own.device)?),
             Read::TallyJobs => drop(tally_jobs(connection, own.account)?),
+            Read::TallyUnfinished => drop(tally_unfinished(connection, own.account)?),
             Read::UnfinishedJobs => drop(unfinished_jobs(alloc, connection, own.account, None)?),
             Read::EndedJobs => drop(ended_jobs(alloc, connection, own.account, None)?),
             Read::GrantedTo => drop(granted_to(connection, own.account, FIRST_GRANT + 10)?),

@@ -4,6 +4,7 @@ use Rattle.std.proofs.lemmas.Result.{err_from_is_err_and}
 use Rattle.sqlite.specs.Held.{state}
 use Rattle.room_tables.specs.declared.fault.StoreFault.TheVariants.{Damaged}
 use Rattle.room_tables.proofs.KeyedRows.{same_fault}
+use Rattle.room_statements.specs.SoundRows.{job_rows}
 use Rattle.room_statements.proofs.AccountRows.{rows_of_jobs}
 use Rattle.room_statements.proofs.TallyWalk.{tally_counted, walked_within, few_of, units_of, jobs_unsound}
 use Rattle.room_statements.proofs.tallies.tally_jobs.Goals as goal
@@ -11,13 +12,13 @@ use Rattle.room_statements.proofs.tallies.tally_jobs.Goals as goal
 pub returns-clause-counted : goal.returns-clause-counted
 returns-clause-counted g c clean has room held =
     let db = (state g.S.Store c.args.connection.now).now in
-    tally_counted db has c.args.name (values room.jobs) (rows_of_jobs db has c.args.name room held) c.walk_jobs.new.tally (rw c.new-tally.ensures at (c.in_ok-walk_jobs.ensures.walks clean has).all)
+    tally_counted c.args.name (job_rows db c.args.name) (values room.jobs) (rows_of_jobs db has c.args.name room held) c.walk_jobs.new.tally (rw c.new-tally.ensures at (c.in_ok-walk_jobs.ensures.walks clean has).all)
 
 pub returns-in_err-walk_jobs-clause-damaged : goal.returns-in_err-walk_jobs-clause-damaged
 returns-in_err-walk_jobs-clause-damaged g c clean has is_damaged =
     let told = err_from_is_err_and c.from_residual.result c.from_residual.ensures.1 in
     let fault : c.in_err-walk_jobs.field-0.0 ≡ Damaged = sym told.2 ∙ same_fault (sym told.1 ∙ is_damaged) in
-    jobs_unsound (state g.S.Store c.args.connection.now).now has c.args.name (rw c.new-tally.ensures at ((c.in_err-walk_jobs.ensures.walks clean has).damaged (ap Err fault)))
+    jobs_unsound c.args.name (job_rows (state g.S.Store c.args.connection.now).now c.args.name) (rw c.new-tally.ensures at ((c.in_err-walk_jobs.ensures.walks clean has).damaged (ap Err fault)))
 
 pub returns-clause-few : goal.returns-clause-few
 returns-clause-few g c = few_of c.walk_jobs.new.tally (walked_within _ c.walk_jobs.new.tally c.in_ok-walk_jobs.ensures.gathers c.new-tally.ensures)

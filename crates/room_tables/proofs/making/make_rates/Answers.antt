@@ -2,7 +2,7 @@ use Rattle.std.proofs.Common.{subst}
 use Rattle.sqlite.specs.Held.{state}
 use Rattle.room_tables.specs.Tables.{first_schema, rates}
 use Rattle.room_tables.specs.Making.{IsBlank}
-use Rattle.room_tables.proofs.MakingTexts.{rates_text, makes_rates, room_schema_is}
+use Rattle.room_tables.proofs.MakingTexts.{rates_text, makes_rates, rated_schema_is}
 use Rattle.room_tables.proofs.Created.{creates}
 use Rattle.room_tables.proofs.RatedLemmas.{adds_rates}
 use Rattle.room_tables.proofs.Transactions.{then_changed}
@@ -12,7 +12,7 @@ pub returns-clause-made : goal.returns-clause-made
 returns-clause-made g c clean =
     let old = state g.S.Store c.args.transaction.now.conn.now in
     let new = state g.S.Store c.write.new.transaction.conn.now in
-    then_changed c.write.result _ _ (λ run blank. subst (λ s. IsBlank s new.now) room_schema_is (creates first_schema rates_text rates makes_rates old new run.0 run.1 blank)) (c.write.ensures.runs clean)
+    then_changed c.write.result _ _ (λ run blank. subst (λ s. IsBlank s new.now) rated_schema_is (creates first_schema rates_text rates makes_rates old new run.0 run.1 blank)) (c.write.ensures.runs clean)
 
 pub returns-clause-adds : goal.returns-clause-adds
 returns-clause-adds g c clean =
