@@ -1,5 +1,5 @@
 -- The statements on the table `account`: what their texts mean, and what they leave.
-use Rattle.std.proofs.Common.{◌≡◌, ◌≢◌, Result, ℕ, List, [], ◌∷◌, codes, Option, Some, None, option_map, refl, ap, ◌∙◌}
+use Rattle.std.proofs.Common.{◌≡◌, ◌≢◌, Result, ℕ, true, drop, List, [], ◌∷◌, codes, Option, Some, None, option_map, refl, ap, ◌∙◌}
 use Rattle.sqlite_tied.specs.Compute.{everything}
 use Rattle.sqlite_value.specs.declared.value.Value.TheVariants.{Null, Text}
 use Rattle.sqlite_value.specs.declared.keys.Collation.TheVariants.{Binary}
@@ -12,18 +12,19 @@ use Rattle.sqlite.specs.Effect.{Database}
 use Rattle.sqlite.specs.Listing.{understood}
 use Rattle.room_rules.specs.declared.account.Account.{Account}
 use Rattle.room_tables.specs.Tables.{room_schema, account}
-use Rattle.room_tables.specs.Keyed.{HasSchema}
+use Rattle.room_tables.specs.Keyed.{HasSchema, has_key}
 use Rattle.sqlite.specs.State.{State}
 use Rattle.sqlite.specs.declared.error.Error.{Error}
 use Rattle.room_tables.specs.Calls.{Gets}
-use Rattle.room_tables.specs.Queries.{Means, Takes, of_table, FindsRow}
+use Rattle.room_tables.specs.Queries.{Means, Takes, of_table, shows_of, FindsRow}
 use Rattle.room_tables.proofs.Reading.{gets, without_number}
 use Rattle.room_tables.specs.Cells.{number, account_cells}
 use Rattle.room_tables.specs.Accounts.{account_at, account_of, IsAccount, IsSound}
 use Rattle.room_statements.specs.SoundRows.{IsRowOf}
 use Rattle.room_tables.proofs.KeyedTables.{account_in, account_key}
-use Rattle.room_tables.proofs.KeyedRows.{same_row, row_found}
-use Rattle.room_tables.proofs.Settings.{IsSetting}
+use Rattle.room_tables.proofs.KeyedRows.{has_values, same_row, row_found}
+use Rattle.room_tables.proofs.Settings.{IsSetting, AllKept}
+use Rattle.room_tables.proofs.Updates.{IsUpdating}
 use Rattle.room_tables.proofs.Upserts.{cast_integer}
 
 -- ---- the read by its key
@@ -62,6 +63,35 @@ account_terms = lit Null ∷ col 0 0 ∷ col 0 1 ∷ col 0 2 ∷ []
 pub sets_account : (name : List ℕ) (it : Account) → IsSetting (Text name ∷ []) (number it.opened ∷ number it.next_job ∷ []) account_in set_account_text account_becomes account_terms
 unfolding understood everything
 sets_account name it = record { command = refl; is_plain = (refl, refl); rows = refl; becomes = λ id there r. refl; exact = account_key name; kept = (refl, (cast_integer _, (cast_integer _, tt))) }
+
+-- ---- the update of its next number
+
+abbrev pub next_text : List ℕ
+next_text = codes "UPDATE account SET next_job = ?2 WHERE name = ?1"
+
+-- its number twice, as the row that is there and as the new one's, and the cells
+abbrev pub next_terms : List Term
+next_terms = col 1 0 ∷ col 1 1 ∷ col 1 2 ∷ col 0 1 ∷ []
+
+abbrev pub next_tests : List Term
+next_tests = account_tests
+
+abbrev pub with_next : ℕ → Row → Row
+with_next next cells = column cells 0 ∷ column cells 1 ∷ number next ∷ []
+
+next_shows : (name : List ℕ) (next : ℕ) (r : Row) → drop 1 (shows_of (col 1 0 ∷ next_terms) (Text name ∷ number next ∷ []) r) ≡ column r 0 ∷ with_next next (drop 1 r)
+next_shows name next [] = refl
+next_shows name next (v ∷ r) = refl
+
+pub updates_next : (name : List ℕ) (next : ℕ) → IsUpdating (Text name ∷ []) account_in next_text next_tests next_terms (Text name ∷ number next ∷ []) (with_next next)
+unfolding understood everything first_key
+updates_next name next = record { command = refl; is_plain = (refl, refl); asks = λ r. refl; shows = next_shows name next }
+
+pub next_kept : (name : List ℕ) (it : Account) (next : ℕ) → AllKept account.columns (account_cells name (record it { next_job = next }))
+next_kept name it next = (refl, (cast_integer _, (cast_integer _, tt)))
+
+pub next_keyed : (name : List ℕ) (it : Account) → has_key account (Text name ∷ []) (Null ∷ account_cells name it) ≡ true
+next_keyed name it = has_values (Text name ∷ []) (Null ∷ account_cells name it) (refl, tt) (refl, tt)
 
 -- ---- what is read of the row
 

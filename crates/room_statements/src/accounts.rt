@@ -1,6 +1,6 @@
 //! The rows of the table `account`.
 
-ghost use Rattle.std.specs.Prelude.{◌≡◌, ◌≢◌, [], ◌∷◌, Err, option_map, IfOk, IfSome};
+ghost use Rattle.std.specs.Prelude.{◌≡◌, ◌≢◌, [], ◌∷◌, Some, Err, option_map, IfOk, IfSome};
 ghost use Rattle.sqlite_value.specs.Order.{column};
 ghost use Rattle.room_rules.specs.declared.account.Account.{Account as AccountValue};
 ghost use Rattle.room_tables.specs.Tables.{account as account_table};
@@ -77,5 +77,21 @@ pub fn set_account<S: Alter>(
             number(account.opened),
             number(account.next_job as u64),
         ],
+    )
+}
+
+/// Sets the number of the next job of an account that is there, inside a transaction.
+pub fn set_next_job<S: Alter>(
+    transaction: &mut Transaction<'_, S>,
+    name: Name,
+    next_job: u32,
+) -> Result<(), Error>
+    ensures sets { Changes S.Store transaction.old.conn.now transaction.new.conn.now result (λ before after. (account : AccountValue) → account_at before name ≡ Some (account_cells name account) → SetsRow account_table (account_cells name (record account { next_job = next_job })) before after) }
+    ensures inside { StaysInside S.Store transaction.old.conn transaction.new.conn result }
+{
+    write(
+        transaction,
+        "UPDATE account SET next_job = ?2 WHERE name = ?1",
+        &[ValueRef::Text(name.bytes()), number(next_job as u64)],
     )
 }

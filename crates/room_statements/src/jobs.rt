@@ -1,6 +1,6 @@
 //! The rows of the table `job`.
 
-ghost use Rattle.std.specs.Prelude.{◌≡◌, Err, pos, IfOk, IfSome, option_map};
+ghost use Rattle.std.specs.Prelude.{◌≡◌, Some, Err, pos, IfOk, IfSome, option_map};
 ghost use Rattle.room_rules.specs.Standings.{HasRanges, IsStanding};
 ghost use Rattle.room_rules.specs.declared.job.Job.{Job as JobValue};
 ghost use Rattle.room_rules.specs.declared.job.Standing.{Standing as StandingValue};
@@ -143,6 +143,41 @@ pub fn set_job<S: Alter>(
             number(s.created),
             moment(s.started),
             moment(s.ended),
+        ],
+    )
+}
+
+/// Sets the standing of a job of the account that is there, inside a transaction. Its number, its name and its
+/// password stay.
+pub fn set_standing<S: Alter>(
+    transaction: &mut Transaction<'_, S>,
+    name: Name,
+    job: u32,
+    standing: &Standing,
+) -> Result<(), Error>
+    requires { IsStanding standing.now }
+    ensures sets { Changes S.Store transaction.old.conn.now transaction.new.conn.now result (λ before after. (it : JobValue) → job_at before name (pos job) ≡ Some (job_cells name it) → SetsRow job_table (job_cells name (record it { standing = standing.now })) before after) }
+    ensures inside { StaysInside S.Store transaction.old.conn transaction.new.conn result }
+{
+    write(
+        transaction,
+        "UPDATE job SET state = ?3, open = ?4, stopping = ?5, copies = ?6, impressions = ?7, reserved = ?8, charged = ?9, documents = ?10, rate = ?11, device = ?12, created = ?13, started = ?14, ended = ?15 WHERE account = ?1 AND job = ?2",
+        &[
+            ValueRef::Text(name.bytes()),
+            number(job as u64),
+            number_of_state(standing.state),
+            flag(standing.is_open),
+            flag(standing.stopping),
+            number(standing.copies as u64),
+            number(standing.impressions as u64),
+            number(standing.reserved),
+            number(standing.charged),
+            number(standing.documents as u64),
+            number(standing.rate as u64),
+            device_text(&standing.device),
+            number(standing.created),
+            moment(standing.started),
+            moment(standing.ended),
         ],
     )
 }

@@ -15,6 +15,7 @@ pub mod ReadBackLemmas
 pub mod KeyedTables
 pub mod KeyedRows
 pub mod Settings
+pub mod Updates
 pub mod NoneTwice
 pub mod RowOfKey
 pub mod RowsUnder

@@ -41,7 +41,7 @@ AllKept [] vs = Unit {0}
 AllKept (c ∷ cs) [] = ⊥
 AllKept (c ∷ cs) (v ∷ vs) = (cast c.kind v ≡ v) × AllKept cs vs
 
-all_kept : (columns : List Column) (vs : Row) → AllKept columns vs → cast_all columns vs ≡ vs
+pub all_kept : (columns : List Column) (vs : Row) → AllKept columns vs → cast_all columns vs ≡ vs
 all_kept [] vs kept = refl
 all_kept (c ∷ cs) [] kept = absurd kept
 all_kept (c ∷ cs) (v ∷ vs) kept = ap (λ w. w ∷ cast_all cs vs) kept.0 ∙ ap (λ ws. v ∷ ws) (all_kept cs vs kept.1)

@@ -1,9 +1,9 @@
 //! The commands that write rows, each of which makes one call in a transaction of its own and answers `ok`:
 //!
-//! - `set-account NAME OPENED NEXT`, `set-device NAME on|off`, `set-rate NAME UNITS`;
+//! - `set-account NAME OPENED NEXT` and `set-next NAME NEXT`, `set-device NAME on|off`, `set-rate NAME UNITS`;
 //! - `set-grant NAME MONTH PAGES`;
 //! - `set-job NAME NUMBER HEX PASSWORD STATE open|closed stopping|going COPIES IMPRESSIONS RESERVED CHARGED
-//!   DOCUMENTS RATE DEVICE CREATED STARTED ENDED`;
+//!   DOCUMENTS RATE DEVICE CREATED STARTED ENDED`, and `set-standing NAME NUMBER` with the words from STATE on;
 //! - `set-document NAME JOB NUMBER FORMAT HEX` and `remove-documents NAME JOB`.
 
 use crate::fault::{Fault, Wrong};
@@ -11,7 +11,8 @@ use crate::fields::Fields;
 use ipp_coding::List;
 use room_rules::{Account, Format, Job, LAST_JOB, LAST_MOMENT, Name, Standing};
 use room_statements::{
-    remove_documents, set_account, set_device, set_document, set_grant, set_job, set_rate,
+    remove_documents, set_account, set_device, set_document, set_grant, set_job, set_next_job,
+    set_rate, set_standing,
 };
 use sqlite::{Alter, Connection, Transaction};
 use std::alloc::Global;
@@ -21,6 +22,10 @@ pub enum Change {
     Account {
         name: Name,
         account: Account,
+    },
+    NextJob {
+        name: Name,
+        next_job: u32,
     },
     Device {
         name: Name,
@@ -38,6 +43,11 @@ pub enum Change {
     Job {
         name: Name,
         job: Job,
+    },
+    Standing {
+        name: Name,
+        job: u32,
+        standing: Standing,
     },
     Document {
         name: Name,
@@ -67,6 +77,10 @@ impl Change {
                     next_job: fields.number()?,
                 },
             },
+            "set-next" => Change::NextJob {
+                name: fields.name()?,
+                next_job: fields.number()?,
+            },
             "set-device" => Change::Device {
                 name: fields.name()?,
                 on: fields.choice("on", "off")?,
@@ -83,6 +97,11 @@ impl Change {
             "set-job" => Change::Job {
                 name: fields.name()?,
                 job: read_job(alloc, fields)?,
+            },
+            "set-standing" => Change::Standing {
+                name: fields.name()?,
+                job: fields.number()?,
+                standing: read_standing(fields)?,
             },
             "set-document" => Change::Document {
                 name: fields.name()?,
@@ -122,6 +141,7 @@ impl Change {
                 }
                 set_account(transaction, *name, *account)
             }
+            Change::NextJob { name, next_job } => set_next_job(transaction, *name, *next_job),
             Change::Device { name, on } => set_device(transaction, *name, *on),
             Change::Rate { name, units } => set_rate(transaction, *name, *units),
             Change::Grant { name, month, pages } => set_grant(transaction, *name, *month, *pages),
@@ -130,6 +150,16 @@ impl Change {
                     return Err(Fault::Filling);
                 }
                 set_job(transaction, *name, job)
+            }
+            Change::Standing {
+                name,
+                job,
+                standing,
+            } => {
+                if !standing.is_in_range() {
+                    return Err(Fault::Filling);
+                }
+                set_standing(transaction, *name, *job, standing)
             }
             Change::Document {
                 name,

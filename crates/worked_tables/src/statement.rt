@@ -6,7 +6,7 @@ use room_rules::{Account, Format};
 use room_statements::{
     ended_jobs, find_account, find_device, find_documents, find_grant, find_job, find_rate,
     granted_to, is_device_on, remove_documents, set_account, set_device, set_document, set_grant,
-    set_job, set_rate, tally_jobs, tally_unfinished, unfinished_jobs,
+    set_job, set_next_job, set_rate, set_standing, tally_jobs, tally_unfinished, unfinished_jobs,
 };
 use sqlite::{Alter, Connection, Transaction};
 use std::alloc::Global;
@@ -95,7 +95,9 @@ impl Read {
 #[derive(Clone, Copy)]
 pub enum Write {
     SetAccount,
+    SetNextJob,
     SetJob,
+    SetStanding,
     SetDocument,
     SetGrant,
     SetDevice,
@@ -105,9 +107,11 @@ pub enum Write {
 }
 
 /// Documents are added before they are removed.
-pub const WRITES: [Write; 8] = [
+pub const WRITES: [Write; 10] = [
     Write::SetAccount,
+    Write::SetNextJob,
     Write::SetJob,
+    Write::SetStanding,
     Write::SetDocument,
     Write::SetGrant,
     Write::SetDevice,
@@ -120,7 +124,9 @@ impl Write {
     pub fn name(self) -> &'static str {
         match self {
             Write::SetAccount => "set_account",
+            Write::SetNextJob => "set_next_job",
             Write::SetJob => "set_job",
+            Write::SetStanding => "set_standing",
             Write::SetDocument => "set_document",
             Write::SetGrant => "set_grant",
             Write::SetDevice => "set_device",
@@ -148,11 +154,18 @@ impl Write {
                     next_job: 11,
                 },
             ),
+            Write::SetNextJob => set_next_job(transaction, account, 11),
             Write::SetJob => {
                 if !own.job.standing.is_in_range() {
                     return Err(Fault::Filling);
                 }
                 set_job(transaction, account, &own.job)
+            }
+            Write::SetStanding => {
+                if !own.job.standing.is_in_range() {
+                    return Err(Fault::Filling);
+                }
+                set_standing(transaction, account, own.job.job, &own.job.standing)
             }
             Write::SetDocument => {
                 set_document(transaction, account, own.job.job, 1, Format::Pdf, b"Hello")

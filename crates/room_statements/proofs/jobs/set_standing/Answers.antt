@@ -1,0 +1,24 @@
+use Rattle.std.proofs.Common.{OnOk, [], ◌∷◌}
+use Rattle.sqlite_value.specs.declared.value.Value.TheVariants.{Text}
+use Rattle.sqlite.specs.State.{HasCleanDisk}
+use Rattle.sqlite.specs.Held.{state}
+use Rattle.room_tables.specs.Calls.{HasRun}
+use Rattle.room_tables.specs.Cells.{number, job_cells}
+use Rattle.room_tables.proofs.KeyedTables.{job_in}
+use Rattle.room_tables.proofs.Transactions.{then_changed}
+use Rattle.room_tables.proofs.Updates.{updates_row}
+use Rattle.room_statements.proofs.JobLemmas.{standing_text, standing_tests, standing_terms, standing_given, updates_standing, standing_kept, standing_keyed}
+use Rattle.room_statements.proofs.jobs.set_standing.Goals as goal
+
+pub returns-clause-sets : goal.returns-clause-sets
+returns-clause-sets g c clean =
+    let old = state g.S.Store c.args.transaction.now.conn.now in
+    let new = state g.S.Store c.write.new.transaction.conn.now in
+    let standing = c.args.standing.now in
+    let given = standing_given c.args.name c.args.job standing in
+    let ran : HasCleanDisk new → OnOk c.write.result (HasRun standing_text given old new) = rw (c.bytes.ensures.value, c.number.ensures, c.number_of_state.ensures, c.flag.ensures, c.flag-2.ensures, c.number-2.ensures, c.number-3.ensures, c.number-4.ensures, c.number-5.ensures, c.number-6.ensures, c.number-7.ensures, c.device_text.ensures, c.number-8.ensures, c.moment.ensures, c.moment-2.ensures) at c.write.ensures.runs in
+    then_changed c.write.result _ _
+    (λ run has.
+    let left = updates_row (Text c.args.name ∷ number c.args.job ∷ []) job_in standing_text standing_tests standing_terms given (updates_standing c.args.name c.args.job standing) old new run.0 has run.1 in
+    (left.0, λ it there. left.1 (job_cells c.args.name it) there (standing_kept c.args.name (record it { standing = standing })) (standing_keyed old.now has c.args.name c.args.job it there standing)))
+    (ran clean)
