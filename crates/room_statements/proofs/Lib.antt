@@ -18,6 +18,7 @@ pub mod QueueTests
 pub mod QueueSorts
 pub mod QueueRows
 pub mod QueueJobs
+pub mod QueuedText
 pub mod QueuedWalk
 pub mod DocumentWalk
 pub mod SoundReads

@@ -1,20 +1,14 @@
--- The walk over the jobs of an account that have not ended: what its text means, and what it counts.
-use Rattle.std.proofs.Common.{◌≡◌, ℕ, ◌≤◌, negsuc, Bool, true, false, cond, ◌&&◌, ◌||◌, List, [], ◌∷◌, map, filter, drop, codes, None, Some, refl, sym, ap, ◌∙◌, IsTrue, arith}
+-- The walk over the jobs of an account that have not ended: what it is shown, and what it counts.
+use Rattle.std.proofs.Common.{◌≡◌, ℕ, ◌≤◌, Bool, true, false, cond, ◌&&◌, ◌||◌, List, [], ◌∷◌, map, filter, drop, None, Some, refl, sym, ap, ◌∙◌, IsTrue, arith}
 use Rattle.std.specs.List.{sum_by, list_any}
 use Rattle.std.specs.FinMap.{values}
 use Rattle.std.proofs.lemmas.Bool.{true≢false}
 use Rattle.std.proofs.lemmas.List.Sums.{sum_by-cons}
-use Rattle.sqlite_tied.specs.Compute.{everything}
-use Rattle.sqlite_value.specs.declared.value.Value.TheVariants.{Int, Text}
-use Rattle.sqlite_value.specs.declared.keys.Collation.TheVariants.{Binary}
+use Rattle.sqlite_value.specs.declared.value.Value.TheVariants.{Text}
 use Rattle.sqlite_value.specs.Order.{Row, column}
 use Rattle.sqlite_value.specs.Keys.{first_key}
 use Rattle.sqlite_trees.proofs.ListLemmas.{filter-map, filter_same, all_of}
-use Rattle.sqlite_sql.specs.declared.ops.BinaryOp.TheVariants.{Compare}
-use Rattle.sqlite_sql.specs.declared.ops.CompareOp.TheVariants.{Eq}
-use Rattle.sqlite_sql.specs.Term.{Term, lit, col, op2}
 use Rattle.sqlite.specs.Effect.{Database}
-use Rattle.sqlite.specs.Listing.{understood}
 use Rattle.room_rules.specs.declared.job.Job.{Job}
 use Rattle.room_rules.specs.declared.job.JobState.{JobState}
 use Rattle.room_rules.specs.declared.job.JobState.TheVariants.{Held, Pending, Processing, Canceled, Aborted, Completed}
@@ -23,29 +17,16 @@ use Rattle.room_state.specs.Queues.{not_completed}
 use Rattle.room_state.specs.Sums.{is_processing}
 use Rattle.room_state.specs.Tallies.{tally_of, is_in_bounds}
 use Rattle.room_state.proofs.TallyLemmas.{three_lower, room_in_bounds}
-use Rattle.room_tables.specs.Tables.{room_schema}
 use Rattle.room_tables.specs.Keyed.{HasSchema}
-use Rattle.room_tables.specs.Queries.{Means, Takes, of_table, is_given, passes, shown_of}
+use Rattle.room_tables.specs.Queries.{passes, shown_of}
 use Rattle.room_tables.specs.Accounts.{IsSound}
 use Rattle.room_statements.specs.Totals.{counted_cells}
 use Rattle.room_statements.specs.SoundRows.{tells_unfinished, unfinished_rows, CanBeCounted}
+use Rattle.room_statements.proofs.QueuedText.{queued_tests}
 use Rattle.room_statements.proofs.QueueTests.{of_account, regrouped}
 use Rattle.room_statements.proofs.QueueRows.{filter_both, unfinished_kept, none_unfinished}
 use Rattle.room_statements.proofs.RowTotals.{of_their_cells}
-use Rattle.room_statements.proofs.TallyWalk.{tally_shows, tally_names, cells_counted}
-
-abbrev pub queued_text : List ℕ
-queued_text = codes "SELECT state, reserved, charged FROM job WHERE account = ?1 AND ended = -1"
-
-abbrev pub queued_tests : List Term
-queued_tests = is_given 1 1 ∷ op2 (Compare Eq Binary) (col 1 17) (lit (Int (negsuc 0))) ∷ []
-
-pub queued_is : Means room_schema queued_text (of_table 3 queued_tests tally_shows []) tally_names 1
-unfolding understood everything
-queued_is = record { is = refl; lists_nothing = refl; is_plain = (refl, refl); takes = refl; is_whole = refl }
-
-pub queued_takes : (name : List ℕ) → Takes room_schema (of_table 3 queued_tests tally_shows []) (Text name ∷ []) 1
-queued_takes name = record { given = refl; typed = refl }
+use Rattle.room_statements.proofs.TallyWalk.{tally_shows, cells_counted}
 
 asks : (name : List ℕ) (r : Row) → passes queued_tests (Text name ∷ []) r ≡ (of_account name r && tells_unfinished (drop 1 r))
 unfolding first_key

@@ -4,7 +4,8 @@ use Rattle.sqlite.specs.Held.{state}
 use Rattle.room_tables.specs.Queries.{Means, Takes, of_table}
 use Rattle.room_statements.proofs.WalkLemmas.{in_some_order}
 use Rattle.room_statements.proofs.TallyWalk.{tally_shows, tally_names}
-use Rattle.room_statements.proofs.QueuedWalk.{queued_text, queued_tests, queued_is, queued_takes, queued_shown}
+use Rattle.room_statements.proofs.QueuedText.{queued_text, queued_tests, queued_is, queued_takes}
+use Rattle.room_statements.proofs.QueuedWalk.{queued_shown}
 use Rattle.room_statements.proofs.unfinished.walk_queued.Goals as goal
 
 pub returns-clause-walks : goal.returns-clause-walks
