@@ -33,5 +33,5 @@ pub use limits::{
 };
 pub use month::month_of;
 pub use name::Name;
-pub use quota::{exceeds, left, need};
+pub use quota::{ENOUGH_LEFT, exceeds, left, need, within_quota};
 pub use refusal::{Refusal, Word};
