@@ -5,7 +5,7 @@ ghost use Rattle.std.specs.Prelude.{◌≡◌, ◌++◌, ◌∷◌, [], None, If
 ghost use Rattle.std.specs.List.{AllByRecursion, flat_map};
 ghost use Rattle.ipp_coding.specs.Plain.{plain_attribute};
 ghost use Rattle.ipp_coding.specs.Spelling.{IsAttribute, group_spelling};
-ghost use Rattle.room_answers.specs.Responses.{refused_text, done_text, success_status, job_groups};
+ghost use Rattle.room_answers.specs.Responses.{refused_text, done_text, success_status, job_groups, selected_groups};
 ghost use Rattle.room_texts.specs.JobAttributes.{job_group};
 ghost use Rattle.room_texts.specs.PrinterAttributes.{printer_group};
 ghost use Rattle.room_texts.specs.Limits.{IsPlace, IsShowable, IsPrinter};
@@ -142,11 +142,11 @@ fn put_jobs<J: AsJob>(
     out: &mut Vec<u8>,
     at: &Place<'_>,
     jobs: &[J],
-    selection: &Selection<'_>,
+    selection: &Selection,
 ) -> Result<(), CoreFault>
     requires place { IsPlace (plain_place at.now) }
     requires jobs { AllByRecursion (λ job. IsShowable (J.job job)) jobs.now }
-    ensures appended { OnOk result (out.new.items ≡ out.old.items ++ flat_map group_spelling (job_groups (plain_place at.entry.now) (map J.job jobs.now) selection.now)) }
+    ensures appended { OnOk result (out.new.items ≡ out.old.items ++ flat_map group_spelling (selected_groups (plain_place at.entry.now) (map J.job jobs.now) selection.now)) }
     ensures memory { IfErr result (λ fault. fault ≡ CoreFault.Memory) }
 {
     for job in jobs {
