@@ -1,6 +1,6 @@
 -- Whole responses to requests: the reply, its groups of jobs or of the printer, and the end tag
 -- (RFC 8010 section 3.1.1, RFC 8011 section 4.1.1).
-use Rattle.std.specs.Prelude.{ℕ, List, [], ◌∷◌, ◌++◌, map, Option, Some, None}
+use Rattle.std.specs.Prelude.{ℕ, Bool, List, [], ◌∷◌, ◌++◌, map, Option, Some, None}
 use Rattle.std.specs.List.{flat_map}
 use Rattle.ipp_coding.specs.declared.message.Header.{Header}
 use Rattle.ipp_coding.specs.Plain.{PlainAttribute, PlainGroup}
@@ -8,7 +8,7 @@ use Rattle.ipp_coding.specs.Spelling.{group_spelling}
 use Rattle.room_rules.specs.declared.job.Job.{Job}
 use Rattle.room_rules.specs.declared.refusal.Refusal.{Refusal}
 use Rattle.room_texts.specs.Places.{PlainPlace}
-use Rattle.room_texts.specs.JobAttributes.{job_group}
+use Rattle.room_texts.specs.JobAttributes.{job_group, selected_group}
 use Rattle.room_texts.specs.Replies.{reply_text}
 use Rattle.room_texts.specs.Words.{word_text}
 
@@ -31,3 +31,7 @@ done_text request unsupported groups = response request (success_status unsuppor
 -- a group for each job, with the attributes that are wanted (RFC 8011 section 4.2.6.2)
 abbrev pub job_groups : PlainPlace → List Job → Option (List (List ℕ)) → List PlainGroup
 job_groups at jobs wanted = map (λ (job : Job). job_group at job wanted) jobs
+
+-- the same, of attributes that were picked before, by a flag for each
+abbrev pub selected_groups : PlainPlace → List Job → List Bool → List PlainGroup
+selected_groups at jobs flags = map (λ (job : Job). selected_group at job flags) jobs

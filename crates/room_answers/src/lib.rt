@@ -3,6 +3,7 @@
 #![tactic(auto)]
 
 mod accepting;
+mod as_job;
 mod granting;
 mod part;
 mod response;
@@ -10,6 +11,7 @@ mod station;
 mod text;
 
 pub use accepting::{check_accepting, is_accepting, printer_now, printer_state};
+pub use as_job::AsJob;
 pub use granting::check_grant;
 pub use part::{Part, handed};
 pub use response::{begun, done, ended, refused, with_job, with_jobs, with_printer};

@@ -5,7 +5,7 @@ ghost use Rattle.std.specs.Prelude.{◌≡◌, ◌++◌, ◌∷◌, [], None, If
 ghost use Rattle.std.specs.List.{AllByRecursion, flat_map};
 ghost use Rattle.ipp_coding.specs.Plain.{plain_attribute};
 ghost use Rattle.ipp_coding.specs.Spelling.{IsAttribute, group_spelling};
-ghost use Rattle.room_answers.specs.Responses.{refused_text, done_text, success_status, job_groups};
+ghost use Rattle.room_answers.specs.Responses.{refused_text, done_text, success_status, job_groups, selected_groups};
 ghost use Rattle.room_texts.specs.JobAttributes.{job_group};
 ghost use Rattle.room_texts.specs.PrinterAttributes.{printer_group};
 ghost use Rattle.room_texts.specs.Limits.{IsPlace, IsShowable, IsPrinter};
@@ -13,6 +13,7 @@ ghost use Rattle.room_texts.specs.Places.{plain_place};
 ghost use Rattle.room_texts.specs.Replies.{reply_text};
 ghost use Rattle.room_texts.specs.Tables.{asked_names};
 
+use crate::as_job::AsJob;
 use ipp_coding::{Attribute, Header, List, put_end};
 use room_rules::{CoreFault, Job, Refusal};
 use room_texts::{Place, PrinterNow, Selection, put_job, put_printer, put_reply, put_selected_job};
@@ -117,18 +118,18 @@ pub fn with_job(
 }
 
 /// The response with the attributes of each job that are wanted, a group for each.
-pub fn with_jobs(
+pub fn with_jobs<J: AsJob>(
     alloc: Global,
     request: Header,
     unsupported: &[Attribute<'_>],
     at: &Place<'_>,
-    jobs: &[&Job],
+    jobs: &[J],
     wanted: Option<&[&[u8]]>,
 ) -> Result<List<u8>, CoreFault>
     requires unsupported { AllByRecursion IsAttribute (map plain_attribute unsupported.now) }
     requires place { IsPlace (plain_place at.now) }
-    requires jobs { AllByRecursion (λ job. IsShowable job.now) jobs.now }
-    ensures text { IfOk result (λ text. text ≡ done_text request (map plain_attribute unsupported.now) (job_groups (plain_place at.entry.now) (map (λ job. job.now) jobs.now) (asked_names wanted.entry))) }
+    requires jobs { AllByRecursion (λ job. IsShowable (J.job job)) jobs.now }
+    ensures text { IfOk result (λ text. text ≡ done_text request (map plain_attribute unsupported.now) (job_groups (plain_place at.entry.now) (map J.job jobs.now) (asked_names wanted.entry))) }
     ensures memory { IfErr result (λ fault. fault ≡ CoreFault.Memory) }
 {
     let selection = Selection::of(wanted);
@@ -137,19 +138,19 @@ pub fn with_jobs(
     ended(out)
 }
 
-fn put_jobs(
+fn put_jobs<J: AsJob>(
     out: &mut Vec<u8>,
     at: &Place<'_>,
-    jobs: &[&Job],
-    selection: &Selection<'_>,
+    jobs: &[J],
+    selection: &Selection,
 ) -> Result<(), CoreFault>
     requires place { IsPlace (plain_place at.now) }
-    requires jobs { AllByRecursion (λ job. IsShowable job.now) jobs.now }
-    ensures appended { OnOk result (out.new.items ≡ out.old.items ++ flat_map group_spelling (job_groups (plain_place at.entry.now) (map (λ job. job.now) jobs.now) selection.now)) }
+    requires jobs { AllByRecursion (λ job. IsShowable (J.job job)) jobs.now }
+    ensures appended { OnOk result (out.new.items ≡ out.old.items ++ flat_map group_spelling (selected_groups (plain_place at.entry.now) (map J.job jobs.now) selection.now)) }
     ensures memory { IfErr result (λ fault. fault ≡ CoreFault.Memory) }
 {
     for job in jobs {
-        put_selected_job(out, at, job, selection)?;
+        put_selected_job(out, at, job.as_job(), selection)?;
     }
     Ok(())
 }

@@ -1,4 +1,5 @@
 pub mod Lists
 pub mod Sums
 pub mod Orders
+pub mod Sorts
 pub mod Rates

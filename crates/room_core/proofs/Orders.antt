@@ -1,11 +1,10 @@
 -- The jobs that Get-Jobs gives, their order, and that they can be shown.
-use Rattle.std.proofs.Common.{◌≡◌, ℕ, suc, ◌+◌, ◌*◌, arith, ◌≤◌, true, false, cond, not, List, [], ◌∷◌, map, Bor, refl, ap, ◌∙◌}
-use Rattle.std.specs.List.{AllByRecursion, insert, position_or_len, prefix_len}
+use Rattle.std.proofs.Common.{◌≡◌, ℕ, ◌*◌, arith, ◌≤◌, List, [], ◌∷◌}
+use Rattle.std.specs.List.{AllByRecursion}
 use Rattle.room_asks.specs.Asks.{PlainAsk}
 use Rattle.room_asks.specs.declared.ask.Which.{Which}
 use Rattle.room_asks.specs.declared.ask.Which.TheVariants.{NotCompleted, Completed}
 use Rattle.room_core.specs.Queues.{chosen, asked_jobs}
-use Rattle.room_state.specs.Queues.{is_later, put_by_end}
 use Rattle.room_rules.specs.declared.job.Job.{Job}
 use Rattle.room_rules.specs.declared.job.JobState.{JobState}
 use Rattle.room_rules.specs.declared.job.JobState.TheVariants.{Held, Pending, Processing, Canceled, Aborted, Completed}
@@ -44,19 +43,6 @@ showable next job few at = record {
   started = at.standing.ranges.started_in_range;
   ended = at.standing.ranges.ended_in_range;
 }
-
-after_one : (n : ℕ) → 1 + n ≡ suc n
-after_one n = omega arith
-
--- a job is put before the first that it is later than
-pub put_there : (job : Bor Job) (jobs : List (Bor Job)) →
-    map (λ (j : Bor Job). j.now) (insert jobs (position_or_len (λ (other : Bor Job). is_later job.now other.now) jobs) job) ≡ put_by_end (map (λ (j : Bor Job). j.now) jobs) job.now
-put_there job [] = refl
-put_there job (other ∷ jobs) =
-    elim (is_later job.now other.now) as (λ b.
-    map (λ (j : Bor Job). j.now) (insert (other ∷ jobs) (cond (not b) (1 + prefix_len (λ (o : Bor Job). not (is_later job.now o.now)) jobs) 0) job)
-    ≡ cond b (job.now ∷ other.now ∷ map (λ (j : Bor Job). j.now) jobs) (other.now ∷ put_by_end (map (λ (j : Bor Job). j.now) jobs) job.now))
-    [ true ↦ refl | false ↦ ap (λ place. map (λ (j : Bor Job). j.now) (insert (other ∷ jobs) place job)) (after_one (prefix_len (λ (o : Bor Job). not (is_later job.now o.now)) jobs)) ∙ ap (λ rest. other.now ∷ rest) (put_there job jobs) ]
 
 all_chosen : (P : Job → Type 0) (which : Which) (jobs : List Job) → AllByRecursion P jobs → AllByRecursion P (chosen which jobs)
 all_chosen P NotCompleted jobs all = all_not_completed P jobs all

@@ -10,7 +10,7 @@ ghost use Rattle.room_state.specs.Changes.{with_standing};
 ghost use Rattle.room_state.specs.Conditions.{CanRestand};
 
 use crate::moving::{canceled, held, released, stand};
-use crate::quota::left_now;
+use crate::quota::kept_to_quota;
 use crate::respond::{asked_at, copied, made_names, no_job, wanted_names};
 use ipp_coding::List;
 use room_answers::{done, refused, with_job};
@@ -73,7 +73,8 @@ pub(crate) fn release_of(room: &Room, now: u64, ask: &Ask<'_>) -> Result<Standin
         return Err(no_job());
     };
     let has_password = !job.password.as_slice().is_empty();
-    released(job.standing, has_password, left_now(room, now))
+    let asked = released(job.standing, has_password);
+    kept_to_quota(room, now, job.standing.state, asked)
 }
 
 /// Gives the job the standing that an act makes of it.

@@ -1,6 +1,6 @@
 //! The acts on a job, and what becomes of the room.
 
-ghost use Rattle.std.specs.Prelude.{◌≡◌, ◌≤◌, IfOk, IfErr, OnOk, OnErr};
+ghost use Rattle.std.specs.Prelude.{◌≡◌, ◌≤◌, ℤ, IfOk, IfErr, OnOk, OnErr};
 ghost use Rattle.room_core.specs.Moving.{Keeps, CanMove};
 ghost use Rattle.room_core.specs.Stations.{by_word};
 ghost use Rattle.room_core.specs.Steps.{with_moved};
@@ -8,11 +8,12 @@ ghost use Rattle.room_rules.specs.Acts.{CancelJob, HoldJob, ReleaseJob, StationR
 ghost use Rattle.room_rules.specs.Limits.{most_impressions, most_rate, last_moment};
 ghost use Rattle.room_rules.specs.Moves.{move};
 ghost use Rattle.room_rules.specs.Standings.{IsStanding};
+ghost use Rattle.room_rules.specs.StateLaws.{kept_to_quota};
 ghost use Rattle.room_state.specs.RoomRules.{is_unfinished};
 
 use room_rules::{
-    CoreFault, Job, JobState, Name, Refusal, Standing, Word, cancel, hold, release_at_station,
-    release_by_owner, settle, start,
+    CoreFault, ENOUGH_LEFT, Job, JobState, Name, Refusal, Standing, Word, cancel, hold,
+    release_at_station, release_by_owner, settle, start,
 };
 use room_state::Room;
 
@@ -61,43 +62,43 @@ pub fn held(standing: Standing) -> Result<Standing, Refusal>
     hold(standing)
 }
 
-/// What Release-Job makes of a job: `release_by_owner`, and what it keeps of the job.
-pub fn released(standing: Standing, has_password: bool, left: i64) -> Result<Standing, Refusal>
+/// What Release-Job makes of a job but for the quota: `release_by_owner` where the quota refuses nothing, and
+/// what it keeps of the job. Whatever is left, it makes of the job what `within_quota` makes of this.
+pub fn released(standing: Standing, has_password: bool) -> Result<Standing, Refusal>
     requires { IsStanding standing }
-    ensures moved { result ≡ move (ReleaseJob has_password left) standing }
+    ensures moved { (left : ℤ) → move (ReleaseJob has_password left) standing ≡ kept_to_quota standing.state left result }
     ensures in_range { IfOk result IsStanding }
     ensures kept { IfOk result (Keeps standing) }
 {
-    release_by_owner(standing, has_password, left)
+    release_by_owner(standing, has_password, ENOUGH_LEFT)
 }
 
-/// What a release at the station of a device with this rate makes of a job: `release_at_station`, where
-/// the word alone tells why it is refused.
+/// What a release at the station of a device with this rate makes of a job but for the quota:
+/// `release_at_station` where the quota refuses nothing, as above.
 pub fn released_at(
     job: &Job,
     device: Name,
     rate: u32,
     password: &[u8],
     impressions: u32,
-    left: i64,
-) -> Result<Standing, Word>
+) -> Result<Standing, Refusal>
     requires standing { IsStanding job.now.standing }
     requires impressions { impressions ≤ most_impressions }
     requires rate { (1 ≤ rate) × (rate ≤ most_rate) }
-    ensures moved { result ≡ by_word (move (StationRelease job.now.password device password.now impressions rate left) job.now.standing) }
+    ensures moved { (left : ℤ) → move (StationRelease job.now.password device password.now impressions rate left) job.now.standing ≡ kept_to_quota job.now.standing.state left result }
     ensures in_range { IfOk result IsStanding }
     ensures kept { IfOk result (Keeps job.now.standing) }
 {
     let kept = job.password.as_slice();
-    by_word(release_at_station(
+    release_at_station(
         job.standing,
         kept,
         device,
         password,
         impressions,
         rate,
-        left,
-    ))
+        ENOUGH_LEFT,
+    )
 }
 
 /// What becomes of a job as a device starts it: `start`, where the word alone tells why it is refused.
@@ -132,7 +133,7 @@ pub fn settled(
 }
 
 /// A station is told the word of a refusal alone.
-fn by_word(moved: Result<Standing, Refusal>) -> Result<Standing, Word>
+pub fn by_word(moved: Result<Standing, Refusal>) -> Result<Standing, Word>
     ensures { result ≡ by_word moved }
 {
     match moved {

@@ -1,14 +1,16 @@
 //! Get-Jobs.
 
-ghost use Rattle.std.specs.Prelude.{◌≡◌, ◌≤◌, map, take, position, None, Some, ℕ, List, IfOk, IfErr, OnOk};
+ghost use Rattle.std.specs.Prelude.{◌≡◌, ◌≤◌, map, filter, not, take, None, Some, ℕ, List, IfOk, IfErr};
 ghost use Rattle.std.specs.Borrow.{Bor};
 ghost use Rattle.std.specs.FinMap.{values};
-ghost use Rattle.std.specs.List.{AllByRecursion, position_or_len};
+ghost use Rattle.std.specs.List.{AllByRecursion};
+ghost use Rattle.std.specs.Ordering.{is_lt};
 ghost use Rattle.room_asks.specs.Asks.{IsAsk, plain_ask};
 ghost use Rattle.room_core.specs.Queues.{chosen, asked_jobs, listed, listed_names};
 ghost use Rattle.room_rules.specs.declared.job.Job.{Job};
 ghost use Rattle.room_rules.specs.Limits.{last_moment, last_next_job};
-ghost use Rattle.room_state.specs.Queues.{is_later, put_by_end, not_completed, completed, at_most};
+ghost use Rattle.room_state.specs.Queues.{is_later, not_completed, completed, at_most};
+ghost use Rattle.room_state.specs.RoomRules.{is_unfinished};
 ghost use Rattle.room_texts.specs.Limits.{IsShowable};
 
 use crate::moving::is_unfinished;
@@ -19,6 +21,7 @@ use room_asks::{Ask, Which};
 use room_rules::{CoreFault, Job, Name};
 use room_state::Room;
 use std::alloc::Global;
+use std::cmp::Ordering;
 
 /// Lists the jobs that the request asks for, job-uri and job-id alone where it names no attributes.
 pub(crate) fn list(
@@ -113,35 +116,36 @@ fn completed<'r>(alloc: Global, jobs: &'r [Job]) -> Result<Vec<&'r Job>, CoreFau
     ensures chosen { IfOk result (λ asked. map (λ (job : Bor Job). job.now) asked.items ≡ completed jobs.now) }
     ensures memory { IfErr result (λ fault. fault ≡ CoreFault.Memory) }
 {
+    let mut asked = ended(alloc, jobs)?;
+    asked.sort_by(|job, other| by_end(job, other))?;
+    Ok(asked)
+}
+
+/// Those that have ended, in the order in which they stand.
+fn ended<'r>(alloc: Global, jobs: &'r [Job]) -> Result<Vec<&'r Job>, CoreFault>
+    ensures ended { IfOk result (λ asked. map (λ (job : Bor Job). job.now) asked.items ≡ filter (λ job. not (is_unfinished job.standing.state)) jobs.now) }
+    ensures memory { IfErr result (λ fault. fault ≡ CoreFault.Memory) }
+{
     let mut asked = Vec::new(alloc);
     for job in jobs {
         if !is_unfinished(job.standing.state) {
-            put_by_end(&mut asked, job)?;
+            asked.push(job)?;
         }
     }
     Ok(asked)
 }
 
-/// Puts the job before the first that it is later than.
-fn put_by_end<'r>(asked: &mut Vec<&'r Job>, job: &'r Job) -> Result<(), CoreFault>
-    ensures put { OnOk result (map (λ (job : Bor Job). job.now) asked.new.items ≡ put_by_end (map (λ (job : Bor Job). job.now) asked.old.items) job.now) }
-    ensures memory { IfErr result (λ fault. fault ≡ CoreFault.Memory) }
+/// The later comes first.
+fn by_end(job: &Job, other: &Job) -> Ordering
+    ensures { is_lt result ≡ is_later job.now other.now }
 {
-    let place = place_by_end(asked, job);
-    asked.insert(place, job)?;
-    Ok(())
-}
-
-fn place_by_end(asked: &[&Job], job: &Job) -> usize
-    ensures { result ≡ position_or_len (λ (other : Bor Job). is_later job.now other.now) asked.now }
-{
-    first_earlier(asked, job).unwrap_or(asked.len())
-}
-
-fn first_earlier(asked: &[&Job], job: &Job) -> Option<usize>
-    ensures { result ≡ position (λ (other : Bor Job). is_later job.now other.now) asked.now }
-{
-    asked.iter().position(|other| is_later(job, other))
+    if is_later(job, other) {
+        Ordering::Less
+    } else if is_later(other, job) {
+        Ordering::Greater
+    } else {
+        Ordering::Equal
+    }
 }
 
 /// Whether the job has ended later than the other, or with it and is the later made.

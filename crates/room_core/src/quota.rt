@@ -1,16 +1,17 @@
 //! What is left of the quota of a room.
 
-ghost use Rattle.std.specs.Prelude.{◌≡◌, ◌≤◌, ◌*◌, ◌^◌, pos, neg_ℤ, ◌≤ℤ◌};
+ghost use Rattle.std.specs.Prelude.{◌≡◌, ◌≤◌, ◌*◌, ◌^◌, pos, neg_ℤ, ◌≤ℤ◌, Ok, IfOk};
 ghost use Rattle.room_core.specs.Moving.{CanMove};
 ghost use Rattle.room_core.specs.Steps.{with_moved};
 ghost use Rattle.room_rules.specs.Limits.{last_moment};
 ghost use Rattle.room_rules.specs.Months.{month_at};
 ghost use Rattle.room_rules.specs.Quota.{left_of};
+ghost use Rattle.room_rules.specs.StateLaws.{kept_to_quota};
 ghost use Rattle.room_state.specs.Sums.{granted_to, left_in};
 ghost use Rattle.room_state.specs.Tallies.{most_units};
 
 use room_answers::left_after;
-use room_rules::{Standing, left, month_of};
+use room_rules::{JobState, Refusal, Standing, left, month_of, within_quota};
 use room_state::{Room, Tally};
 
 /// What is left of what was granted (up to 10^18 units), with what the jobs come to.
@@ -53,4 +54,23 @@ pub(crate) fn left_once(room: &Room, now: u64, number: u32, standing: &Standing)
 {
     let before = room.job(number).unwrap().standing;
     left_after(left_now(room, now), &before, standing)
+}
+
+/// What a release makes of a job that was in the state, as it was asked where the quota refuses nothing: kept
+/// to what is left at the moment `now`. The sums are taken only where they decide.
+pub(crate) fn kept_to_quota(
+    room: &Room,
+    now: u64,
+    before: JobState,
+    asked: Result<Standing, Refusal>,
+) -> Result<Standing, Refusal>
+    requires { now ≤ last_moment }
+    ensures kept { result ≡ kept_to_quota before (left_in room.now now) asked }
+    ensures same { IfOk result (λ released. asked ≡ Ok released) }
+{
+    let released = asked?;
+    if before.is_released() {
+        return Ok(released);
+    }
+    within_quota(released, left_now(room, now))
 }

@@ -15,7 +15,7 @@ ghost use Rattle.room_state.specs.Documents.{documents_of};
 use crate::devices::device_at;
 use crate::event::Reply;
 use crate::moving::{self, stand};
-use crate::quota::{left_now, left_once};
+use crate::quota::{kept_to_quota, left_once};
 use ipp_coding::List;
 use room_answers::{Part, handed, known_device, line, ready_device, success};
 use room_rules::{CoreFault, Device, Name, Standing, Word};
@@ -124,8 +124,8 @@ fn release_of(
     let Some(job) = room.job(number) else {
         return Err(Word::NoJob);
     };
-    let left = left_now(room, at.now);
-    moving::released_at(job, at.device, ready.rate, password, impressions, left)
+    let asked = moving::released_at(job, at.device, ready.rate, password, impressions);
+    moving::by_word(kept_to_quota(room, at.now, job.standing.state, asked))
 }
 
 /// Tells what the job reserves, and gives it its standing.

@@ -1,5 +1,5 @@
 -- The numbers that bound an account and its jobs (all this project's own).
-use Rattle.std.specs.Prelude.{ℕ}
+use Rattle.std.specs.Prelude.{ℕ, Bool, ◌&&◌, nat_le, nat_lt}
 
 abbrev pub most_copies : ℕ
 most_copies = 999
@@ -44,6 +44,10 @@ longest_document = 16777216
 -- jobs are numbered 1 to 999999, so that the next number is at most this
 abbrev pub last_next_job : ℕ
 last_next_job = 1000000
+
+-- 0 is the number of none
+abbrev pub may_be_job : ℕ → Bool
+may_be_job number = nat_le 1 number && nat_lt number last_next_job
 
 -- jobs of an account that have not ended
 abbrev pub most_unfinished : ℕ

@@ -86,10 +86,14 @@ IsStart _ = ⊥
 abbrev pub StartsAloneProcess : Type 0
 StartsAloneProcess = (act : Act) (s next : Standing) → move act s ≡ Ok next → next.state ≡ Processing → (s.state ≡ Processing) ⊎ IsStart act
 
+-- a job as it was released, where what that reserves is left
+abbrev pub within_quota : Standing → ℤ → Result Standing Refusal
+within_quota released left = if exceeds released.reserved left then refused (Quota released.reserved left) else Ok released
+
 -- a release by the act is refused for the quota where it would reserve more than what is left, and else stays as it is
 abbrev pub kept_to_quota : JobState → ℤ → Result Standing Refusal → Result Standing Refusal
 kept_to_quota before left (Err refusal) = Err refusal
-kept_to_quota before left (Ok next) = if is_released before then Ok next else if exceeds next.reserved left then refused (Quota next.reserved left) else Ok next
+kept_to_quota before left (Ok next) = if is_released before then Ok next else within_quota next left
 
 -- so many units refuse no release
 abbrev pub RefusesNothing : ℤ → Type 0

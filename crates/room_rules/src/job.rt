@@ -1,6 +1,7 @@
 ghost use Rattle.std.specs.Prelude.{◌≡◌};
 ghost use Rattle.room_rules.specs.Standings.{IsStanding};
 ghost use Rattle.room_rules.specs.NewJobs.{fresh, CanMake};
+ghost use Rattle.room_rules.specs.StateLaws.{is_released};
 
 use crate::format::Format;
 use crate::name::Name;
@@ -17,6 +18,18 @@ pub enum JobState {
     Canceled,
     Aborted,
     Completed,
+}
+
+impl JobState {
+    /// Whether a job in the state holds what a release took of the quota.
+    pub fn is_released(self) -> bool
+        ensures { result ≡ is_released self }
+    {
+        match self {
+            JobState::Pending | JobState::Processing => true,
+            JobState::Held | JobState::Canceled | JobState::Aborted | JobState::Completed => false,
+        }
+    }
 }
 
 /// All of a job but its number, its texts and its documents.

@@ -29,9 +29,9 @@ pub use laws::{
 pub use limits::{
     FIRST_MONTH, LAST_JOB, LAST_MOMENT, LAST_MONTH, LONGEST_DOCUMENT, LONGEST_JOB_NAME,
     LONGEST_PASSWORD, MOST_COPIES, MOST_DOCUMENTS, MOST_IMPRESSIONS, MOST_PAGES, MOST_RATE,
-    MOST_UNFINISHED,
+    MOST_UNFINISHED, may_be_job,
 };
 pub use month::month_of;
 pub use name::Name;
-pub use quota::{exceeds, left, need};
+pub use quota::{ENOUGH_LEFT, exceeds, left, need, within_quota};
 pub use refusal::{Refusal, Word};

@@ -1,3 +1,6 @@
+ghost use Rattle.std.specs.Prelude.{◌≡◌};
+ghost use Rattle.room_rules.specs.Limits.{may_be_job};
+
 /// Of a job.
 pub const MOST_COPIES: u32 = 999;
 
@@ -36,3 +39,10 @@ pub const FIRST_MONTH: u32 = 23_640;
 
 /// The last month of grants, December 2099.
 pub const LAST_MONTH: u32 = 25_199;
+
+/// Whether a job may have the number: 1 to 999999. 0 stands for no job.
+pub fn may_be_job(number: u32) -> bool
+    ensures { result ≡ may_be_job number }
+{
+    1 <= number && number <= LAST_JOB
+}

@@ -1,6 +1,14 @@
 ghost use Rattle.std.specs.Prelude.{◌≡◌, ◌*◌, ◌%◌, ◌^◌, ◌≤◌, pos, ◌≤ℤ◌};
 ghost use Rattle.room_rules.specs.Limits.{most_impressions, most_copies, most_rate};
 ghost use Rattle.room_rules.specs.Quota.{need_of, left_of, exceeds};
+ghost use Rattle.room_rules.specs.StateLaws.{within_quota};
+
+use crate::job::Standing;
+use crate::limits::{MOST_COPIES, MOST_IMPRESSIONS, MOST_RATE};
+use crate::refusal::{Refusal, Word};
+
+/// Units that refuse no release: the most that one can need.
+pub const ENOUGH_LEFT: i64 = MOST_IMPRESSIONS as i64 * MOST_COPIES as i64 * MOST_RATE as i64;
 
 /// What is left of an account's quota, in units: what it was granted, less what its jobs reserve and
 /// what they were charged. Each is from 0 to 10^18. It is negative where the charges went past the
@@ -43,4 +51,16 @@ pub fn exceeds(need: u64, left: i64) -> bool
     ensures { result ≡ exceeds need left }
 {
     left < 0 || (left as u64) < need
+}
+
+/// A job as a release made it that was asked with `ENOUGH_LEFT` units, kept to those that are left: refused
+/// as `Quota` where it reserves more.
+pub fn within_quota(released: Standing, left: i64) -> Result<Standing, Refusal>
+    ensures { result ≡ within_quota released left }
+{
+    let need = released.reserved;
+    if exceeds(need, left) {
+        return Err(Refusal::not_possible(Word::Quota { need, left }));
+    }
+    Ok(released)
 }

@@ -1,7 +1,8 @@
 //! Look-ups and changes in the jobs of an account.
 
-ghost use Rattle.std.specs.Prelude.{◌≡◌, ◌++◌, ◌∷◌, [], ◌==◌, map, find, option_copied, IsOkUnless, OnOk, OnErr};
+ghost use Rattle.std.specs.Prelude.{◌≡◌, ◌++◌, ◌∷◌, [], ◌==◌, map, find, option_copied, IsTrue, IsOkUnless, OnOk, OnErr};
 ghost use Rattle.std.specs.Option.{option_to_list};
+ghost use Rattle.room_rules.specs.Limits.{may_be_job};
 ghost use Rattle.room_state.specs.Restanding.{restood_job};
 
 use crate::documents;
@@ -10,6 +11,7 @@ use room_rules::{CoreFault, Document, Job, Standing};
 
 /// The job with the number.
 pub(crate) fn find_job(jobs: &[Job], number: u32) -> Option<&Job>
+    requires { IsTrue (may_be_job number) }
     ensures { option_copied result ≡ find (λ job. job.job == number) jobs.now }
 {
     jobs.iter().find(|job| job.job == number)

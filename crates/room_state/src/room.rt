@@ -12,7 +12,7 @@ ghost use Rattle.room_state.specs.Conditions.{CanAddJob, CanRestand, CanFinish, 
 use crate::tally::Tally;
 use crate::{documents, grants, jobs, tally};
 use ipp_coding::List;
-use room_rules::{Account, CoreFault, Document, Grant, Job, Standing};
+use room_rules::{Account, CoreFault, Document, Grant, Job, Standing, may_be_job};
 use std::alloc::Global;
 use std::marker::Model;
 
@@ -96,12 +96,16 @@ impl Room {
         self.jobs.as_slice()
     }
 
-    /// The job with the number, if it is there.
+    /// The job with the number, if it is there. A number that no job may have, 0 among them, is not looked up.
     pub fn job(&self, number: u32) -> Option<&Job>
         ensures job { option_copied result ≡ get self.now.jobs number }
         ensures by_the_rules { IfSome result (λ job. IsJobAt self.now.next number job.now) }
     {
-        jobs::find_job(self.jobs.as_slice(), number)
+        let jobs = self.jobs.as_slice();
+        if !may_be_job(number) {
+            return None;
+        }
+        jobs::find_job(jobs, number)
     }
 
     /// The document of the job with its number there, if there is one: an unfinished job has those from

@@ -4,4 +4,5 @@ pub mod Rows
 pub mod JobRows
 pub mod PrinterRows
 pub mod Selections
+pub mod Picks
 pub mod Lengths

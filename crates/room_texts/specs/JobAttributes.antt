@@ -1,15 +1,17 @@
 -- The attributes that a job shows (RFC 8011 sections 5.2 and 5.3).
 use Rattle.std.specs.Prelude.{ℕ, ◌/◌, Bool, ◌==◌, if◌then◌else◌, List, [], ◌∷◌, map, Option, codes, slice_index_or}
+use Rattle.std.specs.List.{flat_map}
 use Rattle.room_rules.specs.declared.job.Job.{Job}
 use Rattle.room_rules.specs.declared.job.JobState.{JobState}
 use Rattle.room_rules.specs.declared.job.JobState.TheVariants.{Held, Pending, Processing, Canceled, Aborted, Completed}
 use Rattle.ipp_coding.specs.Plain.{PlainValue, PlainGroup}
+use Rattle.ipp_coding.specs.Spelling.{attribute_spelling}
 use Rattle.room_texts.specs.declared.job.JobAttribute.{JobAttribute}
 use Rattle.room_texts.specs.declared.job.JobAttribute.TheVariants as attribute
 use Rattle.room_texts.specs.Attributes.{single, number, unknown}
 use Rattle.room_texts.specs.Places.{PlainPlace, printer_uri, job_uri}
 use Rattle.room_texts.specs.Times.{up, moment_values}
-use Rattle.room_texts.specs.Tables.{Row, is_wanted, shown}
+use Rattle.room_texts.specs.Tables.{Row, is_wanted, shown, picked, row_attribute}
 
 -- job-state as an enum (RFC 8011 section 5.3.7)
 abbrev pub state_number : JobState → ℕ
@@ -69,6 +71,10 @@ wanted_rows wanted = map (λ (row : Row Job). is_wanted wanted row.name row.grou
 abbrev pub job_group : PlainPlace → Job → Option (List (List ℕ)) → PlainGroup
 job_group at job wanted = record { tag = 0x02; attributes = shown job_attributes wanted at job }
 
+-- the same, of attributes that were picked before, by a flag for each
+abbrev pub selected_group : PlainPlace → Job → List Bool → PlainGroup
+selected_group at job flags = record { tag = 0x02; attributes = map (row_attribute at job) (picked flags job_attributes) }
+
 -- ---- where in the table an attribute of the program stands
 
 abbrev pub job_place : JobAttribute → ℕ
@@ -93,3 +99,7 @@ job_place attribute.HoldUntil = 17
 
 abbrev pub job_row : JobAttribute → Row Job
 job_row attribute = slice_index_or job_attributes (job_place attribute) (described [] (λ at job. []))
+
+-- the attributes of the program whose flag is set
+abbrev pub picked_text : PlainPlace → Job → List Bool → List JobAttribute → List ℕ
+picked_text at job flags attributes = flat_map (λ (a : JobAttribute). attribute_spelling (row_attribute at job (job_row a))) (picked flags attributes)

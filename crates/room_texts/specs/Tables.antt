@@ -1,5 +1,5 @@
 -- Tables of attributes, and which of them a requester is shown.
-use Rattle.std.specs.Prelude.{ℕ, Bool, true, ◌||◌, if◌then◌else◌, nat_eq, List, [], map, filter, Option, Some, None, codes}
+use Rattle.std.specs.Prelude.{ℕ, Bool, true, ◌||◌, if◌then◌else◌, nat_eq, List, [], ◌∷◌, map, filter, Option, Some, None, codes}
 use Rattle.std.specs.Borrow.{Bor}
 use Rattle.std.specs.Cmp.Lexicographic.{pointwise}
 use Rattle.std.specs.List.{list_any}
@@ -32,6 +32,12 @@ row_attribute at thing row = record { name = row.name; values = row.values at th
 abbrev pub shown : {Thing : Type 0} → List (Row Thing) → Option (List (List ℕ)) → PlainPlace → Thing → List PlainAttribute
 shown {Thing} rows wanted at thing = map (row_attribute at thing) (filter (λ (row : Row Thing). is_wanted wanted row.name row.group) rows)
 
+-- of a list with a flag for each, those whose flag is set
+abbrev pub picked : {A : Type 0} → List Bool → List A → List A
+picked [] xs = []
+picked (flag ∷ flags) [] = []
+picked (flag ∷ flags) (x ∷ xs) = if flag then x ∷ picked flags xs else picked flags xs
+
 -- the names that are asked for
 abbrev pub asked_names : Option (Bor (List (Bor (List ℕ)))) → Option (List (List ℕ))
 asked_names None = None
@@ -39,5 +45,8 @@ asked_names (Some names) = Some (map (λ (name : Bor (List ℕ)). name.now) name
 
 -- ---- the same, row by row
 
+abbrev pub text_where : {Thing : Type 0} → Bool → PlainPlace → Thing → Row Thing → List ℕ
+text_where is_shown at thing row = if is_shown then attribute_spelling (row_attribute at thing row) else []
+
 abbrev pub row_text : {Thing : Type 0} → Option (List (List ℕ)) → PlainPlace → Thing → Row Thing → List ℕ
-row_text wanted at thing row = if is_wanted wanted row.name row.group then attribute_spelling (row_attribute at thing row) else []
+row_text wanted at thing row = text_where (is_wanted wanted row.name row.group) at thing row

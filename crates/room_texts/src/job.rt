@@ -1,13 +1,12 @@
 //! The group of a job.
 
 ghost use Rattle.std.specs.Prelude.{◌≡◌, ◌++◌, ◌≤◌, ◌*◌, ◌/◌, IfErr, OnOk, OnErr, map, take, length};
-ghost use Rattle.std.specs.List.{flat_map};
 ghost use Rattle.ipp_coding.specs.Spelling.{attribute_spelling, group_spelling, Fits};
 ghost use Rattle.room_texts.specs.Attributes.{attribute_with, IsAttributeName};
-ghost use Rattle.room_texts.specs.JobAttributes.{job_group, job_row, impressions_values, state_number, state_reason};
+ghost use Rattle.room_texts.specs.JobAttributes.{job_group, selected_group, job_row, picked_text, impressions_values, state_number, state_reason};
 ghost use Rattle.room_texts.specs.Limits.{IsPlace, IsShowable};
 ghost use Rattle.room_texts.specs.Places.{plain_place, job_uri};
-ghost use Rattle.room_texts.specs.Tables.{asked_names, row_attribute, row_text};
+ghost use Rattle.room_texts.specs.Tables.{asked_names, row_attribute, text_where};
 
 use crate::attribute::{
     CHARSET, ENUM, INTEGER, KEYWORD, LANGUAGE, NAME, UNKNOWN, URI, begin_group, put_moment,
@@ -123,11 +122,11 @@ pub fn put_selected_job(
     out: &mut Vec<u8>,
     at: &Place<'_>,
     job: &Job,
-    selection: &Selection<'_>,
+    selection: &Selection,
 ) -> Result<(), CoreFault>
     requires place { IsPlace (plain_place at.now) }
     requires job { IsShowable job.now }
-    ensures appended { OnOk result (out.new.items ≡ out.old.items ++ group_spelling (job_group (plain_place at.entry.now) job.now selection.now)) }
+    ensures appended { OnOk result (out.new.items ≡ out.old.items ++ group_spelling (selected_group (plain_place at.entry.now) job.now selection.now)) }
     ensures memory { IfErr result (λ fault. fault ≡ CoreFault.Memory) }
     ensures unchanged { OnErr result (out.new.items ≡ out.old.items) }
 {
@@ -143,53 +142,53 @@ fn append_job(
     out: &mut Vec<u8>,
     at: &Place<'_>,
     job: &Job,
-    selection: &Selection<'_>,
+    selection: &Selection,
 ) -> Result<(), CoreFault>
     requires place { IsPlace (plain_place at.now) }
     requires job { IsShowable job.now }
-    ensures appended { OnOk result (out.new.items ≡ out.old.items ++ group_spelling (job_group (plain_place at.entry.now) job.now selection.now)) }
+    ensures appended { OnOk result (out.new.items ≡ out.old.items ++ group_spelling (selected_group (plain_place at.entry.now) job.now selection.now)) }
     ensures memory { IfErr result (λ fault. fault ≡ CoreFault.Memory) }
     ensures front { take (length out.old.items) out.new.items ≡ out.old.items }
 {
     begin_group(out, 0x02)?;
-    put_job_attributes(out, at, job, selection, &JOB_ATTRIBUTES)?;
+    put_job_attributes(out, at, job, selection.flags(), &JOB_ATTRIBUTES)?;
     Ok(())
 }
 
-/// Appends those of the attributes that are wanted.
+/// Appends those of the attributes whose flag is set.
 fn put_job_attributes(
     out: &mut Vec<u8>,
     at: &Place<'_>,
     job: &Job,
-    selection: &Selection<'_>,
-    attributes: &[JobAttribute],
+    flags: &[bool; 18],
+    attributes: &[JobAttribute; 18],
 ) -> Result<(), CoreFault>
     requires place { IsPlace (plain_place at.now) }
     requires job { IsShowable job.now }
-    ensures appended { OnOk result (out.new.items ≡ out.old.items ++ flat_map (row_text selection.now (plain_place at.entry.now) job.now) (map job_row attributes.now)) }
+    ensures appended { OnOk result (out.new.items ≡ out.old.items ++ picked_text (plain_place at.entry.now) job.now flags.now attributes.now) }
     ensures memory { IfErr result (λ fault. fault ≡ CoreFault.Memory) }
     ensures front { take (length out.old.items) out.new.items ≡ out.old.items }
 {
-    for attribute in attributes {
-        put_where_wanted(out, at, job, selection, *attribute)?;
+    for index in 0..18 {
+        put_where_set(out, at, job, flags[index], attributes[index])?;
     }
     Ok(())
 }
 
-fn put_where_wanted(
+fn put_where_set(
     out: &mut Vec<u8>,
     at: &Place<'_>,
     job: &Job,
-    selection: &Selection<'_>,
+    flag: bool,
     attribute: JobAttribute,
 ) -> Result<(), CoreFault>
     requires place { IsPlace (plain_place at.now) }
     requires job { IsShowable job.now }
-    ensures appended { OnOk result (out.new.items ≡ out.old.items ++ row_text selection.now (plain_place at.entry.now) job.now (job_row attribute)) }
+    ensures appended { OnOk result (out.new.items ≡ out.old.items ++ text_where flag (plain_place at.entry.now) job.now (job_row attribute)) }
     ensures memory { IfErr result (λ fault. fault ≡ CoreFault.Memory) }
     ensures unchanged { OnErr result (out.new.items ≡ out.old.items) }
 {
-    if !selection.selects(attribute) {
+    if !flag {
         return Ok(());
     }
     put_job_attribute(out, at, job, attribute)

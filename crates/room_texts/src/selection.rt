@@ -1,6 +1,6 @@
 //! Which attributes a requester wants.
 
-ghost use Rattle.std.specs.Prelude.{◌≡◌, ℕ, List, Option, map};
+ghost use Rattle.std.specs.Prelude.{◌≡◌, ℕ, Bool, List, map};
 ghost use Rattle.std.specs.Borrow.{Bor};
 ghost use Rattle.std.specs.List.{list_any};
 ghost use Rattle.room_texts.specs.declared.job.JobAttribute.{JobAttribute};
@@ -10,38 +10,33 @@ ghost use Rattle.room_texts.specs.Tables.{asks_for, asked_names, is_wanted};
 use crate::job::{JOB_ATTRIBUTES, JobAttribute};
 use std::marker::Model;
 
-/// The names that a requester asks for, held against the attributes of a job once. Contracts see the
-/// names, and which attributes they select is `selected`.
+/// Which attributes of a job a requester wants: the names that are asked for, held against the attributes
+/// once. Contracts see a flag for each attribute, in their order.
 #[derive(Debug, Drop)]
-pub struct Selection<'a> {
-    wanted: Option<&'a [&'a [u8]]>,
-    /// Whether each attribute is wanted, in their order.
-    selected: [bool; 18],
+pub struct Selection {
+    flags: [bool; 18],
 }
 
-impl<'a> Model for Selection<'a> {
-    ghost Value = { Option (List (List ℕ)) };
+impl Model for Selection {
+    ghost Value = { List Bool };
 
-    ghost view = { λ s. asked_names s.wanted };
-
-    ghost invariant = { λ s. s.selected ≡ wanted_rows (asked_names s.wanted) };
+    ghost view = { λ s. s.flags };
 }
 
-impl<'a> Selection<'a> {
+impl Selection {
     /// Selects by the names that are asked for, and all attributes where none are.
-    pub fn of(wanted: Option<&'a [&'a [u8]]>) -> Selection<'a>
-        ensures { result ≡ asked_names wanted.entry }
+    pub fn of(wanted: Option<&[&[u8]]>) -> Selection
+        ensures { result ≡ wanted_rows (asked_names wanted.entry) }
     {
         Selection {
-            wanted,
-            selected: is_each_wanted(wanted, &JOB_ATTRIBUTES),
+            flags: is_each_wanted(wanted, &JOB_ATTRIBUTES),
         }
     }
 
-    pub(crate) fn selects(&self, attribute: JobAttribute) -> bool
-        ensures { result ≡ is_wanted self.now (job_row attribute).name (job_row attribute).group }
+    pub(crate) fn flags(&self) -> &[bool; 18]
+        ensures { result.now ≡ self.now }
     {
-        self.selected[attribute as usize]
+        &self.flags
     }
 }
 

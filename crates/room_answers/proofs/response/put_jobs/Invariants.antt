@@ -1,10 +1,9 @@
-use Rattle.std.proofs.Common.{◌≡◌, ◌++◌, map, take, Bor}
+use Rattle.std.proofs.Common.{◌≡◌, ◌++◌, map, take}
 use Rattle.std.specs.List.{flat_map}
 use Rattle.ipp_coding.specs.Spelling.{group_spelling}
-use Rattle.room_rules.specs.declared.job.Job.{Job}
 use Rattle.room_texts.specs.Places.{plain_place}
-use Rattle.room_answers.specs.Responses.{job_groups}
+use Rattle.room_answers.specs.Responses.{selected_groups}
 use Rattle.room_answers.proofs.response.put_jobs.Given as goal
 
 abbrev pub invariant-loop-job : goal.invariant-loop-job
-invariant-loop-job l = l.out.items ≡ l.fn.out.items ++ flat_map group_spelling (job_groups (plain_place l.at) (map (λ (job : Bor Job). job.now) (take l.job-index l.jobs)) l.selection)
+invariant-loop-job g l = l.out.items ≡ l.fn.out.items ++ flat_map group_spelling (selected_groups (plain_place l.at) (map g.J.AsJob.job (take l.job-index l.jobs)) l.selection)

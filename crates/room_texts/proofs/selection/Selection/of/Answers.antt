@@ -3,5 +3,5 @@ use Rattle.room_texts.specs.Tables.{asked_names}
 use Rattle.room_texts.proofs.JobRows.{rows_wanted}
 use Rattle.room_texts.proofs.selection.Selection.of.Goals as goal
 
-pub invariant_of-result : goal.invariant_of-result
-invariant_of-result c = c.is_each_wanted.ensures ∙ rows_wanted (asked_names c.args.wanted)
+pub returns : goal.returns
+returns c = c.is_each_wanted.ensures ∙ rows_wanted (asked_names c.args.wanted)
