@@ -17,10 +17,12 @@ use Rattle.room_rules.specs.Formats.{media_type}
 use Rattle.room_tables.specs.Tables.{room_schema, document}
 use Rattle.room_tables.specs.Keyed.{HasSchema, RemovesRows}
 use Rattle.room_tables.specs.Queries.{passes}
-use Rattle.room_tables.specs.Cells.{number}
+use Rattle.room_tables.specs.Cells.{number, document_cells}
 use Rattle.room_tables.proofs.Finds.{removed, found_at}
 use Rattle.room_statements.proofs.DocumentRemoval.{remove_text, remove_tests, remove_command, remove_is, remove_plain, meant_by, meant}
 use Rattle.room_tables.proofs.KeyedTables.{document_in, document_key}
+use Rattle.room_tables.proofs.Inserts.{IsPutting}
+use Rattle.room_tables.proofs.KeyedRows.{has_values}
 use Rattle.room_tables.proofs.Settings.{IsSetting}
 use Rattle.room_tables.proofs.Upserts.{went, same_value, deleted, cast_integer}
 use Rattle.room_tables.proofs.Statements.{numbered_in, once_in, keeps_schema}
@@ -74,4 +76,19 @@ sets_document name it = record {
   becomes = λ id there r. refl;
   exact = document_key name (pos it.job) (pos it.number);
   kept = (refl, (cast_integer _, (cast_integer _, (refl, (refl, tt)))));
+}
+
+-- ---- a new one
+
+abbrev pub add_text : List ℕ
+add_text = codes "INSERT INTO document (account, job, number, format, bytes) VALUES (?1, ?2, ?3, ?4, ?5)"
+
+pub puts_document : (name : List ℕ) (it : Document) → IsPutting (Text name ∷ number it.job ∷ number it.number ∷ []) (Text (media_type it.format) ∷ Blob it.bytes ∷ []) document_in add_text terms
+unfolding understood everything
+puts_document name it = record {
+  command = refl;
+  is_plain = (refl, refl);
+  rows = refl;
+  kept = (sets_document name it).kept;
+  begins = has_values (Text name ∷ number it.job ∷ number it.number ∷ []) (Null ∷ document_cells name it) (refl, (refl, (refl, tt))) (refl, (refl, (refl, tt)));
 }

@@ -17,6 +17,7 @@ use Rattle.room_tables.specs.Cells.{number, job_cells, standing_cells}
 use Rattle.room_tables.proofs.KeyedTables.{job_in, job_key}
 use Rattle.room_tables.proofs.Settings.{IsSetting, AllKept}
 use Rattle.room_tables.proofs.Updates.{IsUpdating}
+use Rattle.room_tables.proofs.Inserts.{IsPutting}
 use Rattle.room_tables.proofs.Columns.{EachIs, each_behind}
 use Rattle.room_tables.proofs.KeyedRows.{has_values}
 use Rattle.room_tables.proofs.RowOfKey.{there_at}
@@ -81,3 +82,21 @@ standing_keyed db has name n it there standing =
     let begins = each_behind (Text name ∷ number n ∷ []) 0 at.row at.begins in
     let first : EachIs 0 (Text name ∷ number n ∷ []) (job_cells name it) = subst (EachIs 0 (Text name ∷ number n ∷ [])) at.are_cells begins in
     has_values (Text name ∷ number n ∷ []) (Null ∷ job_cells name (record it { standing = standing })) (refl, (refl, tt)) (first.0, (first.1.0, tt))
+
+-- ---- a new one
+
+abbrev pub add_text : List ℕ
+add_text = codes "INSERT INTO job (account, job, name, password, state, open, stopping, copies, impressions, reserved, charged, documents, rate, device, created, started, ended) VALUES (?1, ?2, ?3, ?4, ?5, ?6, ?7, ?8, ?9, ?10, ?11, ?12, ?13, ?14, ?15, ?16, ?17)"
+
+abbrev pub add_terms : List Term
+add_terms = terms
+
+pub puts_job : (name : List ℕ) (it : Job) → IsPutting (Text name ∷ number it.job ∷ []) (Blob it.name ∷ Blob it.password ∷ standing_cells it.standing) job_in add_text add_terms
+unfolding understood everything
+puts_job name it = record {
+  command = refl;
+  is_plain = (refl, refl);
+  rows = refl;
+  kept = (sets_job name it).kept;
+  begins = has_values (Text name ∷ number it.job ∷ []) (Null ∷ job_cells name it) (refl, (refl, tt)) (refl, (refl, tt));
+}

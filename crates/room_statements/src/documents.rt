@@ -1,6 +1,6 @@
 //! The rows of the table `document`.
 
-ghost use Rattle.std.specs.Prelude.{◌≡◌, [], ◌∷◌, Err, IfOk, IfErr, IsPermutation};
+ghost use Rattle.std.specs.Prelude.{◌≡◌, [], ◌∷◌, None, pos, Err, IfOk, IfErr, IsPermutation};
 ghost use Rattle.std.specs.List.{flat_map};
 ghost use Rattle.std.specs.Option.{option_to_list};
 ghost use Rattle.sqlite_value.specs.declared.value.Value.TheVariants.{Text};
@@ -10,7 +10,7 @@ ghost use Rattle.room_state.specs.Rooms.{RoomValue};
 ghost use Rattle.room_tables.specs.Tables.{document as document_table};
 ghost use Rattle.room_tables.specs.Keyed.{RemovesRows, SetsRow};
 ghost use Rattle.room_tables.specs.Cells.{number, document_cells};
-ghost use Rattle.room_tables.specs.Accounts.{HoldsRoom};
+ghost use Rattle.room_tables.specs.Accounts.{document_at, HoldsRoom};
 ghost use Rattle.room_statements.specs.Walks.{WalksStore};
 ghost use Rattle.room_tables.specs.Calls.{Changes, GoesOn, OfStore, ReadsStore, StaysInside};
 ghost use Rattle.room_statements.specs.Documents.{IsDocumentOf, ShowsDocument, GathersDocument, refuses_document, shown_documents};
@@ -20,7 +20,7 @@ use crate::values::{bytes_at, format_at, format_text, number, short_at};
 use crate::walking::{Gather, walk};
 use ipp_coding::List;
 use room_rules::{Document, Format, LONGEST_DOCUMENT, MOST_DOCUMENTS, Name};
-use room_tables::{StoreFault, write};
+use room_tables::{StoreFault, put, write};
 use sqlite::{Alter, Connection, Error, Row, Transaction};
 use sqlite_value::value::ValueRef;
 use std::alloc::Global;
@@ -133,6 +133,33 @@ pub fn set_document<S: Alter>(
     write(
         transaction,
         "INSERT INTO document (account, job, number, format, bytes) VALUES (?1, ?2, ?3, ?4, ?5) ON CONFLICT (account, job, number) DO UPDATE SET format = excluded.format, bytes = excluded.bytes",
+        &[
+            ValueRef::Text(name.bytes()),
+            number(job as u64),
+            number(number_in_job as u64),
+            format_text(format),
+            ValueRef::Blob(bytes),
+        ],
+    )
+}
+
+/// Puts a new document of a job of the account in, inside a transaction. The row takes the one copy of the bytes.
+/// `Damaged` tells that the job has a document of this number already.
+pub fn add_document<S: Alter>(
+    transaction: &mut Transaction<'_, S>,
+    name: Name,
+    job: u32,
+    number_in_job: u32,
+    format: Format,
+    bytes: &[u8],
+) -> Result<(), StoreFault>
+    ensures sets { Changes S.Store transaction.old.conn.now transaction.new.conn.now result (SetsRow document_table (document_cells name (record { job = job; number = number_in_job; format = format; bytes = bytes.now }))) }
+    ensures taken { OfStore S.Store transaction.old.conn.now transaction.new.conn.now (λ db. result ≡ Err StoreFault.Damaged → document_at db name (pos job) (pos number_in_job) ≡ None → ⊥) }
+    ensures inside { StaysInside S.Store transaction.old.conn transaction.new.conn result }
+{
+    put(
+        transaction,
+        "INSERT INTO document (account, job, number, format, bytes) VALUES (?1, ?2, ?3, ?4, ?5)",
         &[
             ValueRef::Text(name.bytes()),
             number(job as u64),

@@ -16,6 +16,7 @@ pub mod KeyedTables
 pub mod KeyedRows
 pub mod Settings
 pub mod Updates
+pub mod Inserts
 pub mod NoneTwice
 pub mod RowOfKey
 pub mod RowsUnder

@@ -1,5 +1,5 @@
 -- What each call over a connection keeps, also where nothing is known of the tables.
-use Rattle.std.specs.Prelude.{◌≡◌, ◌⊎◌, ℕ, ◌≤◌, false, IsTrue, List, Option, Result, Ok, option_map, IfOk, OnOk, OnErr}
+use Rattle.std.specs.Prelude.{◌≡◌, ◌⊎◌, ℕ, ◌≤◌, false, IsTrue, List, Option, Result, Ok, Err, option_map, IfOk, OnOk, OnErr}
 use Rattle.std.specs.Borrow.{MutBor}
 use Rattle.sqlite_disk.specs.Disk.{MoreFaults}
 use Rattle.sqlite_value.specs.Order.{Row}
@@ -9,6 +9,9 @@ use Rattle.sqlite.specs.Effect.{Database}
 use Rattle.sqlite.specs.State.{State, HasCleanDisk, KeepsCommit, Survives, Executes}
 use Rattle.sqlite.specs.Held.{Held, state}
 use Rattle.sqlite.specs.declared.error.Error.{Error}
+use Rattle.sqlite.specs.declared.error.Error.TheVariants.{SqliteFailure}
+use Rattle.sqlite.specs.declared.error.ErrorCode.TheVariants.{ConstraintViolation}
+use Rattle.sqlite_schema.specs.declared.schema.Constraint.TheVariants.{Unique}
 use Rattle.room_tables.specs.Keyed.{HasSchema}
 
 -- ---- what a connection shows before a call and after it
@@ -40,6 +43,10 @@ pub record Gets (old new : State) (there : Option Row) (shown : Row → Row) (re
 -- a write: the statement has run, whatever it counted
 abbrev pub HasRun : List ℕ → Row → State → State → Type 0
 HasRun text params old new = (count : ℕ) × Executes text params old new (Ok count)
+
+-- the statement was refused as a second row of a key
+abbrev pub IsTaken : List ℕ → Row → State → State → Type 0
+IsTaken text params old new = Executes text params old new (Err (SqliteFailure (ConstraintViolation Unique)))
 
 -- ---- the same of a connection, in the words that clauses use
 

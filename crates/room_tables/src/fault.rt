@@ -1,9 +1,9 @@
 ghost use Rattle.std.specs.Prelude.{◌≡◌};
 ghost use Rattle.room_tables.specs.declared.fault.StoreFault.TheVariants as of_store;
-ghost use Rattle.room_tables.specs.Faults.{core_fault, statement_fault, opening_fault, value_fault};
+ghost use Rattle.room_tables.specs.Faults.{core_fault, put_fault, statement_fault, opening_fault, value_fault};
 
 use room_rules::CoreFault;
-use sqlite::{Error, ErrorCode};
+use sqlite::{Constraint, Error, ErrorCode};
 use std::alloc::AllocFailed;
 use thiserror::Error as ErrorTrait;
 
@@ -80,6 +80,19 @@ impl From<Error> for OpenFault {
 }
 
 impl StoreFault {
+    /// Of a statement that puts a row in, which the engine refuses as a second one of its key.
+    pub fn of_put(error: Error) -> StoreFault
+        ensures { result ≡ put_fault error }
+    {
+        match error {
+            Error::SqliteFailure(ErrorCode::OutOfMemory) => StoreFault::Memory,
+            Error::SqliteFailure(ErrorCode::ConstraintViolation(Constraint::Unique)) => {
+                StoreFault::Damaged
+            }
+            _ => StoreFault::Storage,
+        }
+    }
+
     /// Of a value that could not be read from its row.
     pub fn of_value(error: Error) -> StoreFault
         ensures { result ≡ value_fault error }

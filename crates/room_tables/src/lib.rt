@@ -17,4 +17,4 @@ pub use migrating::migrate_tables;
 pub use rows::find_row;
 pub use schema::is_blank;
 pub use version::check;
-pub use writing::write;
+pub use writing::{put, write};

@@ -1,11 +1,12 @@
-//! A statement that writes, inside a transaction.
+//! Statements that write, inside a transaction.
 
-ghost use Rattle.std.specs.Prelude.{OnOk};
+ghost use Rattle.std.specs.Prelude.{◌≡◌, Err, OnOk};
 ghost use Rattle.sqlite.specs.State.{HasCleanDisk};
 ghost use Rattle.sqlite.specs.Held.{state};
 ghost use Rattle.sqlite.specs.Values.{bound};
-ghost use Rattle.room_tables.specs.Calls.{HasRun, StaysInside};
+ghost use Rattle.room_tables.specs.Calls.{HasRun, IsTaken, StaysInside};
 
+use crate::fault::StoreFault;
 use sqlite::{Alter, Error, Transaction};
 use sqlite_value::value::ValueRef;
 
@@ -21,4 +22,20 @@ pub fn write<S: Alter>(
 {
     transaction.execute(text, params)?;
     Ok(())
+}
+
+/// Runs a statement that puts one row in. `Damaged` tells that the engine refused a second row of its key.
+pub fn put<S: Alter>(
+    transaction: &mut Transaction<'_, S>,
+    text: &str,
+    params: &[ValueRef<'_>],
+) -> Result<(), StoreFault>
+    ensures runs { HasCleanDisk (state S.Store transaction.new.conn.now) → OnOk result (HasRun text.now (bound params.now) (state S.Store transaction.old.conn.now) (state S.Store transaction.new.conn.now)) }
+    ensures taken { HasCleanDisk (state S.Store transaction.new.conn.now) → result ≡ Err StoreFault.Damaged → IsTaken text.now (bound params.now) (state S.Store transaction.old.conn.now) (state S.Store transaction.new.conn.now) }
+    ensures inside { StaysInside S.Store transaction.old.conn transaction.new.conn result }
+{
+    match transaction.execute(text, params) {
+        Ok(_) => Ok(()),
+        Err(error) => Err(StoreFault::of_put(error)),
+    }
 }

@@ -3,16 +3,17 @@
 //! - `set-account NAME OPENED NEXT` and `set-next NAME NEXT`, `set-device NAME on|off`, `set-rate NAME UNITS`;
 //! - `set-grant NAME MONTH PAGES`;
 //! - `set-job NAME NUMBER HEX PASSWORD STATE open|closed stopping|going COPIES IMPRESSIONS RESERVED CHARGED
-//!   DOCUMENTS RATE DEVICE CREATED STARTED ENDED`, and `set-standing NAME NUMBER` with the words from STATE on;
-//! - `set-document NAME JOB NUMBER FORMAT HEX` and `remove-documents NAME JOB`.
+//!   DOCUMENTS RATE DEVICE CREATED STARTED ENDED`, `add-job` with the same words, and `set-standing NAME NUMBER` with
+//!   those from STATE on;
+//! - `set-document NAME JOB NUMBER FORMAT HEX`, `add-document` with the same words, and `remove-documents NAME JOB`.
 
 use crate::fault::{Fault, Wrong};
 use crate::fields::Fields;
 use ipp_coding::List;
 use room_rules::{Account, Format, Job, LAST_JOB, LAST_MOMENT, Name, Standing};
 use room_statements::{
-    remove_documents, set_account, set_device, set_document, set_grant, set_job, set_next_job,
-    set_rate, set_standing,
+    add_document, add_job, remove_documents, set_account, set_device, set_document, set_grant,
+    set_job, set_next_job, set_rate, set_standing,
 };
 use sqlite::{Alter, Connection, Transaction};
 use std::alloc::Global;
@@ -44,12 +45,23 @@ pub enum Change {
         name: Name,
         job: Job,
     },
+    NewJob {
+        name: Name,
+        job: Job,
+    },
     Standing {
         name: Name,
         job: u32,
         standing: Standing,
     },
     Document {
+        name: Name,
+        job: u32,
+        number: u32,
+        format: Format,
+        bytes: Vec<u8>,
+    },
+    NewDocument {
         name: Name,
         job: u32,
         number: u32,
@@ -98,12 +110,23 @@ impl Change {
                 name: fields.name()?,
                 job: read_job(alloc, fields)?,
             },
+            "add-job" => Change::NewJob {
+                name: fields.name()?,
+                job: read_job(alloc, fields)?,
+            },
             "set-standing" => Change::Standing {
                 name: fields.name()?,
                 job: fields.number()?,
                 standing: read_standing(fields)?,
             },
             "set-document" => Change::Document {
+                name: fields.name()?,
+                job: fields.number()?,
+                number: fields.number()?,
+                format: fields.format()?,
+                bytes: fields.bytes(alloc)?,
+            },
+            "add-document" => Change::NewDocument {
                 name: fields.name()?,
                 job: fields.number()?,
                 number: fields.number()?,
@@ -151,6 +174,13 @@ impl Change {
                 }
                 set_job(transaction, *name, job)
             }
+            Change::NewJob { name, job } => {
+                if !job.standing.is_in_range() {
+                    return Err(Fault::Filling);
+                }
+                add_job(transaction, *name, job)?;
+                Ok(())
+            }
             Change::Standing {
                 name,
                 job,
@@ -168,6 +198,16 @@ impl Change {
                 format,
                 bytes,
             } => set_document(transaction, *name, *job, *number, *format, bytes.as_slice()),
+            Change::NewDocument {
+                name,
+                job,
+                number,
+                format,
+                bytes,
+            } => {
+                add_document(transaction, *name, *job, *number, *format, bytes.as_slice())?;
+                Ok(())
+            }
             Change::RemoveDocuments { name, job } => remove_documents(transaction, *name, *job),
         }?;
         Ok(())
