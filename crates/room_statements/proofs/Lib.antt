@@ -7,6 +7,7 @@ pub mod TallyWalk
 pub mod GrantWalk
 pub mod JobLemmas
 pub mod JobRows
+pub mod JobWrites
 pub mod NamedValues
 pub mod DeviceLemmas
 pub mod DeviceWalk

@@ -7,7 +7,7 @@ use Rattle.room_tables.specs.Cells.{number, job_cells, standing_cells}
 use Rattle.room_tables.proofs.Inserts.{puts_row, was_taken}
 use Rattle.room_tables.proofs.KeyedTables.{job_in}
 use Rattle.room_tables.proofs.Transactions.{then_changed}
-use Rattle.room_statements.proofs.JobLemmas.{add_text, add_terms, puts_job}
+use Rattle.room_statements.proofs.JobWrites.{add_text, add_terms, puts_job}
 use Rattle.room_statements.proofs.jobs.add_job.Goals as goal
 
 pub returns-clause-sets : goal.returns-clause-sets

@@ -7,7 +7,7 @@ use Rattle.room_tables.specs.Cells.{number, job_cells}
 use Rattle.room_tables.proofs.KeyedTables.{job_in}
 use Rattle.room_tables.proofs.Transactions.{then_changed}
 use Rattle.room_tables.proofs.Updates.{updates_row}
-use Rattle.room_statements.proofs.JobLemmas.{standing_text, standing_tests, standing_terms, standing_given, updates_standing, standing_kept, standing_keyed}
+use Rattle.room_statements.proofs.JobWrites.{standing_text, standing_tests, standing_terms, standing_given, updates_standing, standing_kept, standing_keyed}
 use Rattle.room_statements.proofs.jobs.set_standing.Goals as goal
 
 pub returns-clause-sets : goal.returns-clause-sets
