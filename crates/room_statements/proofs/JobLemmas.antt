@@ -5,7 +5,6 @@ use Rattle.sqlite_value.specs.declared.value.Value.TheVariants.{Null, Text, Blob
 use Rattle.sqlite_sql.specs.Term.{Term, lit, col}
 use Rattle.sqlite.specs.Listing.{understood}
 use Rattle.room_rules.specs.declared.job.Job.{Job}
-use Rattle.room_tables.specs.Tables.{job}
 use Rattle.room_tables.specs.Cells.{number, standing_cells}
 use Rattle.room_tables.proofs.KeyedTables.{job_in, job_key}
 use Rattle.room_tables.proofs.Settings.{IsSetting}

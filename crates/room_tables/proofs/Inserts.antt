@@ -1,6 +1,5 @@
 -- A statement that puts a row in whose key is free: what its text has to mean, what it leaves, and why it is refused.
-use Rattle.std.proofs.Common.{◌≡◌, ◌≢◌, is_eq, ℤ, ℕ, ◌/◌, ◌==◌, ◌&&◌, zero, suc, Bool, true, false, not, cond, List, [], ◌∷◌, ◌++◌, length, drop, find, Option, Some, None, option_map, Result, Ok, Err, MatchBool, refl, sym, ap, subst, subst₂, append-nil, ◌∙◌, ◌⊎◌, inl, inr, arith}
-use Rattle.std.specs.List.{AllByRecursion}
+use Rattle.std.proofs.Common.{◌≡◌, ◌≢◌, is_eq, ℤ, ℕ, ◌/◌, ◌&&◌, zero, suc, Bool, true, false, not, cond, List, [], ◌∷◌, ◌++◌, length, drop, find, Option, Some, None, option_map, Ok, Err, refl, sym, ap, subst, subst₂, append-nil, ◌∙◌, ◌⊎◌, inl, inr, arith}
 use Rattle.std.proofs.lemmas.Bool.{cases_Bool, cases_eq, and_parts, and_from, eq-eqb, ne_eqb, not-true}
 use Rattle.std.proofs.lemmas.Cmp.{tied_itself}
 use Rattle.std.proofs.lemmas.List.{length-append}

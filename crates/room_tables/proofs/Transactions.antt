@@ -1,5 +1,5 @@
 -- What follows of a statement that has run inside a transaction.
-use Rattle.std.proofs.Common.{◌≡◌, List, ℕ, Result, Ok, Err, OnOk, refl, subst, inl, inr}
+use Rattle.std.proofs.Common.{List, ℕ, Result, Ok, Err, OnOk, refl, inl, inr}
 use Rattle.sqlite_value.specs.Order.{Row}
 use Rattle.sqlite.specs.declared.error.Error.{Error}
 use Rattle.sqlite.specs.State.{State, ExecutesInside, KeepsCommit}
