@@ -3,6 +3,7 @@
 ghost use Rattle.std.specs.Prelude.{◌≡◌, ◌↔◌, ℕ, Bool, ⊤, List, true, [], ◌∷◌, map, Some, Err, option_map, IfOk, IsTrue, IsPermutation};
 ghost use Rattle.sqlite_value.specs.Order.{column};
 ghost use Rattle.room_rules.specs.Devices.{Devices, is_some_on};
+ghost use Rattle.room_rules.specs.Names.{is_name};
 ghost use Rattle.room_tables.specs.Tables.{device as device_table};
 ghost use Rattle.room_tables.specs.Keyed.{SetsRow};
 ghost use Rattle.room_tables.specs.Cells.{on_cells};
@@ -95,6 +96,7 @@ pub fn set_device<S: Alter>(
     on: bool,
 ) -> Result<(), Error>
     ensures sets { Changes S.Store transaction.old.conn.now transaction.new.conn.now result (SetsRow device_table (on_cells name on)) }
+    ensures name { IsTrue (is_name name) }
     ensures inside { StaysInside S.Store transaction.old.conn transaction.new.conn result }
 {
     write(

@@ -1,8 +1,9 @@
 //! The rows of the table `rates`.
 
-ghost use Rattle.std.specs.Prelude.{◌≡◌, ◌≢◌, ◌≤◌, ℕ, [], ◌∷◌, Err, option_map, IfOk, IfSome};
+ghost use Rattle.std.specs.Prelude.{◌≡◌, ◌≢◌, ◌≤◌, ℕ, [], ◌∷◌, Err, option_map, IfOk, IfSome, IsTrue};
 ghost use Rattle.sqlite_value.specs.Order.{column};
 ghost use Rattle.room_rules.specs.Limits.{most_rate};
+ghost use Rattle.room_rules.specs.Names.{is_name};
 ghost use Rattle.room_tables.specs.Tables.{rates as rates_table};
 ghost use Rattle.room_tables.specs.Keyed.{SetsRow};
 ghost use Rattle.room_tables.specs.Cells.{number, units_cells};
@@ -63,6 +64,7 @@ pub fn set_rate<S: Alter>(
     units: u32,
 ) -> Result<(), Error>
     ensures sets { Changes S.Store transaction.old.conn.now transaction.new.conn.now result (SetsRow rates_table (units_cells name units)) }
+    ensures name { IsTrue (is_name name) }
     ensures inside { StaysInside S.Store transaction.old.conn transaction.new.conn result }
 {
     write(

@@ -1,0 +1,3 @@
+pub mod Alone
+pub mod Rows
+pub mod NewDocuments
