@@ -5,7 +5,6 @@ pub mod AccountRows
 pub mod RowTotals
 pub mod TallyWalk
 pub mod GrantWalk
-pub mod JobLemmas
 pub mod JobRows
 pub mod JobWrites
 pub mod NamedValues

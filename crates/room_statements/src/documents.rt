@@ -118,31 +118,6 @@ fn in_order(alloc: Global, places: [Option<Document>; 8]) -> Result<List<Documen
     Ok(List { items })
 }
 
-/// Sets a document of a job of the account, inside a transaction. The row takes the one copy of the bytes.
-pub fn set_document<S: Alter>(
-    transaction: &mut Transaction<'_, S>,
-    name: Name,
-    job: u32,
-    number_in_job: u32,
-    format: Format,
-    bytes: &[u8],
-) -> Result<(), Error>
-    ensures sets { Changes S.Store transaction.old.conn.now transaction.new.conn.now result (SetsRow document_table (document_cells name (record { job = job; number = number_in_job; format = format; bytes = bytes.now }))) }
-    ensures inside { StaysInside S.Store transaction.old.conn transaction.new.conn result }
-{
-    write(
-        transaction,
-        "INSERT INTO document (account, job, number, format, bytes) VALUES (?1, ?2, ?3, ?4, ?5) ON CONFLICT (account, job, number) DO UPDATE SET format = excluded.format, bytes = excluded.bytes",
-        &[
-            ValueRef::Text(name.bytes()),
-            number(job as u64),
-            number(number_in_job as u64),
-            format_text(format),
-            ValueRef::Blob(bytes),
-        ],
-    )
-}
-
 /// Puts a new document of a job of the account in, inside a transaction. The row takes the one copy of the bytes.
 /// `Damaged` tells that the job has a document of this number already.
 pub fn add_document<S: Alter>(

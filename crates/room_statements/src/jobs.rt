@@ -111,42 +111,6 @@ fn columns_from(row: &Row) -> Result<Standing, StoreFault>
     })
 }
 
-/// Sets a job of the account, under its number, inside a transaction.
-pub fn set_job<S: Alter>(
-    transaction: &mut Transaction<'_, S>,
-    name: Name,
-    job: &Job,
-) -> Result<(), Error>
-    requires { IsStanding job.now.standing }
-    ensures sets { Changes S.Store transaction.old.conn.now transaction.new.conn.now result (SetsRow job_table (job_cells name job.now)) }
-    ensures inside { StaysInside S.Store transaction.old.conn transaction.new.conn result }
-{
-    let s = &job.standing;
-    write(
-        transaction,
-        "INSERT INTO job (account, job, name, password, state, open, stopping, copies, impressions, reserved, charged, documents, rate, device, created, started, ended) VALUES (?1, ?2, ?3, ?4, ?5, ?6, ?7, ?8, ?9, ?10, ?11, ?12, ?13, ?14, ?15, ?16, ?17) ON CONFLICT (account, job) DO UPDATE SET name = excluded.name, password = excluded.password, state = excluded.state, open = excluded.open, stopping = excluded.stopping, copies = excluded.copies, impressions = excluded.impressions, reserved = excluded.reserved, charged = excluded.charged, documents = excluded.documents, rate = excluded.rate, device = excluded.device, created = excluded.created, started = excluded.started, ended = excluded.ended",
-        &[
-            ValueRef::Text(name.bytes()),
-            number(job.job as u64),
-            ValueRef::Blob(job.name.as_slice()),
-            ValueRef::Blob(job.password.as_slice()),
-            number_of_state(s.state),
-            flag(s.is_open),
-            flag(s.stopping),
-            number(s.copies as u64),
-            number(s.impressions as u64),
-            number(s.reserved),
-            number(s.charged),
-            number(s.documents as u64),
-            number(s.rate as u64),
-            device_text(&s.device),
-            number(s.created),
-            moment(s.started),
-            moment(s.ended),
-        ],
-    )
-}
-
 /// Puts a new job of the account in, under its number, inside a transaction. `Damaged` tells that a job of this
 /// number is there already.
 pub fn add_job<S: Alter>(

@@ -16,9 +16,9 @@ mod walking;
 
 pub use accounts::{find_account, set_account, set_next_job};
 pub use devices::{find_device, is_device_on, set_device};
-pub use documents::{add_document, find_documents, remove_documents, set_document};
+pub use documents::{add_document, find_documents, remove_documents};
 pub use grants::{find_grant, granted_to, set_grant};
-pub use jobs::{add_job, find_job, set_job, set_standing};
+pub use jobs::{add_job, find_job, set_standing};
 pub use law::sound_rows_are_read;
 pub use queues::{ended_jobs, unfinished_jobs};
 pub use rates::{find_rate, set_rate};

@@ -2,18 +2,17 @@
 //!
 //! - `set-account NAME OPENED NEXT` and `set-next NAME NEXT`, `set-device NAME on|off`, `set-rate NAME UNITS`;
 //! - `set-grant NAME MONTH PAGES`;
-//! - `set-job NAME NUMBER HEX PASSWORD STATE open|closed stopping|going COPIES IMPRESSIONS RESERVED CHARGED
-//!   DOCUMENTS RATE DEVICE CREATED STARTED ENDED`, `add-job` with the same words, and `set-standing NAME NUMBER` with
-//!   those from STATE on;
-//! - `set-document NAME JOB NUMBER FORMAT HEX`, `add-document` with the same words, and `remove-documents NAME JOB`.
+//! - `add-job NAME NUMBER HEX PASSWORD STATE open|closed stopping|going COPIES IMPRESSIONS RESERVED CHARGED
+//!   DOCUMENTS RATE DEVICE CREATED STARTED ENDED`, and `set-standing NAME NUMBER` with the words from STATE on;
+//! - `add-document NAME JOB NUMBER FORMAT HEX` and `remove-documents NAME JOB`.
 
 use crate::fault::{Fault, Wrong};
 use crate::fields::Fields;
 use ipp_coding::List;
 use room_rules::{Account, Format, Job, LAST_JOB, LAST_MOMENT, Name, Standing};
 use room_statements::{
-    add_document, add_job, remove_documents, set_account, set_device, set_document, set_grant,
-    set_job, set_next_job, set_rate, set_standing,
+    add_document, add_job, remove_documents, set_account, set_device, set_grant, set_next_job,
+    set_rate, set_standing,
 };
 use sqlite::{Alter, Connection, Transaction};
 use std::alloc::Global;
@@ -41,10 +40,6 @@ pub enum Change {
         month: u32,
         pages: u32,
     },
-    Job {
-        name: Name,
-        job: Job,
-    },
     NewJob {
         name: Name,
         job: Job,
@@ -53,13 +48,6 @@ pub enum Change {
         name: Name,
         job: u32,
         standing: Standing,
-    },
-    Document {
-        name: Name,
-        job: u32,
-        number: u32,
-        format: Format,
-        bytes: Vec<u8>,
     },
     NewDocument {
         name: Name,
@@ -106,10 +94,6 @@ impl Change {
                 month: fields.number()?,
                 pages: fields.number()?,
             },
-            "set-job" => Change::Job {
-                name: fields.name()?,
-                job: read_job(alloc, fields)?,
-            },
             "add-job" => Change::NewJob {
                 name: fields.name()?,
                 job: read_job(alloc, fields)?,
@@ -118,13 +102,6 @@ impl Change {
                 name: fields.name()?,
                 job: fields.number()?,
                 standing: read_standing(fields)?,
-            },
-            "set-document" => Change::Document {
-                name: fields.name()?,
-                job: fields.number()?,
-                number: fields.number()?,
-                format: fields.format()?,
-                bytes: fields.bytes(alloc)?,
             },
             "add-document" => Change::NewDocument {
                 name: fields.name()?,
@@ -168,12 +145,6 @@ impl Change {
             Change::Device { name, on } => set_device(transaction, *name, *on),
             Change::Rate { name, units } => set_rate(transaction, *name, *units),
             Change::Grant { name, month, pages } => set_grant(transaction, *name, *month, *pages),
-            Change::Job { name, job } => {
-                if !job.standing.is_in_range() {
-                    return Err(Fault::Filling);
-                }
-                set_job(transaction, *name, job)
-            }
             Change::NewJob { name, job } => {
                 if !job.standing.is_in_range() {
                     return Err(Fault::Filling);
@@ -191,13 +162,6 @@ impl Change {
                 }
                 set_standing(transaction, *name, *job, standing)
             }
-            Change::Document {
-                name,
-                job,
-                number,
-                format,
-                bytes,
-            } => set_document(transaction, *name, *job, *number, *format, bytes.as_slice()),
             Change::NewDocument {
                 name,
                 job,

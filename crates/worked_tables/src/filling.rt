@@ -2,13 +2,22 @@
 
 use crate::fault::Fault;
 use ipp_coding::List;
-use room_rules::{Account, Format, Job, JobState, Name, Standing};
-use room_statements::{set_account, set_device, set_document, set_grant, set_job, set_rate};
+use room_rules::{Account, Format, Job, JobState, LAST_JOB, Name, Standing};
+use room_statements::{
+    add_document, add_job, find_account, set_account, set_device, set_grant, set_rate,
+};
 use sqlite::{Alter, Connection, Transaction};
 use std::alloc::Global;
 
-/// Jobs of each account that has any.
-pub const JOBS: u32 = 10;
+/// How much is filled in: rows of other accounts in each table of accounts, and the own jobs that have ended.
+#[derive(Clone, Copy)]
+pub struct Size {
+    pub others: u32,
+    pub ended: u32,
+}
+
+/// Jobs that have not ended, of each account that has any.
+const JOBS: u32 = 10;
 
 /// The first month in which a grant is filled in: January 2026.
 pub const FIRST_GRANT: u32 = 24_312;
@@ -16,7 +25,10 @@ pub const FIRST_GRANT: u32 = 24_312;
 /// Devices, whatever the number of accounts.
 const DEVICES: u32 = 10;
 
-const HELD: Standing = Standing {
+/// When each job is made.
+const CREATED: u64 = 1_788_220_800;
+
+pub const HELD: Standing = Standing {
     state: JobState::Held,
     is_open: false,
     stopping: false,
@@ -27,45 +39,57 @@ const HELD: Standing = Standing {
     documents: 1,
     rate: 1,
     device: None,
-    created: 1_788_220_800,
+    created: CREATED,
     started: None,
     ended: None,
 };
 
-/// The account and the device that are asked for.
+/// The account and the device that are asked for, the first number that no job of the account has, and the job that
+/// is added under numbers from this one on.
 #[derive(Drop)]
 pub struct Own {
     pub account: Name,
     pub device: Name,
-    pub job: Job,
+    pub next_job: u32,
+    pub new_job: Job,
 }
 
-/// Fills so many rows of other accounts into each table of accounts, half of them before the own in the
-/// order of names and half behind it.
+impl Own {
+    /// Those of a database that is filled.
+    pub fn of<S: Alter>(alloc: Global, connection: &mut Connection<S>) -> Result<Own, Fault> {
+        let account = name_of(alloc, "m", 0)?;
+        let Some(found) = find_account(connection, account)? else {
+            return Err(Fault::Filling);
+        };
+        Ok(Own {
+            account,
+            device: name_of(alloc, "d", 0)?,
+            next_job: found.next_job,
+            new_job: job_of(alloc, found.next_job, HELD)?,
+        })
+    }
+}
+
+/// Fills the rows in, half of those of other accounts before the own in the order of names and half behind it.
 pub fn fill<S: Alter>(
     alloc: Global,
     connection: &mut Connection<S>,
-    rows: u32,
-) -> Result<Own, Fault> {
+    size: Size,
+) -> Result<(), Fault> {
     if !connection.is_autocommit() {
         return Err(Fault::Filling);
     }
-    let own = Own {
-        account: name_of(alloc, "m", 0)?,
-        device: name_of(alloc, "d", 0)?,
-        job: job_of(alloc, 1)?,
-    };
     let mut transaction = connection.transaction();
-    fill_others(alloc, &mut transaction, "a", rows / 2)?;
-    fill_account(alloc, &mut transaction, own.account)?;
-    fill_others(alloc, &mut transaction, "z", rows / 2)?;
+    fill_others(alloc, &mut transaction, "a", size.others / 2)?;
+    fill_account(alloc, &mut transaction, name_of(alloc, "m", 0)?, size.ended)?;
+    fill_others(alloc, &mut transaction, "z", size.others / 2)?;
     for device in 0..DEVICES {
         let name = name_of(alloc, "d", device)?;
         set_device(&mut transaction, name, device == 0)?;
         set_rate(&mut transaction, name, 1)?;
     }
     transaction.commit()?;
-    Ok(own)
+    Ok(())
 }
 
 /// A letter and six digits.
@@ -74,7 +98,7 @@ fn name_of(alloc: Global, letter: &str, number: u32) -> Result<Name, Fault> {
     Name::read(text.as_bytes()).ok_or(Fault::Filling)
 }
 
-fn job_of(alloc: Global, number: u32) -> Result<Job, Fault> {
+fn job_of(alloc: Global, number: u32, standing: Standing) -> Result<Job, Fault> {
     let mut name = Vec::new(alloc);
     name.extend_from_slice(b"untitled")?;
     Ok(Job {
@@ -83,8 +107,17 @@ fn job_of(alloc: Global, number: u32) -> Result<Job, Fault> {
         password: List {
             items: Vec::new(alloc),
         },
-        standing: HELD,
+        standing,
     })
+}
+
+/// That of a job that was canceled so many seconds after it was made.
+pub fn canceled(after: u32) -> Standing {
+    Standing {
+        state: JobState::Canceled,
+        ended: Some(CREATED + after as u64),
+        ..HELD
+    }
 }
 
 /// So many accounts, of which one in ten has its jobs, documents and grants.
@@ -97,7 +130,7 @@ fn fill_others<S: Alter>(
     for number in 0..rows {
         let name = name_of(alloc, letter, number)?;
         if number % JOBS == 0 {
-            fill_account(alloc, transaction, name)?;
+            fill_account(alloc, transaction, name, 0)?;
         } else {
             set_account(
                 transaction,
@@ -112,28 +145,40 @@ fn fill_others<S: Alter>(
     Ok(())
 }
 
-/// An account with its jobs, one document each, and a grant a month.
+/// An account with its jobs, of which those that have ended were canceled in the order of their numbers and the others
+/// have one document each, and a grant a month.
 fn fill_account<S: Alter>(
     alloc: Global,
     transaction: &mut Transaction<'_, S>,
     name: Name,
+    ended: u32,
 ) -> Result<(), Fault> {
+    let next_job = ended.saturating_add(JOBS + 1);
+    if next_job > LAST_JOB {
+        return Err(Fault::Filling);
+    }
     set_account(
         transaction,
         name,
         Account {
             opened: 0,
-            next_job: JOBS + 1,
+            next_job,
         },
     )?;
-    for turn in 0..JOBS {
-        let job = job_of(alloc, turn + 1)?;
+    for number in 1..next_job {
+        let is_ended = number <= ended;
+        let standing = if is_ended { canceled(number) } else { HELD };
+        let job = job_of(alloc, number, standing)?;
         if !job.standing.is_in_range() {
             return Err(Fault::Filling);
         }
-        set_job(transaction, name, &job)?;
-        set_document(transaction, name, job.job, 1, Format::Pdf, b"Hello")?;
-        set_grant(transaction, name, FIRST_GRANT + turn, 100)?;
+        add_job(transaction, name, &job)?;
+        if !is_ended {
+            add_document(transaction, name, number, 1, Format::Pdf, b"Hello")?;
+        }
+    }
+    for month in FIRST_GRANT..FIRST_GRANT + 10 {
+        set_grant(transaction, name, month, 100)?;
     }
     Ok(())
 }

@@ -1,8 +1,8 @@
 //! How long the statements take in one database.
 
 use crate::fault::Fault;
-use crate::filling::{Own, fill};
-use crate::statement::{READS, Read, WRITES, Write};
+use crate::filling::{Own, Size, fill};
+use crate::statement::{PRINT_JOB, READS, Read, WRITES, Write};
 use room_store::{Refused, Store};
 use sqlite::{Alter, Connection};
 use std::time::{Duration, Instant};
@@ -17,7 +17,7 @@ const ROUNDS: u32 = 5;
 #[derive(Drop)]
 pub struct Column {
     pub place: &'static str,
-    pub rows: u32,
+    pub size: Size,
     pub reads: Vec<Duration>,
     pub writes: Vec<Duration>,
 }
@@ -27,21 +27,64 @@ pub fn measured<S: Alter + Drop>(
     rt: &HostRuntime,
     connection: Connection<S>,
     place: &'static str,
-    rows: u32,
+    size: Size,
 ) -> Result<Column, Fault> {
+    let mut connection = filled(rt, connection, size)?;
+    let mut own = Own::of(rt.alloc(), &mut connection)?;
+    let reads = times_of_reads(rt, &mut connection, &own)?;
+    let writes = times_of_writes(rt, &mut connection, &mut own)?;
+    Ok(Column {
+        place,
+        size,
+        reads,
+        writes,
+    })
+}
+
+/// Makes the tables and fills them.
+pub fn filled<S: Alter + Drop>(
+    rt: &HostRuntime,
+    connection: Connection<S>,
+    size: Size,
+) -> Result<Connection<S>, Fault> {
     let mut connection = match Store::create(connection) {
         Ok(store) => store.close(),
         Err(Refused { fault, .. }) => return Err(fault.into()),
     };
-    let own = fill(rt.alloc(), &mut connection, rows)?;
-    let reads = times_of_reads(rt, &mut connection, &own)?;
-    let writes = times_of_writes(rt, &mut connection, &own)?;
-    Ok(Column {
-        place,
-        rows,
-        reads,
-        writes,
-    })
+    fill(rt.alloc(), &mut connection, size)?;
+    Ok(connection)
+}
+
+/// How long each of so many Print-Jobs takes, with its commit.
+pub fn times_of_print_jobs<S: Alter>(
+    rt: &HostRuntime,
+    connection: &mut Connection<S>,
+    count: u32,
+) -> Result<Vec<Duration>, Fault> {
+    let mut own = Own::of(rt.alloc(), connection)?;
+    let mut times = Vec::new(rt.alloc());
+    for turn in 0..count {
+        let start = Instant::now(rt)?;
+        print_job(connection, &mut own, turn)?;
+        times.push(start.elapsed(rt)?)?;
+    }
+    Ok(times)
+}
+
+fn print_job<S: Alter>(
+    connection: &mut Connection<S>,
+    own: &mut Own,
+    turn: u32,
+) -> Result<(), Fault> {
+    if !connection.is_autocommit() {
+        return Err(Fault::Filling);
+    }
+    let mut transaction = connection.transaction();
+    for write in PRINT_JOB {
+        write.call(&mut transaction, own, turn)?;
+    }
+    transaction.commit()?;
+    Ok(())
 }
 
 fn times_of_reads<S: Alter>(
@@ -56,19 +99,20 @@ fn times_of_reads<S: Alter>(
     Ok(times)
 }
 
-/// In each round every write comes in its turn, since documents are added before they are removed.
+/// In each round every write comes in its turn, since documents are added before they are removed, and adds rows of
+/// its own.
 fn times_of_writes<S: Alter>(
     rt: &HostRuntime,
     connection: &mut Connection<S>,
-    own: &Own,
+    own: &mut Own,
 ) -> Result<Vec<Duration>, Fault> {
     let mut times = Vec::new(rt.alloc());
-    for write in WRITES {
-        times.push(time_of_write(rt, connection, own, write)?)?;
+    for _ in WRITES {
+        times.push(Duration::MAX)?;
     }
-    for _ in 1..ROUNDS {
+    for round in 0..ROUNDS {
         for (time, write) in times.iter_mut().zip(WRITES) {
-            let taken = time_of_write(rt, connection, own, write)?;
+            let taken = time_of_write(rt, connection, own, write, round * CALLS)?;
             *time = shorter(*time, taken);
         }
     }
@@ -100,8 +144,9 @@ fn time_of_read<S: Alter>(
 fn time_of_write<S: Alter>(
     rt: &HostRuntime,
     connection: &mut Connection<S>,
-    own: &Own,
+    own: &mut Own,
     write: Write,
+    first: u32,
 ) -> Result<Duration, Fault> {
     if !connection.is_autocommit() {
         return Err(Fault::Filling);
@@ -109,7 +154,7 @@ fn time_of_write<S: Alter>(
     let mut transaction = connection.transaction();
     let start = Instant::now(rt)?;
     for turn in 0..CALLS {
-        write.call(&mut transaction, own, turn)?;
+        write.call(&mut transaction, own, first.saturating_add(turn))?;
     }
     let taken = start.elapsed(rt)?;
     transaction.commit()?;

@@ -10,7 +10,11 @@ use std::time::Duration;
 pub fn print_report<W: Write>(output: &mut W, columns: &[Column]) -> io::Result<()> {
     write!(output, "| Statement |")?;
     for column in columns {
-        write!(output, " {}, {} rows |", column.place, column.rows)?;
+        write!(
+            output,
+            " {}, {} rows, {} ended |",
+            column.place, column.size.others, column.size.ended
+        )?;
     }
     write!(output, "\n|---|")?;
     for _ in columns {

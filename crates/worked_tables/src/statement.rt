@@ -1,18 +1,15 @@
 //! The statements that are measured.
 
 use crate::fault::Fault;
-use crate::filling::{FIRST_GRANT, Own};
-use room_rules::{Account, Format};
+use crate::filling::{FIRST_GRANT, HELD, Own, canceled};
+use room_rules::{Account, Format, LAST_JOB};
 use room_statements::{
-    ended_jobs, find_account, find_device, find_documents, find_grant, find_job, find_rate,
-    granted_to, is_device_on, remove_documents, set_account, set_device, set_document, set_grant,
-    set_job, set_next_job, set_rate, set_standing, tally_jobs, tally_unfinished, unfinished_jobs,
+    add_document, add_job, ended_jobs, find_account, find_device, find_documents, find_grant,
+    find_job, find_rate, granted_to, is_device_on, remove_documents, set_account, set_device,
+    set_grant, set_next_job, set_rate, set_standing, tally_jobs, tally_unfinished, unfinished_jobs,
 };
 use sqlite::{Alter, Connection, Transaction};
 use std::alloc::Global;
-
-/// The number of the first job that documents are added for.
-const FIRST_ADDED: u32 = 1_000;
 
 #[derive(Clone, Copy)]
 pub enum Read {
@@ -53,10 +50,10 @@ impl Read {
             Read::FindGrant => "find_grant",
             Read::FindDevice => "find_device",
             Read::FindRate => "find_rate",
-            Read::TallyJobs => "tally_jobs, 10 rows",
+            Read::TallyJobs => "tally_jobs",
             Read::TallyUnfinished => "tally_unfinished, 10 rows",
             Read::UnfinishedJobs => "unfinished_jobs, 10 rows",
-            Read::EndedJobs => "ended_jobs, no row",
+            Read::EndedJobs => "ended_jobs, the first 10",
             Read::GrantedTo => "granted_to, 10 rows",
             Read::FindDocuments => "find_documents, 1 row",
             Read::IsDeviceOn => "is_device_on, 10 rows",
@@ -69,23 +66,19 @@ impl Read {
         connection: &mut Connection<S>,
         own: &Own,
     ) -> Result<(), Fault> {
+        let last_job = own.next_job.saturating_sub(1);
         match self {
             Read::FindAccount => drop(find_account(connection, own.account)?),
-            Read::FindJob => drop(find_job(connection, own.account, own.job.job)?),
+            Read::FindJob => drop(find_job(connection, own.account, last_job)?),
             Read::FindGrant => drop(find_grant(connection, own.account, FIRST_GRANT)?),
             Read::FindDevice => drop(find_device(connection, own.device)?),
             Read::FindRate => drop(find_rate(connection, own.device)?),
             Read::TallyJobs => drop(tally_jobs(connection, own.account)?),
             Read::TallyUnfinished => drop(tally_unfinished(connection, own.account)?),
             Read::UnfinishedJobs => drop(unfinished_jobs(alloc, connection, own.account, None)?),
-            Read::EndedJobs => drop(ended_jobs(alloc, connection, own.account, None)?),
+            Read::EndedJobs => drop(ended_jobs(alloc, connection, own.account, Some(10))?),
             Read::GrantedTo => drop(granted_to(connection, own.account, FIRST_GRANT + 10)?),
-            Read::FindDocuments => drop(find_documents(
-                alloc,
-                connection,
-                own.account,
-                own.job.job,
-            )?),
+            Read::FindDocuments => drop(find_documents(alloc, connection, own.account, last_job)?),
             Read::IsDeviceOn => drop(is_device_on(connection)?),
         }
         Ok(())
@@ -96,93 +89,97 @@ impl Read {
 pub enum Write {
     SetAccount,
     SetNextJob,
-    SetJob,
+    AddJob,
     SetStanding,
-    SetDocument,
+    AddDocument,
+    RemoveDocuments,
     SetGrant,
     SetDevice,
     SetRate,
-    AddDocument,
-    RemoveDocuments,
 }
 
 /// Documents are added before they are removed.
-pub const WRITES: [Write; 10] = [
+pub const WRITES: [Write; 9] = [
     Write::SetAccount,
     Write::SetNextJob,
-    Write::SetJob,
+    Write::AddJob,
     Write::SetStanding,
-    Write::SetDocument,
+    Write::AddDocument,
+    Write::RemoveDocuments,
     Write::SetGrant,
     Write::SetDevice,
     Write::SetRate,
-    Write::AddDocument,
-    Write::RemoveDocuments,
 ];
+
+/// Those of a Print-Job.
+pub const PRINT_JOB: [Write; 3] = [Write::SetNextJob, Write::AddJob, Write::AddDocument];
 
 impl Write {
     pub fn name(self) -> &'static str {
         match self {
             Write::SetAccount => "set_account",
             Write::SetNextJob => "set_next_job",
-            Write::SetJob => "set_job",
-            Write::SetStanding => "set_standing",
-            Write::SetDocument => "set_document",
+            Write::AddJob => "add_job",
+            Write::SetStanding => "set_standing, to its end and back",
+            Write::AddDocument => "add_document",
+            Write::RemoveDocuments => "remove_documents, 1 row",
             Write::SetGrant => "set_grant",
             Write::SetDevice => "set_device",
             Write::SetRate => "set_rate",
-            Write::AddDocument => "set_document, a new row",
-            Write::RemoveDocuments => "remove_documents, 1 row",
         }
     }
 
-    /// One call, the `turn`th of its kind.
+    /// One call, the `turn`th of its kind on the database.
     pub fn call<S: Alter>(
         self,
         transaction: &mut Transaction<'_, S>,
-        own: &Own,
+        own: &mut Own,
         turn: u32,
     ) -> Result<(), Fault> {
         let account = own.account;
-        let added = FIRST_ADDED.saturating_add(turn);
+        let added = own.next_job.saturating_add(turn);
         match self {
             Write::SetAccount => set_account(
                 transaction,
                 account,
                 Account {
                     opened: 0,
-                    next_job: 11,
+                    next_job: LAST_JOB,
                 },
-            ),
-            Write::SetNextJob => set_next_job(transaction, account, 11),
-            Write::SetJob => {
-                if !own.job.standing.is_in_range() {
+            )?,
+            Write::SetNextJob => set_next_job(transaction, account, added.saturating_add(1))?,
+            Write::AddJob => {
+                own.new_job.job = added;
+                if !own.new_job.standing.is_in_range() {
                     return Err(Fault::Filling);
                 }
-                set_job(transaction, account, &own.job)
+                add_job(transaction, account, &own.new_job)?
             }
             Write::SetStanding => {
-                if !own.job.standing.is_in_range() {
+                let standing = if turn % 2 == 0 { canceled(turn) } else { HELD };
+                if !standing.is_in_range() {
                     return Err(Fault::Filling);
                 }
-                set_standing(transaction, account, own.job.job, &own.job.standing)
+                set_standing(
+                    transaction,
+                    account,
+                    own.next_job.saturating_sub(1),
+                    &standing,
+                )?
             }
-            Write::SetDocument => {
-                set_document(transaction, account, own.job.job, 1, Format::Pdf, b"Hello")
-            }
-            Write::SetGrant => set_grant(transaction, account, FIRST_GRANT, 100),
-            Write::SetDevice => set_device(transaction, own.device, true),
-            Write::SetRate => set_rate(transaction, own.device, 1),
-            Write::AddDocument => set_document(
+            Write::AddDocument => add_document(
                 transaction,
                 account,
                 added,
                 1,
                 Format::Pdf,
                 b"Hello",
-            ),
-            Write::RemoveDocuments => remove_documents(transaction, account, added),
-        }?;
+            )?,
+            Write::RemoveDocuments => remove_documents(transaction, account, added)?,
+            Write::SetGrant => set_grant(transaction, account, FIRST_GRANT, 100)?,
+            Write::SetDevice => set_device(transaction, own.device, true)?,
+            Write::SetRate => set_rate(transaction, own.device, 1)?,
+        }
         Ok(())
     }
 }

@@ -7,7 +7,7 @@ use Rattle.room_tables.specs.Cells.{number, job_cells}
 use Rattle.room_tables.proofs.KeyedTables.{job_in}
 use Rattle.room_tables.proofs.Transactions.{then_changed}
 use Rattle.room_tables.proofs.Updates.{updates_row}
-use Rattle.room_statements.proofs.JobWrites.{standing_text, standing_tests, standing_terms, standing_given, updates_standing, standing_kept, standing_keyed}
+use Rattle.room_statements.proofs.JobWrites.{standing_text, standing_tests, standing_terms, standing_given, updates_standing, job_kept, standing_keyed}
 use Rattle.room_statements.proofs.jobs.set_standing.Goals as goal
 
 pub returns-clause-sets : goal.returns-clause-sets
@@ -20,5 +20,5 @@ returns-clause-sets g c clean =
     then_changed c.write.result _ _
     (λ run has.
     let left = updates_row (Text c.args.name ∷ number c.args.job ∷ []) job_in standing_text standing_tests standing_terms given (updates_standing c.args.name c.args.job standing) old new run.0 has run.1 in
-    (left.0, λ it there. left.1 (job_cells c.args.name it) there (standing_kept c.args.name (record it { standing = standing })) (standing_keyed old.now has c.args.name c.args.job it there standing)))
+    (left.0, λ it there. left.1 (job_cells c.args.name it) there (job_kept c.args.name (record it { standing = standing })) (standing_keyed old.now has c.args.name c.args.job it there standing)))
     (ran clean)
