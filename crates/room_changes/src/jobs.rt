@@ -18,7 +18,7 @@ ghost use Rattle.room_changes.specs.Rows.{AddsJob, EndsJob, IsFree, Restands, Se
 use crate::document::NewDocument;
 use room_rules::{Job, Name, Standing};
 use room_statements::{
-    StoreFault, add_document, add_job, remove_documents, set_next_job, set_standing,
+    TableFault, add_document, add_job, remove_documents, set_next_job, set_standing,
 };
 use sqlite::{Alter, Connection, Error, Transaction};
 
@@ -29,13 +29,13 @@ pub fn make_job<S: Alter>(
     name: Name,
     job: &Job,
     document: Option<NewDocument<'_>>,
-) -> Result<(), StoreFault>
+) -> Result<(), TableFault>
     requires mode { connection.old.in_transaction ≡ false }
     requires standing { IsStanding job.now.standing }
     requires number { job.now.job < last_next_job }
     ensures room { Changes S.Store connection.old connection.new result (λ before after. (room : RoomValue) → HoldsRoom before name room → CanAddJob room job.now (first_of job.now.job document.entry) → HoldsRoom after name (with_new_job room job.now (first_of job.now.job document.entry))) }
     ensures alone { Changes S.Store connection.old connection.new result (λ before after. (account : AccountValue) → account_at before name ≡ Some (account_cells name account) → OnlyAccount name before after) }
-    ensures damaged { OfStore S.Store connection.old connection.new (λ db. result ≡ Err StoreFault.Damaged → job_at db name (pos job.now.job) ≡ None → IsFree name (first_of job.now.job document.entry) db → ⊥) }
+    ensures damaged { OfStore S.Store connection.old connection.new (λ db. result ≡ Err TableFault.Damaged → job_at db name (pos job.now.job) ≡ None → IsFree name (first_of job.now.job document.entry) db → ⊥) }
     ensures whole { IsWhole S.Store connection.old connection.new result }
 {
     put_job(connection, name, job, document)
@@ -46,12 +46,12 @@ fn put_job<S: Alter>(
     name: Name,
     job: &Job,
     document: Option<NewDocument<'_>>,
-) -> Result<(), StoreFault>
+) -> Result<(), TableFault>
     requires mode { connection.old.in_transaction ≡ false }
     requires standing { IsStanding job.now.standing }
     requires number { job.now.job < last_next_job }
     ensures adds { Changes S.Store connection.old connection.new result (AddsJob name job.now (first_of job.now.job document.entry)) }
-    ensures damaged { OfStore S.Store connection.old connection.new (λ db. result ≡ Err StoreFault.Damaged → job_at db name (pos job.now.job) ≡ None → IsFree name (first_of job.now.job document.entry) db → ⊥) }
+    ensures damaged { OfStore S.Store connection.old connection.new (λ db. result ≡ Err TableFault.Damaged → job_at db name (pos job.now.job) ≡ None → IsFree name (first_of job.now.job document.entry) db → ⊥) }
     ensures whole { IsWhole S.Store connection.old connection.new result }
 {
     let mut transaction = connection.transaction();
@@ -64,11 +64,11 @@ fn add<S: Alter>(
     name: Name,
     job: &Job,
     document: Option<NewDocument<'_>>,
-) -> Result<(), StoreFault>
+) -> Result<(), TableFault>
     requires standing { IsStanding job.now.standing }
     requires number { job.now.job < last_next_job }
     ensures adds { Changes S.Store transaction.old.conn.now transaction.new.conn.now result (AddsJob name job.now (first_of job.now.job document.entry)) }
-    ensures damaged { OfStore S.Store transaction.old.conn.now transaction.new.conn.now (λ db. result ≡ Err StoreFault.Damaged → job_at db name (pos job.now.job) ≡ None → IsFree name (first_of job.now.job document.entry) db → ⊥) }
+    ensures damaged { OfStore S.Store transaction.old.conn.now transaction.new.conn.now (λ db. result ≡ Err TableFault.Damaged → job_at db name (pos job.now.job) ≡ None → IsFree name (first_of job.now.job document.entry) db → ⊥) }
     ensures inside { StaysInside S.Store transaction.old.conn transaction.new.conn result }
 {
     match document {
@@ -82,11 +82,11 @@ fn add_with<S: Alter>(
     name: Name,
     job: &Job,
     first: NewDocument<'_>,
-) -> Result<(), StoreFault>
+) -> Result<(), TableFault>
     requires standing { IsStanding job.now.standing }
     requires number { job.now.job < last_next_job }
     ensures adds { Changes S.Store transaction.old.conn.now transaction.new.conn.now result (AddsJob name job.now (Some (document_of job.now.job first.entry))) }
-    ensures damaged { OfStore S.Store transaction.old.conn.now transaction.new.conn.now (λ db. result ≡ Err StoreFault.Damaged → job_at db name (pos job.now.job) ≡ None → IsFree name (Some (document_of job.now.job first.entry)) db → ⊥) }
+    ensures damaged { OfStore S.Store transaction.old.conn.now transaction.new.conn.now (λ db. result ≡ Err TableFault.Damaged → job_at db name (pos job.now.job) ≡ None → IsFree name (Some (document_of job.now.job first.entry)) db → ⊥) }
     ensures inside { StaysInside S.Store transaction.old.conn transaction.new.conn result }
 {
     add_job(transaction, name, job)?;
@@ -98,11 +98,11 @@ fn add_without<S: Alter>(
     transaction: &mut Transaction<'_, S>,
     name: Name,
     job: &Job,
-) -> Result<(), StoreFault>
+) -> Result<(), TableFault>
     requires standing { IsStanding job.now.standing }
     requires number { job.now.job < last_next_job }
     ensures adds { Changes S.Store transaction.old.conn.now transaction.new.conn.now result (AddsJob name job.now None) }
-    ensures damaged { OfStore S.Store transaction.old.conn.now transaction.new.conn.now (λ db. result ≡ Err StoreFault.Damaged → job_at db name (pos job.now.job) ≡ None → ⊥) }
+    ensures damaged { OfStore S.Store transaction.old.conn.now transaction.new.conn.now (λ db. result ≡ Err TableFault.Damaged → job_at db name (pos job.now.job) ≡ None → ⊥) }
     ensures inside { StaysInside S.Store transaction.old.conn transaction.new.conn result }
 {
     add_job(transaction, name, job)?;
@@ -114,10 +114,10 @@ fn count_on<S: Alter>(
     transaction: &mut Transaction<'_, S>,
     name: Name,
     job: &Job,
-) -> Result<(), StoreFault>
+) -> Result<(), TableFault>
     requires { job.now.job < last_next_job }
     ensures counts { Changes S.Store transaction.old.conn.now transaction.new.conn.now result (SetsNext name (job.now.job + 1)) }
-    ensures undamaged { result ≡ Err StoreFault.Damaged → ⊥ }
+    ensures undamaged { result ≡ Err TableFault.Damaged → ⊥ }
     ensures inside { StaysInside S.Store transaction.old.conn transaction.new.conn result }
 {
     Ok(set_next_job(transaction, name, job.job + 1)?)
@@ -131,12 +131,12 @@ pub fn restand_job<S: Alter>(
     number: u32,
     standing: &Standing,
     document: Option<NewDocument<'_>>,
-) -> Result<(), StoreFault>
+) -> Result<(), TableFault>
     requires mode { connection.old.in_transaction ≡ false }
     requires standing { IsStanding standing.now }
     ensures room { Changes S.Store connection.old connection.new result (λ before after. (room : RoomValue) → HoldsRoom before name room → CanRestand room number standing.now (first_of number document.entry) → HoldsRoom after name (with_standing room number standing.now (first_of number document.entry))) }
     ensures alone { Changes S.Store connection.old connection.new result (λ before after. (job : JobValue) → job_at before name (pos number) ≡ Some (job_cells name job) → OnlyAccount name before after) }
-    ensures damaged { OfStore S.Store connection.old connection.new (λ db. result ≡ Err StoreFault.Damaged → IsFree name (first_of number document.entry) db → ⊥) }
+    ensures damaged { OfStore S.Store connection.old connection.new (λ db. result ≡ Err TableFault.Damaged → IsFree name (first_of number document.entry) db → ⊥) }
     ensures whole { IsWhole S.Store connection.old connection.new result }
 {
     put_standing(connection, name, number, standing, document)
@@ -148,11 +148,11 @@ fn put_standing<S: Alter>(
     number: u32,
     standing: &Standing,
     document: Option<NewDocument<'_>>,
-) -> Result<(), StoreFault>
+) -> Result<(), TableFault>
     requires mode { connection.old.in_transaction ≡ false }
     requires standing { IsStanding standing.now }
     ensures restands { Changes S.Store connection.old connection.new result (Restands name number standing.now (first_of number document.entry)) }
-    ensures damaged { OfStore S.Store connection.old connection.new (λ db. result ≡ Err StoreFault.Damaged → IsFree name (first_of number document.entry) db → ⊥) }
+    ensures damaged { OfStore S.Store connection.old connection.new (λ db. result ≡ Err TableFault.Damaged → IsFree name (first_of number document.entry) db → ⊥) }
     ensures whole { IsWhole S.Store connection.old connection.new result }
 {
     let mut transaction = connection.transaction();
@@ -166,10 +166,10 @@ fn restand<S: Alter>(
     number: u32,
     standing: &Standing,
     document: Option<NewDocument<'_>>,
-) -> Result<(), StoreFault>
+) -> Result<(), TableFault>
     requires { IsStanding standing.now }
     ensures restands { Changes S.Store transaction.old.conn.now transaction.new.conn.now result (Restands name number standing.now (first_of number document.entry)) }
-    ensures damaged { OfStore S.Store transaction.old.conn.now transaction.new.conn.now (λ db. result ≡ Err StoreFault.Damaged → IsFree name (first_of number document.entry) db → ⊥) }
+    ensures damaged { OfStore S.Store transaction.old.conn.now transaction.new.conn.now (λ db. result ≡ Err TableFault.Damaged → IsFree name (first_of number document.entry) db → ⊥) }
     ensures inside { StaysInside S.Store transaction.old.conn transaction.new.conn result }
 {
     match document {
@@ -184,10 +184,10 @@ fn restand_with<S: Alter>(
     number: u32,
     standing: &Standing,
     next: NewDocument<'_>,
-) -> Result<(), StoreFault>
+) -> Result<(), TableFault>
     requires { IsStanding standing.now }
     ensures restands { Changes S.Store transaction.old.conn.now transaction.new.conn.now result (Restands name number standing.now (Some (document_of number next.entry))) }
-    ensures damaged { OfStore S.Store transaction.old.conn.now transaction.new.conn.now (λ db. result ≡ Err StoreFault.Damaged → IsFree name (Some (document_of number next.entry)) db → ⊥) }
+    ensures damaged { OfStore S.Store transaction.old.conn.now transaction.new.conn.now (λ db. result ≡ Err TableFault.Damaged → IsFree name (Some (document_of number next.entry)) db → ⊥) }
     ensures inside { StaysInside S.Store transaction.old.conn transaction.new.conn result }
 {
     add_document(transaction, name, number, next.number, next.format, next.bytes)?;
@@ -199,10 +199,10 @@ fn restand_without<S: Alter>(
     name: Name,
     number: u32,
     standing: &Standing,
-) -> Result<(), StoreFault>
+) -> Result<(), TableFault>
     requires { IsStanding standing.now }
     ensures restands { Changes S.Store transaction.old.conn.now transaction.new.conn.now result (Restands name number standing.now None) }
-    ensures undamaged { result ≡ Err StoreFault.Damaged → ⊥ }
+    ensures undamaged { result ≡ Err TableFault.Damaged → ⊥ }
     ensures inside { StaysInside S.Store transaction.old.conn transaction.new.conn result }
 {
     Ok(set_standing(transaction, name, number, standing)?)

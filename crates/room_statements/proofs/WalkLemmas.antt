@@ -11,8 +11,8 @@ use Rattle.sqlite.specs.declared.error.Error.TheVariants.{SqliteFailure}
 use Rattle.sqlite.specs.declared.error.ErrorCode.{ErrorCode}
 use Rattle.sqlite.specs.declared.error.ErrorCode.TheVariants as codes_of
 use Rattle.room_tables.specs.Faults.{statement_fault}
-use Rattle.room_tables.specs.declared.fault.StoreFault.{StoreFault}
-use Rattle.room_tables.specs.declared.fault.StoreFault.TheVariants.{Damaged}
+use Rattle.room_tables.specs.declared.fault.TableFault.{TableFault}
+use Rattle.room_tables.specs.declared.fault.TableFault.TheVariants.{Damaged}
 use Rattle.room_tables.proofs.KeyedRows.{same_fault}
 use Rattle.sqlite_rules.specs.Lists.{Has}
 use Rattle.sqlite.specs.Effect.{Database}
@@ -123,21 +123,21 @@ never_damaged (errors.IntegralValueOutOfRange a) h = let e = h in cc
 never_damaged (errors.Utf8Error a) h = let e = h in cc
 
 module _ {G : Type 0} (step : G → Row → G → Type 0) (refuses : G → Row → Type 0) (old new : State) (IsShown : List Row → Type 0) (first last : G) where
-  pub walk_failed : (fault : StoreFault) (result : Result (Unit {0}) StoreFault) → result ≡ Err fault → (fault ≡ Damaged → RefusesShown step refuses IsShown first) → Stays old new
+  pub walk_failed : (fault : TableFault) (result : Result (Unit {0}) TableFault) → result ≡ Err fault → (fault ≡ Damaged → RefusesShown step refuses IsShown first) → Stays old new
       → WalksShown step refuses old new IsShown first last result
   walk_failed fault result is damaged stays =
       subst (WalksShown step refuses old new IsShown first last) (sym is) (record { all = tt; damaged = λ e. damaged (same_fault e); same = tt; stays = stays })
 
-  pub statement_failed : (error : Error) (fault : StoreFault) (result : Result (Unit {0}) StoreFault) → result ≡ Err fault → fault ≡ statement_fault error → Stays old new
+  pub statement_failed : (error : Error) (fault : TableFault) (result : Result (Unit {0}) TableFault) → result ≡ Err fault → fault ≡ statement_fault error → Stays old new
       → WalksShown step refuses old new IsShown first last result
   statement_failed error fault result is told stays = walk_failed fault result is (λ damaged. absurd (never_damaged error (sym told ∙ damaged))) stays
 
-  pub walk_done : (result : Result (Unit {0}) StoreFault) → result ≡ Ok tt → GathersShown step refuses IsShown first last → IsUnchanged old new → WalksShown step refuses old new IsShown first last result
+  pub walk_done : (result : Result (Unit {0}) TableFault) → result ≡ Ok tt → GathersShown step refuses IsShown first last → IsUnchanged old new → WalksShown step refuses old new IsShown first last result
   walk_done result is all same =
       subst (WalksShown step refuses old new IsShown first last) (sym is) (record { all = all; damaged = λ e. absurd (let no = e in cc); same = unchanged_same old new same; stays = unchanged_stays old new same })
 
   -- what is shown is told in other words
-  pub told_as : (IsTold : List Row → Type 0) → ((rows : List Row) → IsShown rows → IsTold rows) → (result : Result (Unit {0}) StoreFault) → WalksShown step refuses old new IsShown first last result
+  pub told_as : (IsTold : List Row → Type 0) → ((rows : List Row) → IsShown rows → IsTold rows) → (result : Result (Unit {0}) TableFault) → WalksShown step refuses old new IsShown first last result
       → WalksShown step refuses old new IsTold first last result
   told_as IsTold tells (Ok done) it = record { all = (it.all.0, tells it.all.0 it.all.1, it.all.2); damaged = λ e. absurd (let no = e in cc); same = it.same; stays = it.stays }
   told_as IsTold tells (Err fault) it = record {
@@ -155,7 +155,7 @@ refused_there [] row more = inl refl
 refused_there (other ∷ given) row more = inr (refused_there given row more)
 
 -- a walk over one table, without an order, is one over the rows that pass in some order
-pub in_some_order : {G : Type 0} (step : G → Row → G → Type 0) (refuses : G → Row → Type 0) (old new : State) (first last : G) (tree : ℕ) (tests shows : List Term) (params : Row) (result : Result (Unit {0}) StoreFault)
+pub in_some_order : {G : Type 0} (step : G → Row → G → Type 0) (refuses : G → Row → Type 0) (old new : State) (first last : G) (tree : ℕ) (tests shows : List Term) (params : Row) (result : Result (Unit {0}) TableFault)
     → WalksShown step refuses old new (IsShownBy (of_table tree tests shows []) old.now.trees params) first last result
     → WalksOver step refuses old new (shown_of tree tests shows params old.now.trees) first last result
 in_some_order step refuses old new first last tree tests shows params result it =

@@ -6,8 +6,8 @@ use Rattle.sqlite_trees.specs.declared.store.Store.{Ghosts}
 use Rattle.sqlite.specs.Effect.{Database}
 use Rattle.sqlite.specs.State.{State}
 use Rattle.sqlite.specs.Held.{Held, state}
-use Rattle.room_tables.specs.declared.fault.StoreFault.{StoreFault}
-use Rattle.room_tables.specs.declared.fault.StoreFault.TheVariants.{Damaged}
+use Rattle.room_tables.specs.declared.fault.TableFault.{TableFault}
+use Rattle.room_tables.specs.declared.fault.TableFault.TheVariants.{Damaged}
 use Rattle.room_tables.specs.Calls.{IsSame, Stays, OfStore}
 use Rattle.room_tables.specs.Queries.{HasNoSums, Means, Takes, IsShownBy}
 
@@ -35,20 +35,20 @@ module _ {G : Type 0} (step : G → Row → G → Type 0) (refuses : G → Row �
     pub gathered : GathersAll step first given so_far
     pub refused : refuses so_far row
 
-  pub record WalksShown (old new : State) (IsShown : List Row → Type 0) (first last : G) (result : Result (Unit {0}) StoreFault) : Type 0 where
+  pub record WalksShown (old new : State) (IsShown : List Row → Type 0) (first last : G) (result : Result (Unit {0}) TableFault) : Type 0 where
     pub all : OnOk result (GathersShown IsShown first last)
     pub damaged : result ≡ Err Damaged → RefusesShown IsShown first
     pub same : OnOk result (IsSame old new)
     pub stays : Stays old new
 
   -- whatever query the text means, this is what the walk comes to
-  abbrev pub Walks : State → State → List ℕ → Row → G → G → Result (Unit {0}) StoreFault → Type 0
+  abbrev pub Walks : State → State → List ℕ → Row → G → G → Result (Unit {0}) TableFault → Type 0
   Walks old new text params first last result =
       (query : Query) (names : List (List ℕ)) (parameters : ℕ) → HasNoSums query → Means old.now.schema text query names parameters
       → Takes old.now.schema query params parameters → WalksShown old new (IsShownBy query old.now.trees params) first last result
 
   -- over the store's tables, of which so much is shown
-  abbrev pub WalksStore : {S : Type 0} → Ghosts S → Held S → Held S → (Database → List Row → Type 0) → G → G → Result (Unit {0}) StoreFault → Type 0
+  abbrev pub WalksStore : {S : Type 0} → Ghosts S → Held S → Held S → (Database → List Row → Type 0) → G → G → Result (Unit {0}) TableFault → Type 0
   WalksStore store old new IsShown first last result = OfStore store old new (λ db. WalksShown (state store old) (state store new) (IsShown db) first last result)
 
   -- ---- over rows that are shown in some order
@@ -59,5 +59,5 @@ module _ {G : Type 0} (step : G → Row → G → Type 0) (refuses : G → Row �
   abbrev pub RefusesOne : List Row → G → Type 0
   RefusesOne shown first = RefusesShown (IsPermutation shown) first
 
-  abbrev pub WalksOver : State → State → List Row → G → G → Result (Unit {0}) StoreFault → Type 0
+  abbrev pub WalksOver : State → State → List Row → G → G → Result (Unit {0}) TableFault → Type 0
   WalksOver old new shown first last result = WalksShown old new (IsPermutation shown) first last result

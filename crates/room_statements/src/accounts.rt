@@ -12,7 +12,7 @@ ghost use Rattle.room_statements.specs.SoundRows.{IsRowOf};
 
 use crate::values::{number, number_at};
 use room_rules::{Account, LAST_JOB, LAST_MOMENT, Name};
-use room_tables::{StoreFault, find_row, write};
+use room_tables::{TableFault, find_row, write};
 use sqlite::{Alter, Connection, Error, Row, Transaction};
 use sqlite_value::value::ValueRef;
 
@@ -20,10 +20,10 @@ use sqlite_value::value::ValueRef;
 pub fn find_account<S: Alter>(
     connection: &mut Connection<S>,
     name: Name,
-) -> Result<Option<Account>, StoreFault>
+) -> Result<Option<Account>, TableFault>
     ensures found { OfStore S.Store connection.old connection.new (λ db. IfOk result (λ found. account_at db name ≡ option_map (account_cells name) found)) }
     ensures in_range { IfOk result (λ found. IfSome found IsAccount) }
-    ensures damaged { OfStore S.Store connection.old connection.new (λ db. result ≡ Err StoreFault.Damaged → IsRowOf (account_cells name) IsAccount (account_at db name) → ⊥) }
+    ensures damaged { OfStore S.Store connection.old connection.new (λ db. result ≡ Err TableFault.Damaged → IsRowOf (account_cells name) IsAccount (account_at db name) → ⊥) }
     ensures reads { ReadsStore S.Store connection.old connection.new result }
 {
     match account_row(connection, name)? {
@@ -43,15 +43,15 @@ fn account_row<S: Alter>(connection: &mut Connection<S>, name: Name) -> Result<O
     )
 }
 
-fn account_from(row: &Row) -> Result<Account, StoreFault>
+fn account_from(row: &Row) -> Result<Account, TableFault>
     ensures read { IfOk result (λ account. (column row.now 0 ≡ number account.opened) × (column row.now 1 ≡ number account.next_job)) }
     ensures in_range { IfOk result IsAccount }
-    ensures damaged { result ≡ Err StoreFault.Damaged → (account : AccountValue) → IsAccount account → column row.now 0 ≡ number account.opened → column row.now 1 ≢ number account.next_job }
+    ensures damaged { result ≡ Err TableFault.Damaged → (account : AccountValue) → IsAccount account → column row.now 0 ≡ number account.opened → column row.now 1 ≢ number account.next_job }
 {
     let opened = number_at(row, 0)?;
     let next_job = number_at(row, 1)?;
     if opened > LAST_MOMENT || next_job < 1 || next_job > LAST_JOB as u64 + 1 {
-        return Err(StoreFault::Damaged);
+        return Err(TableFault::Damaged);
     }
     Ok(Account {
         opened,

@@ -15,7 +15,7 @@ ghost use Rattle.room_statements.specs.SoundRows.{device_rows, AreRowsOf, IsRowO
 use crate::values::{flag, flag_at};
 use crate::walking::{Gather, walk};
 use room_rules::Name;
-use room_tables::{StoreFault, find_row, write};
+use room_tables::{TableFault, find_row, write};
 use sqlite::{Alter, Connection, Error, Row, Transaction};
 use sqlite_value::value::ValueRef;
 
@@ -24,9 +24,9 @@ use sqlite_value::value::ValueRef;
 pub fn find_device<S: Alter>(
     connection: &mut Connection<S>,
     name: Name,
-) -> Result<Option<bool>, StoreFault>
+) -> Result<Option<bool>, TableFault>
     ensures found { OfStore S.Store connection.old connection.new (λ db. IfOk result (λ found. device_at db name ≡ option_map (on_cells name) found)) }
-    ensures damaged { OfStore S.Store connection.old connection.new (λ db. result ≡ Err StoreFault.Damaged → IsRowOf (on_cells name) (λ _. ⊤) (device_at db name) → ⊥) }
+    ensures damaged { OfStore S.Store connection.old connection.new (λ db. result ≡ Err TableFault.Damaged → IsRowOf (on_cells name) (λ _. ⊤) (device_at db name) → ⊥) }
     ensures reads { ReadsStore S.Store connection.old connection.new result }
 {
     match device_row(connection, name)? {
@@ -47,10 +47,10 @@ fn device_row<S: Alter>(connection: &mut Connection<S>, name: Name) -> Result<Op
 }
 
 /// Whether some device takes jobs now, of the rows or, where they are sound, of the map that they are. `Damaged` tells that a row that is there can be none of sound rows.
-pub fn is_device_on<S: Alter>(connection: &mut Connection<S>) -> Result<bool, StoreFault>
+pub fn is_device_on<S: Alter>(connection: &mut Connection<S>) -> Result<bool, TableFault>
     ensures found { OfStore S.Store connection.old connection.new (λ db. IfOk result (λ on. IsTrue on ↔ ((name : List ℕ) × (device_at db name ≡ Some (on_cells name true))))) }
     ensures of_map { OfStore S.Store connection.old connection.new (λ db. IfOk result (λ on. (devices : Devices) → HoldsDevices db devices → on ≡ is_some_on devices)) }
-    ensures damaged { OfStore S.Store connection.old connection.new (λ db. result ≡ Err StoreFault.Damaged → AreRowsOf (λ (it : List ℕ × Bool). on_cells it.0 it.1) (λ _. ⊤) (device_rows db) → ⊥) }
+    ensures damaged { OfStore S.Store connection.old connection.new (λ db. result ≡ Err TableFault.Damaged → AreRowsOf (λ (it : List ℕ × Bool). on_cells it.0 it.1) (λ _. ⊤) (device_rows db) → ⊥) }
     ensures reads { ReadsStore S.Store connection.old connection.new result }
 {
     let mut found = AnyOn { is_on: false };
@@ -71,7 +71,7 @@ impl Gather for AnyOn {
 
     ghost refuses = { λ first row. refuses_flag row };
 
-    fn gather(&mut self, row: &Row) -> Result<(), StoreFault> {
+    fn gather(&mut self, row: &Row) -> Result<(), TableFault> {
         if flag_at(row, 0)? {
             self.is_on = true;
         }
@@ -82,7 +82,7 @@ impl Gather for AnyOn {
 fn walk_devices<S: Alter>(
     connection: &mut Connection<S>,
     found: &mut AnyOn,
-) -> Result<(), StoreFault>
+) -> Result<(), TableFault>
     ensures walks { WalksStore (λ first row last. GathersOn first.is_on row last.is_on) (λ first row. refuses_flag row) S.Store connection.old connection.new (λ db. IsPermutation (map (λ row. column row 2 ∷ []) (db.trees device_table.tree))) found.old found.new result }
     ensures going { GoesOn S.Store connection.old connection.new result }
 {

@@ -20,7 +20,7 @@ use crate::values::{bytes_at, format_at, format_text, number, short_at};
 use crate::walking::{Gather, walk};
 use ipp_coding::List;
 use room_rules::{Document, Format, LONGEST_DOCUMENT, MOST_DOCUMENTS, Name};
-use room_tables::{StoreFault, put, write};
+use room_tables::{TableFault, put, write};
 use sqlite::{Alter, Connection, Error, Row, Transaction};
 use sqlite_value::value::ValueRef;
 use std::alloc::Global;
@@ -32,9 +32,9 @@ pub fn find_documents<S: Alter>(
     connection: &mut Connection<S>,
     name: Name,
     job: u32,
-) -> Result<List<Document>, StoreFault>
+) -> Result<List<Document>, TableFault>
     ensures listed { OfStore S.Store connection.old connection.new (λ db. (room : RoomValue) → HoldsRoom db name room → IfOk result (λ documents. documents ≡ documents_of room job)) }
-    ensures damaged { OfStore S.Store connection.old connection.new (λ db. result ≡ Err StoreFault.Damaged → AreRowsOf (document_cells name) (IsDocumentOf job) (document_rows db name job) → ⊥) }
+    ensures damaged { OfStore S.Store connection.old connection.new (λ db. result ≡ Err TableFault.Damaged → AreRowsOf (document_cells name) (IsDocumentOf job) (document_rows db name job) → ⊥) }
     ensures reads { ReadsStore S.Store connection.old connection.new result }
 {
     let mut found = Found {
@@ -60,7 +60,7 @@ impl Gather for Found {
 
     ghost refuses = { λ first row. refuses_document first.job row };
 
-    fn gather(&mut self, row: &Row) -> Result<(), StoreFault> {
+    fn gather(&mut self, row: &Row) -> Result<(), TableFault> {
         let document = document_from(row, self.job)?;
         let place = (document.number - 1) as usize;
         self.places[place] = Some(document);
@@ -69,16 +69,16 @@ impl Gather for Found {
 }
 
 /// The document that the row tells, if it is one that a job can have.
-fn document_from(row: &Row, job: u32) -> Result<Document, StoreFault>
+fn document_from(row: &Row, job: u32) -> Result<Document, TableFault>
     ensures read { IfOk result (ShowsDocument row.now) }
     ensures in_range { IfOk result (IsDocumentOf job) }
-    ensures damaged { result ≡ Err StoreFault.Damaged → (document : DocumentValue) → IsDocumentOf job document → ShowsDocument row.now document → ⊥ }
+    ensures damaged { result ≡ Err TableFault.Damaged → (document : DocumentValue) → IsDocumentOf job document → ShowsDocument row.now document → ⊥ }
 {
     let number = short_at(row, 0)?;
     let format = format_at(row, 1)?;
     let bytes = bytes_at(row, 2)?;
     if number < 1 || number > MOST_DOCUMENTS || bytes.items.len() > LONGEST_DOCUMENT {
-        return Err(StoreFault::Damaged);
+        return Err(TableFault::Damaged);
     }
     Ok(Document {
         job,
@@ -92,7 +92,7 @@ fn walk_documents<S: Alter>(
     connection: &mut Connection<S>,
     name: Name,
     found: &mut Found,
-) -> Result<(), StoreFault>
+) -> Result<(), TableFault>
     ensures walks { WalksStore (λ first row last. (last.job ≡ first.job) × GathersDocument first.job first.places row last.places) (λ first row. refuses_document first.job row) S.Store connection.old connection.new (λ db. IsPermutation (shown_documents db name found.old.job)) found.old found.new result }
     ensures going { GoesOn S.Store connection.old connection.new result }
 {
@@ -105,9 +105,9 @@ fn walk_documents<S: Alter>(
 }
 
 /// Those that are there, in the order of their places.
-fn in_order(alloc: Global, places: [Option<Document>; 8]) -> Result<List<Document>, StoreFault>
+fn in_order(alloc: Global, places: [Option<Document>; 8]) -> Result<List<Document>, TableFault>
     ensures listed { IfOk result (λ documents. documents ≡ flat_map option_to_list places) }
-    ensures fault { IfErr result (λ fault. fault ≡ StoreFault.Memory) }
+    ensures fault { IfErr result (λ fault. fault ≡ TableFault.Memory) }
 {
     let mut items = Vec::new(alloc);
     for place in places {
@@ -127,9 +127,9 @@ pub fn add_document<S: Alter>(
     number_in_job: u32,
     format: Format,
     bytes: &[u8],
-) -> Result<(), StoreFault>
+) -> Result<(), TableFault>
     ensures sets { Changes S.Store transaction.old.conn.now transaction.new.conn.now result (SetsRow document_table (document_cells name (record { job = job; number = number_in_job; format = format; bytes = bytes.now }))) }
-    ensures taken { OfStore S.Store transaction.old.conn.now transaction.new.conn.now (λ db. result ≡ Err StoreFault.Damaged → document_at db name (pos job) (pos number_in_job) ≡ None → ⊥) }
+    ensures taken { OfStore S.Store transaction.old.conn.now transaction.new.conn.now (λ db. result ≡ Err TableFault.Damaged → document_at db name (pos job) (pos number_in_job) ≡ None → ⊥) }
     ensures inside { StaysInside S.Store transaction.old.conn transaction.new.conn result }
 {
     put(

@@ -19,7 +19,7 @@ use crate::values::{number, number_at};
 use crate::walking::{Gather, walk};
 use room_rules::{MOST_PAGES, Name};
 use room_state::sum_of_units;
-use room_tables::{StoreFault, find_row, write};
+use room_tables::{TableFault, find_row, write};
 use sqlite::{Alter, Connection, Error, Row, Transaction};
 use sqlite_value::value::ValueRef;
 
@@ -29,10 +29,10 @@ pub fn find_grant<S: Alter>(
     connection: &mut Connection<S>,
     name: Name,
     month: u32,
-) -> Result<Option<u32>, StoreFault>
+) -> Result<Option<u32>, TableFault>
     ensures found { OfStore S.Store connection.old connection.new (λ db. IfOk result (λ found. grant_at db name (pos month) ≡ option_map (grant_cells name month) found)) }
     ensures in_range { IfOk result (λ found. IfSome found (λ pages. pages ≤ most_pages)) }
-    ensures damaged { OfStore S.Store connection.old connection.new (λ db. result ≡ Err StoreFault.Damaged → IsRowOf (grant_cells name month) (λ pages. pages ≤ most_pages) (grant_at db name (pos month)) → ⊥) }
+    ensures damaged { OfStore S.Store connection.old connection.new (λ db. result ≡ Err TableFault.Damaged → IsRowOf (grant_cells name month) (λ pages. pages ≤ most_pages) (grant_at db name (pos month)) → ⊥) }
     ensures reads { ReadsStore S.Store connection.old connection.new result }
 {
     match grant_row(connection, name, month)? {
@@ -56,14 +56,14 @@ fn grant_row<S: Alter>(
     )
 }
 
-fn pages_from(row: &Row) -> Result<u32, StoreFault>
+fn pages_from(row: &Row) -> Result<u32, TableFault>
     ensures read { IfOk result (λ pages. column row.now 0 ≡ number pages) }
     ensures in_range { IfOk result (λ pages. pages ≤ most_pages) }
-    ensures damaged { result ≡ Err StoreFault.Damaged → (pages : ℕ) → pages ≤ most_pages → column row.now 0 ≢ number pages }
+    ensures damaged { result ≡ Err TableFault.Damaged → (pages : ℕ) → pages ≤ most_pages → column row.now 0 ≢ number pages }
 {
     let pages = number_at(row, 0)?;
     if pages > MOST_PAGES as u64 {
-        return Err(StoreFault::Damaged);
+        return Err(TableFault::Damaged);
     }
     Ok(pages as u32)
 }
@@ -74,10 +74,10 @@ pub fn granted_to<S: Alter>(
     connection: &mut Connection<S>,
     name: Name,
     month: u32,
-) -> Result<u64, StoreFault>
+) -> Result<u64, TableFault>
     ensures granted { OfStore S.Store connection.old connection.new (λ db. (room : RoomValue) → HoldsRoom db name room → IfOk result (λ pages. pages ≡ granted_to room month)) }
     ensures in_range { IfOk result (λ pages. pages ≤ most_units) }
-    ensures damaged { OfStore S.Store connection.old connection.new (λ db. result ≡ Err StoreFault.Damaged → CanBeAdded name month (grant_rows db name) → ⊥) }
+    ensures damaged { OfStore S.Store connection.old connection.new (λ db. result ≡ Err TableFault.Damaged → CanBeAdded name month (grant_rows db name) → ⊥) }
     ensures reads { ReadsStore S.Store connection.old connection.new result }
 {
     let mut granted = Granted { month, pages: 0 };
@@ -100,12 +100,12 @@ impl Gather for Granted {
 
     ghost refuses = { λ first row. refuses_grant first.month first.pages row };
 
-    fn gather(&mut self, row: &Row) -> Result<(), StoreFault> {
+    fn gather(&mut self, row: &Row) -> Result<(), TableFault> {
         let month = number_at(row, 0)?;
         let pages = number_at(row, 1)?;
         if month <= self.month as u64 {
             let Some(sum) = sum_of_units(self.pages, pages) else {
-                return Err(StoreFault::Damaged);
+                return Err(TableFault::Damaged);
             };
             self.pages = sum;
         }
@@ -117,7 +117,7 @@ fn walk_grants<S: Alter>(
     connection: &mut Connection<S>,
     name: Name,
     granted: &mut Granted,
-) -> Result<(), StoreFault>
+) -> Result<(), TableFault>
     ensures gathers { OnOk result (HasGathered (λ first row last. (last.month ≡ first.month) × AddsGrant first.month first.pages row last.pages) granted.old granted.new) }
     ensures walks { WalksStore (λ first row last. (last.month ≡ first.month) × AddsGrant first.month first.pages row last.pages) (λ first row. refuses_grant first.month first.pages row) S.Store connection.old connection.new (λ db. IsPermutation (map granted_cells (grant_rows db name))) granted.old granted.new result }
     ensures going { GoesOn S.Store connection.old connection.new result }

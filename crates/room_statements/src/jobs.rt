@@ -18,7 +18,7 @@ use crate::values::{
     number_of_state, short_at, state_at,
 };
 use room_rules::{Job, LONGEST_JOB_NAME, LONGEST_PASSWORD, Name, Standing};
-use room_tables::{StoreFault, find_row, put, write};
+use room_tables::{TableFault, find_row, put, write};
 use sqlite::{Alter, Connection, Error, Row, Transaction};
 use sqlite_value::value::ValueRef;
 
@@ -28,10 +28,10 @@ pub fn find_job<S: Alter>(
     connection: &mut Connection<S>,
     name: Name,
     number: u32,
-) -> Result<Option<Job>, StoreFault>
+) -> Result<Option<Job>, TableFault>
     ensures found { OfStore S.Store connection.old connection.new (λ db. IfOk result (λ found. job_at db name (pos number) ≡ option_map (job_cells name) found)) }
     ensures in_range { IfOk result (λ found. IfSome found (λ job. (job.job ≡ number) × IsJob job)) }
-    ensures damaged { OfStore S.Store connection.old connection.new (λ db. result ≡ Err StoreFault.Damaged → IsRowOf (job_cells name) (λ job. (job.job ≡ number) × IsJob job) (job_at db name (pos number)) → ⊥) }
+    ensures damaged { OfStore S.Store connection.old connection.new (λ db. result ≡ Err TableFault.Damaged → IsRowOf (job_cells name) (λ job. (job.job ≡ number) × IsJob job) (job_at db name (pos number)) → ⊥) }
     ensures reads { ReadsStore S.Store connection.old connection.new result }
 {
     match job_row(connection, name, number)? {
@@ -56,17 +56,17 @@ fn job_row<S: Alter>(
 }
 
 /// The job with the number that the row tells, from its name on.
-pub(crate) fn job_from(row: &Row, number: u32) -> Result<Job, StoreFault>
+pub(crate) fn job_from(row: &Row, number: u32) -> Result<Job, TableFault>
     ensures numbered { IfOk result (λ job. job.job ≡ number) }
     ensures read { IfOk result (ShowsJob row.now) }
     ensures in_range { IfOk result IsJob }
-    ensures damaged { result ≡ Err StoreFault.Damaged → (job : JobValue) → IsJob job → ShowsJob row.now job → ⊥ }
+    ensures damaged { result ≡ Err TableFault.Damaged → (job : JobValue) → IsJob job → ShowsJob row.now job → ⊥ }
 {
     let name = bytes_at(row, 0)?;
     let password = bytes_at(row, 1)?;
     let standing = standing_from(row)?;
     if name.items.len() > LONGEST_JOB_NAME || password.items.len() > LONGEST_PASSWORD {
-        return Err(StoreFault::Damaged);
+        return Err(TableFault::Damaged);
     }
     Ok(Job {
         job: number,
@@ -77,22 +77,22 @@ pub(crate) fn job_from(row: &Row, number: u32) -> Result<Job, StoreFault>
 }
 
 /// The standing that the row tells, if it is one that a job can have.
-fn standing_from(row: &Row) -> Result<Standing, StoreFault>
+fn standing_from(row: &Row) -> Result<Standing, TableFault>
     ensures read { IfOk result (ShowsStanding row.now) }
     ensures in_range { IfOk result IsStanding }
-    ensures damaged { result ≡ Err StoreFault.Damaged → (s : StandingValue) → IsStanding s → ShowsStanding row.now s → ⊥ }
+    ensures damaged { result ≡ Err TableFault.Damaged → (s : StandingValue) → IsStanding s → ShowsStanding row.now s → ⊥ }
 {
     let standing = columns_from(row)?;
     if !standing.is_in_range() {
-        return Err(StoreFault::Damaged);
+        return Err(TableFault::Damaged);
     }
     Ok(standing)
 }
 
-fn columns_from(row: &Row) -> Result<Standing, StoreFault>
+fn columns_from(row: &Row) -> Result<Standing, TableFault>
     ensures read { IfOk result (ShowsStanding row.now) }
     ensures named { IfOk result (λ s. IsNameOrNone s.device) }
-    ensures damaged { result ≡ Err StoreFault.Damaged → (s : StandingValue) → HasRanges s → IsNameOrNone s.device → ShowsStanding row.now s → ⊥ }
+    ensures damaged { result ≡ Err TableFault.Damaged → (s : StandingValue) → HasRanges s → IsNameOrNone s.device → ShowsStanding row.now s → ⊥ }
 {
     Ok(Standing {
         state: state_at(row, 2)?,
@@ -117,10 +117,10 @@ pub fn add_job<S: Alter>(
     transaction: &mut Transaction<'_, S>,
     name: Name,
     job: &Job,
-) -> Result<(), StoreFault>
+) -> Result<(), TableFault>
     requires { IsStanding job.now.standing }
     ensures sets { Changes S.Store transaction.old.conn.now transaction.new.conn.now result (SetsRow job_table (job_cells name job.now)) }
-    ensures taken { OfStore S.Store transaction.old.conn.now transaction.new.conn.now (λ db. result ≡ Err StoreFault.Damaged → job_at db name (pos job.now.job) ≡ None → ⊥) }
+    ensures taken { OfStore S.Store transaction.old.conn.now transaction.new.conn.now (λ db. result ≡ Err TableFault.Damaged → job_at db name (pos job.now.job) ≡ None → ⊥) }
     ensures inside { StaysInside S.Store transaction.old.conn transaction.new.conn result }
 {
     let s = &job.standing;

@@ -22,6 +22,6 @@ pub use jobs::{add_job, find_job, set_standing};
 pub use law::sound_rows_are_read;
 pub use queues::{ended_jobs, unfinished_jobs};
 pub use rates::{find_rate, set_rate};
-pub use room_tables::StoreFault;
+pub use room_tables::TableFault;
 pub use tallies::tally_jobs;
 pub use unfinished::tally_unfinished;

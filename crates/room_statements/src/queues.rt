@@ -17,7 +17,7 @@ use crate::values::{limit_of, short_at};
 use crate::walking::{Gather, walk};
 use ipp_coding::List;
 use room_rules::{Job, LAST_JOB, Name};
-use room_tables::StoreFault;
+use room_tables::TableFault;
 use sqlite::{Alter, Connection, Row};
 use sqlite_value::value::ValueRef;
 use std::alloc::Global;
@@ -29,10 +29,10 @@ pub fn unfinished_jobs<S: Alter>(
     connection: &mut Connection<S>,
     name: Name,
     limit: Option<u32>,
-) -> Result<List<Job>, StoreFault>
+) -> Result<List<Job>, TableFault>
     ensures listed { OfStore S.Store connection.old connection.new (λ db. (room : RoomValue) → HoldsRoom db name room → IfOk result (λ jobs. jobs ≡ at_most limit (not_completed (values room.jobs)))) }
     ensures numbered { IfOk result (AllByRecursion IsNumbered) }
-    ensures damaged { OfStore S.Store connection.old connection.new (λ db. result ≡ Err StoreFault.Damaged → AreRowsOf (job_cells name) IsNumbered (unfinished_rows db name) → ⊥) }
+    ensures damaged { OfStore S.Store connection.old connection.new (λ db. result ≡ Err TableFault.Damaged → AreRowsOf (job_cells name) IsNumbered (unfinished_rows db name) → ⊥) }
     ensures reads { ReadsStore S.Store connection.old connection.new result }
 {
     let mut jobs = List {
@@ -47,7 +47,7 @@ fn walk_unfinished<S: Alter>(
     name: Name,
     limit: Option<u32>,
     jobs: &mut List<Job>,
-) -> Result<(), StoreFault>
+) -> Result<(), TableFault>
     ensures gathers { OnOk result (HasGathered ListsJob jobs.old jobs.new) }
     ensures walks { WalksStore ListsJob (λ _ row. refuses_numbered row) S.Store connection.old connection.new (λ db. AreListed (λ all. at_most limit (not_completed all)) (unfinished_rows db name) db name) jobs.old jobs.new result }
     ensures going { GoesOn S.Store connection.old connection.new result }
@@ -68,10 +68,10 @@ pub fn ended_jobs<S: Alter>(
     connection: &mut Connection<S>,
     name: Name,
     limit: Option<u32>,
-) -> Result<List<Job>, StoreFault>
+) -> Result<List<Job>, TableFault>
     ensures listed { OfStore S.Store connection.old connection.new (λ db. (room : RoomValue) → HoldsRoom db name room → IfOk result (λ jobs. jobs ≡ at_most limit (completed (values room.jobs)))) }
     ensures numbered { IfOk result (AllByRecursion IsNumbered) }
-    ensures damaged { OfStore S.Store connection.old connection.new (λ db. result ≡ Err StoreFault.Damaged → AreRowsOf (job_cells name) IsNumbered (ended_rows db name) → ⊥) }
+    ensures damaged { OfStore S.Store connection.old connection.new (λ db. result ≡ Err TableFault.Damaged → AreRowsOf (job_cells name) IsNumbered (ended_rows db name) → ⊥) }
     ensures reads { ReadsStore S.Store connection.old connection.new result }
 {
     let mut jobs = List {
@@ -86,7 +86,7 @@ fn walk_ended<S: Alter>(
     name: Name,
     limit: Option<u32>,
     jobs: &mut List<Job>,
-) -> Result<(), StoreFault>
+) -> Result<(), TableFault>
     ensures gathers { OnOk result (HasGathered ListsJob jobs.old jobs.new) }
     ensures walks { WalksStore ListsJob (λ _ row. refuses_numbered row) S.Store connection.old connection.new (λ db. AreListed (λ all. at_most limit (completed all)) (ended_rows db name) db name) jobs.old jobs.new result }
     ensures going { GoesOn S.Store connection.old connection.new result }
@@ -106,7 +106,7 @@ impl Gather for List<Job> {
 
     ghost refuses = { λ first row. refuses_numbered row };
 
-    fn gather(&mut self, row: &Row) -> Result<(), StoreFault> {
+    fn gather(&mut self, row: &Row) -> Result<(), TableFault> {
         let job = numbered_job(row)?;
         self.items.push(job)?;
         Ok(())
@@ -114,14 +114,14 @@ impl Gather for List<Job> {
 }
 
 /// The job that the row tells, its number behind its other columns.
-fn numbered_job(row: &Row) -> Result<Job, StoreFault>
+fn numbered_job(row: &Row) -> Result<Job, TableFault>
     ensures read { IfOk result (ShowsNumbered row.now) }
     ensures numbered { IfOk result IsNumbered }
-    ensures damaged { result ≡ Err StoreFault.Damaged → refuses_numbered row.now }
+    ensures damaged { result ≡ Err TableFault.Damaged → refuses_numbered row.now }
 {
     let number = short_at(row, 15)?;
     if number < 1 || number > LAST_JOB {
-        return Err(StoreFault::Damaged);
+        return Err(TableFault::Damaged);
     }
     job_from(row, number)
 }

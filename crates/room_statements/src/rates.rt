@@ -13,7 +13,7 @@ ghost use Rattle.room_statements.specs.SoundRows.{IsRowOf};
 
 use crate::values::{number, number_at};
 use room_rules::{MOST_RATE, Name};
-use room_tables::{StoreFault, find_row, write};
+use room_tables::{TableFault, find_row, write};
 use sqlite::{Alter, Connection, Error, Row, Transaction};
 use sqlite_value::value::ValueRef;
 
@@ -22,10 +22,10 @@ use sqlite_value::value::ValueRef;
 pub fn find_rate<S: Alter>(
     connection: &mut Connection<S>,
     name: Name,
-) -> Result<Option<u32>, StoreFault>
+) -> Result<Option<u32>, TableFault>
     ensures found { OfStore S.Store connection.old connection.new (λ db. IfOk result (λ found. rate_at db name ≡ option_map (units_cells name) found)) }
     ensures in_range { IfOk result (λ found. IfSome found (λ units. (1 ≤ units) × (units ≤ most_rate))) }
-    ensures damaged { OfStore S.Store connection.old connection.new (λ db. result ≡ Err StoreFault.Damaged → IsRowOf (units_cells name) (λ units. (1 ≤ units) × (units ≤ most_rate)) (rate_at db name) → ⊥) }
+    ensures damaged { OfStore S.Store connection.old connection.new (λ db. result ≡ Err TableFault.Damaged → IsRowOf (units_cells name) (λ units. (1 ≤ units) × (units ≤ most_rate)) (rate_at db name) → ⊥) }
     ensures reads { ReadsStore S.Store connection.old connection.new result }
 {
     match rate_row(connection, name)? {
@@ -45,14 +45,14 @@ fn rate_row<S: Alter>(connection: &mut Connection<S>, name: Name) -> Result<Opti
     )
 }
 
-fn units_from(row: &Row) -> Result<u32, StoreFault>
+fn units_from(row: &Row) -> Result<u32, TableFault>
     ensures read { IfOk result (λ units. column row.now 0 ≡ number units) }
     ensures in_range { IfOk result (λ units. (1 ≤ units) × (units ≤ most_rate)) }
-    ensures damaged { result ≡ Err StoreFault.Damaged → (units : ℕ) → 1 ≤ units → units ≤ most_rate → column row.now 0 ≢ number units }
+    ensures damaged { result ≡ Err TableFault.Damaged → (units : ℕ) → 1 ≤ units → units ≤ most_rate → column row.now 0 ≢ number units }
 {
     let units = number_at(row, 0)?;
     if units < 1 || units > MOST_RATE as u64 {
-        return Err(StoreFault::Damaged);
+        return Err(TableFault::Damaged);
     }
     Ok(units as u32)
 }

@@ -15,17 +15,17 @@ use crate::values::{number_at, state_at};
 use crate::walking::{Gather, walk};
 use room_rules::Name;
 use room_state::Tally;
-use room_tables::StoreFault;
+use room_tables::TableFault;
 use sqlite::{Alter, Connection, Row};
 use sqlite_value::value::ValueRef;
 
 /// What is counted of all jobs of the account. `Damaged` tells that a row that is there can be none of
 /// sound rows.
-pub fn tally_jobs<S: Alter>(connection: &mut Connection<S>, name: Name) -> Result<Tally, StoreFault>
+pub fn tally_jobs<S: Alter>(connection: &mut Connection<S>, name: Name) -> Result<Tally, TableFault>
     ensures counted { OfStore S.Store connection.old connection.new (λ db. (room : RoomValue) → HoldsRoom db name room → IfOk result (λ tally. tally ≡ tally_of (values room.jobs))) }
     ensures few { IfOk result (λ tally. tally.unfinished ≤ most_unfinished) }
     ensures bounds { IfOk result (λ tally. (tally.reserved ≤ most_units) × (tally.charged ≤ most_units)) }
-    ensures damaged { OfStore S.Store connection.old connection.new (λ db. result ≡ Err StoreFault.Damaged → CanBeCounted name (job_rows db name) → ⊥) }
+    ensures damaged { OfStore S.Store connection.old connection.new (λ db. result ≡ Err TableFault.Damaged → CanBeCounted name (job_rows db name) → ⊥) }
     ensures reads { ReadsStore S.Store connection.old connection.new result }
 {
     let mut tally = Tally::new();
@@ -40,11 +40,11 @@ impl Gather for Tally {
 
     ghost refuses = { refuses_job };
 
-    fn gather(&mut self, row: &Row) -> Result<(), StoreFault> {
+    fn gather(&mut self, row: &Row) -> Result<(), TableFault> {
         match self.with(state_at(row, 0)?, number_at(row, 1)?, number_at(row, 2)?) {
             Some(counted) => *self = counted,
             // No account's jobs come to so much.
-            None => return Err(StoreFault::Damaged),
+            None => return Err(TableFault::Damaged),
         }
         Ok(())
     }
@@ -54,7 +54,7 @@ fn walk_jobs<S: Alter>(
     connection: &mut Connection<S>,
     name: Name,
     tally: &mut Tally,
-) -> Result<(), StoreFault>
+) -> Result<(), TableFault>
     ensures gathers { OnOk result (HasGathered CountsJob tally.old tally.new) }
     ensures walks { WalksStore CountsJob refuses_job S.Store connection.old connection.new (λ db. IsPermutation (map counted_cells (job_rows db name))) tally.old tally.new result }
     ensures going { GoesOn S.Store connection.old connection.new result }

@@ -17,7 +17,7 @@ ghost use Rattle.room_statements.specs.SoundRows.{unfinished_rows, CanBeCounted}
 use crate::walking::walk;
 use room_rules::Name;
 use room_state::Tally;
-use room_tables::StoreFault;
+use room_tables::TableFault;
 use sqlite::{Alter, Connection};
 use sqlite_value::value::ValueRef;
 
@@ -26,12 +26,12 @@ use sqlite_value::value::ValueRef;
 pub fn tally_unfinished<S: Alter>(
     connection: &mut Connection<S>,
     name: Name,
-) -> Result<Tally, StoreFault>
+) -> Result<Tally, TableFault>
     ensures counted { OfStore S.Store connection.old connection.new (λ db. (room : RoomValue) → HoldsRoom db name room → IfOk result (λ tally. tally ≡ tally_of (not_completed (values room.jobs)))) }
     ensures queue { OfStore S.Store connection.old connection.new (λ db. (room : RoomValue) → HoldsRoom db name room → IfOk result (λ tally. (tally.unfinished ≡ unfinished_count room) × (tally.is_processing ≡ has_processing room))) }
     ensures few { IfOk result (λ tally. tally.unfinished ≤ most_unfinished) }
     ensures bounds { IfOk result (λ tally. (tally.reserved ≤ most_units) × (tally.charged ≤ most_units)) }
-    ensures damaged { OfStore S.Store connection.old connection.new (λ db. result ≡ Err StoreFault.Damaged → CanBeCounted name (unfinished_rows db name) → ⊥) }
+    ensures damaged { OfStore S.Store connection.old connection.new (λ db. result ≡ Err TableFault.Damaged → CanBeCounted name (unfinished_rows db name) → ⊥) }
     ensures reads { ReadsStore S.Store connection.old connection.new result }
 {
     let mut tally = Tally::new();
@@ -43,7 +43,7 @@ fn walk_queued<S: Alter>(
     connection: &mut Connection<S>,
     name: Name,
     tally: &mut Tally,
-) -> Result<(), StoreFault>
+) -> Result<(), TableFault>
     ensures gathers { OnOk result (HasGathered CountsJob tally.old tally.new) }
     ensures walks { WalksStore CountsJob refuses_job S.Store connection.old connection.new (λ db. IsPermutation (map counted_cells (unfinished_rows db name))) tally.old tally.new result }
     ensures going { GoesOn S.Store connection.old connection.new result }

@@ -14,7 +14,7 @@ ghost use Rattle.room_rules.specs.Names.{IsNameOrNone};
 
 use ipp_coding::List as Bytes;
 use room_rules::{Format, JobState, Name};
-use room_tables::StoreFault;
+use room_tables::TableFault;
 use sqlite::Row;
 use sqlite_value::value::ValueRef;
 
@@ -27,13 +27,13 @@ pub(crate) fn number<'a>(n: u64) -> ValueRef<'a>
 }
 
 /// The number in a column. Anything else there is `Damaged`.
-pub(crate) fn number_at(row: &Row, at: usize) -> Result<u64, StoreFault>
+pub(crate) fn number_at(row: &Row, at: usize) -> Result<u64, TableFault>
     ensures read { IfOk result (λ n. column row.now at ≡ Int (pos n)) }
-    ensures damaged { result ≡ Err StoreFault.Damaged → (n : ℕ) → column row.now at ≢ Int (pos n) }
+    ensures damaged { result ≡ Err TableFault.Damaged → (n : ℕ) → column row.now at ≢ Int (pos n) }
 {
     match row.get(at) {
         Ok(n) => Ok(n),
-        Err(error) => Err(StoreFault::of_value(error)),
+        Err(error) => Err(TableFault::of_value(error)),
     }
 }
 
@@ -45,21 +45,21 @@ pub(crate) fn format_text(format: Format) -> ValueRef<'static>
 }
 
 /// The format whose media type is in a column. Anything else there is `Damaged`.
-pub(crate) fn format_at(row: &Row, at: usize) -> Result<Format, StoreFault>
+pub(crate) fn format_at(row: &Row, at: usize) -> Result<Format, TableFault>
     ensures read { IfOk result (λ format. column row.now at ≡ Text (media_type format)) }
-    ensures damaged { result ≡ Err StoreFault.Damaged → (format : FormatValue) → column row.now at ≢ Text (media_type format) }
+    ensures damaged { result ≡ Err TableFault.Damaged → (format : FormatValue) → column row.now at ≢ Text (media_type format) }
 {
     match row.get_ref(at) {
         Ok(ValueRef::Text(bytes)) => format_of(bytes),
-        _ => Err(StoreFault::Damaged),
+        _ => Err(TableFault::Damaged),
     }
 }
 
-fn format_of(bytes: &[u8]) -> Result<Format, StoreFault>
+fn format_of(bytes: &[u8]) -> Result<Format, TableFault>
     ensures read { IfOk result (λ format. bytes.now ≡ media_type format) }
     ensures damaged { IfErr result (λ fault. (format : FormatValue) → bytes.now ≢ media_type format) }
 {
-    Format::of_media_type(bytes).ok_or(StoreFault::Damaged)
+    Format::of_media_type(bytes).ok_or(TableFault::Damaged)
 }
 
 /// A flag as a parameter.
@@ -70,14 +70,14 @@ pub(crate) fn flag<'a>(on: bool) -> ValueRef<'a>
 }
 
 /// The flag in a column. Anything else there is `Damaged`.
-pub(crate) fn flag_at(row: &Row, at: usize) -> Result<bool, StoreFault>
+pub(crate) fn flag_at(row: &Row, at: usize) -> Result<bool, TableFault>
     ensures read { IfOk result (λ on. column row.now at ≡ flag on) }
-    ensures damaged { result ≡ Err StoreFault.Damaged → (on : Bool) → column row.now at ≢ flag on }
+    ensures damaged { result ≡ Err TableFault.Damaged → (on : Bool) → column row.now at ≢ flag on }
 {
     match number_at(row, at)? {
         0 => Ok(false),
         1 => Ok(true),
-        _ => Err(StoreFault::Damaged),
+        _ => Err(TableFault::Damaged),
     }
 }
 
@@ -127,21 +127,21 @@ pub(crate) fn device_text(device: &Option<Name>) -> ValueRef<'_>
 }
 
 /// A number of 32 bits in a column. Anything else there is `Damaged`.
-pub(crate) fn short_at(row: &Row, at: usize) -> Result<u32, StoreFault>
+pub(crate) fn short_at(row: &Row, at: usize) -> Result<u32, TableFault>
     ensures read { IfOk result (λ n. column row.now at ≡ number n) }
-    ensures damaged { result ≡ Err StoreFault.Damaged → (n : ℕ) → n < 2 ^ 32 → column row.now at ≢ number n }
+    ensures damaged { result ≡ Err TableFault.Damaged → (n : ℕ) → n < 2 ^ 32 → column row.now at ≢ number n }
 {
     let n = number_at(row, at)?;
     if n > u32::MAX as u64 {
-        return Err(StoreFault::Damaged);
+        return Err(TableFault::Damaged);
     }
     Ok(n as u32)
 }
 
 /// The state whose number is in a column. Anything else there is `Damaged`.
-pub(crate) fn state_at(row: &Row, at: usize) -> Result<JobState, StoreFault>
+pub(crate) fn state_at(row: &Row, at: usize) -> Result<JobState, TableFault>
     ensures read { IfOk result (λ found. column row.now at ≡ number (state_number found)) }
-    ensures damaged { result ≡ Err StoreFault.Damaged → (found : JobStateValue) → column row.now at ≢ number (state_number found) }
+    ensures damaged { result ≡ Err TableFault.Damaged → (found : JobStateValue) → column row.now at ≢ number (state_number found) }
 {
     match number_at(row, at)? {
         3 => Ok(JobState::Pending),
@@ -150,44 +150,44 @@ pub(crate) fn state_at(row: &Row, at: usize) -> Result<JobState, StoreFault>
         7 => Ok(JobState::Canceled),
         8 => Ok(JobState::Aborted),
         9 => Ok(JobState::Completed),
-        _ => Err(StoreFault::Damaged),
+        _ => Err(TableFault::Damaged),
     }
 }
 
 /// The moment in a column, or that there is none. Anything else there is `Damaged`.
-pub(crate) fn moment_at(row: &Row, at: usize) -> Result<Option<u64>, StoreFault>
+pub(crate) fn moment_at(row: &Row, at: usize) -> Result<Option<u64>, TableFault>
     ensures read { IfOk result (λ found. column row.now at ≡ moment found) }
-    ensures damaged { result ≡ Err StoreFault.Damaged → (found : Option ℕ) → column row.now at ≢ moment found }
+    ensures damaged { result ≡ Err TableFault.Damaged → (found : Option ℕ) → column row.now at ≢ moment found }
 {
     match row.get_ref(at) {
         Ok(ValueRef::Int(n)) => moment_of(n),
-        _ => Err(StoreFault::Damaged),
+        _ => Err(TableFault::Damaged),
     }
 }
 
-fn moment_of(n: i64) -> Result<Option<u64>, StoreFault>
+fn moment_of(n: i64) -> Result<Option<u64>, TableFault>
     ensures read { IfOk result (λ found. n ≡ moment_number found) }
     ensures damaged { IfErr result (λ fault. (found : Option ℕ) → n ≢ moment_number found) }
 {
     if n < -1 {
-        return Err(StoreFault::Damaged);
+        return Err(TableFault::Damaged);
     }
     if n < 0 { Ok(None) } else { Ok(Some(n as u64)) }
 }
 
 /// The name of a device in a column, or that there is none. Anything else there is `Damaged`.
-pub(crate) fn device_at(row: &Row, at: usize) -> Result<Option<Name>, StoreFault>
+pub(crate) fn device_at(row: &Row, at: usize) -> Result<Option<Name>, TableFault>
     ensures read { IfOk result (λ found. column row.now at ≡ device_text found) }
     ensures named { IfOk result IsNameOrNone }
-    ensures damaged { result ≡ Err StoreFault.Damaged → (found : Option (List ℕ)) → IsNameOrNone found → column row.now at ≢ device_text found }
+    ensures damaged { result ≡ Err TableFault.Damaged → (found : Option (List ℕ)) → IsNameOrNone found → column row.now at ≢ device_text found }
 {
     match row.get_ref(at) {
         Ok(ValueRef::Text(bytes)) => device_of(bytes),
-        _ => Err(StoreFault::Damaged),
+        _ => Err(TableFault::Damaged),
     }
 }
 
-fn device_of(bytes: &[u8]) -> Result<Option<Name>, StoreFault>
+fn device_of(bytes: &[u8]) -> Result<Option<Name>, TableFault>
     ensures read { IfOk result (λ found. bytes.now ≡ device_name found) }
     ensures named { IfOk result IsNameOrNone }
     ensures damaged { IfErr result (λ fault. (found : Option (List ℕ)) → IsNameOrNone found → bytes.now ≢ device_name found) }
@@ -197,17 +197,17 @@ fn device_of(bytes: &[u8]) -> Result<Option<Name>, StoreFault>
     }
     match Name::read(bytes) {
         Some(name) => Ok(Some(name)),
-        None => Err(StoreFault::Damaged),
+        None => Err(TableFault::Damaged),
     }
 }
 
 /// The bytes in a column, in a copy. Anything else there is `Damaged`.
-pub(crate) fn bytes_at(row: &Row, at: usize) -> Result<Bytes<u8>, StoreFault>
+pub(crate) fn bytes_at(row: &Row, at: usize) -> Result<Bytes<u8>, TableFault>
     ensures read { IfOk result (λ bytes. column row.now at ≡ Blob bytes) }
-    ensures damaged { result ≡ Err StoreFault.Damaged → (bytes : List ℕ) → column row.now at ≢ Blob bytes }
+    ensures damaged { result ≡ Err TableFault.Damaged → (bytes : List ℕ) → column row.now at ≢ Blob bytes }
 {
     match row.get(at) {
         Ok(items) => Ok(Bytes { items }),
-        Err(error) => Err(StoreFault::of_value(error)),
+        Err(error) => Err(TableFault::of_value(error)),
     }
 }

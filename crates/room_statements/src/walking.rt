@@ -7,7 +7,7 @@ ghost use Rattle.sqlite.specs.Values.{bound};
 ghost use Rattle.room_tables.specs.Calls.{GoesOn};
 ghost use Rattle.room_statements.specs.Walks.{HasGathered, Walks};
 
-use room_tables::StoreFault;
+use room_tables::TableFault;
 use sqlite::{Alter, Connection, Row};
 use sqlite_value::value::ValueRef;
 
@@ -22,9 +22,9 @@ pub(crate) trait Gather: Sized {
     ghost refuses: { Self → Values → Type 0 };
 
     /// Gathers one more row. `Damaged` tells that it is one that cannot be gathered.
-    fn gather(&mut self, row: &Row) -> Result<(), StoreFault>
+    fn gather(&mut self, row: &Row) -> Result<(), TableFault>
         ensures gathered { OnOk result (step self.old row.now self.new) }
-        ensures refused { result ≡ Err StoreFault.Damaged → refuses self.old row.now };
+        ensures refused { result ≡ Err TableFault.Damaged → refuses self.old row.now };
 }
 
 /// Gathers each row that a query shows. It keeps no list of them.
@@ -33,7 +33,7 @@ pub(crate) fn walk<S: Alter, G: Gather>(
     text: &str,
     params: &[ValueRef<'_>],
     gathered: &mut G,
-) -> Result<(), StoreFault>
+) -> Result<(), TableFault>
     ensures gathers { OnOk result (HasGathered G.step gathered.old gathered.new) }
     ensures walks { HasCleanDisk (state S.Store connection.new) → Walks G.step G.refuses (state S.Store connection.old) (state S.Store connection.new) text.now (bound params.now) gathered.old gathered.new result }
     ensures going { GoesOn S.Store connection.old connection.new result }
@@ -46,5 +46,5 @@ pub(crate) fn walk<S: Alter, G: Gather>(
         };
         gathered.gather(row)?;
     }
-    Err(StoreFault::Storage)
+    Err(TableFault::Storage)
 }

@@ -1,22 +1,20 @@
 ghost use Rattle.std.specs.Prelude.{◌≡◌};
-ghost use Rattle.room_tables.specs.declared.fault.StoreFault.TheVariants as of_store;
-ghost use Rattle.room_tables.specs.Faults.{core_fault, put_fault, statement_fault, opening_fault, value_fault};
+ghost use Rattle.room_tables.specs.declared.fault.TableFault.TheVariants as of_table;
+ghost use Rattle.room_tables.specs.Faults.{put_fault, statement_fault, opening_fault, value_fault};
 
 use room_rules::CoreFault;
 use sqlite::{Constraint, Error, ErrorCode};
 use std::alloc::AllocFailed;
 use thiserror::Error as ErrorTrait;
 
-/// Why a call on the store could not be answered. Nothing is changed then.
+/// Why a statement on the tables could not be answered. Nothing is changed then.
 #[derive(Clone, Copy, Debug, PartialEq, Eq, ErrorTrait)]
-pub enum StoreFault {
-    /// A statement was refused, or the device failed.
+pub enum TableFault {
+    /// It was refused, or the device failed.
     #[error("the storage failed")]
     Storage,
     #[error("memory ran out")]
     Memory,
-    #[error("the moment is past the year 2099")]
-    Moment,
     /// What was read cannot stand in sound rows.
     #[error("the rows are damaged")]
     Damaged,
@@ -38,33 +36,22 @@ pub enum OpenFault {
     Memory,
 }
 
-impl From<Error> for StoreFault {
+impl From<Error> for TableFault {
     ghost from_gives = { λ error fault. fault ≡ statement_fault error };
 
-    fn from(error: Error) -> StoreFault {
+    fn from(error: Error) -> TableFault {
         match error {
-            Error::SqliteFailure(ErrorCode::OutOfMemory) => StoreFault::Memory,
-            _ => StoreFault::Storage,
+            Error::SqliteFailure(ErrorCode::OutOfMemory) => TableFault::Memory,
+            _ => TableFault::Storage,
         }
     }
 }
 
-impl From<CoreFault> for StoreFault {
-    ghost from_gives = { λ error fault. fault ≡ core_fault error };
+impl<T: Drop> From<AllocFailed<T>> for TableFault {
+    ghost from_gives = { λ _ fault. fault ≡ of_table.Memory };
 
-    fn from(error: CoreFault) -> StoreFault {
-        match error {
-            CoreFault::Memory => StoreFault::Memory,
-            CoreFault::Moment => StoreFault::Moment,
-        }
-    }
-}
-
-impl<T: Drop> From<AllocFailed<T>> for StoreFault {
-    ghost from_gives = { λ _ fault. fault ≡ of_store.Memory };
-
-    fn from(_error: AllocFailed<T>) -> StoreFault {
-        StoreFault::Memory
+    fn from(_error: AllocFailed<T>) -> TableFault {
+        TableFault::Memory
     }
 }
 
@@ -79,27 +66,38 @@ impl From<Error> for OpenFault {
     }
 }
 
-impl StoreFault {
+impl TableFault {
     /// Of a statement that puts a row in, which the engine refuses as a second one of its key.
-    pub fn of_put(error: Error) -> StoreFault
+    pub fn of_put(error: Error) -> TableFault
         ensures { result ≡ put_fault error }
     {
         match error {
-            Error::SqliteFailure(ErrorCode::OutOfMemory) => StoreFault::Memory,
+            Error::SqliteFailure(ErrorCode::OutOfMemory) => TableFault::Memory,
             Error::SqliteFailure(ErrorCode::ConstraintViolation(Constraint::Unique)) => {
-                StoreFault::Damaged
+                TableFault::Damaged
             }
-            _ => StoreFault::Storage,
+            _ => TableFault::Storage,
+        }
+    }
+
+    /// Of a call of the rules that takes no moment, to which only memory can be wanting.
+    pub fn of_core(fault: CoreFault) -> TableFault
+        requires { fault ≡ CoreFault.Memory }
+        ensures { result ≡ TableFault.Memory }
+    {
+        match fault {
+            CoreFault::Memory => TableFault::Memory,
+            CoreFault::Moment => unreachable!(),
         }
     }
 
     /// Of a value that could not be read from its row.
-    pub fn of_value(error: Error) -> StoreFault
+    pub fn of_value(error: Error) -> TableFault
         ensures { result ≡ value_fault error }
     {
         match error {
-            Error::SqliteFailure(ErrorCode::OutOfMemory) => StoreFault::Memory,
-            _ => StoreFault::Damaged,
+            Error::SqliteFailure(ErrorCode::OutOfMemory) => TableFault::Memory,
+            _ => TableFault::Damaged,
         }
     }
 }

@@ -10,7 +10,7 @@ mod schema;
 mod version;
 mod writing;
 
-pub use fault::{OpenFault, StoreFault};
+pub use fault::{OpenFault, TableFault};
 pub use law::{device_rows_are_of_one_map, rows_are_read_back, same_by_key_is_same_by_table};
 pub use making::make_tables;
 pub use migrating::migrate_tables;

@@ -6,7 +6,7 @@ ghost use Rattle.sqlite.specs.Held.{state};
 ghost use Rattle.sqlite.specs.Values.{bound};
 ghost use Rattle.room_tables.specs.Calls.{HasRun, IsTaken, StaysInside};
 
-use crate::fault::StoreFault;
+use crate::fault::TableFault;
 use sqlite::{Alter, Error, Transaction};
 use sqlite_value::value::ValueRef;
 
@@ -29,13 +29,13 @@ pub fn put<S: Alter>(
     transaction: &mut Transaction<'_, S>,
     text: &str,
     params: &[ValueRef<'_>],
-) -> Result<(), StoreFault>
+) -> Result<(), TableFault>
     ensures runs { HasCleanDisk (state S.Store transaction.new.conn.now) → OnOk result (HasRun text.now (bound params.now) (state S.Store transaction.old.conn.now) (state S.Store transaction.new.conn.now)) }
-    ensures taken { HasCleanDisk (state S.Store transaction.new.conn.now) → result ≡ Err StoreFault.Damaged → IsTaken text.now (bound params.now) (state S.Store transaction.old.conn.now) (state S.Store transaction.new.conn.now) }
+    ensures taken { HasCleanDisk (state S.Store transaction.new.conn.now) → result ≡ Err TableFault.Damaged → IsTaken text.now (bound params.now) (state S.Store transaction.old.conn.now) (state S.Store transaction.new.conn.now) }
     ensures inside { StaysInside S.Store transaction.old.conn transaction.new.conn result }
 {
     match transaction.execute(text, params) {
         Ok(_) => Ok(()),
-        Err(error) => Err(StoreFault::of_put(error)),
+        Err(error) => Err(TableFault::of_put(error)),
     }
 }

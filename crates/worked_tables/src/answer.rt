@@ -3,7 +3,8 @@
 use ipp_coding::List;
 use room_rules::{Account, Document, Job, JobState, Name, Standing};
 use room_state::Tally;
-use room_store::{OpenFault, StoreFault};
+use room_statements::TableFault;
+use room_store::OpenFault;
 use sqlite::ErrorCode;
 use std::io;
 use std::io::Write;
@@ -23,7 +24,7 @@ pub enum Answer {
     Jobs(List<Job>),
     Documents(List<Document>),
     /// Why a call was refused.
-    Store(StoreFault),
+    Table(TableFault),
     Open(OpenFault),
     Statement(sqlite::Error),
 }
@@ -52,7 +53,7 @@ impl Answer {
             Answer::Job(Some(job)) => print_job(output, job),
             Answer::Jobs(jobs) => print_jobs(output, jobs.as_slice()),
             Answer::Documents(documents) => print_documents(output, documents.as_slice()),
-            Answer::Store(fault) => writeln!(output, "{}", store_word(*fault)),
+            Answer::Table(fault) => writeln!(output, "{}", table_word(*fault)),
             Answer::Open(fault) => print_open_fault(output, *fault),
             Answer::Statement(error) => writeln!(output, "{}", statement_word(*error)),
         }
@@ -172,12 +173,11 @@ fn state_word(state: JobState) -> &'static str {
     }
 }
 
-fn store_word(fault: StoreFault) -> &'static str {
+fn table_word(fault: TableFault) -> &'static str {
     match fault {
-        StoreFault::Storage => "storage",
-        StoreFault::Memory => "memory",
-        StoreFault::Moment => "moment",
-        StoreFault::Damaged => "damaged",
+        TableFault::Storage => "storage",
+        TableFault::Memory => "memory",
+        TableFault::Damaged => "damaged",
     }
 }
 

@@ -70,7 +70,7 @@ fn run_on<S: Alter + Drop>(
     }
     match answer {
         Ok(answer) => Ok((connection, answer)),
-        Err(Fault::Store(fault)) => Ok((connection, Answer::Store(fault))),
+        Err(Fault::Table(fault)) => Ok((connection, Answer::Table(fault))),
         Err(Fault::Statement(error)) => Ok((connection, Answer::Statement(error))),
         Err(fault) => Err(fault),
     }

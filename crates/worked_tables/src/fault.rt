@@ -1,6 +1,7 @@
 //! Why nothing could be measured, or no row held.
 use room_fields::FieldFault;
-use room_store::{OpenFault, StoreFault};
+use room_statements::TableFault;
+use room_store::OpenFault;
 use sqlite::ErrorCode;
 use std::alloc::{AllocError, AllocFailed};
 use std::io;
@@ -12,7 +13,7 @@ pub enum Fault {
     #[error("{0}")]
     Notation(Wrong),
     #[error("{0}")]
-    Store(StoreFault),
+    Table(TableFault),
     #[error("{0}")]
     Open(OpenFault),
     #[error("{0}")]
@@ -66,16 +67,16 @@ impl Fault {
     /// Whether a call was refused memory.
     pub fn is_refused_memory(&self) -> bool {
         match self {
-            Fault::Store(StoreFault::Memory) => true,
+            Fault::Table(TableFault::Memory) => true,
             Fault::Statement(sqlite::Error::SqliteFailure(ErrorCode::OutOfMemory)) => true,
             _ => false,
         }
     }
 }
 
-impl From<StoreFault> for Fault {
-    fn from(fault: StoreFault) -> Fault {
-        Fault::Store(fault)
+impl From<TableFault> for Fault {
+    fn from(fault: TableFault) -> Fault {
+        Fault::Table(fault)
     }
 }
 

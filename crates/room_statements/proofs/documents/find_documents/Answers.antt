@@ -3,7 +3,7 @@ use Rattle.std.proofs.lemmas.Result.{err_from_is_err_and}
 use Rattle.sqlite.specs.Held.{state}
 use Rattle.room_rules.specs.declared.job.Document.{Document}
 use Rattle.room_statements.specs.declared.documents.Found.{Found}
-use Rattle.room_tables.specs.declared.fault.StoreFault.TheVariants.{Damaged}
+use Rattle.room_tables.specs.declared.fault.TableFault.TheVariants.{Damaged}
 use Rattle.room_tables.proofs.KeyedRows.{same_fault}
 use Rattle.room_statements.proofs.DocumentWalk.{lists_documents, documents_unsound, none_at}
 use Rattle.room_statements.proofs.documents.find_documents.Goals as goal

@@ -1,7 +1,7 @@
 use Rattle.std.proofs.Common.{◌≡◌, ◌∙◌, sym, ap, Err}
 use Rattle.std.proofs.lemmas.Result.{err_from_is_err_and}
 use Rattle.sqlite.specs.Held.{state}
-use Rattle.room_tables.specs.declared.fault.StoreFault.TheVariants.{Damaged}
+use Rattle.room_tables.specs.declared.fault.TableFault.TheVariants.{Damaged}
 use Rattle.room_tables.proofs.KeyedRows.{same_fault}
 use Rattle.room_statements.proofs.JobRows.{job_found, job_unsound}
 use Rattle.room_statements.proofs.jobs.find_job.Goals as goal

@@ -4,7 +4,7 @@ use Rattle.std.proofs.lemmas.Result.{err_from_is_err_and}
 use Rattle.sqlite.specs.Held.{state}
 use Rattle.room_state.specs.Queues.{completed, at_most}
 use Rattle.room_state.proofs.QueueOrders.{all_completed, all_at_most}
-use Rattle.room_tables.specs.declared.fault.StoreFault.TheVariants.{Damaged}
+use Rattle.room_tables.specs.declared.fault.TableFault.TheVariants.{Damaged}
 use Rattle.room_tables.proofs.KeyedRows.{same_fault}
 use Rattle.room_statements.specs.Queues.{IsNumbered}
 use Rattle.room_statements.specs.SoundRows.{ended_rows}
