@@ -1,9 +1,11 @@
 pub mod Digits
+pub mod Keys
 pub mod Lookups
+pub mod Marks
 pub mod Returns
 pub mod Schemes
 pub mod Sections
-pub mod Seen
+pub mod Sorts
 pub mod Spelled
 pub mod Stages
 pub mod Wholes

@@ -1,10 +1,12 @@
 -- Going over job template attributes, one by one.
-use Rattle.std.proofs.Common.{◌≡◌, ℕ, ◌+◌, ◌<◌, ◌≤◌, append-nil, Bool, true, false, ◌||◌, if◌then◌else◌, suc, List, [], ◌∷◌, ◌++◌, length, map, take, drop, get_or, refl, sym, ap, ◌∙◌, append_assoc, arith}
+use Rattle.std.proofs.Common.{◌≡◌, ℕ, ◌+◌, ◌<◌, ◌≤◌, append-nil, Bool, true, false, not, ◌||◌, if◌then◌else◌, suc, List, [], ◌∷◌, ◌++◌, length, map, take, drop, get_or, refl, sym, ap, ◌∙◌, append_assoc, arith}
 use Rattle.std.proofs.Math.Seq.{drop-cons}
-use Rattle.std.proofs.lemmas.List.{map-append, take_more, drop_all}
+use Rattle.std.proofs.lemmas.List.{map-append, take_more, drop_all, get_or_default}
 use Rattle.ipp_coding.specs.declared.message.Attribute.{Attribute}
 use Rattle.ipp_coding.specs.Plain.{PlainAttribute, plain_attribute}
+use Rattle.room_asks.specs.Names.{AreFirsts}
 use Rattle.room_asks.specs.Templates.{copies, is_repeated, is_supported, returned, returned_behind, unsupported_behind, unsupported}
+use Rattle.room_asks.proofs.Marks.{turned}
 
 -- those up to a place, and those from it on
 abbrev pub up_to_place : List Attribute → ℕ → List PlainAttribute
@@ -17,6 +19,12 @@ from_place xs i = map plain_attribute (drop i xs)
 pub up_to_next : (xs : List Attribute) (i : ℕ) (x : Attribute) → i < length xs → get_or xs i x ≡ x → up_to_place xs (i + 1) ≡ up_to_place xs i ++ plain_attribute x ∷ []
 up_to_next xs i x within at =
     ap (map plain_attribute) (take_more xs i x within ∙ ap (λ (y : Attribute). take i xs ++ y ∷ []) at) ∙ map-append plain_attribute (take i xs) (x ∷ [])
+
+-- whether an attribute is the first of its name tells whether its name came before
+pub repeated_unless_first : (xs : List Attribute) (firsts : List Bool) (i : ℕ) (x : Attribute) (first : Bool) → length firsts ≡ length xs → AreFirsts firsts xs → i < length xs → get_or xs i x ≡ x →
+    first ≡ get_or firsts i first → is_repeated (up_to_place xs i) (plain_attribute x) ≡ not first
+repeated_unless_first xs firsts i x first all are within at is =
+    turned first _ (is ∙ get_or_default firsts i first false (omega (arith, within, all)) ∙ are i x within ∙ ap (λ (y : Attribute). not (is_repeated (up_to_place xs i) (plain_attribute y))) at)
 
 one_more : (xs : List Attribute) (i : ℕ) (x : Attribute) → i < length xs → get_or xs i x ≡ x →
     unsupported_behind (up_to_place xs i) (from_place xs i) ≡ returned_behind (up_to_place xs i) (plain_attribute x) ++ unsupported_behind (up_to_place xs (i + 1)) (from_place xs (i + 1))

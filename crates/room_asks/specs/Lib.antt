@@ -1,4 +1,5 @@
 pub mod Limits
+pub mod Names
 pub mod Operations
 pub mod Requests
 pub mod Syntaxes

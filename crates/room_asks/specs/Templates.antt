@@ -1,7 +1,6 @@
 -- The job template attributes: copies, job-hold-until, and all others, which are not supported (RFC 8011
 -- sections 4.1.7 and 5.2).
-use Rattle.std.specs.Prelude.{ℕ, Bool, false, ◌||◌, ◌&&◌, ◌==◌, nat_le, if◌then◌else◌, List, [], ◌∷◌, ◌++◌, Option, Some, None, codes, is_some, option_and_then, slice_index_or, unwrap_or}
-use Rattle.std.specs.Int.{from_be_bytes, w64}
+use Rattle.std.specs.Prelude.{ℕ, Bool, false, ◌||◌, ◌&&◌, ◌==◌, nat_le, if◌then◌else◌, List, [], ◌∷◌, ◌++◌, Option, Some, None, codes, is_some, option_and_then, unwrap_or}
 use Rattle.ipp_coding.specs.Plain.{PlainValue, PlainAttribute, PlainMessage}
 use Rattle.room_rules.specs.Limits.{most_copies}
 use Rattle.room_asks.specs.declared.operation.Operation.{Operation}
@@ -67,13 +66,3 @@ unsupported_behind before (attribute ∷ later) =
 
 unfoldable pub unsupported : List PlainAttribute → List PlainAttribute
 unsupported attributes = unsupported_behind [] attributes
-
--- ---- what names are ordered by first, so that one that came before is found
-
-abbrev pub byte_at : List ℕ → ℕ → ℕ
-byte_at name place = slice_index_or name place 0
-
--- the first eight bytes as a number, where fewer are there as if 0 followed
-unfoldable pub first_bytes : List ℕ → ℕ
-first_bytes name =
-    from_be_bytes w64 (byte_at name 0 ∷ byte_at name 1 ∷ byte_at name 2 ∷ byte_at name 3 ∷ byte_at name 4 ∷ byte_at name 5 ∷ byte_at name 6 ∷ byte_at name 7 ∷ [])

@@ -5,6 +5,7 @@ mod ask;
 mod checks;
 mod field;
 mod fields;
+mod firsts;
 mod job;
 mod operation;
 mod parts;

@@ -3,16 +3,16 @@ ghost use Rattle.ipp_coding.specs.Plain.{plain_value, plain_attribute, plain_mes
 ghost use Rattle.room_rules.specs.Limits.{most_copies};
 ghost use Rattle.room_asks.specs.declared.ask.AskFault.TheVariants.{Memory};
 ghost use Rattle.room_asks.specs.Requests.{lone_value};
-ghost use Rattle.room_asks.specs.Templates.{template_attributes, up_to_most, copies_said, copies, is_indefinite, holds_for_good, is_supported, is_known, unknown, returned, unsupported, byte_at, first_bytes};
+ghost use Rattle.room_asks.specs.Templates.{template_attributes, up_to_most, copies_said, copies, is_indefinite, holds_for_good, is_supported, is_known, unknown, returned, unsupported};
 
 use crate::ask::AskFault;
+use crate::firsts::firsts_in;
 use crate::operation::Operation;
 use crate::request::{is_named, job_group, named};
 use crate::syntax::{lone_value, positive_of};
 use ipp_coding::{Attribute, List, Message, Value};
 use room_rules::MOST_COPIES;
 use std::alloc::Global;
-use std::collections::BTreeSet;
 
 /// What the job template attributes of a request say.
 #[derive(Debug, Drop)]
@@ -116,47 +116,15 @@ fn unsupported_in<'a>(
     ensures unsupported { IfOk result (λ list. map plain_attribute list ≡ unsupported (map plain_attribute attributes.now)) }
     ensures memory { IfErr result (λ fault. fault ≡ Memory) }
 {
-    let mut seen = BTreeSet::new(alloc);
+    let firsts = firsts_in(alloc, attributes)?;
     let mut items = Vec::new(alloc);
-    for attribute in attributes {
+    for (place, attribute) in attributes.iter().enumerate() {
         // Of a name that comes again, the first counts.
-        if seen.insert(ordered(attribute.name))? && !is_supported(attribute) {
+        if firsts[place] && !is_supported(attribute) {
             items.push(returned(alloc, attribute)?)?;
         }
     }
     Ok(List { items })
-}
-
-/// A name behind its first bytes. Most names differ in them, and then the set orders two names by what
-/// it holds, and looks at no byte of the request, wherever that lies.
-fn ordered(name: &[u8]) -> (u64, &[u8])
-    ensures first { result.0 ≡ first_bytes name.now }
-    ensures name { result.1 ≡ name.entry }
-{
-    (first_bytes(name), name)
-}
-
-#[tactic(auto, unfolding(crate::specs::Templates::first_bytes))]
-fn first_bytes(name: &[u8]) -> u64
-    ensures { result ≡ first_bytes name.now }
-{
-    u64::from_be_bytes([
-        byte_at(name, 0),
-        byte_at(name, 1),
-        byte_at(name, 2),
-        byte_at(name, 3),
-        byte_at(name, 4),
-        byte_at(name, 5),
-        byte_at(name, 6),
-        byte_at(name, 7),
-    ])
-}
-
-/// 0 behind the end.
-fn byte_at(name: &[u8], place: usize) -> u8
-    ensures { result ≡ byte_at name.now place }
-{
-    name.get(place).copied().unwrap_or(0)
 }
 
 fn is_supported(attribute: &Attribute<'_>) -> bool
