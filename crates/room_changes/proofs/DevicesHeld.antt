@@ -121,25 +121,25 @@ module _ (name : List ℕ) (named : IsTrue (is_name name)) (old new : Database) 
       let it : Device = turned_to name on (get devices name) in
       let unknown : is_some (get devices name) ≡ false = is_unknown (contains_key devices name) is_new in
       record {
-    are_devices = all_devices devices name it held.are_devices (turned_is name on (get devices name) named (held.are_devices name));
-    device_rows = λ other. device_rows_kept name (number 1 ∷ []) turns.with_device new turns.rate_row other ∙ on_set on turns.with_device it refl refl turns.device_row other;
-    rate_rows = rate_set 1 turns.with_device it refl (rate_of_new (get devices name) unknown) turns.rate_row (rate_rows_kept name (flag on ∷ []) old turns.with_device turns.device_row);
-  }
+        are_devices = all_devices devices name it held.are_devices (turned_is name on (get devices name) named (held.are_devices name));
+        device_rows = λ other. device_rows_kept name (number 1 ∷ []) turns.with_device new turns.rate_row other ∙ on_set on turns.with_device it refl refl turns.device_row other;
+        rate_rows = rate_set 1 turns.with_device it refl (rate_of_new (get devices name) unknown) turns.rate_row (rate_rows_kept name (flag on ∷ []) old turns.with_device turns.device_row);
+      }
   turned_devices on false turns is_new =
       let it : Device = turned_to name on (get devices name) in
       let known : is_some (get devices name) ≡ true = is_known (contains_key devices name) is_new in
       record {
-    are_devices = all_devices devices name it held.are_devices (turned_is name on (get devices name) named (held.are_devices name));
-    device_rows = λ other. ap (λ (db : Database). device_at db other) turns.rate_row ∙ on_set on turns.with_device it refl refl turns.device_row other;
-    rate_rows = keep_name rate_cells devices name it (rate_at new) (λ other. ap (λ (db : Database). rate_at db other) turns.rate_row ∙ rate_rows_kept name (flag on ∷ []) old turns.with_device turns.device_row other ∙ held.rate_rows other)
-        (rate_stays name on (get devices name) known (held.are_devices name));
-  }
+        are_devices = all_devices devices name it held.are_devices (turned_is name on (get devices name) named (held.are_devices name));
+        device_rows = λ other. ap (λ (db : Database). device_at db other) turns.rate_row ∙ on_set on turns.with_device it refl refl turns.device_row other;
+        rate_rows = keep_name rate_cells devices name it (rate_at new) (λ other. ap (λ (db : Database). rate_at db other) turns.rate_row ∙ rate_rows_kept name (flag on ∷ []) old turns.with_device turns.device_row other ∙ held.rate_rows other)
+            (rate_stays name on (get devices name) known (held.are_devices name));
+      }
 
   pub rated_devices : (units : ℕ) → (1 ≤ units) → (units ≤ most_rate) → SetsRow rates_table (units_cells name units) old new → contains_key devices name ≡ true → HoldsDevices new (rated devices name units)
   rated_devices units from_one at_most h known =
       let it : Device = rated_to name units (get devices name) in
       record {
-    are_devices = all_devices devices name it held.are_devices (record { named = refl; is_a_name = named; rate_from_one = from_one; rate_at_most = at_most });
-    device_rows = keep_name device_cells devices name it (device_at new) (λ other. device_rows_kept name (number units ∷ []) old new h other ∙ held.device_rows other) (on_stays name units (get devices name) known (held.are_devices name));
-    rate_rows = rate_set units old it refl refl h (λ other. refl);
-  }
+        are_devices = all_devices devices name it held.are_devices (record { named = refl; is_a_name = named; rate_from_one = from_one; rate_at_most = at_most });
+        device_rows = keep_name device_cells devices name it (device_at new) (λ other. device_rows_kept name (number units ∷ []) old new h other ∙ held.device_rows other) (on_stays name units (get devices name) known (held.are_devices name));
+        rate_rows = rate_set units old it refl refl h (λ other. refl);
+      }

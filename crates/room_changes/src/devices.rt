@@ -80,11 +80,7 @@ pub fn rate_device<S: Alter>(
     put_rate(connection, name, units)
 }
 
-fn put_rate<S: Alter>(
-    connection: &mut Connection<S>,
-    name: Name,
-    units: u32,
-) -> Result<(), Error>
+fn put_rate<S: Alter>(connection: &mut Connection<S>, name: Name, units: u32) -> Result<(), Error>
     requires { connection.old.in_transaction ≡ false }
     ensures sets { Changes S.Store connection.old connection.new result (SetsRow rates_table (units_cells name units)) }
     ensures name { IsTrue (is_name name) }

@@ -12,7 +12,7 @@ ghost use Rattle.room_tables.specs.Tables.{grants as grants_table};
 ghost use Rattle.room_changes.specs.Alone.{OnlyAccount};
 
 use room_rules::Name;
-use room_statements::{set_grant};
+use room_statements::set_grant;
 use sqlite::{Alter, Connection, Error};
 
 /// Grants the account the pages from the month on, for good.

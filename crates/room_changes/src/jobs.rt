@@ -90,7 +90,14 @@ fn add_with<S: Alter>(
     ensures inside { StaysInside S.Store transaction.old.conn transaction.new.conn result }
 {
     add_job(transaction, name, job)?;
-    add_document(transaction, name, job.job, first.number, first.format, first.bytes)?;
+    add_document(
+        transaction,
+        name,
+        job.job,
+        first.number,
+        first.format,
+        first.bytes,
+    )?;
     count_on(transaction, name, job)
 }
 
@@ -190,7 +197,14 @@ fn restand_with<S: Alter>(
     ensures damaged { OfStore S.Store transaction.old.conn.now transaction.new.conn.now (λ db. result ≡ Err TableFault.Damaged → IsFree name (Some (document_of number next.entry)) db → ⊥) }
     ensures inside { StaysInside S.Store transaction.old.conn transaction.new.conn result }
 {
-    add_document(transaction, name, number, next.number, next.format, next.bytes)?;
+    add_document(
+        transaction,
+        name,
+        number,
+        next.number,
+        next.format,
+        next.bytes,
+    )?;
     Ok(set_standing(transaction, name, number, standing)?)
 }
 

@@ -11,7 +11,7 @@ ghost use Rattle.room_tables.specs.Tables.{account as account_table};
 ghost use Rattle.room_changes.specs.Alone.{OnlyAccount};
 
 use room_rules::{Account, Name};
-use room_statements::{set_account};
+use room_statements::set_account;
 use sqlite::{Alter, Connection, Error};
 
 /// Opens the account at the moment `now`, at most `LAST_MOMENT`.
@@ -29,11 +29,7 @@ pub fn open_account<S: Alter>(
     put_account(connection, name, now)
 }
 
-fn put_account<S: Alter>(
-    connection: &mut Connection<S>,
-    name: Name,
-    now: u64,
-) -> Result<(), Error>
+fn put_account<S: Alter>(connection: &mut Connection<S>, name: Name, now: u64) -> Result<(), Error>
     requires mode { connection.old.in_transaction ≡ false }
     requires moment { now ≤ last_moment }
     ensures sets { Changes S.Store connection.old connection.new result (SetsRow account_table (account_cells name (record { opened = now; next_job = 1 }))) }
