@@ -1,6 +1,5 @@
 -- What a change of a device makes of the map of devices.
 use Rattle.std.proofs.Common.{◌≡◌, ◌≢◌, ℕ, ◌≤◌, Bool, true, false, cond, not, nat_eq, List, [], ◌∷◌, Option, Some, None, option_map, is_some, IfSome, IsTrue, refl, sym, ap, subst, ◌∙◌, arith}
-use Rattle.std.specs.Ordering.{eq_by_cmp}
 use Rattle.std.specs.Option.{option_map_or}
 use Rattle.std.specs.Cmp.Lexicographic.{nat_list_cmp_total, pointwise, bytes_decides}
 use Rattle.std.specs.FinMap.{get, insert, contains_key, get-insert}
@@ -10,14 +9,14 @@ use Rattle.sqlite.specs.Effect.{Database}
 use Rattle.room_rules.specs.Limits.{most_rate}
 use Rattle.room_rules.specs.Names.{is_name}
 use Rattle.room_rules.specs.declared.device.Device.{Device}
-use Rattle.room_rules.specs.Devices.{Devices, name_cmp, turned, rated, rate_of, is_on_in}
-use Rattle.room_rules.proofs.DeviceMaps.{names_exact, named}
+use Rattle.room_rules.specs.Devices.{Devices, turned, rated}
+use Rattle.room_rules.proofs.DeviceMaps.{named}
 use Rattle.room_tables.specs.Tables.{device as device_table, rates as rates_table}
 use Rattle.room_tables.specs.Keyed.{SetsRow}
 use Rattle.room_tables.specs.Cells.{flag, number, on_cells, units_cells, device_cells, rate_cells}
 use Rattle.room_tables.specs.Devices.{device_at, rate_at, HoldsDevices, IsDevice}
-use Rattle.room_changes.specs.Rows.{TurnsDevice, RatesNew}
-use Rattle.room_changes.proofs.KeyTests.{is_at_text, text_met, text_here, unmet}
+use Rattle.room_changes.specs.Rows.{TurnsDevice}
+use Rattle.room_changes.proofs.KeyTests.{is_at_text, text_met, text_here}
 use Rattle.room_changes.proofs.LeftAlone.{row_kept}
 
 -- ---- one name of the map

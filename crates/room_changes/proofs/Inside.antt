@@ -1,7 +1,7 @@
 -- One write after another inside a transaction.
-use Rattle.std.proofs.Common.{◌≡◌, ℕ, ◌≤◌, Result, OnOk, IsTrue, MutBor, ◌∙◌, arith}
+use Rattle.std.proofs.Common.{Result, MutBor, ◌∙◌, arith}
 use Rattle.sqlite_trees.specs.declared.store.Store.{Ghosts}
-use Rattle.sqlite.specs.State.{State, HasCleanDisk, Survives}
+use Rattle.sqlite.specs.State.{HasCleanDisk}
 use Rattle.sqlite.specs.Held.{Held, state}
 use Rattle.sqlite.proofs.StateLemmas.{survives_then}
 use Rattle.room_tables.specs.Calls.{StaysInside}

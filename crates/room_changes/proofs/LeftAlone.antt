@@ -1,6 +1,6 @@
 -- What the write of a row leaves alone: every other account, the devices, the version.
 use Rattle.std.proofs.Common.{◌≡◌, ◌≢◌, ℕ, ℤ, pos, Bool, true, false, cond, List, [], ◌∷◌, drop, find, Option, Some, None, option_map, refl, sym, ap, subst, ◌∙◌}
-use Rattle.sqlite_value.specs.declared.value.Value.TheVariants.{Null, Int, Text}
+use Rattle.sqlite_value.specs.declared.value.Value.TheVariants.{Int, Text}
 use Rattle.sqlite_value.specs.Order.{Row}
 use Rattle.sqlite_schema.specs.declared.schema.Table.{Table}
 use Rattle.sqlite.specs.Effect.{Database}
@@ -11,10 +11,9 @@ use Rattle.room_rules.specs.declared.job.Standing.{Standing}
 use Rattle.room_tables.specs.Tables.{account, job, document, grants, device, rates}
 use Rattle.room_tables.specs.Keyed.{has_key, row_at, SetsRow, RemovesRows}
 use Rattle.room_tables.specs.Cells.{number, account_cells, job_cells}
-use Rattle.room_tables.specs.Accounts.{account_at, job_at, document_at, grant_at, AgreeOnRows}
-use Rattle.room_tables.specs.Devices.{AgreeOnDevices}
+use Rattle.room_tables.specs.Accounts.{account_at, job_at, AgreeOnRows}
 use Rattle.room_changes.specs.Alone.{OnlyAccount, OnlyDevices}
-use Rattle.room_changes.specs.Rows.{AddsDocument, SetsStanding, SetsNext, AddsJob, Restands, EndsJob, RatesNew, TurnsDevice}
+use Rattle.room_changes.specs.Rows.{AddsDocument, AddsJob, Restands, EndsJob, TurnsDevice}
 use Rattle.room_changes.proofs.KeyTests.{is_at_text, is_at_number, is_at_place, begins_so, text_met, number_met, place_met, start_met, unmet}
 
 -- a table that is as it was has the rows that it had

@@ -1,22 +1,20 @@
 -- What a change makes of the room of its account.
-use Rattle.std.proofs.Common.{◌≡◌, ℕ, ◌+◌, ◌≤◌, pos, List, Option, Some, None, option_map, refl, sym, ap, subst, ◌∙◌}
-use Rattle.std.specs.Option.{IfSome}
+use Rattle.std.proofs.Common.{◌≡◌, ℕ, ◌+◌, ◌≤◌, pos, List, Option, Some, option_map, sym, ap, subst, ◌∙◌}
 use Rattle.std.specs.FinMap.{get, insert}
 use Rattle.sqlite.specs.Effect.{Database}
-use Rattle.room_rules.specs.declared.account.Account.{Account}
 use Rattle.room_rules.specs.declared.job.Document.{Document}
 use Rattle.room_rules.specs.declared.job.Job.{Job}
 use Rattle.room_rules.specs.declared.job.Standing.{Standing}
 use Rattle.room_rules.specs.Limits.{last_moment}
 use Rattle.room_state.specs.Rooms.{RoomValue, empty_room}
-use Rattle.room_state.specs.Changes.{with_new_job, with_standing, with_ended, with_grant, with_document, restood, without_documents}
+use Rattle.room_state.specs.Changes.{with_new_job, with_standing, with_ended, with_grant, with_document, restood}
 use Rattle.room_state.specs.Conditions.{CanAddJob, CanRestand, CanFinish, CanAddGrant}
 use Rattle.room_state.proofs.KeptRooms.{job_there, restood_there, add_job_keeps, restand_keeps, finish_keeps, add_grant_keeps}
 use Rattle.room_state.proofs.RoomLemmas.{empty_room_keeps}
-use Rattle.room_tables.specs.Tables.{account as account_table, job as job_table, grants as grants_table}
+use Rattle.room_tables.specs.Tables.{account as account_table, grants as grants_table}
 use Rattle.room_tables.specs.Keyed.{SetsRow}
 use Rattle.room_tables.specs.Cells.{account_cells, job_cells, grant_cells}
-use Rattle.room_tables.specs.Accounts.{account_at, job_at, account_of, HoldsRows, HoldsRoom, HoldsNothing}
+use Rattle.room_tables.specs.Accounts.{job_at, account_of, HoldsRows, HoldsRoom, HoldsNothing}
 use Rattle.room_changes.specs.Rows.{SetsStanding, AddsJob, Restands, EndsJob}
 use Rattle.room_changes.proofs.OwnRows.{account_held, job_held, documents_removed, grant_held, added_document_held, opened_held}
 
