@@ -155,7 +155,7 @@ module _ (a b c : Database) where
 
 -- ---- the changes
 
-same_rows : (name : List ℕ) (db : Database) → OnlyAccount name db db
+pub same_rows : (name : List ℕ) (db : Database) → OnlyAccount name db db
 same_rows name db = record {
   others = λ other apart. record { same_account = refl; same_jobs = λ n. refl; same_documents = λ m n. refl; same_grants = λ n. refl };
   devices = record { same_devices = λ device. refl; same_rates = λ device. refl };

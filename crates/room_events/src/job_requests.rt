@@ -1,0 +1,115 @@
+//! The requests about one job.
+
+ghost use Rattle.std.specs.Prelude.{◌≡◌, ◌≤◌, false, IfOk};
+ghost use Rattle.room_asks.specs.Asks.{IsAsk, plain_ask};
+ghost use Rattle.room_core.specs.JobRequests.{acted, cancel_of, described, hold_of};
+ghost use Rattle.room_core.specs.Moving.{Keeps};
+ghost use Rattle.room_core.specs.Requests.{asked_job};
+ghost use Rattle.room_rules.specs.Limits.{last_moment};
+ghost use Rattle.room_rules.specs.Standings.{IsStanding};
+ghost use Rattle.room_tables.specs.Accounts.{IsAccount};
+ghost use Rattle.room_tables.specs.Calls.{OfStore};
+ghost use Rattle.room_events.specs.Known.{IsOpen, IsThere};
+ghost use Rattle.room_events.specs.Serving.{GoesFrom, Serves};
+
+use crate::lookup::look_up;
+use crate::standing::stand;
+use crate::told::{done_as, refused_as};
+use ipp_coding::List;
+use room_core::{
+    Account, Ask, Job, Name, Refusal, Standing, asked_at, canceled, held, no_job, wanted_names,
+    with_job,
+};
+use room_tables::TableFault;
+use sqlite::{Alter, Connection};
+use std::alloc::Global;
+
+/// Get-Job-Attributes, of an account that is open.
+pub fn describe<S: Alter>(
+    alloc: Global,
+    connection: &mut Connection<S>,
+    name: Name,
+    account: Account,
+    now: u64,
+    ask: &Ask<'_>,
+) -> Result<List<u8>, TableFault>
+    requires ask { IsAsk (plain_ask ask.now) }
+    requires account { IsAccount account }
+    requires moment { now ≤ last_moment }
+    ensures going { GoesFrom S.Store connection.old connection.new result }
+    ensures served { OfStore S.Store connection.old connection.new (IsOpen name account) → Serves S.Store connection.old connection.new name (λ room devices. (described room name now (plain_ask ask.entry.now) (asked_job room (plain_ask ask.entry.now))).text) (λ room devices. room) result }
+{
+    let Some(job) = look_up(connection, name, ask.job)? else {
+        return refused_as(alloc, ask, no_job());
+    };
+    let at = asked_at(account.opened, name, now, ask);
+    let unsupported = ask.unsupported.as_slice();
+    with_job(alloc, ask.header, unsupported, &at, &job, wanted_names(ask)).map_err(
+        |fault| TableFault::of_core(fault),
+    )
+}
+
+/// Cancel-Job, of an account that is open.
+pub fn cancel<S: Alter>(
+    alloc: Global,
+    connection: &mut Connection<S>,
+    name: Name,
+    now: u64,
+    ask: &Ask<'_>,
+) -> Result<List<u8>, TableFault>
+    requires mode { connection.old.in_transaction ≡ false }
+    requires ask { IsAsk (plain_ask ask.now) }
+    requires moment { now ≤ last_moment }
+    ensures served { Serves S.Store connection.old connection.new name (λ room devices. (acted room (plain_ask ask.entry.now) (cancel_of room now (plain_ask ask.entry.now))).text) (λ room devices. (acted room (plain_ask ask.entry.now) (cancel_of room now (plain_ask ask.entry.now))).room) result }
+{
+    let Some(job) = look_up(connection, name, ask.job)? else {
+        return refused_as(alloc, ask, no_job());
+    };
+    let decided = canceled(job.standing, now);
+    act(alloc, connection, name, ask, &job, decided)
+}
+
+/// Hold-Job, of an account that is open.
+pub fn hold<S: Alter>(
+    alloc: Global,
+    connection: &mut Connection<S>,
+    name: Name,
+    ask: &Ask<'_>,
+) -> Result<List<u8>, TableFault>
+    requires mode { connection.old.in_transaction ≡ false }
+    requires ask { IsAsk (plain_ask ask.now) }
+    ensures served { Serves S.Store connection.old connection.new name (λ room devices. (acted room (plain_ask ask.entry.now) (hold_of room (plain_ask ask.entry.now))).text) (λ room devices. (acted room (plain_ask ask.entry.now) (hold_of room (plain_ask ask.entry.now))).room) result }
+{
+    let Some(job) = look_up(connection, name, ask.job)? else {
+        return refused_as(alloc, ask, no_job());
+    };
+    let decided = held(job.standing);
+    act(alloc, connection, name, ask, &job, decided)
+}
+
+/// Gives the job the standing that an act makes of it.
+fn act<S: Alter>(
+    alloc: Global,
+    connection: &mut Connection<S>,
+    name: Name,
+    ask: &Ask<'_>,
+    job: &Job,
+    decided: Result<Standing, Refusal>,
+) -> Result<List<u8>, TableFault>
+    requires mode { connection.old.in_transaction ≡ false }
+    requires ask { IsAsk (plain_ask ask.now) }
+    requires number { job.now.job ≡ ask.now.job }
+    requires before { IsStanding job.now.standing }
+    requires in_range { IfOk decided IsStanding }
+    requires kept { IfOk decided (Keeps job.now.standing) }
+    ensures going { GoesFrom S.Store connection.old connection.new result }
+    ensures served { OfStore S.Store connection.old connection.new (IsThere name job.now) → Serves S.Store connection.old connection.new name (λ room devices. (acted room (plain_ask ask.entry.now) decided).text) (λ room devices. (acted room (plain_ask ask.entry.now) decided).room) result }
+{
+    let standing = match decided {
+        Ok(standing) => standing,
+        Err(refusal) => return refused_as(alloc, ask, refusal),
+    };
+    let text = done_as(alloc, ask)?;
+    stand(connection, name, job, &standing)?;
+    Ok(text)
+}
