@@ -1,16 +1,20 @@
 -- What a station may do (all this project's own).
-use Rattle.std.specs.Prelude.{ℕ, ◌+◌, ℤ, pos, ◌+ℤ◌, ◌-ℤ◌, if◌then◌else◌, Option, Some, None, Result, Ok, Err}
+use Rattle.std.specs.Prelude.{ℕ, ◌+◌, ℤ, pos, ◌+ℤ◌, ◌-ℤ◌, Bool, true, false, if◌then◌else◌, Option, Some, None, Result, Ok, Err}
 use Rattle.room_rules.specs.declared.device.Device.{Device}
 use Rattle.room_rules.specs.declared.job.Standing.{Standing}
 use Rattle.room_rules.specs.declared.refusal.Word.{Word}
 use Rattle.room_rules.specs.declared.refusal.Word.TheVariants.{NoDevice, DeviceOff}
 
--- a station speaks for a device that is known
-abbrev pub known_device : Option Device → Result Device Word
+-- a station speaks for a device of which something is known
+abbrev pub known_device : {D : Type 0} → Option D → Result D Word
 known_device None = Err NoDevice
-known_device (Some device) = Ok device
+known_device (Some known) = Ok known
 
 -- and releases and starts jobs only while the device takes them
+abbrev pub check_on : Bool → Result (Unit {0}) Word
+check_on true = Ok tt
+check_on false = Err DeviceOff
+
 abbrev pub ready_device : Option Device → Result Device Word
 ready_device None = Err NoDevice
 ready_device (Some device) = if device.on then Ok device else Err DeviceOff

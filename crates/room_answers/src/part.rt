@@ -15,25 +15,23 @@ pub struct Part {
     pub bytes: List<u8>,
 }
 
-/// A document of a job of so many copies, as it is handed to a device: a copy of its bytes behind its
-/// line. `Memory` is its only fault.
-pub fn handed(alloc: Global, copies: u32, document: &Document) -> Result<Part, CoreFault>
-    ensures part { IfOk result (λ part. part ≡ part_of copies document.now) }
+/// A document of a job of so many copies, as it is handed to a device: its bytes, moved, behind its line.
+/// `Memory` is its only fault.
+pub fn handed(alloc: Global, copies: u32, document: Document) -> Result<Part, CoreFault>
+    ensures part { IfOk result (λ part. part ≡ part_of copies document) }
     ensures memory { IfErr result (λ fault. fault ≡ CoreFault.Memory) }
 {
-    let bytes = document.bytes.as_slice();
     let line = success(
         alloc,
         Success::Started {
             job: document.job,
             copies,
             format: document.format,
-            length: bytes.len() as u64,
+            length: document.bytes.as_slice().len() as u64,
         },
     )?;
-    let items = Vec::from_slice(alloc, bytes)?;
     Ok(Part {
         line,
-        bytes: List { items },
+        bytes: document.bytes,
     })
 }

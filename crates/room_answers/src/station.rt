@@ -1,27 +1,32 @@
 //! What a station is answered, decided on its device and the job.
 
 ghost use Rattle.std.specs.Prelude.{◌≡◌, ◌+◌, ◌*◌, ◌^◌, ◌≤◌, pos, neg_ℤ, ◌≤ℤ◌, option_copied, IfOk, IfErr, option_map};
-ghost use Rattle.room_answers.specs.Stations.{known_device, ready_device, left_after, units_of};
+ghost use Rattle.room_answers.specs.Stations.{known_device, ready_device, check_on, left_after, units_of};
 ghost use Rattle.room_rules.specs.Standings.{IsStanding};
 
 use room_rules::{Device, Standing, Word};
 
-/// The device that a station speaks for. Refused as `NoDevice` where there is none of its name.
-pub fn known_device(device: Option<Device>) -> Result<Device, Word>
-    ensures { result ≡ known_device device }
+/// What is known of the device that a station speaks for. Refused as `NoDevice` where there is none of its name.
+pub fn known_device<D: Drop>(known: Option<D>) -> Result<D, Word>
+    ensures { result ≡ known_device known }
 {
-    device.ok_or(Word::NoDevice)
+    known.ok_or(Word::NoDevice)
 }
 
 /// The device, where it takes jobs. Refused as `NoDevice`, and as `DeviceOff` where it is off.
 pub fn ready_device(device: Option<Device>) -> Result<Device, Word>
     ensures { result ≡ ready_device device }
 {
-    match device {
-        None => Err(Word::NoDevice),
-        Some(device) if device.on => Ok(device),
-        Some(_) => Err(Word::DeviceOff),
-    }
+    let known = known_device(device)?;
+    check_on(known.on)?;
+    Ok(known)
+}
+
+/// Refuses a device that is off as `DeviceOff`.
+pub fn check_on(on: bool) -> Result<(), Word>
+    ensures { result ≡ check_on on }
+{
+    if on { Ok(()) } else { Err(Word::DeviceOff) }
 }
 
 /// What is left of the quota once a job stands otherwise, of what was left before, which is from

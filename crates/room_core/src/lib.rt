@@ -18,30 +18,103 @@ mod respond;
 mod stations;
 
 pub use device_events::answer_device;
-pub use event::{Event, Reply};
+pub use event::Event;
+pub use event::Reply;
 pub use fitting::fits;
-pub use job_requests::{has_data, restood, sent_document};
+pub use job_requests::has_data;
+pub use job_requests::restood;
+pub use job_requests::sent_document;
 pub use machine::answer;
-pub use making::{document_made, job_made};
-pub use moving::{by_word, canceled, held, is_unfinished, released, released_at, settled, started};
-pub use queue::{is_later, listed_names};
+pub use making::document_made;
+pub use making::job_made;
+pub use moving::by_word;
+pub use moving::canceled;
+pub use moving::held;
+pub use moving::is_unfinished;
+pub use moving::released;
+pub use moving::released_at;
+pub use moving::settled;
+pub use moving::started;
+pub use queue::is_later;
+pub use queue::jobs_told;
 pub use quota::left_with;
-pub use respond::{asked_at, made_names, no_job, wanted_names};
-pub use room_answers::{
-    AsJob, Part, begun, check_accepting, check_grant, done, ended, handed, is_accepting,
-    known_device, left_after, line, printer_now, printer_state, ready_device, refused, success,
-    with_job, with_jobs, with_printer,
-};
-pub use room_asks::{Ask, AskFault, Operation, Which, new_job, read_ask};
-pub use room_rules::{
-    Account, CoreFault, Device, Document, ENOUGH_LEFT, FIRST_MONTH, Format, Grant, Job, JobState,
-    LAST_JOB, LAST_MOMENT, LAST_MONTH, LONGEST_DOCUMENT, LONGEST_JOB_NAME, LONGEST_PASSWORD,
-    MOST_COPIES, MOST_DOCUMENTS, MOST_IMPRESSIONS, MOST_PAGES, MOST_RATE, MOST_UNFINISHED, Name,
-    Refusal, Standing, Word, add_document, cancel, hold, left, month_of, release_at_station,
-    release_by_owner, set_device, set_rate, settle, start, within_quota,
-};
-pub use room_state::{Room, Tally};
-pub use room_texts::{
-    Place, PrinterNow, Success, internal_error, put_job, put_line, put_printer, put_reply,
-    put_success,
-};
+pub use respond::asked_at;
+pub use respond::made_names;
+pub use respond::no_job;
+pub use respond::wanted_names;
+pub use room_answers::AsJob;
+pub use room_answers::Part;
+pub use room_answers::begun;
+pub use room_answers::check_accepting;
+pub use room_answers::check_grant;
+pub use room_answers::check_on;
+pub use room_answers::done;
+pub use room_answers::ended;
+pub use room_answers::handed;
+pub use room_answers::is_accepting;
+pub use room_answers::known_device;
+pub use room_answers::left_after;
+pub use room_answers::line;
+pub use room_answers::printer_now;
+pub use room_answers::printer_state;
+pub use room_answers::ready_device;
+pub use room_answers::refused;
+pub use room_answers::success;
+pub use room_answers::with_job;
+pub use room_answers::with_jobs;
+pub use room_answers::with_printer;
+pub use room_asks::Ask;
+pub use room_asks::AskFault;
+pub use room_asks::Operation;
+pub use room_asks::Which;
+pub use room_asks::new_job;
+pub use room_asks::read_ask;
+pub use room_rules::Account;
+pub use room_rules::CoreFault;
+pub use room_rules::Device;
+pub use room_rules::Document;
+pub use room_rules::ENOUGH_LEFT;
+pub use room_rules::FIRST_MONTH;
+pub use room_rules::Format;
+pub use room_rules::Grant;
+pub use room_rules::Job;
+pub use room_rules::JobState;
+pub use room_rules::LAST_JOB;
+pub use room_rules::LAST_MOMENT;
+pub use room_rules::LAST_MONTH;
+pub use room_rules::LONGEST_DOCUMENT;
+pub use room_rules::LONGEST_JOB_NAME;
+pub use room_rules::LONGEST_PASSWORD;
+pub use room_rules::MOST_COPIES;
+pub use room_rules::MOST_DOCUMENTS;
+pub use room_rules::MOST_IMPRESSIONS;
+pub use room_rules::MOST_PAGES;
+pub use room_rules::MOST_RATE;
+pub use room_rules::MOST_UNFINISHED;
+pub use room_rules::Name;
+pub use room_rules::Refusal;
+pub use room_rules::Standing;
+pub use room_rules::Word;
+pub use room_rules::add_document;
+pub use room_rules::cancel;
+pub use room_rules::hold;
+pub use room_rules::left;
+pub use room_rules::month_of;
+pub use room_rules::release_at_station;
+pub use room_rules::release_by_owner;
+pub use room_rules::set_device;
+pub use room_rules::set_rate;
+pub use room_rules::settle;
+pub use room_rules::start;
+pub use room_rules::within_quota;
+pub use room_state::Room;
+pub use room_state::Tally;
+pub use room_texts::Place;
+pub use room_texts::PrinterNow;
+pub use room_texts::Success;
+pub use room_texts::internal_error;
+pub use room_texts::put_job;
+pub use room_texts::put_line;
+pub use room_texts::put_printer;
+pub use room_texts::put_reply;
+pub use room_texts::put_success;

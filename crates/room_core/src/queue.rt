@@ -5,21 +5,24 @@ ghost use Rattle.std.specs.Borrow.{Bor};
 ghost use Rattle.std.specs.FinMap.{values};
 ghost use Rattle.std.specs.List.{AllByRecursion};
 ghost use Rattle.std.specs.Ordering.{is_lt};
+ghost use Rattle.room_answers.specs.Responses.{done_text, job_groups};
 ghost use Rattle.room_asks.specs.Asks.{IsAsk, plain_ask};
 ghost use Rattle.room_core.specs.Queues.{chosen, asked_jobs, listed, listed_names};
 ghost use Rattle.room_rules.specs.declared.job.Job.{Job};
 ghost use Rattle.room_rules.specs.Limits.{last_moment, last_next_job};
 ghost use Rattle.room_state.specs.Queues.{is_later, not_completed, completed, at_most};
 ghost use Rattle.room_state.specs.RoomRules.{is_unfinished};
-ghost use Rattle.room_texts.specs.Limits.{IsShowable};
+ghost use Rattle.room_texts.specs.Limits.{IsPlace, IsShowable};
+ghost use Rattle.room_texts.specs.Places.{plain_place};
 
 use crate::moving::is_unfinished;
 use crate::respond::{asked_at, wanted_names};
 use ipp_coding::List;
-use room_answers::with_jobs;
+use room_answers::{AsJob, with_jobs};
 use room_asks::{Ask, Which};
 use room_rules::{CoreFault, Job, Name};
 use room_state::Room;
+use room_texts::Place;
 use std::alloc::Global;
 use std::cmp::Ordering;
 
@@ -36,24 +39,41 @@ pub(crate) fn list(
     ensures text { IfOk result (λ text. text ≡ (listed room.now account now (plain_ask ask.entry.now)).text) }
     ensures memory { IfErr result (λ fault. fault ≡ CoreFault.Memory) }
 {
-    let unsupported = ask.unsupported.as_slice();
     let at = asked_at(room.account().opened, account, now, ask);
     let jobs = asked_jobs(alloc, room, ask)?;
+    jobs_told(alloc, ask, &at, jobs.as_slice())
+}
+
+/// The response to a Get-Jobs with the jobs, job-uri and job-id alone where the request names no
+/// attributes. `Memory` is its only fault.
+pub fn jobs_told<J: AsJob>(
+    alloc: Global,
+    ask: &Ask<'_>,
+    at: &Place<'_>,
+    jobs: &[J],
+) -> Result<List<u8>, CoreFault>
+    requires ask { IsAsk (plain_ask ask.now) }
+    requires place { IsPlace (plain_place at.now) }
+    requires jobs { AllByRecursion (λ job. IsShowable (J.job job)) jobs.now }
+    ensures text { IfOk result (λ text. text ≡ done_text (plain_ask ask.entry.now).header (plain_ask ask.entry.now).unsupported (job_groups (plain_place at.entry.now) (map J.job jobs.now) (listed_names (plain_ask ask.entry.now).wanted))) }
+    ensures memory { IfErr result (λ fault. fault ≡ CoreFault.Memory) }
+{
+    let unsupported = ask.unsupported.as_slice();
     match wanted_names(ask) {
-        Some(names) => with_jobs(alloc, ask.header, unsupported, &at, &jobs, Some(names)),
+        Some(names) => with_jobs(alloc, ask.header, unsupported, at, jobs, Some(names)),
         None => with_jobs(
             alloc,
             ask.header,
             unsupported,
-            &at,
-            &jobs,
+            at,
+            jobs,
             Some(&listed_names()),
         ),
     }
 }
 
 /// What is told of a job where the request names no attributes.
-pub fn listed_names() -> [&'static [u8]; 2]
+fn listed_names() -> [&'static [u8]; 2]
     ensures { Some (map (λ (name : Bor (List ℕ)). name.now) result) ≡ listed_names None }
 {
     [b"job-uri", b"job-id"]

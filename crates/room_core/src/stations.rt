@@ -16,9 +16,10 @@ use crate::devices::device_at;
 use crate::event::Reply;
 use crate::moving::{self, stand};
 use crate::quota::{kept_to_quota, left_once};
+use crate::respond::copied;
 use ipp_coding::List;
 use room_answers::{Part, handed, known_device, line, ready_device, success};
-use room_rules::{CoreFault, Device, Name, Standing, Word};
+use room_rules::{CoreFault, Device, Document, Name, Standing, Word};
 use room_state::Room;
 use room_texts::Success;
 use std::alloc::Global;
@@ -213,10 +214,25 @@ fn parts(
     let mut parts = Vec::new(alloc);
     for number in numbers {
         if let Some(document) = room.document(job, *number) {
-            parts.push(handed(alloc, copies, document)?)?;
+            parts.push(copy_handed(alloc, copies, document)?)?;
         }
     }
     Ok(parts)
+}
+
+/// A copy of the document, as it is handed to a device.
+fn copy_handed(alloc: Global, copies: u32, document: &Document) -> Result<Part, CoreFault>
+    ensures part { IfOk result (λ part. part ≡ part_of copies document.now) }
+    ensures memory { IfErr result (λ fault. fault ≡ CoreFault.Memory) }
+{
+    let bytes = copied(alloc, document.bytes.as_slice())?;
+    let copy = Document {
+        job: document.job,
+        number: document.number,
+        format: document.format,
+        bytes,
+    };
+    handed(alloc, copies, copy)
 }
 
 /// What becomes of the job as the device of the station is done with it.

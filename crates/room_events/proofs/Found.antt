@@ -1,5 +1,5 @@
 -- What was found in the rows of an account is what its room has.
-use Rattle.std.proofs.Common.{◌≡◌, ℕ, ◌<◌, ◌≤◌, pos, true, false, List, [], ◌∷◌, Option, Some, None, IfOk, IfSome, IsSome, Result, Ok, Err, option_map, refl, sym, ap, subst, ◌∙◌, arith}
+use Rattle.std.proofs.Common.{◌≡◌, ℕ, ◌<◌, ◌≤◌, ℤ, pos, Bool, true, false, List, [], ◌∷◌, Option, Some, None, IfOk, IfSome, IsSome, Result, Ok, Err, option_map, refl, sym, ap, subst, ◌∙◌, arith}
 use Rattle.std.specs.FinMap.{get}
 use Rattle.sqlite_value.specs.Order.{Row}
 use Rattle.sqlite.specs.Effect.{Database}
@@ -10,12 +10,14 @@ use Rattle.room_rules.specs.Limits.{last_next_job, may_be_job}
 use Rattle.room_state.specs.RoomRules.{IsJobAt, is_unfinished}
 use Rattle.room_statements.specs.Queues.{IsNumbered}
 use Rattle.room_texts.specs.Limits.{IsShowable}
-use Rattle.room_core.specs.JobRequests.{cancel_of, hold_of}
+use Rattle.room_core.specs.JobRequests.{cancel_of, has_password, hold_of, release_of}
 use Rattle.room_core.specs.Moving.{Keeps}
 use Rattle.room_core.specs.Requests.{job_or_refusal}
 use Rattle.room_core.specs.Steps.{and_then}
-use Rattle.room_rules.specs.Acts.{CancelJob, HoldJob}
+use Rattle.room_rules.specs.Acts.{CancelJob, HoldJob, ReleaseJob}
 use Rattle.room_rules.specs.Moves.{move}
+use Rattle.room_rules.specs.StateLaws.{kept_to_quota}
+use Rattle.room_state.specs.Sums.{left_in}
 use Rattle.room_rules.specs.declared.refusal.Refusal.{Refusal}
 use Rattle.room_rules.specs.Standings.{IsStanding}
 use Rattle.room_rules.specs.declared.job.Job.{Job}
@@ -116,6 +118,17 @@ cancel_of_found room ask now job there decided is = is ∙ ap (λ (o : Option Jo
 
 pub hold_of_found : (room : RoomValue) (ask : PlainAsk) (job : Job) → get room.jobs ask.job ≡ Some job → (decided : Result Standing Refusal) → decided ≡ move HoldJob job.standing → decided ≡ hold_of room ask
 hold_of_found room ask job there decided is = is ∙ ap (λ (o : Option Job). and_then (job_or_refusal o) (λ (job : Job). move HoldJob job.standing)) (sym there)
+
+pub release_of_found : (room : RoomValue) (ask : PlainAsk) (now : ℕ) (job : Job) → get room.jobs ask.job ≡ Some job → (password : Bool) → password ≡ has_password job → (asked decided : Result Standing Refusal)
+    → ((left : ℤ) → move (ReleaseJob password left) job.standing ≡ kept_to_quota job.standing.state left asked) → decided ≡ kept_to_quota job.standing.state (left_in room now) asked → decided ≡ release_of room now ask
+release_of_found room ask now job there password same asked decided moved is =
+    is ∙ sym (moved (left_in room now)) ∙ ap (λ b. move (ReleaseJob b (left_in room now)) job.standing) same
+    ∙ ap (λ (o : Option Job). and_then (job_or_refusal o) (λ (job : Job). move (ReleaseJob (has_password job) (left_in room now)) job.standing)) (sym there)
+
+-- what was asked is what is decided, where that is not refused
+pub if_same : (P : Standing → Type 0) (asked decided : Result Standing Refusal) → IfOk decided (λ released. asked ≡ Ok released) → IfOk asked P → IfOk decided P
+if_same P asked (Ok released) same p = subst (λ (r : Result Standing Refusal). IfOk r P) same p
+if_same P asked (Err refusal) same p = tt
 
 pub there_still : (name : List ℕ) (job : Job) (old new : Database) → new ≡ old → IsThere name job old → IsThere name job new
 there_still name job old new same there = subst (IsThere name job) (sym same) there

@@ -1,2 +1,3 @@
 pub mod Serving
 pub mod Known
+pub mod Events

@@ -2,7 +2,7 @@
 
 ghost use Rattle.std.specs.Prelude.{◌≡◌, ◌≤◌, false, IfOk};
 ghost use Rattle.room_asks.specs.Asks.{IsAsk, plain_ask};
-ghost use Rattle.room_core.specs.JobRequests.{acted, cancel_of, described, hold_of};
+ghost use Rattle.room_core.specs.JobRequests.{acted, cancel_of, described, hold_of, release_of};
 ghost use Rattle.room_core.specs.Moving.{Keeps};
 ghost use Rattle.room_core.specs.Requests.{asked_job};
 ghost use Rattle.room_rules.specs.Limits.{last_moment};
@@ -13,12 +13,13 @@ ghost use Rattle.room_events.specs.Known.{IsOpen, IsThere};
 ghost use Rattle.room_events.specs.Serving.{GoesFrom, Serves};
 
 use crate::lookup::look_up;
+use crate::quota::keep_to_quota;
 use crate::standing::stand;
-use crate::told::{done_as, refused_as};
+use crate::told::{done_as, refused_as, shown_as};
 use ipp_coding::List;
 use room_core::{
-    Account, Ask, Job, Name, Refusal, Standing, asked_at, canceled, held, no_job, wanted_names,
-    with_job,
+    Account, Ask, Job, Name, Refusal, Standing, asked_at, canceled, held, no_job, released,
+    wanted_names,
 };
 use room_tables::TableFault;
 use sqlite::{Alter, Connection};
@@ -43,10 +44,7 @@ pub fn describe<S: Alter>(
         return refused_as(alloc, ask, no_job());
     };
     let at = asked_at(account.opened, name, now, ask);
-    let unsupported = ask.unsupported.as_slice();
-    with_job(alloc, ask.header, unsupported, &at, &job, wanted_names(ask)).map_err(
-        |fault| TableFault::of_core(fault),
-    )
+    shown_as(alloc, ask, &at, &job, wanted_names(ask))
 }
 
 /// Cancel-Job, of an account that is open.
@@ -84,6 +82,28 @@ pub fn hold<S: Alter>(
         return refused_as(alloc, ask, no_job());
     };
     let decided = held(job.standing);
+    act(alloc, connection, name, ask, &job, decided)
+}
+
+/// Release-Job, of an account that is open.
+pub fn release<S: Alter>(
+    alloc: Global,
+    connection: &mut Connection<S>,
+    name: Name,
+    now: u64,
+    ask: &Ask<'_>,
+) -> Result<List<u8>, TableFault>
+    requires mode { connection.old.in_transaction ≡ false }
+    requires ask { IsAsk (plain_ask ask.now) }
+    requires moment { now ≤ last_moment }
+    ensures served { Serves S.Store connection.old connection.new name (λ room devices. (acted room (plain_ask ask.entry.now) (release_of room now (plain_ask ask.entry.now))).text) (λ room devices. (acted room (plain_ask ask.entry.now) (release_of room now (plain_ask ask.entry.now))).room) result }
+{
+    let Some(job) = look_up(connection, name, ask.job)? else {
+        return refused_as(alloc, ask, no_job());
+    };
+    let has_password = !job.password.as_slice().is_empty();
+    let asked = released(job.standing, has_password);
+    let decided = keep_to_quota(connection, name, now, job.standing.state, asked)?;
     act(alloc, connection, name, ask, &job, decided)
 }
 

@@ -1,15 +1,20 @@
 //! What each event comes to over the shared tables.
 #![tactic(auto)]
 
+mod devices;
+mod events;
 mod granting;
 mod job_requests;
 mod listing;
 mod lookup;
+mod making;
+mod opening;
 mod queue;
+mod quota;
+mod requests;
+mod sending;
 mod standing;
+mod stations;
 mod told;
 
-pub use granting::grant;
-pub use job_requests::{cancel, describe, hold};
-pub use listing::list;
-pub use queue::{show, validate};
+pub use events::answer_event;

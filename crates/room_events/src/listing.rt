@@ -1,26 +1,21 @@
 //! Get-Jobs.
 
-ghost use Rattle.std.specs.Prelude.{◌≡◌, ◌≤◌, Err, IfErr, IfOk};
+ghost use Rattle.std.specs.Prelude.{◌≡◌, ◌≤◌, Err, IfOk};
 ghost use Rattle.std.specs.FinMap.{values};
 ghost use Rattle.std.specs.List.{AllByRecursion};
-ghost use Rattle.room_answers.specs.Responses.{done_text, job_groups};
 ghost use Rattle.room_asks.specs.Asks.{IsAsk, plain_ask};
-ghost use Rattle.room_core.specs.Queues.{asked_jobs, listed, listed_names};
+ghost use Rattle.room_core.specs.Queues.{asked_jobs, listed};
 ghost use Rattle.room_rules.specs.Limits.{last_moment};
 ghost use Rattle.room_state.specs.Rooms.{RoomValue};
 ghost use Rattle.room_statements.specs.Queues.{IsNumbered};
 ghost use Rattle.room_tables.specs.Accounts.{HoldsRoom, IsAccount};
 ghost use Rattle.room_tables.specs.Calls.{OfStore, ReadsStore};
-ghost use Rattle.room_texts.specs.Limits.{IsPlace, IsShowable};
-ghost use Rattle.room_texts.specs.Places.{plain_place};
 ghost use Rattle.room_events.specs.Known.{IsOpen};
 ghost use Rattle.room_events.specs.Serving.{GoesFrom, Serves};
 
+use crate::told::jobs_as;
 use ipp_coding::List;
-use room_core::{
-    Account, Ask, CoreFault, Job, Name, Place, Which, asked_at, listed_names, wanted_names,
-    with_jobs,
-};
+use room_core::{Account, Ask, Job, Name, Which, asked_at};
 use room_statements::{ended_jobs, unfinished_jobs};
 use room_tables::TableFault;
 use sqlite::{Alter, Connection};
@@ -43,34 +38,7 @@ pub fn list<S: Alter>(
 {
     let jobs = asked_jobs(alloc, connection, name, ask)?;
     let at = asked_at(account.opened, name, now, ask);
-    jobs_text(alloc, ask, &at, jobs.as_slice()).map_err(|fault| TableFault::of_core(fault))
-}
-
-/// The response with the jobs, job-uri and job-id alone where the request names no attributes.
-fn jobs_text(
-    alloc: Global,
-    ask: &Ask<'_>,
-    at: &Place<'_>,
-    jobs: &[Job],
-) -> Result<List<u8>, CoreFault>
-    requires ask { IsAsk (plain_ask ask.now) }
-    requires place { IsPlace (plain_place at.now) }
-    requires jobs { AllByRecursion IsShowable jobs.now }
-    ensures text { IfOk result (λ text. text ≡ done_text (plain_ask ask.entry.now).header (plain_ask ask.entry.now).unsupported (job_groups (plain_place at.entry.now) jobs.now (listed_names (plain_ask ask.entry.now).wanted))) }
-    ensures memory { IfErr result (λ fault. fault ≡ CoreFault.Memory) }
-{
-    let unsupported = ask.unsupported.as_slice();
-    match wanted_names(ask) {
-        Some(names) => with_jobs(alloc, ask.header, unsupported, at, jobs, Some(names)),
-        None => with_jobs(
-            alloc,
-            ask.header,
-            unsupported,
-            at,
-            jobs,
-            Some(&listed_names()),
-        ),
-    }
+    jobs_as(alloc, ask, &at, jobs.as_slice())
 }
 
 /// The jobs that the request asks for, in the order of the answer.

@@ -10,11 +10,9 @@ ghost use Rattle.room_tables.specs.Calls.{OfStore};
 ghost use Rattle.room_events.specs.Known.{IsOpen};
 ghost use Rattle.room_events.specs.Serving.{GoesFrom, Serves};
 
-use crate::told::{done_as, refused_as};
+use crate::told::{done_as, printer_as, refused_as};
 use ipp_coding::List;
-use room_core::{
-    Account, Ask, Name, asked_at, check_accepting, printer_now, wanted_names, with_printer,
-};
+use room_core::{Account, Ask, Name, asked_at, check_accepting, printer_now};
 use room_statements::{is_device_on, tally_unfinished};
 use room_tables::TableFault;
 use sqlite::{Alter, Connection};
@@ -58,14 +56,5 @@ pub fn show<S: Alter>(
     let on = is_device_on(connection)?;
     let printer = printer_now(tally.unfinished, account.next_job, tally.is_processing, on);
     let at = asked_at(account.opened, name, now, ask);
-    let unsupported = ask.unsupported.as_slice();
-    with_printer(
-        alloc,
-        ask.header,
-        unsupported,
-        &at,
-        printer,
-        wanted_names(ask),
-    )
-    .map_err(|fault| TableFault::of_core(fault))
+    printer_as(alloc, ask, &at, printer)
 }

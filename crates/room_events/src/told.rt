@@ -1,14 +1,24 @@
 //! Lines as replies, and the responses to requests that show no job.
 
-ghost use Rattle.std.specs.Prelude.{◌≡◌, [], IfOk, IfErr};
-ghost use Rattle.room_answers.specs.Responses.{done_text, refused_text};
+ghost use Rattle.std.specs.Prelude.{◌≡◌, [], ◌∷◌, IfOk, IfErr};
+ghost use Rattle.std.specs.List.{AllByRecursion};
+ghost use Rattle.room_answers.specs.Responses.{done_text, job_groups, refused_text};
 ghost use Rattle.room_asks.specs.Asks.{IsAsk, plain_ask};
+ghost use Rattle.room_core.specs.Queues.{listed_names};
 ghost use Rattle.room_core.specs.declared.event.Reply.TheVariants as reply;
+ghost use Rattle.room_texts.specs.JobAttributes.{job_group};
+ghost use Rattle.room_texts.specs.Limits.{IsPlace, IsPrinter, IsShowable};
 ghost use Rattle.room_texts.specs.Lines.{success_text};
+ghost use Rattle.room_texts.specs.Places.{plain_place};
+ghost use Rattle.room_texts.specs.PrinterAttributes.{printer_group};
+ghost use Rattle.room_texts.specs.Tables.{asked_names};
 ghost use Rattle.room_texts.specs.Words.{word_text};
 
 use ipp_coding::List;
-use room_core::{Ask, Refusal, Reply, Success, Word, done, line, refused, success};
+use room_core::{
+    Ask, Job, Place, PrinterNow, Refusal, Reply, Success, Word, done, jobs_told, line, refused,
+    success, wanted_names, with_job, with_printer,
+};
 use room_tables::TableFault;
 use std::alloc::Global;
 
@@ -52,4 +62,70 @@ pub(crate) fn done_as(alloc: Global, ask: &Ask<'_>) -> Result<List<u8>, TableFau
     ensures memory { IfErr result (λ fault. fault ≡ TableFault.Memory) }
 {
     done(alloc, ask.header, ask.unsupported.as_slice()).map_err(|fault| TableFault::of_core(fault))
+}
+
+/// The response to a request that was done, with the attributes of the job that are wanted. `Memory` is its
+/// only fault.
+pub(crate) fn shown_as(
+    alloc: Global,
+    ask: &Ask<'_>,
+    at: &Place<'_>,
+    job: &Job,
+    wanted: Option<&[&[u8]]>,
+) -> Result<List<u8>, TableFault>
+    requires ask { IsAsk (plain_ask ask.now) }
+    requires place { IsPlace (plain_place at.now) }
+    requires job { IsShowable job.now }
+    ensures text { IfOk result (λ text. text ≡ done_text (plain_ask ask.entry.now).header (plain_ask ask.entry.now).unsupported (job_group (plain_place at.entry.now) job.now (asked_names wanted.entry) ∷ [])) }
+    ensures memory { IfErr result (λ fault. fault ≡ TableFault.Memory) }
+{
+    with_job(
+        alloc,
+        ask.header,
+        ask.unsupported.as_slice(),
+        at,
+        job,
+        wanted,
+    )
+    .map_err(|fault| TableFault::of_core(fault))
+}
+
+/// The response to a Get-Jobs with the jobs. `Memory` is its only fault.
+pub(crate) fn jobs_as(
+    alloc: Global,
+    ask: &Ask<'_>,
+    at: &Place<'_>,
+    jobs: &[Job],
+) -> Result<List<u8>, TableFault>
+    requires ask { IsAsk (plain_ask ask.now) }
+    requires place { IsPlace (plain_place at.now) }
+    requires jobs { AllByRecursion IsShowable jobs.now }
+    ensures text { IfOk result (λ text. text ≡ done_text (plain_ask ask.entry.now).header (plain_ask ask.entry.now).unsupported (job_groups (plain_place at.entry.now) jobs.now (listed_names (plain_ask ask.entry.now).wanted))) }
+    ensures memory { IfErr result (λ fault. fault ≡ TableFault.Memory) }
+{
+    jobs_told(alloc, ask, at, jobs).map_err(|fault| TableFault::of_core(fault))
+}
+
+/// The response with the attributes of the printer that are wanted. `Memory` is its only fault.
+pub(crate) fn printer_as(
+    alloc: Global,
+    ask: &Ask<'_>,
+    at: &Place<'_>,
+    printer: PrinterNow,
+) -> Result<List<u8>, TableFault>
+    requires ask { IsAsk (plain_ask ask.now) }
+    requires place { IsPlace (plain_place at.now) }
+    requires printer { IsPrinter printer }
+    ensures text { IfOk result (λ text. text ≡ done_text (plain_ask ask.entry.now).header (plain_ask ask.entry.now).unsupported (printer_group (plain_place at.entry.now) printer (plain_ask ask.entry.now).wanted ∷ [])) }
+    ensures memory { IfErr result (λ fault. fault ≡ TableFault.Memory) }
+{
+    with_printer(
+        alloc,
+        ask.header,
+        ask.unsupported.as_slice(),
+        at,
+        printer,
+        wanted_names(ask),
+    )
+    .map_err(|fault| TableFault::of_core(fault))
 }
