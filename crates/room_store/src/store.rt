@@ -1,17 +1,28 @@
-ghost use Rattle.std.specs.Prelude.{◌≡◌, ◌⊎◌, ℕ, false, List, Option, IfOk, IfErr, IsErrAnd, MatchResult};
+ghost use Rattle.std.specs.Prelude.{◌≡◌, ◌⊎◌, ◌↔◌, ◌<◌, ℕ, false, List, Option, Err, IfOk, IfErr, OnOk, OnErr, IsErrAnd, IsErrOf, IsTrue, MatchResult};
 ghost use Rattle.sqlite.specs.Held.{state};
-ghost use Rattle.room_tables.specs.Tables.{no_schema};
+ghost use Rattle.sqlite.specs.State.{HasCleanDisk};
+ghost use Rattle.room_core.specs.DeviceEvents.{device_answered};
+ghost use Rattle.room_core.specs.Fits.{fits};
+ghost use Rattle.room_core.specs.Machine.{answered};
+ghost use Rattle.room_events.specs.Events.{IsOf, IsOfNone};
+ghost use Rattle.room_rules.specs.Limits.{last_moment};
+ghost use Rattle.room_store.specs.Damage.{IsDamaged};
+ghost use Rattle.room_tables.specs.Tables.{meta, no_schema};
 ghost use Rattle.room_tables.specs.Making.{IsNew, IsOpened, IsOpenFault};
-ghost use Rattle.room_tables.specs.Calls.{Goes, IsLeft, IsSame, OnDisk};
+ghost use Rattle.room_tables.specs.Calls.{Goes, IsLeft, IsSame, OfStore, OnDisk};
 ghost use Rattle.room_tables.specs.Keyed.{AreNumbered, HasSchema};
 ghost use Rattle.room_tables.specs.Accounts.{AgreeOnRows, Holds};
 ghost use Rattle.room_rules.specs.Devices.{Devices};
-ghost use Rattle.room_tables.specs.Devices.{HoldsDevices};
+ghost use Rattle.room_tables.specs.Devices.{AgreeOnDevices, HoldsDevices};
 ghost use Rattle.room_tables.specs.Migrating.{HoldsFirstDevices, IsMigrated, IsMigrateFault};
 ghost use Rattle.room_state.specs.Rooms.{RoomValue};
 
+use crate::fault::StoreFault;
+use room_core::{Event, LAST_MOMENT, Reply};
+use room_events::answer_event;
 use room_tables::{OpenFault, check, is_blank, make_tables, migrate_tables};
 use sqlite::{Alter, Connection, Error};
+use std::alloc::Global;
 use std::marker::Model;
 
 /// The shared tables of all accounts, over one connection, which is in no transaction. Contracts see it
@@ -114,6 +125,37 @@ impl<S: Alter> Store<S> {
             Ok(()) => Ok(Store { connection }),
             Err(fault) => Err(Refused { connection, fault }),
         }
+    }
+
+    /// What the event is answered at the moment `now`, in seconds from 1970, and what becomes of the tables: of
+    /// the rows of its account, or of its device, and of no other. It writes in one transaction, last.
+    ///
+    /// `Moment` where `now` is past `LAST_MOMENT`, which is looked at first; `Damaged` where what the event reads
+    /// can stand in no sound rows; `Storage` and `Memory` where a statement was refused, the device failed or memory
+    /// was wanting. Nothing has changed then.
+    pub fn apply(&mut self, alloc: Global, now: u64, e: &Event<'_>) -> Result<Reply, StoreFault>
+        requires { IsTrue (fits e.now) }
+        ensures reply { OfStore S.Store self.old self.new (λ db. IfOk result (λ reply. (name : List ℕ) → IsOf e.entry.now name → (room : Option RoomValue) (devices : Devices) → Holds db name room → HoldsDevices db devices → reply ≡ (answered room devices now e.entry.now).reply)) }
+        ensures rows { OfStore S.Store self.old self.new (λ db. OnOk result ((name : List ℕ) → IsOf e.entry.now name → (room : Option RoomValue) (devices : Devices) → Holds db name room → HoldsDevices db devices → Holds (state S.Store self.new).now name (answered room devices now e.entry.now).room)) }
+        ensures device_reply { OfStore S.Store self.old self.new (λ db. IfOk result (λ reply. IsOfNone e.entry.now → (devices : Devices) → HoldsDevices db devices → reply ≡ (device_answered devices e.entry.now).reply)) }
+        ensures device_rows { OfStore S.Store self.old self.new (λ db. OnOk result (IsOfNone e.entry.now → (devices : Devices) → HoldsDevices db devices → HoldsDevices (state S.Store self.new).now (device_answered devices e.entry.now).devices)) }
+        ensures others { OfStore S.Store self.old self.new (λ db. OnOk result ((name : List ℕ) → (IsOf e.entry.now name → ⊥) → AgreeOnRows name db (state S.Store self.new).now)) }
+        ensures devices { OfStore S.Store self.old self.new (λ db. OnOk result ((IsOfNone e.entry.now → ⊥) → AgreeOnDevices db (state S.Store self.new).now)) }
+        ensures version { OfStore S.Store self.old self.new (λ db. OnOk result ((state S.Store self.new).now.trees meta.tree ≡ db.trees meta.tree)) }
+        ensures schema { OfStore S.Store self.old self.new (λ db. OnOk result (HasSchema (state S.Store self.new).now)) }
+        ensures moment { IsErrOf result StoreFault.Moment ↔ (last_moment < now) }
+        ensures damaged { OfStore S.Store self.old self.new (λ db. result ≡ Err StoreFault.Damaged → IsDamaged e.entry.now db) }
+        ensures unchanged { OfStore S.Store self.old self.new (λ db. OnErr result (IsTrue (state S.Store self.new).is_open → (state S.Store self.new).now ≡ db)) }
+        ensures goes { Goes (state S.Store self.old) (state S.Store self.new) }
+        ensures opened { HasCleanDisk (state S.Store self.new) → OnOk result (IsTrue (state S.Store self.old).is_open → IsTrue (state S.Store self.new).is_open) }
+    {
+        if now > LAST_MOMENT {
+            return Err(StoreFault::Moment);
+        }
+        if !self.connection.is_autocommit() {
+            return Err(StoreFault::Storage);
+        }
+        Ok(answer_event(alloc, &mut self.connection, now, e)?)
     }
 
     /// The connection, with its tables as they are, and in no transaction. It takes no memory.
