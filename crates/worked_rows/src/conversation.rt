@@ -2,8 +2,10 @@
 
 use crate::fault::Fault;
 use crate::notation::spell;
-use room_core::CoreFault;
+use room_core::{CoreFault, Reply};
 use room_lines::{Grammar, Rooms, print_outcomes};
+use room_store::{Store, StoreFault};
+use sqlite::{Connection, MemStore};
 use std::alloc::{AllocError, Global};
 
 /// The moment of a line that names none, in seconds since 1970-01-01T00:00:00Z.
@@ -71,10 +73,10 @@ impl Conversation {
         spell(alloc, message, line.trim())
     }
 
-    /// What is printed of the answers to the script, in a database of its own. A line that is refused for want
-    /// of memory is given once more: after a refusal everything is as before, so that the row holds all the same
+    /// What is printed of the answers to the script, from rooms in memory. A line that is refused for want of
+    /// memory is given once more: after a refusal everything is as before, so that the row holds all the same
     /// (`tools/refuse-memory` has requests for memory refused).
-    pub fn answers(&self, alloc: Global) -> Result<String, Fault> {
+    pub fn answers_of_rooms(&self, alloc: Global) -> Result<String, Fault> {
         let lines = Grammar::Script.read(alloc, self.script.as_bytes())?;
         let mut outcomes = Vec::with_capacity(alloc, lines.len())?;
         let mut rooms = Rooms::new(alloc);
@@ -85,15 +87,53 @@ impl Conversation {
             }
             outcomes.push(outcome)?;
         }
-        let mut output = Vec::new(alloc);
-        print_outcomes(&mut output, outcomes.as_slice())?;
-        String::from_utf8(output).map_err(|_| Fault::Notation("an answer is no text"))
+        printed(alloc, outcomes.as_slice())
+    }
+
+    /// The same from tables in memory, which were made for it.
+    pub fn answers_of_tables(&self, alloc: Global) -> Result<String, Fault> {
+        let lines = Grammar::Script.read(alloc, self.script.as_bytes())?;
+        let mut outcomes = Vec::with_capacity(alloc, lines.len())?;
+        let mut store = tables(alloc)?;
+        for line in lines.as_slice() {
+            let mut outcome = store.apply(alloc, line.moment, &line.action.event());
+            if matches!(&outcome, Err(StoreFault::Memory)) {
+                outcome = store.apply(alloc, line.moment, &line.action.event());
+            }
+            outcomes.push(as_of_rooms(outcome)?)?;
+        }
+        printed(alloc, outcomes.as_slice())
     }
 
     /// What should be printed, but for the line feed at its end.
     pub fn expected(&self) -> &str {
         self.printed.as_str()
     }
+}
+
+/// The tables of a new database.
+fn tables(alloc: Global) -> Result<Store<MemStore>, Fault> {
+    match Store::create(Connection::open_in_memory(alloc)?) {
+        Ok(store) => Ok(store),
+        Err(refused) => Err(Fault::Open(refused.fault)),
+    }
+}
+
+/// What the tables answered as rooms answer it. That the storage fails, or that rows are damaged, rooms never tell.
+fn as_of_rooms(outcome: Result<Reply, StoreFault>) -> Result<Result<Reply, CoreFault>, Fault> {
+    match outcome {
+        Ok(reply) => Ok(Ok(reply)),
+        Err(StoreFault::Moment) => Ok(Err(CoreFault::Moment)),
+        Err(StoreFault::Memory) => Ok(Err(CoreFault::Memory)),
+        Err(fault) => Err(Fault::Tables(fault)),
+    }
+}
+
+/// What is printed of what the lines came to.
+fn printed(alloc: Global, outcomes: &[Result<Reply, CoreFault>]) -> Result<String, Fault> {
+    let mut output = Vec::new(alloc);
+    print_outcomes(&mut output, outcomes)?;
+    String::from_utf8(output).map_err(|_| Fault::Notation("an answer is no text"))
 }
 
 /// Begins a line, and where it says `ipp` the field of its message.

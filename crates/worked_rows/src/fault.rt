@@ -1,4 +1,5 @@
 use room_lines::LineFault;
+use room_store::{OpenFault, StoreFault};
 use std::alloc::{AllocError, AllocFailed};
 use std::io;
 use std::num::ParseIntError;
@@ -13,6 +14,12 @@ pub enum Fault {
     /// The script of a row is none.
     #[error("script: {0}")]
     Script(LineFault),
+    /// There are no tables to hold the row against.
+    #[error("tables: {0}")]
+    Open(OpenFault),
+    /// The tables could not answer where the machine can.
+    #[error("tables: {0}")]
+    Tables(StoreFault),
     #[error("memory ran out")]
     Memory,
     #[error("{0}")]
@@ -28,6 +35,12 @@ impl From<AllocError> for Fault {
 impl<T: Drop> From<AllocFailed<T>> for Fault {
     fn from(_error: AllocFailed<T>) -> Fault {
         Fault::Memory
+    }
+}
+
+impl From<sqlite::Error> for Fault {
+    fn from(error: sqlite::Error) -> Fault {
+        Fault::Open(OpenFault::from(error))
     }
 }
 

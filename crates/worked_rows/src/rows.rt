@@ -23,23 +23,28 @@ pub fn hold(rt: &HostRuntime, file: &str) -> Result<bool, Fault> {
     Ok(failing == 0)
 }
 
-/// Whether a row holds: a run of its own answers what the row says. Where it does not, the first line that
-/// is another is printed.
+/// Whether a row holds: rooms in memory and the shared tables, each in a run of its own, answer what the row
+/// says. Where one does not, the first line that is another is printed.
 fn holds(rt: &HostRuntime, file: &str, row: &str) -> Result<bool, Fault> {
     let (title, lines) = row.split_once('\n').unwrap_or((row, ""));
     let mut talk = Conversation::new(rt.alloc());
     for line in lines.lines() {
         talk.add(rt.alloc(), line)?;
     }
-    let found = talk.answers(rt.alloc())?;
-    let Some((answered, expected)) = difference(found.as_str(), talk.expected()) else {
-        return Ok(true);
-    };
-    writeln!(
-        rt.stdout(),
-        "{file}: {title}\n  answered {answered}\n  expected {expected}"
-    )?;
-    Ok(false)
+    let by_rooms = talk.answers_of_rooms(rt.alloc())?;
+    let by_tables = talk.answers_of_tables(rt.alloc())?;
+    let mut all = true;
+    for (by, found) in [("rooms", &by_rooms), ("tables", &by_tables)] {
+        let Some((answered, expected)) = difference(found.as_str(), talk.expected()) else {
+            continue;
+        };
+        all = false;
+        writeln!(
+            rt.stdout(),
+            "{file}: {title}, {by}\n  answered {answered}\n  expected {expected}"
+        )?;
+    }
+    Ok(all)
 }
 
 /// The first line that is another in the one text than in the other.
