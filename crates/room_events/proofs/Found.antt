@@ -24,8 +24,8 @@ use Rattle.room_rules.specs.declared.job.Job.{Job}
 use Rattle.room_rules.specs.declared.job.Standing.{Standing}
 use Rattle.room_state.specs.Conditions.{CanRestand, CanFinish}
 use Rattle.room_state.specs.Rooms.{RoomValue}
-use Rattle.room_tables.specs.Cells.{grant_cells, job_cells}
-use Rattle.room_tables.specs.Accounts.{grant_at, job_at, HoldsRoom}
+use Rattle.room_tables.specs.Cells.{job_cells}
+use Rattle.room_tables.specs.Accounts.{job_at, HoldsRoom}
 use Rattle.room_tables.specs.declared.fault.TableFault.{TableFault}
 use Rattle.room_tables.proofs.KeyedRows.{same_row}
 use Rattle.room_statements.specs.Shown.{IsJob}
@@ -37,10 +37,6 @@ one_value cells exact None None same = refl
 one_value cells exact None (Some b) same = let no : ⊥ = cc in absurd no
 one_value cells exact (Some a) None same = let no : ⊥ = cc in absurd no
 one_value cells exact (Some a) (Some b) same = ap (λ x. Some x) (exact a b (same_row same))
-
-pub found_grant : (db : Database) (name : List ℕ) (month : ℕ) (held : Option ℕ) → grant_at db name (pos month) ≡ option_map (grant_cells name month) held → (room : RoomValue) → HoldsRoom db name room → held ≡ get room.grants month
-found_grant db name month held found room holds =
-    one_value (grant_cells name month) (λ a b same. (rows_are_read_back.grants name name month a month b same).2) held (get room.grants month) (sym found ∙ holds.rows.grant_rows (pos month))
 
 pub found_job : (db : Database) (name : List ℕ) (number : ℕ) (found : Option Job) → job_at db name (pos number) ≡ option_map (job_cells name) found → IfSome found (λ job. (job.job ≡ number) × IsJob job)
     → (room : RoomValue) → HoldsRoom db name room → found ≡ get room.jobs number
@@ -124,11 +120,6 @@ pub release_of_found : (room : RoomValue) (ask : PlainAsk) (now : ℕ) (job : Jo
 release_of_found room ask now job there password same asked decided moved is =
     is ∙ sym (moved (left_in room now)) ∙ ap (λ b. move (ReleaseJob b (left_in room now)) job.standing) same
     ∙ ap (λ (o : Option Job). and_then (job_or_refusal o) (λ (job : Job). move (ReleaseJob (has_password job) (left_in room now)) job.standing)) (sym there)
-
--- what was asked is what is decided, where that is not refused
-pub if_same : (P : Standing → Type 0) (asked decided : Result Standing Refusal) → IfOk decided (λ released. asked ≡ Ok released) → IfOk asked P → IfOk decided P
-if_same P asked (Ok released) same p = subst (λ (r : Result Standing Refusal). IfOk r P) same p
-if_same P asked (Err refusal) same p = tt
 
 pub there_still : (name : List ℕ) (job : Job) (old new : Database) → new ≡ old → IsThere name job old → IsThere name job new
 there_still name job old new same there = subst (IsThere name job) (sym same) there

@@ -5,5 +5,4 @@ pub mod Opened
 pub mod Stationed
 pub mod Shown
 pub mod Sent
-pub mod Dispatched
 pub mod StepLemmas

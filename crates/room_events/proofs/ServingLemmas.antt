@@ -69,39 +69,12 @@ module _ {S T : Type 0} (store : Ghosts S) where
     undone = λ clean has. on_err_of r (reads.stays clean has);
   }
 
-  -- so is one after another
-  pub looks_after : (old mid new : Held S) (r : Result T TableFault) → Passed (state store old) (state store mid) → LooksUp store mid new r → LooksUp store old new r
-  looks_after old mid new r passed looks =
-      let clean : HasCleanDisk (state store new) → HasCleanDisk (state store mid) = λ is. omega (arith, looks.going.goes.clean, is) in
-      let same : (is : HasCleanDisk (state store new)) (has : HasSchema (state store old).now) → IsSame (state store old) (state store mid) = λ is has. passed.same (clean is) has in
-      let has_mid : (is : HasCleanDisk (state store new)) (has : HasSchema (state store old).now) → HasSchema (state store mid).now = λ is has. subst HasSchema (sym (same is has).0) has in
-      record {
-        going = record {
-          goes = goes_on (state store old) (state store mid) (state store new) passed.goes looks.going.goes;
-          opened = λ is. on_ok_with r (λ still was. still (passed.opened (clean is) was)) (looks.going.opened is);
-        };
-        same = λ is has. on_ok_with r (λ then. (then.0 ∙ (same is has).0, then.1 ∙ (same is has).1)) (looks.same is (has_mid is has));
-        undone = λ is has. on_err_with r (λ stays is_open settled.
-            let first = same is has in
-            let second = stays is_open (first.0 ∙ settled ∙ sym first.1) in
-            (second.0 ∙ first.0, second.1 ∙ first.1)) (looks.undone is (has_mid is has));
-      }
-
   -- and what comes behind one
   pub goes_after : (old mid new : Held S) (r : Result T TableFault) → Passed (state store old) (state store mid) → GoesFrom store mid new r → GoesFrom store old new r
   goes_after old mid new r passed going = record {
     goes = goes_on (state store old) (state store mid) (state store new) passed.goes going.goes;
     opened = λ is. on_ok_with r (λ still was. still (passed.opened (omega (arith, going.goes.clean, is)) was)) (going.opened is);
   }
-
-module _ {S T U : Type 0} (store : Ghosts S) where
-  -- a fault is handed on
-  pub looks_as : (old new : Held S) (r : Result T TableFault) (e f : TableFault) → r ≡ Err e → e ≡ f → LooksUp store old new {T = U} (Err f) → LooksUp store old new r
-  looks_as old new r e f is same looks = subst (LooksUp store old new) (sym (is ∙ ap (λ e. Err e) same)) (record {
-    going = record { goes = looks.going.goes; opened = λ clean. tt };
-    same = λ clean has. tt;
-    undone = looks.undone;
-  })
 
 module _ {S T U : Type 0} (store : Ghosts S) where
   -- what a connection keeps after a fault that is handed on

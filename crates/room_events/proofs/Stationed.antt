@@ -5,7 +5,7 @@ use Rattle.sqlite.specs.Effect.{Database}
 use Rattle.room_answers.specs.Stations.{known_device, left_after, ready_device}
 use Rattle.room_core.specs.Stations.{by_word, job_or_word, release_of, released, settle_of, settled, start_of}
 use Rattle.room_core.proofs.Sums.{left_moved}
-use Rattle.room_core.specs.Steps.{and_then, refusing, telling, with_moved}
+use Rattle.room_core.specs.Steps.{and_then, telling, with_moved}
 use Rattle.room_rules.specs.Acts.{StationRelease, StationSettle, StationStart}
 use Rattle.room_rules.specs.Devices.{Devices}
 use Rattle.room_rules.specs.declared.device.Device.{Device}
@@ -13,7 +13,7 @@ use Rattle.room_rules.specs.declared.job.Job.{Job}
 use Rattle.room_rules.specs.declared.job.Standing.{Standing}
 use Rattle.room_rules.specs.declared.refusal.Refusal.{Refusal}
 use Rattle.room_rules.specs.declared.refusal.Word.{Word}
-use Rattle.room_rules.specs.declared.refusal.Word.TheVariants.{NoDevice, NoJob, Quota}
+use Rattle.room_rules.specs.declared.refusal.Word.TheVariants.{NoDevice, Quota}
 use Rattle.room_rules.specs.Moves.{move}
 use Rattle.room_rules.specs.Effects.{refused}
 use Rattle.room_rules.specs.Quota.{exceeds}
@@ -52,10 +52,6 @@ by_rate : (r : Result Device Word) (next : ℕ → Job → Result Standing Word)
 by_rate (Ok device) next o rate job is there = rw there (let same : device.rate ≡ rate = cc in ap (λ (n : ℕ). next n job) same)
 by_rate (Err word) next o rate job is there = let no : ⊥ = cc in absurd no
 
-by_no_job : (r : Result Device Word) (next : ℕ → Job → Result Standing Word) (o : Option Job) (rate : ℕ) → and_then r (λ (ready : Device). Ok ready.rate) ≡ Ok rate → o ≡ None → decide r next o ≡ Err NoJob
-by_no_job (Ok device) next o rate is there = rw there refl
-by_no_job (Err word) next o rate is there = let no : ⊥ = cc in absurd no
-
 by_device : (r : Result Device Word) (next : ℕ → Job → Result Standing Word) (o : Option Job) (word : Word) → and_then r (λ (ready : Device). Ok ready.rate) ≡ Err word → decide r next o ≡ Err word
 by_device (Ok device) next o word is = let no : ⊥ = cc in absurd no
 by_device (Err other) next o word is = let same : other ≡ word = cc in ap (λ (w : Word). Err w) same
@@ -78,10 +74,6 @@ module _ (room : RoomValue) (devices : Devices) (now : ℕ) (device : List ℕ) 
     unfolding release_by
     release_refused word ready = by_device (ready_device (get devices device)) release_by (get room.jobs number) word ready
 
-    pub release_of_none : (rate : ℕ) → ready_rate (get devices device) ≡ Ok rate → get room.jobs number ≡ None → release_of room devices now device number password impressions ≡ Err NoJob
-    unfolding release_by
-    release_of_none rate ready none = by_no_job (ready_device (get devices device)) release_by (get room.jobs number) rate ready none
-
   start_by : ℕ → Job → Result Standing Word
   start_by rate job = by_word (move (StationStart device rate now) job.standing)
 
@@ -93,10 +85,6 @@ module _ (room : RoomValue) (devices : Devices) (now : ℕ) (device : List ℕ) 
   pub start_refused : (word : Word) → ready_rate (get devices device) ≡ Err word → start_of room devices now device number ≡ Err word
   unfolding start_by
   start_refused word ready = by_device (ready_device (get devices device)) start_by (get room.jobs number) word ready
-
-  pub start_of_none : (rate : ℕ) → ready_rate (get devices device) ≡ Ok rate → get room.jobs number ≡ None → start_of room devices now device number ≡ Err NoJob
-  unfolding start_by
-  start_of_none rate ready none = by_no_job (ready_device (get devices device)) start_by (get room.jobs number) rate ready none
 
 -- a device is known where its row is
 known_as : (device : List ℕ) (found : Option Bool) (o : Option Device) → option_map (on_cells device) found ≡ option_map device_cells o → (on : Bool) → known_device found ≡ Ok on → (it : Device) × (known_device o ≡ Ok it)
@@ -121,9 +109,6 @@ module _ (room : RoomValue) (devices : Devices) (now : ℕ) (device : List ℕ) 
       ap (λ (r : Result Device Word). and_then r (λ (it : Device). and_then (job_or_word (get room.jobs number)) (λ (job : Job). by_word (move (StationSettle device impressions failed now) job.standing)))) (known_as device found (get devices device) rows on known).1
       ∙ ap (λ (p : Option Job). and_then (job_or_word p) (λ (job : Job). by_word (move (StationSettle device impressions failed now) job.standing))) there
 
-  pub settle_of_none : (on : Bool) → known_device found ≡ Ok on → get room.jobs number ≡ None → settle_of room devices now device number impressions failed ≡ Err NoJob
-  settle_of_none on known none = with_known on known None none
-
   pub settle_found : (on : Bool) → known_device found ≡ Ok on → (job : Job) → get room.jobs number ≡ Some job → (decided : Result Standing Word) → decided ≡ by_word (move (StationSettle device impressions failed now) job.standing)
       → decided ≡ settle_of room devices now device number impressions failed
   settle_found on known job there decided moved = moved ∙ sym (with_known on known (Some job) there)
@@ -142,8 +127,3 @@ module _ (room : RoomValue) (now : ℕ) (job : Job) (there : get room.jobs job.j
   released_so asked is kept stays =
       ap (λ units. telling (with_moved room job.job standing) (Released standing.reserved units)) told_left
       ∙ ap (λ (d : Result Standing Refusal). released room now job.job (by_word d)) (sym (ap (λ (a : Result Standing Refusal). kept_to_quota job.standing.state (left_in room now) a) is ∙ ap (λ units. kept_to_quota job.standing.state units (Ok standing)) (sym was) ∙ kept_is job.standing.state left standing kept stays))
-
-pub refused_so : (room : RoomValue) (now : ℕ) (job : Job) (left : ℤ) → left ≡ left_in room now → (standing : Standing) (asked : Result Standing Refusal) → asked ≡ Ok standing → (refusal : Refusal) → kept_to_quota job.standing.state left (Ok standing) ≡ Err refusal
-    → released room now job.job (by_word (kept_to_quota job.standing.state (left_in room now) asked)) ≡ refusing room refusal.word
-refused_so room now job left was standing asked is refusal stays =
-    ap (λ (d : Result Standing Refusal). released room now job.job (by_word d)) (ap (λ (a : Result Standing Refusal). kept_to_quota job.standing.state (left_in room now) a) is ∙ ap (λ units. kept_to_quota job.standing.state units (Ok standing)) (sym was) ∙ stays)

@@ -6,7 +6,7 @@ ghost use Rattle.room_core.specs.Fits.{fits};
 ghost use Rattle.room_core.specs.Machine.{answered, answered_open};
 ghost use Rattle.room_rules.specs.Limits.{last_moment};
 ghost use Rattle.room_events.specs.Events.{IsLine, IsOf, IsOfNone};
-ghost use Rattle.room_events.specs.Serving.{Answers, GoesFrom, Serves, ServesDevices};
+ghost use Rattle.room_events.specs.Serving.{Answers, Serves, ServesDevices};
 
 use crate::devices::{rate, turn};
 use crate::granting::grant;

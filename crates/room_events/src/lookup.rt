@@ -1,6 +1,6 @@
 //! The look-up of a job.
 
-ghost use Rattle.std.specs.Prelude.{◌≡◌, ℕ, List, Err, IfOk, IfSome};
+ghost use Rattle.std.specs.Prelude.{◌≡◌, Err, IfOk, IfSome};
 ghost use Rattle.std.specs.FinMap.{get};
 ghost use Rattle.room_state.specs.Rooms.{RoomValue};
 ghost use Rattle.room_statements.specs.Queues.{IsNumbered};

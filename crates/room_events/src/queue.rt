@@ -1,6 +1,6 @@
 //! Validate-Job, and what the printer shows.
 
-ghost use Rattle.std.specs.Prelude.{◌≡◌, ◌≤◌};
+ghost use Rattle.std.specs.Prelude.{◌≤◌};
 ghost use Rattle.room_asks.specs.Asks.{IsAsk, plain_ask};
 ghost use Rattle.room_core.specs.NewJobs.{validated};
 ghost use Rattle.room_core.specs.Printers.{shown};
