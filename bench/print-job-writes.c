@@ -1,17 +1,17 @@
 /* A Print-Job's three writes by the stock SQLite library, each time in a transaction that is committed.
 
-     print-job-writes FILE COUNT SET_NEXT_JOB ADD_JOB ADD_DOCUMENT
+     print-job-writes FILE ACCOUNTS COUNT SET_NEXT_JOB ADD_JOB ADD_DOCUMENT
 
-   Makes COUNT Print-Jobs of the account m000000 in FILE, by these three texts, and prints the nanoseconds of each.
-   The rows are those of `worked_tables print-jobs`. Each text is prepared once. */
+   Makes COUNT Print-Jobs in FILE by these three texts, of the accounts m000000, m000001 and so on in turns, whose next
+   number is the same, and prints the nanoseconds of each. The rows are those of `worked_tables print-jobs` and of
+   `timed_events print-jobs`. Each text is prepared once. */
 #include <sqlite3.h>
 #include <stdio.h>
 #include <stdlib.h>
 #include <time.h>
 
-#define OWN "m000000"
-
 static sqlite3 *db;
+static char account[16];
 
 static void check(int is_well, const char *what)
 {
@@ -51,7 +51,7 @@ static void number(sqlite3_stmt *statement, int at, sqlite3_int64 value)
 
 static sqlite3_int64 next_job(void)
 {
-    sqlite3_stmt *statement = prepared("SELECT next_job FROM account WHERE name = '" OWN "'");
+    sqlite3_stmt *statement = prepared("SELECT next_job FROM account WHERE name = 'm000000'");
     check(sqlite3_step(statement) == SQLITE_ROW, "the account");
     sqlite3_int64 next = sqlite3_column_int64(statement, 0);
     sqlite3_finalize(statement);
@@ -60,7 +60,7 @@ static sqlite3_int64 next_job(void)
 
 static void set_next_job(sqlite3_stmt *statement, sqlite3_int64 next)
 {
-    text(statement, 1, OWN);
+    text(statement, 1, account);
     number(statement, 2, next);
     run(statement);
 }
@@ -69,7 +69,7 @@ static void add_job(sqlite3_stmt *statement, sqlite3_int64 job)
 {
     /* From the state to the rate, and from the moment of making to that of the end. */
     static const sqlite3_int64 first[] = {4, 0, 0, 1, 12, 0, 0, 1, 1}, last[] = {1788220800, -1, -1};
-    text(statement, 1, OWN);
+    text(statement, 1, account);
     number(statement, 2, job);
     blob(statement, 3, "untitled", 8);
     blob(statement, 4, "", 0);
@@ -83,7 +83,7 @@ static void add_job(sqlite3_stmt *statement, sqlite3_int64 job)
 
 static void add_document(sqlite3_stmt *statement, sqlite3_int64 job)
 {
-    text(statement, 1, OWN);
+    text(statement, 1, account);
     number(statement, 2, job);
     number(statement, 3, 1);
     text(statement, 4, "application/pdf");
@@ -100,11 +100,11 @@ static long long now(void)
 
 int main(int count, char **words)
 {
-    if (count != 6) {
-        fprintf(stderr, "usage: print-job-writes FILE COUNT SET_NEXT_JOB ADD_JOB ADD_DOCUMENT\n");
+    if (count != 7) {
+        fprintf(stderr, "usage: print-job-writes FILE ACCOUNTS COUNT SET_NEXT_JOB ADD_JOB ADD_DOCUMENT\n");
         return 2;
     }
-    int turns = atoi(words[2]);
+    int accounts = atoi(words[2]), turns = atoi(words[3]);
     long long *times = malloc((turns + 1) * sizeof *times);
     check(times != NULL, "memory");
     check(sqlite3_open_v2(words[1], &db, SQLITE_OPEN_READWRITE, NULL) == SQLITE_OK, words[1]);
@@ -112,13 +112,15 @@ int main(int count, char **words)
                        NULL) == SQLITE_OK, "the settings");
     sqlite3_int64 first = next_job();
     sqlite3_stmt *begin = prepared("BEGIN"), *commit = prepared("COMMIT");
-    sqlite3_stmt *set_next = prepared(words[3]), *job = prepared(words[4]), *document = prepared(words[5]);
+    sqlite3_stmt *set_next = prepared(words[4]), *job = prepared(words[5]), *document = prepared(words[6]);
     for (int turn = 0; turn < turns; turn++) {
+        sqlite3_int64 number = first + turn / accounts;
         long long start = now();
+        snprintf(account, sizeof account, "m%06d", turn % accounts);
         run(begin);
-        set_next_job(set_next, first + turn + 1);
-        add_job(job, first + turn);
-        add_document(document, first + turn);
+        set_next_job(set_next, number + 1);
+        add_job(job, number);
+        add_document(document, number);
         run(commit);
         times[turn] = now() - start;
     }

@@ -3,11 +3,12 @@ ghost use Rattle.std.specs.Prelude.{◌≡◌, IfOk, OnOk, OnErr, IsTrue};
 ghost use Rattle.std.specs.FinMap.{empty};
 ghost use Rattle.room_core.specs.DeviceEvents.{device_answered};
 ghost use Rattle.room_core.specs.Fits.{fits};
+ghost use Rattle.room_rules.specs.Devices.{device_map};
 ghost use Rattle.room_lines.specs.DeviceEvents.{devices_of, IsToldOfDevices};
 
 use crate::devices::Devices;
 use crate::lines::Line;
-use room_core::{CoreFault, Event, Name, Reply, Room};
+use room_core::{CoreFault, Device, Event, Name, Reply, Room};
 use std::alloc::{AllocError, Global};
 use std::collections::BTreeMap;
 
@@ -62,6 +63,23 @@ impl Rooms {
             | Event::Settle { account, .. }
             | Event::Grant { account, .. } => self.answer_account(now, *account, event),
         }
+    }
+
+    /// The account's room, if it is open.
+    pub fn room(&self, account: Name) -> Option<&Room> {
+        self.rooms.get(&account)?.as_ref()
+    }
+
+    /// The same, to be changed.
+    pub fn room_mut(&mut self, account: Name) -> Option<&mut Room> {
+        self.rooms.get_mut(&account)?.as_mut()
+    }
+
+    /// The devices that are known, each once.
+    pub fn devices(&self) -> &[Device]
+        ensures { device_map result.now ≡ devices_of self.now }
+    {
+        self.devices.as_slice()
     }
 
     fn answer_account(

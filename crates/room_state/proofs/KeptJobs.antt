@@ -28,11 +28,11 @@ jobs_with jobs next number job rules at q other here =
       | false ↦ λ _ is. rules q other is
     ]) refl (sym (job_inserted jobs number job q) ∙ here)
 
-pub below_more : (next number : ℕ) (job : Job) → IsJobAt next number job → IsJobAt (next + 1) number job
-below_more next number job at = record {
+pub below_more : (next later number : ℕ) (job : Job) → next ≤ later → IsJobAt next number job → IsJobAt later number job
+below_more next later number job goes_up at = record {
   numbered = at.numbered;
   from_one = at.from_one;
-  below_next = omega (arith, at.below_next);
+  below_next = omega (arith, at.below_next, goes_up);
   name_fits = at.name_fits;
   password_fits = at.password_fits;
   standing = at.standing;

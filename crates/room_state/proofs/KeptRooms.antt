@@ -9,8 +9,8 @@ use Rattle.room_rules.specs.declared.job.Document.{Document}
 use Rattle.room_rules.specs.declared.job.Standing.{Standing}
 use Rattle.room_state.specs.Rooms.{RoomValue}
 use Rattle.room_state.specs.RoomRules.{IsRoom, IsJobAt, has_document, is_unfinished}
-use Rattle.room_state.specs.Changes.{with_new_job, with_standing, with_ended, with_grant, with_document, restood, without_documents}
-use Rattle.room_state.specs.Conditions.{CanAddJob, CanRestand, CanFinish, CanAddGrant, GoesOn}
+use Rattle.room_state.specs.Changes.{with_new_job, with_standing, with_ended, with_next, with_grant, with_document, restood, without_documents}
+use Rattle.room_state.specs.Conditions.{CanAddJob, CanRestand, CanFinish, CanSkipTo, CanAddGrant, GoesOn}
 use Rattle.room_state.proofs.KeptJobs.{jobs_with, below_more, none_next, one_more_unfinished, no_more_unfinished}
 use Rattle.room_state.proofs.KeptDocuments.{documents_with, all_documents_with, documents_left, all_documents_left}
 use Rattle.room_state.proofs.KeptGrants.{grants_with}
@@ -42,7 +42,7 @@ add_job_keeps room job document rules can =
       opened_in_range = rules.opened_in_range;
       next_from_one = omega arith;
       next_in_range = omega (arith, can.a_number_is_left);
-      jobs = jobs_with room.jobs (room.next + 1) job.job job (λ q other here. below_more room.next q other (rules.jobs q other here)) at;
+      jobs = jobs_with room.jobs (room.next + 1) job.job job (λ q other here. below_more room.next (room.next + 1) q other (omega arith) (rules.jobs q other here)) at;
       few_unfinished = omega (arith, one_more_unfinished room.jobs job.job job free, can.few_are_unfinished);
       documents = documents_with room.documents job.job 0 job.standing.documents document goes rules.documents;
       all_documents = all_documents_with room.documents room.jobs job.job 0 job rules.all_documents (λ n. ap (λ (o : Option Job). has_document o n) free ∙ sym (none_before n)) can.stays_unfinished document goes;
@@ -87,6 +87,18 @@ finish_keeps room number standing rules can =
       grants = rules.grants;
     } in
     subst (λ jobs. IsRoom (record room { jobs = jobs; documents = without_documents room.documents number })) (sym (restood_there room.jobs number standing was there.1)) kept
+
+pub skip_keeps : (room : RoomValue) (next : ℕ) → IsRoom room → CanSkipTo room next → IsRoom (with_next room next)
+skip_keeps room next rules can = record {
+  opened_in_range = rules.opened_in_range;
+  next_from_one = omega (arith, rules.next_from_one, can.goes_up);
+  next_in_range = can.in_range;
+  jobs = λ number job here. below_more room.next next number job can.goes_up (rules.jobs number job here);
+  few_unfinished = rules.few_unfinished;
+  documents = rules.documents;
+  all_documents = rules.all_documents;
+  grants = rules.grants;
+}
 
 pub add_grant_keeps : (room : RoomValue) (month pages : ℕ) → IsRoom room → CanAddGrant room month pages → IsRoom (with_grant room month pages)
 add_grant_keeps room month pages rules can = record {

@@ -10,10 +10,10 @@ use Rattle.room_rules.specs.declared.job.Document.{Document}
 use Rattle.room_rules.specs.declared.job.Standing.{Standing}
 use Rattle.room_state.specs.Rooms.{RoomValue, job_map, document_map, grant_map}
 use Rattle.room_state.specs.RoomRules.{IsRoom, NumbersRise, PlacesOnce, MonthsOnce, has_document, is_unfinished}
-use Rattle.room_state.specs.Changes.{with_new_job, with_standing, with_ended, with_grant, with_document, restood}
-use Rattle.room_state.specs.Conditions.{CanAddJob, CanRestand, CanFinish, CanAddGrant, GoesOn}
+use Rattle.room_state.specs.Changes.{with_new_job, with_standing, with_ended, with_next, with_grant, with_document, restood}
+use Rattle.room_state.specs.Conditions.{CanAddJob, CanRestand, CanFinish, CanSkipTo, CanAddGrant, GoesOn}
 use Rattle.room_state.specs.Restanding.{restood_job}
-use Rattle.room_state.proofs.KeptRooms.{add_job_keeps, restand_keeps, finish_keeps, add_grant_keeps, job_there, restood_there}
+use Rattle.room_state.proofs.KeptRooms.{add_job_keeps, restand_keeps, finish_keeps, skip_keeps, add_grant_keeps, job_there, restood_there}
 use Rattle.room_state.proofs.FiniteMaps.{all_along}
 use Rattle.room_state.proofs.JobMaps.{job_map-push, values-job_map}
 use Rattle.room_state.proofs.DocumentMaps.{document_map-others}
@@ -97,8 +97,8 @@ module _ (room : RoomValue) (opened next : ℕ) (jobs : List Job) (documents : L
     numbers_rise = subst NumbersRise (sym grows) (rise_restood number standing jobs keeps.0)
 
     module _ (document : Option Document) (more : List Document) (comes : more ≡ documents ++ option_to_list document) (can : CanRestand room number standing document) where
-      with_next : PlacesOnce more × (document_map more ≡ with_document (document_map documents) document)
-      with_next =
+      next_listed : PlacesOnce more × (document_map more ≡ with_document (document_map documents) document)
+      next_listed =
           let there = job_there (get room.jobs number) some_job in
           let was : Job = there.0 in
           let before : is_unfinished was.standing.state ≡ true = subst (λ (o : Option Job). IfSome o (λ (j : Job). is_unfinished j.standing.state ≡ true)) there.1 can.was_unfinished in
@@ -111,13 +111,13 @@ module _ (room : RoomValue) (opened next : ℕ) (jobs : List Job) (documents : L
       pub job_restood : whole opened next grown more grants ≡ with_standing room number standing document
       job_restood =
           let more_jobs = jobs_restood in
-          let more_documents = with_next.1 in
+          let more_documents = next_listed.1 in
           let made : whole opened next grown more grants ≡ with_standing (whole opened next jobs documents grants) number standing document =
           λ i. record { opened = opened; next = next; jobs = more_jobs i; documents = more_documents i; grants = grant_map grants } in
           made ∙ ap (λ (r : RoomValue). with_standing r number standing document) seen
 
       pub job_restood_keeps : Keeps opened next grown more grants
-      job_restood_keeps = (numbers_rise, with_next.0, keeps.2, subst IsRoom (sym job_restood) (restand_keeps room number standing document rules can))
+      job_restood_keeps = (numbers_rise, next_listed.0, keeps.2, subst IsRoom (sym job_restood) (restand_keeps room number standing document rules can))
 
     module _ (fewer : List Document) (drops : fewer ≡ filter (λ document. not (document.job == number)) documents) (can : CanFinish room number standing) where
       pub job_finished : whole opened next grown fewer grants ≡ with_ended room number standing
@@ -130,6 +130,13 @@ module _ (room : RoomValue) (opened next : ℕ) (jobs : List Job) (documents : L
 
       pub job_finished_keeps : Keeps opened next grown fewer grants
       job_finished_keeps = (numbers_rise, subst PlacesOnce (sym drops) (places_left documents number keeps.1), keeps.2, subst IsRoom (sym job_finished) (finish_keeps room number standing rules can))
+
+  module _ (later : ℕ) (can : CanSkipTo room later) where
+    pub skipped : whole opened later jobs documents grants ≡ with_next room later
+    skipped = ap (λ (r : RoomValue). with_next r later) seen
+
+    pub skipped_keeps : Keeps opened later jobs documents grants
+    skipped_keeps = (keeps.0, keeps.1, keeps.2, subst IsRoom (sym skipped) (skip_keeps room later rules can))
 
   module _ (month pages : ℕ) (grown : List Grant) (grows : grown ≡ grants ++ record { month = month; pages = pages } ∷ []) (can : CanAddGrant room month pages) where
     new_month : get (grant_map grants) month ≡ None

@@ -43,5 +43,9 @@ with_ended room number standing = record room {
   documents = without_documents room.documents number;
 }
 
+-- the next job has a later number
+abbrev pub with_next : RoomValue → ℕ → RoomValue
+with_next room next = record room { next = next }
+
 abbrev pub with_grant : RoomValue → ℕ → ℕ → RoomValue
 with_grant room month pages = record room { grants = insert room.grants month pages }

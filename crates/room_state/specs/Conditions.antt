@@ -39,6 +39,11 @@ pub record CanFinish (room : RoomValue) (number : ℕ) (standing : Standing) : T
   pub in_range : IsStanding standing
   pub has_ended : is_unfinished standing.state ≡ false
 
+-- a number for the next job that is not below the one that it has
+pub record CanSkipTo (room : RoomValue) (next : ℕ) : Type 0 where
+  pub goes_up : room.next ≤ next
+  pub in_range : next ≤ last_next_job
+
 -- a month that nothing was granted for
 pub record CanAddGrant (room : RoomValue) (month pages : ℕ) : Type 0 where
   pub is_new : get room.grants month ≡ None

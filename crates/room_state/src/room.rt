@@ -6,8 +6,8 @@ ghost use Rattle.room_state.specs.Rooms.{empty_room};
 ghost use Rattle.room_state.specs.RoomRules.{IsJobAt, IsDocumentAt, IsGrant, NumbersRise, has_document, unfinished_count};
 ghost use Rattle.room_state.specs.Sums.{has_processing, reserved_in, charged_in, granted_to};
 ghost use Rattle.room_state.specs.Tallies.{most_units};
-ghost use Rattle.room_state.specs.Changes.{with_new_job, with_standing, with_ended, with_grant};
-ghost use Rattle.room_state.specs.Conditions.{CanAddJob, CanRestand, CanFinish, CanAddGrant};
+ghost use Rattle.room_state.specs.Changes.{with_new_job, with_standing, with_ended, with_next, with_grant};
+ghost use Rattle.room_state.specs.Conditions.{CanAddJob, CanRestand, CanFinish, CanSkipTo, CanAddGrant};
 
 use crate::tally::Tally;
 use crate::{documents, grants, jobs, tally};
@@ -158,6 +158,14 @@ impl Room {
         jobs::push_job(&mut self.jobs, &mut self.documents, job, document)?;
         self.account.next_job += 1;
         Ok(())
+    }
+
+    /// Leaves job numbers out: the next job gets this one, which may be 1000000 and then leaves none for it.
+    pub fn skip_to(&mut self, next_job: u32)
+        requires { CanSkipTo self.old next_job }
+        ensures { self.new ≡ with_next self.old next_job }
+    {
+        self.account.next_job = next_job;
     }
 
     /// Gives an unfinished job another standing, in which it stays unfinished, and its next document if

@@ -1,25 +1,37 @@
-use room_lines::LineFault;
+use room_rows::RowFault;
 use room_store::{OpenFault, StoreFault};
 use std::alloc::{AllocError, AllocFailed};
 use std::io;
-use std::num::ParseIntError;
 use thiserror::Error;
 
 /// Why rows can't be held against the print room.
 #[derive(Debug, Drop, Error)]
 pub enum Fault {
-    /// A line of a row that the notation does not have.
+    /// A row or a list that the notation does not have.
     #[error("{0}")]
-    Notation(&'static str),
-    /// The script of a row is none.
-    #[error("script: {0}")]
-    Script(LineFault),
+    Row(RowFault),
+    #[error("a file begins with a row's title")]
+    NoTitle,
+    /// Rooms have no rows that could be changed by hand.
+    #[error("rooms have no tables")]
+    ByHand,
+    #[error("an account has no such next job")]
+    NextJob,
+    #[error("an account has no name")]
+    Name,
+    #[error("an answer is no text")]
+    Answer,
     /// There are no tables to hold the row against.
     #[error("tables: {0}")]
     Open(OpenFault),
     /// The tables could not answer where the machine can.
     #[error("tables: {0}")]
     Tables(StoreFault),
+    /// The tables were lost in an earlier fault.
+    #[error("tables: away")]
+    Away,
+    #[error("tables: a column holds no value of its table")]
+    Column,
     #[error("memory ran out")]
     Memory,
     #[error("{0}")]
@@ -44,15 +56,9 @@ impl From<sqlite::Error> for Fault {
     }
 }
 
-impl From<ParseIntError> for Fault {
-    fn from(_error: ParseIntError) -> Fault {
-        Fault::Notation("a number is not decimal")
-    }
-}
-
-impl From<LineFault> for Fault {
-    fn from(fault: LineFault) -> Fault {
-        Fault::Script(fault)
+impl From<RowFault> for Fault {
+    fn from(fault: RowFault) -> Fault {
+        Fault::Row(fault)
     }
 }
 

@@ -1,14 +1,17 @@
-//! The program `worked_rows`: holds files of worked rows against the print room, and prints of each file how
-//! many rows hold, and of each row that does not what was answered instead.
+//! The program `worked_rows`: holds the files that its words name against the print room.
+//!
+//! - Of a file of worked rows, `NAME.rows`, it prints how many rows hold, and of each row that does not what was
+//!   answered instead.
+//! - Of a list of events, `NAME.events`, it prints what the list reached.
 #![tactic(auto)]
 
-mod conversation;
+mod answers;
+mod cells;
 mod fault;
-mod notation;
 mod rows;
+mod tables;
 
 use crate::fault::Fault;
-use crate::rows::hold;
 use std::env;
 use std::io::Write;
 use std::process::ExitCode;
@@ -24,12 +27,15 @@ fn main(rt: HostRuntime) -> ExitCode {
     }
 }
 
-/// Whether every row of every file holds that the program's words name.
+/// Whether every file holds.
 fn hold_all(rt: &HostRuntime) -> Result<bool, Fault> {
     let mut all = true;
     let files: Vec<String> = env::args(rt)?.skip(1).collect(rt.alloc())?;
     for file in files.as_slice() {
-        all &= hold(rt, file.as_str())?;
+        all &= match file.as_str().strip_suffix(".events") {
+            Some(name) => cells::hold(rt, name)?,
+            None => rows::hold(rt, file.as_str())?,
+        };
     }
     Ok(all)
 }

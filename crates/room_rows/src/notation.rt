@@ -1,20 +1,20 @@
 //! The notation of messages, in which a person can read them. Each line of it stands for hexadecimal digits:
 //!
-//! - words of hexadecimal digits stand for themselves, `C` for the charset and the language, `U(alice)` for
+//! - words of hexadecimal digits stand for themselves, each as often as `*N` behind it says, `C` for the charset and the language, `U(alice)` for
 //!   the printer-uri `ipp://localhost/ipp/print/alice`;
 //! - `TAG NAME = VALUE` is an attribute, without a NAME a further value. A value is made of digits and of
 //!   texts in double quotes, each of them as often as `*N` behind it says;
 //! - `job ACCOUNT N STATE REASON` is the group of job N as it is answered to the request that made it;
 //! - `refused STATUS ID WORD` is the whole answer to a refused request of version 1.1.
 
-use crate::fault::Fault;
+use crate::fault::RowFault;
 use std::alloc::Global;
 
 const CHARSET_AND_LANGUAGE: &str =
     "470012617474726962757465732d6368617273657400057574662d3848001b617474726962757465732d6e61747572616c2d6c616e67756167650002656e";
 
 /// Puts the digits of a line of the notation behind the text.
-pub fn spell(alloc: Global, text: &mut String, line: &str) -> Result<(), Fault> {
+pub fn spell(alloc: Global, text: &mut String, line: &str) -> Result<(), RowFault> {
     if let Some(job) = line.strip_prefix("job ") {
         return spell_job(alloc, text, job);
     }
@@ -27,10 +27,10 @@ pub fn spell(alloc: Global, text: &mut String, line: &str) -> Result<(), Fault> 
     }
 }
 
-fn spell_job(alloc: Global, text: &mut String, job: &str) -> Result<(), Fault> {
+fn spell_job(alloc: Global, text: &mut String, job: &str) -> Result<(), RowFault> {
     let words: Vec<&str> = job.split(' ').collect(alloc)?;
     let [account, number, state, reason] = words.as_slice() else {
-        return Err(Fault::Notation("a job has four words"));
+        return Err(RowFault::Job);
     };
     let uri = format!(in alloc; "\"ipp://localhost/ipp/print/{account}/{number}\"")?;
     let number: u32 = number.parse()?;
@@ -44,10 +44,10 @@ fn spell_job(alloc: Global, text: &mut String, job: &str) -> Result<(), Fault> {
     spell_attribute(alloc, text, "44 job-state-reasons", reason.as_str())
 }
 
-fn spell_refusal(alloc: Global, text: &mut String, refusal: &str) -> Result<(), Fault> {
+fn spell_refusal(alloc: Global, text: &mut String, refusal: &str) -> Result<(), RowFault> {
     let words: Vec<&str> = refusal.split(' ').collect(alloc)?;
     let [status, id, word] = words.as_slice() else {
-        return Err(Fault::Notation("a refusal has three words"));
+        return Err(RowFault::Refusal);
     };
     let header = format!(in alloc; "0101{status}{id}01{CHARSET_AND_LANGUAGE}")?;
     let word = format!(in alloc; "\"{word}\"")?;
@@ -57,7 +57,7 @@ fn spell_refusal(alloc: Global, text: &mut String, refusal: &str) -> Result<(), 
     Ok(())
 }
 
-fn spell_words(alloc: Global, text: &mut String, line: &str) -> Result<(), Fault> {
+fn spell_words(alloc: Global, text: &mut String, line: &str) -> Result<(), RowFault> {
     for word in line.split(' ') {
         if word == "C" {
             text.push_str(CHARSET_AND_LANGUAGE)?;
@@ -65,8 +65,18 @@ fn spell_words(alloc: Global, text: &mut String, line: &str) -> Result<(), Fault
             let uri = format!(in alloc; "\"ipp://localhost/ipp/print/{name}\"")?;
             spell_attribute(alloc, text, "45 printer-uri", uri.as_str())?;
         } else {
-            text.push_str(word)?;
+            push_times(text, word)?;
         }
+    }
+    Ok(())
+}
+
+/// The digits of a word, as often as `*N` behind them says.
+fn push_times(text: &mut String, word: &str) -> Result<(), RowFault> {
+    let (digits, times) = word.split_once('*').unwrap_or((word, "1"));
+    let times: u32 = times.parse()?;
+    for _ in 0..times {
+        text.push_str(digits)?;
     }
     Ok(())
 }
@@ -80,7 +90,7 @@ fn spell_attribute(
     text: &mut String,
     tag_and_name: &str,
     value: &str,
-) -> Result<(), Fault> {
+) -> Result<(), RowFault> {
     let (tag, name) = tag_and_name.split_once(' ').unwrap_or((tag_and_name, ""));
     text.push_str(tag)?;
     spell_field(alloc, text, hex::encode(alloc, name.as_bytes())?.as_str())?;
@@ -88,7 +98,7 @@ fn spell_attribute(
 }
 
 /// The digits of a value's parts, each as often as it is to stand.
-fn digits_of(alloc: Global, value: &str) -> Result<String, Fault> {
+fn digits_of(alloc: Global, value: &str) -> Result<String, RowFault> {
     let mut digits = String::new(alloc);
     let mut part = String::new(alloc);
     let mut is_text = false;
@@ -115,7 +125,7 @@ fn digits_of(alloc: Global, value: &str) -> Result<String, Fault> {
 }
 
 /// A length in two bytes, and the bytes.
-fn spell_field(alloc: Global, text: &mut String, digits: &str) -> Result<(), Fault> {
+fn spell_field(alloc: Global, text: &mut String, digits: &str) -> Result<(), RowFault> {
     let length = format!(in alloc; "{:04x}", digits.len() / 2)?;
     text.push_str(length.as_str())?;
     text.push_str(digits)?;

@@ -1,0 +1,126 @@
+//! A conversation with the print room: what is handed in, line by line, and what is printed of the answers.
+
+use crate::fault::RowFault;
+use crate::notation::spell;
+use crate::step::Step;
+use std::alloc::{AllocError, Global};
+
+/// The moment of a line that names none, in seconds since 1970-01-01T00:00:00Z.
+const MOMENT: &str = "1788220800";
+
+/// Two open accounts and a device that is on.
+const OPENED: [&str; 6] = [
+    "> open alice",
+    "< ok",
+    "> open bob",
+    "< ok",
+    "> device d1 on",
+    "< ok",
+];
+
+/// A line that is handed in so many times.
+#[derive(Drop)]
+struct Asked {
+    times: u32,
+    text: String,
+}
+
+/// What a conversation hands in, and what it expects.
+#[derive(Drop)]
+pub struct Conversation {
+    asked: Vec<Asked>,
+    printed: String,
+    is_answer: bool,
+}
+
+impl Conversation {
+    /// That of the lines. One that begins with `> ` begins a line of a script, or a step of its own, and `> N times `
+    /// so many of them; one with `< ` begins a line of the output. The lines under each spell the message that goes
+    /// on it. `opened` stands for `OPENED`; an empty line, and one that begins with `-- `, for nothing.
+    pub fn read(alloc: Global, lines: &str) -> Result<Conversation, RowFault> {
+        let mut talk = Conversation {
+            asked: Vec::new(alloc),
+            printed: String::new(alloc),
+            is_answer: false,
+        };
+        for line in lines.lines() {
+            talk.add(alloc, line)?;
+        }
+        Ok(talk)
+    }
+
+    fn add(&mut self, alloc: Global, line: &str) -> Result<(), RowFault> {
+        if line != "opened" {
+            return self.add_line(alloc, line);
+        }
+        for line in OPENED {
+            self.add_line(alloc, line)?;
+        }
+        Ok(())
+    }
+
+    fn add_line(&mut self, alloc: Global, line: &str) -> Result<(), RowFault> {
+        if line.is_empty() || line.starts_with("-- ") {
+            return Ok(());
+        }
+        if let Some(asked) = line.strip_prefix("> ") {
+            self.is_answer = false;
+            return self.begin_step(alloc, asked);
+        }
+        if let Some(answered) = line.strip_prefix("< ") {
+            self.is_answer = true;
+            if !self.printed.is_empty() {
+                self.printed.push_str("\n")?;
+            }
+            return Ok(add_words(&mut self.printed, answered)?);
+        }
+        let line = line.trim();
+        if self.is_answer {
+            return spell(alloc, &mut self.printed, line);
+        }
+        match self.asked.last_mut() {
+            Some(asked) => spell(alloc, &mut asked.text, line),
+            None => Err(RowFault::Message),
+        }
+    }
+
+    fn begin_step(&mut self, alloc: Global, asked: &str) -> Result<(), RowFault> {
+        let (times, asked) = match asked.split_once(" times ") {
+            Some((times, asked)) => (times.parse()?, asked),
+            None => (1, asked),
+        };
+        let mut text = String::new(alloc);
+        if !asked.starts_with(|c: char| c.is_ascii_digit()) && !Step::is_of_its_own(asked) {
+            text.push_str(MOMENT)?;
+            text.push_str(" ")?;
+        }
+        add_words(&mut text, asked)?;
+        self.asked.push(Asked { times, text })?;
+        Ok(())
+    }
+
+    /// What is handed in, in order.
+    pub fn steps(&self, alloc: Global) -> Result<Vec<Step>, RowFault> {
+        let mut steps = Vec::with_capacity(alloc, self.asked.len())?;
+        for asked in self.asked.as_slice() {
+            for _ in 0..asked.times {
+                steps.push(Step::read(alloc, asked.text.as_str())?)?;
+            }
+        }
+        Ok(steps)
+    }
+
+    /// What should be printed, but for the line feed at its end.
+    pub fn expected(&self) -> &str {
+        self.printed.as_str()
+    }
+}
+
+/// Adds a line, and where it says `ipp` the space before its message.
+fn add_words(text: &mut String, line: &str) -> Result<(), AllocError> {
+    text.push_str(line)?;
+    if line.split(' ').any(|word| word == "ipp") {
+        text.push_str(" ")?;
+    }
+    Ok(())
+}

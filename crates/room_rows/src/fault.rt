@@ -1,0 +1,61 @@
+use room_lines::LineFault;
+use std::alloc::{AllocError, AllocFailed};
+use std::num::ParseIntError;
+use thiserror::Error;
+
+/// Why a conversation is none, or an answer can't be told.
+#[derive(Clone, Copy, Debug, PartialEq, Error)]
+pub enum RowFault {
+    #[error("a message has no line")]
+    Message,
+    #[error("a job has four words")]
+    Job,
+    #[error("a refusal has three words")]
+    Refusal,
+    #[error("a line is empty")]
+    Line,
+    #[error("a next job has an account and a number")]
+    NextJob,
+    #[error("an account has no name")]
+    Name,
+    #[error("a number is not decimal")]
+    Number,
+    #[error("an answer is no message")]
+    Answer,
+    #[error("an answer is no text")]
+    Text,
+    #[error("a document has five words")]
+    Document,
+    /// A line that no script has.
+    #[error("script: {0}")]
+    Script(LineFault),
+    #[error("memory ran out")]
+    Memory,
+}
+
+impl From<AllocError> for RowFault {
+    fn from(_error: AllocError) -> RowFault {
+        RowFault::Memory
+    }
+}
+
+impl<T: Drop> From<AllocFailed<T>> for RowFault {
+    fn from(_error: AllocFailed<T>) -> RowFault {
+        RowFault::Memory
+    }
+}
+
+impl From<ParseIntError> for RowFault {
+    fn from(_error: ParseIntError) -> RowFault {
+        RowFault::Number
+    }
+}
+
+impl From<LineFault> for RowFault {
+    fn from(fault: LineFault) -> RowFault {
+        match fault {
+            LineFault::Memory => RowFault::Memory,
+            fault => RowFault::Script(fault),
+        }
+    }
+}

@@ -1,0 +1,239 @@
+//! What an event reached: the act, the state of the job that it acts on, and what came of it.
+
+use crate::fault::RowFault;
+use ipp_coding::{List, read_header, read_message};
+use room_core::{Event, Job, JobState, LAST_JOB, Name, Part, Reply, Room, read_ask};
+use room_lines::Rooms;
+use std::alloc::Global;
+
+/// The attribute that has the word of a refusal (RFC 8011 section 4.1.6.2).
+const STATUS_MESSAGE: &[u8] = b"status-message";
+
+/// An act as it begins.
+#[derive(Drop)]
+pub struct Act {
+    name: &'static str,
+    /// The job that it acts on, 0 where it acts on none.
+    job: u32,
+    /// Of that job, empty where there is none.
+    state: &'static str,
+    has_password: bool,
+    /// Whether the account has no number for a further job.
+    is_last: bool,
+}
+
+impl Act {
+    /// That of an event that comes to the rooms as they are.
+    pub fn of(alloc: Global, event: &Event<'_>, rooms: &Rooms) -> Act {
+        let (name, account, job) = match event {
+            Event::Open { account } => ("open", *account, 0),
+            Event::Ipp { account, body } => (
+                operation(body),
+                *account,
+                job_in(alloc, body, *account),
+            ),
+            Event::Release { account, job, .. } => ("release", *account, *job),
+            Event::Start { account, job, .. } => ("start", *account, *job),
+            Event::Settle { account, job, .. } => ("settle", *account, *job),
+            Event::Grant { account, .. } => ("grant", *account, 0),
+            Event::Device { name, .. } => return Act::of_device("device", *name, rooms),
+            Event::Rate { name, .. } => return Act::of_device("rate", *name, rooms),
+        };
+        match rooms.room(account) {
+            Some(room) => Act {
+                name,
+                job,
+                state: if job == 0 { "" } else { state(room.job(job)) },
+                has_password: has_password(room.job(job)),
+                is_last: room.account().next_job > LAST_JOB,
+            },
+            None => Act {
+                name,
+                job,
+                state: "",
+                has_password: false,
+                is_last: false,
+            },
+        }
+    }
+
+    fn of_device(name: &'static str, device: Name, rooms: &Rooms) -> Act {
+        let mut is_known = false;
+        for known in rooms.devices() {
+            is_known |= known.name == device;
+        }
+        Act {
+            name,
+            job: 0,
+            state: if is_known { "known" } else { "unknown" },
+            has_password: false,
+            is_last: false,
+        }
+    }
+
+    /// What the act came to, the room being the account's afterwards: `ACT STATE: OUTCOME`, and what else a job that
+    /// was handed out shows.
+    pub fn reached(
+        &self,
+        alloc: Global,
+        reply: &Reply,
+        room: Option<&Room>,
+    ) -> Result<Vec<String>, RowFault> {
+        let mut names = Vec::new(alloc);
+        let mut name = String::from_str(alloc, self.name)?;
+        if !self.state.is_empty() {
+            name.push_str(" ")?;
+            name.push_str(self.state)?;
+        }
+        name.push_str(": ")?;
+        let outcome = self.outcome(alloc, reply, room)?;
+        name.push_str(outcome.as_str())?;
+        if self.is_last {
+            name.push_str(" after the last number")?;
+        }
+        names.push(name)?;
+        if self.has_password && self.name == "release" && outcome.as_str() == "bound" {
+            names.push(String::from_str(alloc, "release of a job with a password")?)?;
+        }
+        if let Reply::Documents(parts) = reply {
+            add_parts(alloc, &mut names, parts.as_slice())?;
+        }
+        Ok(names)
+    }
+
+    /// The word of a refusal; the state of the job that was acted on; or what is answered.
+    fn outcome(
+        &self,
+        alloc: Global,
+        reply: &Reply,
+        room: Option<&Room>,
+    ) -> Result<String, RowFault> {
+        let (said, is_refusal) = match reply {
+            Reply::Ipp(answer) => answer_said(alloc, answer)?,
+            Reply::Line(line) => line_said(alloc, line)?,
+            Reply::Documents(_) => (String::from_str(alloc, "documents")?, false),
+            Reply::NoAccount => (String::from_str(alloc, "no-account")?, true),
+            Reply::Short => (String::from_str(alloc, "short")?, true),
+        };
+        if is_refusal || self.job == 0 {
+            return Ok(said);
+        }
+        match room {
+            Some(room) => Ok(String::from_str(alloc, state(room.job(self.job)))?),
+            None => Ok(said),
+        }
+    }
+}
+
+fn has_password(job: Option<&Job>) -> bool {
+    match job {
+        Some(job) => !job.password.as_slice().is_empty(),
+        None => false,
+    }
+}
+
+/// The operation that a request names (RFC 8011 section 5.4.15).
+fn operation(body: &[u8]) -> &'static str {
+    let Some(header) = read_header(body) else {
+        return "ipp";
+    };
+    match header.code {
+        0x0002 => "Print-Job",
+        0x0004 => "Validate-Job",
+        0x0005 => "Create-Job",
+        0x0006 => "Send-Document",
+        0x0008 => "Cancel-Job",
+        0x0009 => "Get-Job-Attributes",
+        0x000a => "Get-Jobs",
+        0x000b => "Get-Printer-Attributes",
+        0x000c => "Hold-Job",
+        0x000d => "Release-Job",
+        _ => "ipp",
+    }
+}
+
+/// The job that a good request acts on.
+fn job_in(alloc: Global, body: &[u8], account: Name) -> u32 {
+    if body.len() < 8 {
+        return 0;
+    }
+    match read_ask(alloc, body, account) {
+        Ok(ask) => ask.job,
+        Err(_) => 0,
+    }
+}
+
+fn state(job: Option<&Job>) -> &'static str {
+    let Some(job) = job else {
+        return "no job";
+    };
+    let standing = &job.standing;
+    match standing.state {
+        JobState::Held => match (standing.is_open, standing.documents) {
+            (true, 0) => "open without a document",
+            (true, _) => "open",
+            (false, 0) => "held without a document",
+            (false, _) => "held",
+        },
+        JobState::Pending if standing.device.is_some() => "bound",
+        JobState::Pending => "pending",
+        JobState::Processing if standing.stopping => "stopping",
+        JobState::Processing => "processing",
+        JobState::Canceled => "canceled",
+        JobState::Aborted => "aborted",
+        JobState::Completed => "completed",
+    }
+}
+
+/// The word of a refusal, or the status of an answer, and whether it is a refusal.
+fn answer_said(alloc: Global, answer: &List<u8>) -> Result<(String, bool), RowFault> {
+    let Ok(message) = read_message(alloc, answer.as_slice()) else {
+        return Err(RowFault::Answer);
+    };
+    for group in message.groups.as_slice() {
+        for attribute in group.attributes.as_slice() {
+            if attribute.name == STATUS_MESSAGE
+                && let [value] = attribute.values.as_slice()
+            {
+                return Ok((first_word(alloc, value.bytes)?, true));
+            }
+        }
+    }
+    let code = message.code;
+    Ok((format!(in alloc; "{code:04x}")?, false))
+}
+
+fn line_said(alloc: Global, line: &List<u8>) -> Result<(String, bool), RowFault> {
+    let word = first_word(alloc, line.as_slice())?;
+    let is_refusal = word.as_str() != "ok";
+    Ok((word, is_refusal))
+}
+
+fn first_word(alloc: Global, text: &[u8]) -> Result<String, RowFault> {
+    let Ok(text) = std::str::from_utf8(text) else {
+        return Err(RowFault::Text);
+    };
+    let word = text.split(' ').next().unwrap_or(text);
+    Ok(String::from_str(alloc, word)?)
+}
+
+/// How many documents were handed out, and of each its line without its numbers: `copies 3, text/plain`.
+fn add_parts(alloc: Global, names: &mut Vec<String>, parts: &[Part]) -> Result<(), RowFault> {
+    let count = parts.len();
+    names.push(format!(in alloc; "handed out: {count} documents")?)?;
+    for part in parts {
+        let Ok(line) = std::str::from_utf8(part.line.as_slice()) else {
+            return Err(RowFault::Text);
+        };
+        let words: Vec<&str> = line.split(' ').collect(alloc)?;
+        let [_, _, copies, format, length] = words.as_slice() else {
+            return Err(RowFault::Document);
+        };
+        names.push(format!(in alloc; "handed out: copies {copies}")?)?;
+        names.push(format!(in alloc; "handed out: {format}")?)?;
+        if *length == "0" {
+            names.push(String::from_str(alloc, "handed out: an empty document")?)?;
+        }
+    }
+    Ok(())
+}

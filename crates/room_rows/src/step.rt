@@ -1,0 +1,57 @@
+//! What a conversation hands in.
+
+use crate::fault::RowFault;
+use room_core::Name;
+use room_lines::{Grammar, Line};
+use std::alloc::Global;
+
+#[derive(Debug, Drop)]
+pub enum Step {
+    /// A line of a script.
+    Event(Line),
+    /// `next-job ACCOUNT NUMBER`: the account's next job gets the number.
+    NextJob { account: Name, number: u32 },
+    /// `sql TEXT`: the tables are changed by hand. Rooms can't follow.
+    Sql(String),
+}
+
+const NEXT_JOB: &str = "next-job ";
+
+const SQL: &str = "sql ";
+
+impl Step {
+    /// Whether the text is a step but no line of a script.
+    pub(crate) fn is_of_its_own(text: &str) -> bool {
+        text.starts_with(NEXT_JOB) || text.starts_with(SQL)
+    }
+
+    /// Whether rooms can't follow.
+    pub fn is_by_hand(&self) -> bool {
+        matches!(self, Step::Sql(_))
+    }
+
+    /// The step that a text says.
+    pub(crate) fn read(alloc: Global, text: &str) -> Result<Step, RowFault> {
+        if let Some(sql) = text.strip_prefix(SQL) {
+            return Ok(Step::Sql(String::from_str(alloc, sql)?));
+        }
+        if let Some(words) = text.strip_prefix(NEXT_JOB) {
+            return next_job(words);
+        }
+        match Grammar::Script.read(alloc, text.as_bytes())?.pop() {
+            Some(line) => Ok(Step::Event(line)),
+            None => Err(RowFault::Line),
+        }
+    }
+}
+
+fn next_job(words: &str) -> Result<Step, RowFault> {
+    let Some((account, number)) = words.split_once(' ') else {
+        return Err(RowFault::NextJob);
+    };
+    let Some(account) = Name::read(account.as_bytes()) else {
+        return Err(RowFault::Name);
+    };
+    let number: u32 = number.parse()?;
+    Ok(Step::NextJob { account, number })
+}

@@ -1,0 +1,217 @@
+//! Shared tables in memory or in a file, which is closed and opened again for each use of them, so that each finds what
+//! stands in the tables and nothing else.
+
+use crate::fault::Fault;
+use room_core::{Name, Reply};
+use room_lines::Line;
+use room_rows::print_hex;
+use room_store::{OpenFault, Refused, Store, StoreFault};
+use sqlite::types::ValueRef;
+use sqlite::{Alter, Connection, File, FileStore, MemStore, Row};
+use std::fs;
+use std::io::Write;
+
+/// The files of a database that stands in one. They are made in the current folder, and removed.
+const FILES: [&str; 2] = ["worked_rows.db", "worked_rows.db-wal"];
+
+/// The queries of an account's rows, each under the name of its table.
+const OF_ACCOUNT: [(&str, &str); 4] = [
+    ("account", "SELECT * FROM account WHERE name = ?1"),
+    ("job", "SELECT * FROM job WHERE account = ?1 ORDER BY job"),
+    (
+        "document",
+        "SELECT * FROM document WHERE account = ?1 ORDER BY job, number",
+    ),
+    (
+        "grants",
+        "SELECT * FROM grants WHERE account = ?1 ORDER BY month",
+    ),
+];
+
+/// That of the devices, in the order in which they became known.
+const OF_DEVICES: &str =
+    "SELECT name, accepting, units FROM device, rates WHERE device = name ORDER BY device.rowid";
+
+#[derive(Drop)]
+pub enum Tables {
+    /// The connection goes on, and is away during a use.
+    Memory(Option<Connection<MemStore>>),
+    File,
+}
+
+impl Tables {
+    /// New tables in memory.
+    pub fn in_memory(rt: &HostRuntime) -> Result<Tables, Fault> {
+        let connection = created(Connection::open_in_memory(rt.alloc())?)?;
+        Ok(Tables::Memory(Some(connection)))
+    }
+
+    /// New tables in the file.
+    pub fn in_file(rt: &HostRuntime) -> Result<Tables, Fault> {
+        remove_files(rt);
+        created(file(rt)?)?.close()?;
+        Ok(Tables::File)
+    }
+
+    /// What is answered to a line's event at the moment. One that is refused for want of memory is given once more:
+    /// after a refusal everything is as before.
+    pub fn apply(
+        &mut self,
+        rt: &HostRuntime,
+        moment: u64,
+        line: &Line,
+    ) -> Result<Result<Reply, StoreFault>, Fault> {
+        match self {
+            Tables::Memory(waiting) => {
+                let Some(connection) = waiting.take() else {
+                    return Err(Fault::Away);
+                };
+                let (connection, outcome) = applied(rt, connection, moment, line)?;
+                *waiting = Some(connection);
+                Ok(outcome)
+            }
+            Tables::File => {
+                let (connection, outcome) = applied(rt, file(rt)?, moment, line)?;
+                connection.close()?;
+                Ok(outcome)
+            }
+        }
+    }
+
+    /// Changes rows by hand.
+    pub fn execute(
+        &mut self,
+        rt: &HostRuntime,
+        sql: &str,
+        values: &[ValueRef<'_>],
+    ) -> Result<(), Fault> {
+        match self {
+            Tables::Memory(Some(connection)) => {
+                connection.execute(sql, values)?;
+                Ok(())
+            }
+            Tables::Memory(None) => Err(Fault::Away),
+            Tables::File => {
+                let mut connection = file(rt)?;
+                connection.execute(sql, values)?;
+                connection.close()?;
+                Ok(())
+            }
+        }
+    }
+
+    /// Prints the rows of the account, each on a line: the table, and the columns in their order.
+    pub fn print_account(
+        &mut self,
+        rt: &HostRuntime,
+        account: Name,
+        output: &mut Vec<u8>,
+    ) -> Result<(), Fault> {
+        for (table, query) in OF_ACCOUNT {
+            let rows = self.query(rt, query, &[ValueRef::Text(account.bytes())])?;
+            print_rows(output, table, rows.as_slice())?;
+        }
+        Ok(())
+    }
+
+    /// Prints the rows of the devices: the name, whether it is on, and the rate.
+    pub fn print_devices(&mut self, rt: &HostRuntime, output: &mut Vec<u8>) -> Result<(), Fault> {
+        let rows = self.query(rt, OF_DEVICES, &[])?;
+        print_rows(output, "device", rows.as_slice())
+    }
+
+    fn query(
+        &mut self,
+        rt: &HostRuntime,
+        sql: &str,
+        values: &[ValueRef<'_>],
+    ) -> Result<Vec<Row>, Fault> {
+        match self {
+            Tables::Memory(Some(connection)) => Ok(connection.query_all(sql, values)?),
+            Tables::Memory(None) => Err(Fault::Away),
+            Tables::File => {
+                let mut connection = file(rt)?;
+                let rows = connection.query_all(sql, values)?;
+                connection.close()?;
+                Ok(rows)
+            }
+        }
+    }
+}
+
+/// A connection to the file. Where it can't be opened, it is opened once more.
+fn file(rt: &HostRuntime) -> Result<Connection<FileStore<File>>, Fault> {
+    match Connection::open(rt, FILES[0]) {
+        Ok(connection) => Ok(connection),
+        Err(_) => Ok(Connection::open(rt, FILES[0])?),
+    }
+}
+
+/// Removes the files, those of them that are there.
+pub fn remove_files(rt: &HostRuntime) {
+    for file in FILES {
+        let _ = fs::remove_file(rt, file);
+    }
+}
+
+/// Makes the tables.
+fn created<S: Alter + Drop>(connection: Connection<S>) -> Result<Connection<S>, Fault> {
+    match Store::create(connection) {
+        Ok(store) => Ok(store.close()),
+        Err(Refused { fault, .. }) => Err(Fault::Open(fault)),
+    }
+}
+
+fn applied<S: Alter + Drop>(
+    rt: &HostRuntime,
+    connection: Connection<S>,
+    moment: u64,
+    line: &Line,
+) -> Result<(Connection<S>, Result<Reply, StoreFault>), Fault> {
+    let mut store = opened(connection)?;
+    let event = line.action.event();
+    let mut outcome = store.apply(rt.alloc(), moment, &event);
+    if matches!(&outcome, Err(StoreFault::Memory)) {
+        outcome = store.apply(rt.alloc(), moment, &event);
+    }
+    Ok((store.close(), outcome))
+}
+
+/// The store over the connection. One that is refused for want of memory is opened once more.
+fn opened<S: Alter + Drop>(connection: Connection<S>) -> Result<Store<S>, Fault> {
+    match Store::open(connection) {
+        Ok(store) => Ok(store),
+        Err(
+            Refused {
+                connection,
+                fault: OpenFault::Memory | OpenFault::Storage,
+            },
+        ) => match Store::open(connection) {
+            Ok(store) => Ok(store),
+            Err(Refused { fault, .. }) => Err(Fault::Open(fault)),
+        },
+        Err(Refused { fault, .. }) => Err(Fault::Open(fault)),
+    }
+}
+
+fn print_rows(output: &mut Vec<u8>, table: &str, rows: &[Row]) -> Result<(), Fault> {
+    for row in rows {
+        output.write_all(table.as_bytes())?;
+        for at in 0..row.column_count() {
+            output.write_all(b" ")?;
+            print_value(output, row.get_ref(at)?)?;
+        }
+        output.write_all(b"\n")?;
+    }
+    Ok(())
+}
+
+fn print_value(output: &mut Vec<u8>, value: ValueRef<'_>) -> Result<(), Fault> {
+    match value {
+        ValueRef::Int(integer) => write!(output, "{integer}")?,
+        ValueRef::Text(text) => output.write_all(text)?,
+        ValueRef::Blob(bytes) => print_hex(output, bytes)?,
+        ValueRef::Null | ValueRef::Real(_) => return Err(Fault::Column),
+    }
+    Ok(())
+}
