@@ -31,17 +31,20 @@ pub struct Conversation {
     asked: Vec<Asked>,
     printed: String,
     is_answer: bool,
+    is_reopened: bool,
 }
 
 impl Conversation {
     /// That of the lines. One that begins with `> ` begins a line of a script, or a step of its own, and `> N times `
     /// so many of them; one with `< ` begins a line of the output. The lines under each spell the message that goes
-    /// on it. `opened` stands for `OPENED`; an empty line, and one that begins with `-- `, for nothing.
+    /// on it. `opened` stands for `OPENED`; `reopened` says that the conversation is also one with a file that is
+    /// closed and opened again between any two lines; an empty line, and one that begins with `-- `, say nothing.
     pub fn read(alloc: Global, lines: &str) -> Result<Conversation, RowFault> {
         let mut talk = Conversation {
             asked: Vec::new(alloc),
             printed: String::new(alloc),
             is_answer: false,
+            is_reopened: false,
         };
         for line in lines.lines() {
             talk.add(alloc, line)?;
@@ -50,13 +53,19 @@ impl Conversation {
     }
 
     fn add(&mut self, alloc: Global, line: &str) -> Result<(), RowFault> {
-        if line != "opened" {
-            return self.add_line(alloc, line);
+        match line {
+            "opened" => {
+                for line in OPENED {
+                    self.add_line(alloc, line)?;
+                }
+                Ok(())
+            }
+            "reopened" => {
+                self.is_reopened = true;
+                Ok(())
+            }
+            line => self.add_line(alloc, line),
         }
-        for line in OPENED {
-            self.add_line(alloc, line)?;
-        }
-        Ok(())
     }
 
     fn add_line(&mut self, alloc: Global, line: &str) -> Result<(), RowFault> {
@@ -108,6 +117,10 @@ impl Conversation {
             }
         }
         Ok(steps)
+    }
+
+    pub fn is_reopened(&self) -> bool {
+        self.is_reopened
     }
 
     /// What should be printed, but for the line feed at its end.

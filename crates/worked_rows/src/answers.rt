@@ -4,7 +4,7 @@ use crate::fault::Fault;
 use crate::tables::{Tables, remove_files};
 use room_core::{CoreFault, LAST_JOB, Name, Reply};
 use room_lines::{Line, Rooms, print_outcomes};
-use room_rows::Step;
+use room_rows::{Conversation, Step};
 use room_store::StoreFault;
 use sqlite::types::ValueRef;
 use std::alloc::Global;
@@ -20,12 +20,19 @@ pub enum Way {
 pub const WAYS: [Way; 3] = [Way::Rooms, Way::TablesInMemory, Way::TablesInFile];
 
 impl Way {
-    /// What is printed of the answers; nothing of rooms where rows are changed by hand, since they can't follow.
-    pub fn answers(self, rt: &HostRuntime, steps: &[Step]) -> Result<Option<String>, Fault> {
+    /// What is printed of the answers, if this way is one of the conversation: rooms can't follow where rows are
+    /// changed by hand, and a file is closed and opened again between any two steps where it says so.
+    pub fn answers(
+        self,
+        rt: &HostRuntime,
+        talk: &Conversation,
+        steps: &[Step],
+    ) -> Result<Option<String>, Fault> {
         match self {
             Way::Rooms if steps.iter().any(Step::is_by_hand) => Ok(None),
             Way::Rooms => Ok(Some(by_rooms(rt.alloc(), steps)?)),
             Way::TablesInMemory => Ok(Some(by_tables(rt, Tables::in_memory(rt)?, steps)?)),
+            Way::TablesInFile if !talk.is_reopened() => Ok(None),
             Way::TablesInFile => {
                 let printed = by_tables(rt, Tables::in_file(rt)?, steps)?;
                 remove_files(rt);
@@ -83,24 +90,19 @@ pub fn skip_to(rooms: &mut Rooms, account: Name, number: u32) -> Result<(), Faul
 fn by_tables(rt: &HostRuntime, mut tables: Tables, steps: &[Step]) -> Result<String, Fault> {
     let mut output = Vec::new(rt.alloc());
     for step in steps {
+        tables.reopen(rt)?;
         match step {
             Step::Event(line) => print(&mut output, tables.apply(rt, line.moment, line)?)?,
-            Step::NextJob { account, number } => set_next_job(rt, &mut tables, *account, *number)?,
-            Step::Sql(sql) => tables.execute(rt, sql.as_str(), &[])?,
+            Step::NextJob { account, number } => set_next_job(&mut tables, *account, *number)?,
+            Step::Sql(sql) => tables.execute(sql.as_str(), &[])?,
         }
     }
     text(output)
 }
 
 /// The same as `skip_to`, by hand.
-pub fn set_next_job(
-    rt: &HostRuntime,
-    tables: &mut Tables,
-    account: Name,
-    number: u32,
-) -> Result<(), Fault> {
+pub fn set_next_job(tables: &mut Tables, account: Name, number: u32) -> Result<(), Fault> {
     tables.execute(
-        rt,
         "UPDATE account SET next_job = ?1 WHERE name = ?2",
         &[
             ValueRef::Int(number as i64),

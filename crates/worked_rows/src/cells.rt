@@ -4,7 +4,7 @@
 //! Each step of a list, in the notation of conversations, is one of both accounts, whose name stands for `@`. The
 //! second account comes some steps behind the first, so that the two are in different states. In memory the rows are
 //! looked at after each step, and before each event the same event is refused at a moment that is out of range; in a
-//! file, which is opened anew for each event, the rows are looked at in the end.
+//! file the rows are looked at in the end.
 //!
 //! A list `NAME.events` has to reach, for both accounts, all that `NAME.reached` names, a name a line.
 
@@ -137,7 +137,7 @@ impl Trial {
             Step::Event(line) => self.take_event(rt, account, line),
             Step::NextJob { account, number } => {
                 skip_to(&mut self.rooms, *account, *number)?;
-                set_next_job(rt, &mut self.tables, *account, *number)?;
+                set_next_job(&mut self.tables, *account, *number)?;
                 Ok(None)
             }
             Step::Sql(_) => Err(Fault::ByHand),
@@ -189,10 +189,10 @@ impl Trial {
         let (mut found, mut due) = (Vec::new(rt.alloc()), Vec::new(rt.alloc()));
         for name in ACCOUNTS {
             let account = account_of(name)?;
-            self.tables.print_account(rt, account, &mut found)?;
+            self.tables.print_account(account, &mut found)?;
             print_room(&mut due, account, self.rooms.room(account))?;
         }
-        self.tables.print_devices(rt, &mut found)?;
+        self.tables.print_devices(&mut found)?;
         print_devices(&mut due, self.rooms.devices())?;
         differing(rt.alloc(), text(found)?, text(due)?)
     }

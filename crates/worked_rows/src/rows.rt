@@ -24,8 +24,8 @@ pub fn hold(rt: &HostRuntime, file: &str) -> Result<bool, Fault> {
     Ok(failing == 0)
 }
 
-/// Whether a row holds: rooms in memory and the shared tables, in memory and in a file that is closed and opened again
-/// between any two lines, each in a run of its own, answer what the row says. Where one does not, the first line that
+/// Whether a row holds: rooms in memory and the shared tables, in memory and where the row says so in a file, each in a
+/// run of its own, answer what the row says. Where one does not, the first line that
 /// is another is printed. A row that changes tables by hand says nothing of rooms.
 fn holds(rt: &HostRuntime, file: &str, row: &str) -> Result<bool, Fault> {
     let (title, lines) = row.split_once('\n').unwrap_or((row, ""));
@@ -33,7 +33,7 @@ fn holds(rt: &HostRuntime, file: &str, row: &str) -> Result<bool, Fault> {
     let steps = talk.steps(rt.alloc())?;
     let mut all = true;
     for way in WAYS {
-        let Some(answered) = way.answers(rt, steps.as_slice())? else {
+        let Some(answered) = way.answers(rt, &talk, steps.as_slice())? else {
             continue;
         };
         if let Some((answered, expected)) = difference(answered.as_str(), talk.expected()) {

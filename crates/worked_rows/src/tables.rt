@@ -1,5 +1,4 @@
-//! Shared tables in memory or in a file, which is closed and opened again for each use of them, so that each finds what
-//! stands in the tables and nothing else.
+//! Shared tables in memory or in a file. Each event comes to a store of its own, over the one connection.
 
 use crate::fault::Fault;
 use room_core::{Name, Reply};
@@ -32,11 +31,11 @@ const OF_ACCOUNT: [(&str, &str); 4] = [
 const OF_DEVICES: &str =
     "SELECT name, accepting, units FROM device, rates WHERE device = name ORDER BY device.rowid";
 
+/// The connection is away during a use.
 #[derive(Drop)]
 pub enum Tables {
-    /// The connection goes on, and is away during a use.
     Memory(Option<Connection<MemStore>>),
-    File,
+    File(Option<Connection<FileStore<File>>>),
 }
 
 impl Tables {
@@ -49,8 +48,19 @@ impl Tables {
     /// New tables in the file.
     pub fn in_file(rt: &HostRuntime) -> Result<Tables, Fault> {
         remove_files(rt);
-        created(file(rt)?)?.close()?;
-        Ok(Tables::File)
+        Ok(Tables::File(Some(created(file(rt)?)?)))
+    }
+
+    /// Closes the file and opens it again.
+    pub fn reopen(&mut self, rt: &HostRuntime) -> Result<(), Fault> {
+        let Tables::File(waiting) = self else {
+            return Ok(());
+        };
+        if let Some(connection) = waiting.take() {
+            connection.close()?;
+        }
+        *waiting = Some(file(rt)?);
+        Ok(())
     }
 
     /// What is answered to a line's event at the moment. One that is refused for want of memory is given once more:
@@ -62,79 +72,45 @@ impl Tables {
         line: &Line,
     ) -> Result<Result<Reply, StoreFault>, Fault> {
         match self {
-            Tables::Memory(waiting) => {
-                let Some(connection) = waiting.take() else {
-                    return Err(Fault::Away);
-                };
-                let (connection, outcome) = applied(rt, connection, moment, line)?;
-                *waiting = Some(connection);
-                Ok(outcome)
-            }
-            Tables::File => {
-                let (connection, outcome) = applied(rt, file(rt)?, moment, line)?;
-                connection.close()?;
-                Ok(outcome)
-            }
+            Tables::Memory(waiting) => apply_over(rt, waiting, moment, line),
+            Tables::File(waiting) => apply_over(rt, waiting, moment, line),
         }
     }
 
     /// Changes rows by hand.
-    pub fn execute(
-        &mut self,
-        rt: &HostRuntime,
-        sql: &str,
-        values: &[ValueRef<'_>],
-    ) -> Result<(), Fault> {
+    pub fn execute(&mut self, sql: &str, values: &[ValueRef<'_>]) -> Result<(), Fault> {
         match self {
             Tables::Memory(Some(connection)) => {
                 connection.execute(sql, values)?;
-                Ok(())
             }
-            Tables::Memory(None) => Err(Fault::Away),
-            Tables::File => {
-                let mut connection = file(rt)?;
+            Tables::File(Some(connection)) => {
                 connection.execute(sql, values)?;
-                connection.close()?;
-                Ok(())
             }
+            Tables::Memory(None) | Tables::File(None) => return Err(Fault::Away),
         }
+        Ok(())
     }
 
     /// Prints the rows of the account, each on a line: the table, and the columns in their order.
-    pub fn print_account(
-        &mut self,
-        rt: &HostRuntime,
-        account: Name,
-        output: &mut Vec<u8>,
-    ) -> Result<(), Fault> {
+    pub fn print_account(&mut self, account: Name, output: &mut Vec<u8>) -> Result<(), Fault> {
         for (table, query) in OF_ACCOUNT {
-            let rows = self.query(rt, query, &[ValueRef::Text(account.bytes())])?;
+            let rows = self.query(query, &[ValueRef::Text(account.bytes())])?;
             print_rows(output, table, rows.as_slice())?;
         }
         Ok(())
     }
 
     /// Prints the rows of the devices: the name, whether it is on, and the rate.
-    pub fn print_devices(&mut self, rt: &HostRuntime, output: &mut Vec<u8>) -> Result<(), Fault> {
-        let rows = self.query(rt, OF_DEVICES, &[])?;
+    pub fn print_devices(&mut self, output: &mut Vec<u8>) -> Result<(), Fault> {
+        let rows = self.query(OF_DEVICES, &[])?;
         print_rows(output, "device", rows.as_slice())
     }
 
-    fn query(
-        &mut self,
-        rt: &HostRuntime,
-        sql: &str,
-        values: &[ValueRef<'_>],
-    ) -> Result<Vec<Row>, Fault> {
+    fn query(&mut self, sql: &str, values: &[ValueRef<'_>]) -> Result<Vec<Row>, Fault> {
         match self {
             Tables::Memory(Some(connection)) => Ok(connection.query_all(sql, values)?),
-            Tables::Memory(None) => Err(Fault::Away),
-            Tables::File => {
-                let mut connection = file(rt)?;
-                let rows = connection.query_all(sql, values)?;
-                connection.close()?;
-                Ok(rows)
-            }
+            Tables::File(Some(connection)) => Ok(connection.query_all(sql, values)?),
+            Tables::Memory(None) | Tables::File(None) => Err(Fault::Away),
         }
     }
 }
@@ -162,19 +138,23 @@ fn created<S: Alter + Drop>(connection: Connection<S>) -> Result<Connection<S>, 
     }
 }
 
-fn applied<S: Alter + Drop>(
+fn apply_over<S: Alter + Drop>(
     rt: &HostRuntime,
-    connection: Connection<S>,
+    waiting: &mut Option<Connection<S>>,
     moment: u64,
     line: &Line,
-) -> Result<(Connection<S>, Result<Reply, StoreFault>), Fault> {
+) -> Result<Result<Reply, StoreFault>, Fault> {
+    let Some(connection) = waiting.take() else {
+        return Err(Fault::Away);
+    };
     let mut store = opened(connection)?;
     let event = line.action.event();
     let mut outcome = store.apply(rt.alloc(), moment, &event);
     if matches!(&outcome, Err(StoreFault::Memory)) {
         outcome = store.apply(rt.alloc(), moment, &event);
     }
-    Ok((store.close(), outcome))
+    *waiting = Some(store.close());
+    Ok(outcome)
 }
 
 /// The store over the connection. One that is refused for want of memory is opened once more.
