@@ -7,13 +7,13 @@ use thiserror::Error;
 /// Why nothing was timed.
 #[derive(Debug, Drop, Error)]
 pub enum Fault {
-    #[error("the words are none of those that may stand there")]
+    #[error("the words are memory OTHERS ENDED TURNS, file FILE OTHERS ENDED TURNS, open FILE ACCOUNTS, print-jobs FILE ACCOUNTS JOBS, print FILE BYTES, or start FILE")]
     Words,
     #[error("a name or a number is out of range")]
     Range,
     #[error("a request can't be spelled")]
     Request,
-    /// An event that should have been done.
+    /// An event that should not have been, so that its time would say nothing.
     #[error("an event was refused")]
     Refused,
     #[error("{0}")]

@@ -15,7 +15,7 @@ pub enum Fault {
     /// Rooms have no rows that could be changed by hand.
     #[error("rooms have no tables")]
     ByHand,
-    #[error("an account has no such next job")]
+    #[error("next-job names an account that is open and a number from its next one to 1000000")]
     NextJob,
     #[error("an account has no name")]
     Name,
@@ -28,7 +28,7 @@ pub enum Fault {
     #[error("tables: {0}")]
     Tables(StoreFault),
     /// The tables were lost in an earlier fault.
-    #[error("tables: away")]
+    #[error("tables: the connection was lost in an earlier fault")]
     Away,
     #[error("tables: a column holds no value of its table")]
     Column,
