@@ -1,5 +1,5 @@
 -- Whose an event is (all this project's own).
-use Rattle.std.specs.Prelude.{◌≡◌, ℕ, ⊤, List}
+use Rattle.std.specs.Prelude.{◌≡◌, ℕ, ◌<◌, ⊤, List, length}
 use Rattle.room_core.specs.declared.event.Event.{Event}
 use Rattle.room_core.specs.declared.event.Event.TheVariants as event
 
@@ -27,3 +27,9 @@ IsLine (event.Start device account job) = ⊤
 IsLine (event.Settle device account job impressions failed) = ⊤
 IsLine (event.Grant account month pages) = ⊤
 IsLine _ = ⊥
+
+-- an IPP message that ends within its first 8 bytes, the header (RFC 8010 section 3.1.1); it is answered before any
+-- row is looked up
+abbrev pub IsShort : Event → Type 0
+IsShort (event.Ipp account body) = length body.now < 8
+IsShort _ = ⊥

@@ -33,6 +33,10 @@ module _ {S : Type 0} (store : Ghosts S) (old new : Held S) where
     pub goes : Goes (state store old) (state store new)
     pub opened : HasCleanDisk (state store new) → OnOk result (IsTrue (state store old).is_open → IsTrue (state store new).is_open)
 
+  -- it is answered only where the connection was open
+  abbrev pub WasOpen : {T : Type 0} → Result T TableFault → Type 0
+  WasOpen result = HasCleanDisk (state store new) → OnOk result (IsTrue (state store old).is_open)
+
   -- a look-up, which may ask the tables or not
   pub record LooksUp {T : Type 0} (result : Result T TableFault) : Type 0 where
     pub going : GoesFrom result

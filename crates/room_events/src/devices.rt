@@ -3,7 +3,7 @@
 ghost use Rattle.std.specs.Prelude.{◌≡◌, ◌≤◌, false};
 ghost use Rattle.room_core.specs.DeviceEvents.{rated_answer, turned_answer};
 ghost use Rattle.room_rules.specs.Limits.{most_rate};
-ghost use Rattle.room_events.specs.Serving.{ServesDevices};
+ghost use Rattle.room_events.specs.Serving.{ServesDevices, WasOpen};
 
 use crate::told::{refusing, telling};
 use room_changes::{rate_device, turn_device};
@@ -22,6 +22,7 @@ pub fn turn<S: Alter>(
 ) -> Result<Reply, TableFault>
     requires mode { connection.old.in_transaction ≡ false }
     ensures served { ServesDevices S.Store connection.old connection.new (λ devices. turned_answer devices name on) result }
+    ensures asks { WasOpen S.Store connection.old connection.new result }
 {
     let is_new = find_device(connection, name)?.is_none();
     let reply = telling(alloc, Success::Ok)?;
@@ -39,6 +40,7 @@ pub fn rate<S: Alter>(
     requires mode { connection.old.in_transaction ≡ false }
     requires units { (1 ≤ units) × (units ≤ most_rate) }
     ensures served { ServesDevices S.Store connection.old connection.new (λ devices. rated_answer devices name units) result }
+    ensures asks { WasOpen S.Store connection.old connection.new result }
 {
     if let Err(word) = known_device(find_device(connection, name)?) {
         return refusing(alloc, word);

@@ -1,12 +1,13 @@
 //! Any event, over the shared tables.
 
-ghost use Rattle.std.specs.Prelude.{◌≡◌, ◌≤◌, false, IsTrue, List, ℕ};
+ghost use Rattle.std.specs.Prelude.{◌≡◌, ◌≤◌, false, IfOk, IsTrue, List, ℕ};
 ghost use Rattle.room_core.specs.DeviceEvents.{device_answered};
 ghost use Rattle.room_core.specs.Fits.{fits};
 ghost use Rattle.room_core.specs.Machine.{answered, answered_open};
+ghost use Rattle.room_core.specs.declared.event.Reply.TheVariants as reply_is;
 ghost use Rattle.room_rules.specs.Limits.{last_moment};
-ghost use Rattle.room_events.specs.Events.{IsLine, IsOf, IsOfNone};
-ghost use Rattle.room_events.specs.Serving.{Answers, Serves, ServesDevices};
+ghost use Rattle.room_events.specs.Events.{IsLine, IsOf, IsOfNone, IsShort};
+ghost use Rattle.room_events.specs.Serving.{Answers, Serves, ServesDevices, WasOpen};
 
 use crate::devices::{rate, turn};
 use crate::granting::grant;
@@ -33,6 +34,8 @@ pub fn answer_event<S: Alter>(
     requires moment { now ≤ last_moment }
     ensures of_account { (name : List ℕ) → IsOf e.entry.now name → Answers S.Store connection.old connection.new name (λ room devices. answered room devices now e.entry.now) result }
     ensures of_devices { IsOfNone e.entry.now → ServesDevices S.Store connection.old connection.new (λ devices. device_answered devices e.entry.now) result }
+    ensures short { IsShort e.entry.now → IfOk result (λ told. told ≡ reply_is.Short) }
+    ensures asks { (IsShort e.entry.now → ⊥) → WasOpen S.Store connection.old connection.new result }
 {
     match *e {
         Event::Open { account } => open(alloc, connection, account, now),
@@ -59,6 +62,7 @@ fn answer_line<S: Alter>(
     requires line { IsLine e.now }
     requires moment { now ≤ last_moment }
     ensures served { Answers S.Store connection.old connection.new name (λ room devices. answered room devices now e.entry.now) result }
+    ensures asks { WasOpen S.Store connection.old connection.new result }
 {
     match find_account(connection, name)? {
         Some(_) => answer_open(alloc, connection, name, now, e),

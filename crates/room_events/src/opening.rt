@@ -4,7 +4,7 @@ ghost use Rattle.std.specs.Prelude.{◌≡◌, ◌≤◌, false};
 ghost use Rattle.room_core.specs.Machine.{answered};
 ghost use Rattle.room_core.specs.declared.event.Event.TheVariants as event;
 ghost use Rattle.room_rules.specs.Limits.{last_moment};
-ghost use Rattle.room_events.specs.Serving.{Answers};
+ghost use Rattle.room_events.specs.Serving.{Answers, WasOpen};
 
 use crate::told::{refusing, telling};
 use room_changes::open_account;
@@ -24,6 +24,7 @@ pub fn open<S: Alter>(
     requires mode { connection.old.in_transaction ≡ false }
     requires moment { now ≤ last_moment }
     ensures served { Answers S.Store connection.old connection.new name (λ room devices. answered room devices now (event.Open name)) result }
+    ensures asks { WasOpen S.Store connection.old connection.new result }
 {
     if find_account(connection, name)?.is_some() {
         return refusing(alloc, Word::Exists);

@@ -1,14 +1,15 @@
 //! IPP requests to the queue of an account.
 
-ghost use Rattle.std.specs.Prelude.{◌≡◌, ◌≤◌, false, length};
+ghost use Rattle.std.specs.Prelude.{◌≡◌, ◌≤◌, ◌<◌, false, length, IfOk};
 ghost use Rattle.room_asks.specs.Asks.{IsAsk, ask_of, plain_ask};
 ghost use Rattle.room_core.specs.Machine.{answered, responded, responded_to};
 ghost use Rattle.room_core.specs.declared.event.Event.TheVariants as event;
+ghost use Rattle.room_core.specs.declared.event.Reply.TheVariants as reply;
 ghost use Rattle.room_rules.specs.Limits.{last_moment};
 ghost use Rattle.room_tables.specs.Accounts.{IsAccount};
 ghost use Rattle.room_tables.specs.Calls.{OfStore};
 ghost use Rattle.room_events.specs.Known.{IsOpen};
-ghost use Rattle.room_events.specs.Serving.{Answers, GoesFrom, Serves};
+ghost use Rattle.room_events.specs.Serving.{Answers, GoesFrom, Serves, WasOpen};
 
 use crate::job_requests::{cancel, describe, hold, release};
 use crate::listing::list;
@@ -33,6 +34,8 @@ pub fn answer_request<S: Alter>(
     requires mode { connection.old.in_transaction ≡ false }
     requires moment { now ≤ last_moment }
     ensures served { Answers S.Store connection.old connection.new name (λ room devices. answered room devices now (event.Ipp name body.entry)) result }
+    ensures short { length body.now < 8 → IfOk result (λ told. told ≡ reply.Short) }
+    ensures asks { (length body.now < 8 → ⊥) → WasOpen S.Store connection.old connection.new result }
 {
     let Some(header) = read_header(body) else {
         return Ok(Reply::Short);

@@ -4,7 +4,8 @@ ghost use Rattle.sqlite.specs.State.{HasCleanDisk};
 ghost use Rattle.room_core.specs.DeviceEvents.{device_answered};
 ghost use Rattle.room_core.specs.Fits.{fits};
 ghost use Rattle.room_core.specs.Machine.{answered};
-ghost use Rattle.room_events.specs.Events.{IsOf, IsOfNone};
+ghost use Rattle.room_core.specs.declared.event.Reply.TheVariants as reply_is;
+ghost use Rattle.room_events.specs.Events.{IsOf, IsOfNone, IsShort};
 ghost use Rattle.room_rules.specs.Limits.{last_moment};
 ghost use Rattle.room_store.specs.Damage.{IsDamaged};
 ghost use Rattle.room_tables.specs.Tables.{meta, no_schema};
@@ -148,6 +149,8 @@ impl<S: Alter> Store<S> {
         ensures unchanged { OfStore S.Store self.old self.new (λ db. OnErr result (IsTrue (state S.Store self.new).is_open → (state S.Store self.new).now ≡ db)) }
         ensures goes { Goes (state S.Store self.old) (state S.Store self.new) }
         ensures opened { HasCleanDisk (state S.Store self.new) → OnOk result (IsTrue (state S.Store self.old).is_open → IsTrue (state S.Store self.new).is_open) }
+        ensures short { IsShort e.entry.now → IfOk result (λ reply. reply ≡ reply_is.Short) }
+        ensures asks { (IsShort e.entry.now → ⊥) → HasCleanDisk (state S.Store self.new) → OnOk result (IsTrue (state S.Store self.old).is_open) }
     {
         if now > LAST_MOMENT {
             return Err(StoreFault::Moment);

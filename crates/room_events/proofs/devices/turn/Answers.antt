@@ -4,10 +4,8 @@ use Rattle.room_statements.proofs.SoundReads.{sound_rows_are_read}
 use Rattle.room_events.proofs.ServingLemmas.{read_failed_as}
 use Rattle.room_events.proofs.devices.turn.Goals as goal
 
-pub returns-in_err-find_device : goal.returns-in_err-find_device
-returns-in_err-find_device g c =
+pub returns-in_err-find_device-clause-served : goal.returns-in_err-find_device-clause-served
+returns-in_err-find_device-clause-served g c =
     let told = err_from_is_err_and c.from_residual.result c.from_residual.ensures.1 in
-    record {
-      served = read_failed_as _ _ _ _ g.S.Store _ _ c.from_residual.result told.0 _ told.1 told.2 c.in_err-find_device.ensures.reads
-          (λ clean has is devices held. c.in_err-find_device.ensures.damaged clean has (ap (λ e. Err e) is) ((sound_rows_are_read.of_devices _ has (devices, held)).devices c.args.name));
-    }
+    read_failed_as _ _ _ _ g.S.Store _ _ c.from_residual.result told.0 _ told.1 told.2 c.in_err-find_device.ensures.reads
+    (λ clean has is devices held. c.in_err-find_device.ensures.damaged clean has (ap (λ e. Err e) is) ((sound_rows_are_read.of_devices _ has (devices, held)).devices c.args.name))
