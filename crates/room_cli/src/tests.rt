@@ -1,20 +1,12 @@
-//! The program from the outside, through `run`: its words and its input, what it prints, and how it
-//! ends.
+//! The program from the outside, through `run_on`, with readers and writers that fail. How it ends on others, rows of
+//! runs show.
 mod ends;
-mod lines;
-mod words;
 
-use crate::run::run;
-use std::alloc::{AllocError, Global};
+use room_commands::run_on;
+use std::alloc::AllocError;
 use std::io::{Read, Write};
-use std::process::Abort;
-use std::test::Fail;
 
 const NOW: Option<u64> = Some(1_788_220_800);
-
-const LINE_2: &str = "ipp-room: line 2\n";
-
-const NAME: &str = "ipp-room: name\n";
 
 const INPUT: &str = "ipp-room: input\n";
 
@@ -24,7 +16,7 @@ const IO: &str = "ipp-room: io\n";
 
 // The status of a run. Its words stand in one text, parted by a space; an empty text has none.
 fn status_of<R: Read + Drop, W: Write, E: Write>(
-    alloc: Global,
+    rt: &HostRuntime,
     words: &str,
     now: Option<u64>,
     input: R,
@@ -32,11 +24,11 @@ fn status_of<R: Read + Drop, W: Write, E: Write>(
     errors: &mut E,
 ) -> Result<u8, AllocError> {
     let words: Vec<&str> = if words.is_empty() {
-        Vec::new(alloc)
+        Vec::new(rt.alloc())
     } else {
-        words.split(' ').collect(alloc)?
+        words.split(' ').collect(rt.alloc())?
     };
-    Ok(run(alloc, words.as_slice(), now, input, output, errors))
+    Ok(run_on(rt, words.as_slice(), now, input, output, errors))
 }
 
 // How a run ended, and what it wrote.
@@ -53,47 +45,21 @@ impl Ended {
             && self.output.as_slice() == output.as_bytes()
             && self.errors.as_slice() == errors.as_bytes()
     }
-
-    fn is_usage_fault(&self) -> bool {
-        self.status == 1 && self.output.is_empty() && !self.errors.is_empty()
-    }
 }
 
 // A run over a reader.
 fn finish<R: Read + Drop>(
-    alloc: Global,
+    rt: &HostRuntime,
     words: &str,
     input: R,
     now: Option<u64>,
 ) -> Result<Ended, AllocError> {
-    let mut output = Vec::new(alloc);
-    let mut errors = Vec::new(alloc);
-    let status = status_of(alloc, words, now, input, &mut output, &mut errors)?;
+    let mut output = Vec::new(rt.alloc());
+    let mut errors = Vec::new(rt.alloc());
+    let status = status_of(rt, words, now, input, &mut output, &mut errors)?;
     Ok(Ended {
         status,
         output,
         errors,
     })
-}
-
-// A run at a moment that the clock has.
-fn outcome(alloc: Global, words: &str, input: &str) -> Result<Ended, AllocError> {
-    finish(alloc, words, input.as_bytes(), NOW)
-}
-
-// Each run, of a command line and an input, ends so.
-fn all_end(
-    rt: &(impl Abort + AllocGlobal),
-    runs: &[(&str, &str)],
-    status: u8,
-    errors: &str,
-) -> Result<(), Fail> {
-    for (words, input) in runs {
-        let found = outcome(rt.alloc(), *words, *input)?;
-        assert!(rt;
-            found.is(status, "", errors),
-            "{words:?} on {input:?}: {found:?}"
-        );
-    }
-    Ok(())
 }

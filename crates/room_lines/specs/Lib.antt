@@ -1,2 +1,1 @@
 pub mod Actions
-pub mod DeviceEvents

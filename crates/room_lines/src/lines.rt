@@ -1,14 +1,15 @@
 //! The grammar of lines: fields parted by one space, lines ended by a line feed, the last of which may
 //! be missing. Nothing is trimmed, so a carriage return, a tab or a further space makes a line bad.
-ghost use Rattle.std.specs.Prelude.{◌≤◌, IfOk, IsTrue};
+ghost use Rattle.std.specs.Prelude.{◌≤◌, All, IfOk, IsTrue};
+ghost use Rattle.room_core.specs.Fits.{fits};
 ghost use Rattle.room_rules.specs.Limits.{first_month, last_month};
 ghost use Rattle.room_lines.specs.Actions.{is_in_range, are_impressions};
 
 use crate::action::Action;
 use crate::fault::LineFault;
-use room_core::{LAST_JOB, LAST_MOMENT, MOST_IMPRESSIONS, MOST_PAGES, MOST_RATE, Name};
+use room_core::{Event, LAST_JOB, LAST_MOMENT, MOST_IMPRESSIONS, MOST_PAGES, MOST_RATE, Name};
 use room_fields::FieldFault;
-use std::alloc::Global;
+use std::alloc::{AllocError, Global};
 
 /// A line that was read: what to do, and the moment at which it counts as done, in seconds since
 /// 1970-01-01T00:00:00Z.
@@ -17,6 +18,28 @@ pub struct Line {
     pub moment: u64,
     pub action: Action,
     ghost in_range: { IsTrue (is_in_range action) },
+}
+
+impl Line {
+    /// The event that it asks for.
+    pub fn event(&self) -> Event<'_>
+        ensures { IsTrue (fits result) }
+    {
+        self.action.event()
+    }
+}
+
+/// The events that the lines ask for, each at its moment, in order.
+pub fn events_of(alloc: Global, lines: &[Line]) -> Result<Vec<(u64, Event<'_>)>, AllocError>
+    ensures fit { IfOk result (λ events. All (λ e. IsTrue (fits e.1)) events.items) }
+{
+    lines.iter().map(timed).collect(alloc)
+}
+
+fn timed(line: &Line) -> (u64, Event<'_>)
+    ensures { IsTrue (fits result.1) }
+{
+    (line.moment, line.event())
 }
 
 /// Which lines an input may have.

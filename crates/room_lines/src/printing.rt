@@ -1,7 +1,7 @@
 //! What the program prints for each event, with no memory taken.
 ghost use Rattle.std.specs.Prelude.{◌≤◌, ◌*◌, length};
 
-use room_core::{CoreFault, Part, Reply};
+use room_core::{Part, Reply};
 use std::io;
 use std::io::Write;
 
@@ -10,28 +10,19 @@ const CHUNK: usize = 512;
 
 const DIGITS: usize = 2 * CHUNK;
 
-/// Writes what each event came to, as a line, and of each document its line and a line of its bytes.
-pub fn print_outcomes<W: Write>(
-    output: &mut W,
-    outcomes: &[Result<Reply, CoreFault>],
-) -> io::Result<()> {
-    for outcome in outcomes {
-        print_outcome(output, outcome)?;
-    }
-    output.flush()
-}
-
-fn print_outcome<W: Write>(output: &mut W, outcome: &Result<Reply, CoreFault>) -> io::Result<()> {
-    match outcome {
-        Ok(Reply::Ipp(message)) => {
+/// Writes what was answered to an event as a line, and of each document its line and a line of its bytes; of an
+/// event that failed, which has no answer, the line `failed`.
+pub fn print_answer<W: Write>(output: &mut W, answer: Option<&Reply>) -> io::Result<()> {
+    match answer {
+        Some(Reply::Ipp(message)) => {
             output.write_all(b"ipp ")?;
             print_hex(output, message.items.as_slice())?;
         }
-        Ok(Reply::Line(text)) => output.write_all(text.items.as_slice())?,
-        Ok(Reply::Documents(parts)) => return print_parts(output, parts.items.as_slice()),
-        Ok(Reply::NoAccount) => output.write_all(b"no-account")?,
-        Ok(Reply::Short) => output.write_all(b"short")?,
-        Err(_) => output.write_all(b"failed")?,
+        Some(Reply::Line(text)) => output.write_all(text.items.as_slice())?,
+        Some(Reply::Documents(parts)) => return print_parts(output, parts.items.as_slice()),
+        Some(Reply::NoAccount) => output.write_all(b"no-account")?,
+        Some(Reply::Short) => output.write_all(b"short")?,
+        None => output.write_all(b"failed")?,
     }
     output.write_all(b"\n")
 }

@@ -119,6 +119,21 @@ impl Conversation {
         Ok(steps)
     }
 
+    /// The script that hands in the same, if it is one.
+    pub fn script(&self, alloc: Global) -> Result<Option<String>, RowFault> {
+        let mut script = String::new(alloc);
+        for asked in self.asked.as_slice() {
+            if Step::is_of_its_own(asked.text.as_str()) {
+                return Ok(None);
+            }
+            for _ in 0..asked.times {
+                script.push_str(asked.text.as_str())?;
+                script.push_str("\n")?;
+            }
+        }
+        Ok(Some(script))
+    }
+
     pub fn is_reopened(&self) -> bool {
         self.is_reopened
     }

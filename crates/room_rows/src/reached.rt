@@ -1,9 +1,9 @@
 //! What an event reached: the act, the state of the job that it acts on, and what came of it.
 
 use crate::fault::RowFault;
+use crate::rooms::Rooms;
 use ipp_coding::{List, read_header, read_message};
 use room_core::{Event, Job, JobState, LAST_JOB, Name, Part, Reply, Room, read_ask};
-use room_lines::Rooms;
 use std::alloc::Global;
 
 /// The attribute that has the word of a refusal (RFC 8011 section 4.1.6.2).

@@ -1,10 +1,11 @@
 //! What is printed of the answers to the steps of a conversation.
 
 use crate::fault::Fault;
+use crate::program::{by_program_in_file, by_program_in_memory};
 use crate::tables::{Tables, remove_files};
 use room_core::{CoreFault, LAST_JOB, Name, Reply};
-use room_lines::{Line, Rooms, print_outcomes};
-use room_rows::{Conversation, Step};
+use room_lines::{Line, print_answer};
+use room_rows::{Conversation, Rooms, Step};
 use room_store::StoreFault;
 use sqlite::types::ValueRef;
 use std::alloc::Global;
@@ -15,13 +16,22 @@ pub enum Way {
     Rooms,
     TablesInMemory,
     TablesInFile,
+    ProgramInMemory,
+    ProgramInFile,
 }
 
-pub const WAYS: [Way; 3] = [Way::Rooms, Way::TablesInMemory, Way::TablesInFile];
+pub const WAYS: [Way; 5] = [
+    Way::Rooms,
+    Way::TablesInMemory,
+    Way::TablesInFile,
+    Way::ProgramInMemory,
+    Way::ProgramInFile,
+];
 
 impl Way {
     /// What is printed of the answers, if this way is one of the conversation: rooms can't follow where rows are
-    /// changed by hand, and a file is closed and opened again between any two steps where it says so.
+    /// changed by hand, a file is closed and opened again between any two steps where it says so, and the program is
+    /// given a script.
     pub fn answers(
         self,
         rt: &HostRuntime,
@@ -38,6 +48,14 @@ impl Way {
                 remove_files(rt);
                 Ok(Some(printed))
             }
+            Way::ProgramInMemory => match talk.script(rt.alloc())? {
+                Some(script) => Ok(Some(by_program_in_memory(rt, script.as_str())?)),
+                None => Ok(None),
+            },
+            Way::ProgramInFile => match talk.script(rt.alloc())? {
+                Some(script) => Ok(Some(by_program_in_file(rt, script.as_str())?)),
+                None => Ok(None),
+            },
         }
     }
 
@@ -46,6 +64,8 @@ impl Way {
             Way::Rooms => "rooms",
             Way::TablesInMemory => "tables in memory",
             Way::TablesInFile => "tables in a file",
+            Way::ProgramInMemory => "the program in memory",
+            Way::ProgramInFile => "the program on a file",
         }
     }
 }
@@ -57,7 +77,7 @@ fn by_rooms(alloc: Global, steps: &[Step]) -> Result<String, Fault> {
         match step {
             Step::Event(line) => {
                 let outcome = answered(&mut rooms, line.moment, line);
-                print_outcomes(&mut output, &[outcome])?;
+                print_answer(&mut output, outcome.as_ref().ok())?;
             }
             Step::NextJob { account, number } => skip_to(&mut rooms, *account, *number)?,
             Step::Sql(_) => return Err(Fault::ByHand),
@@ -117,7 +137,8 @@ fn print(output: &mut Vec<u8>, outcome: Result<Reply, StoreFault>) -> Result<(),
         output.extend_from_slice(b"damaged\n")?;
         return Ok(());
     }
-    print_outcomes(output, &[as_of_rooms(outcome)?])?;
+    let outcome = as_of_rooms(outcome)?;
+    print_answer(output, outcome.as_ref().ok())?;
     Ok(())
 }
 

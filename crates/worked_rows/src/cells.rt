@@ -4,16 +4,19 @@
 //! Each step of a list, in the notation of conversations, is one of both accounts, whose name stands for `@`. The
 //! second account comes some steps behind the first, so that the two are in different states. In memory the rows are
 //! looked at after each step, and before each event the same event is refused at a moment that is out of range; in a
-//! file the rows are looked at in the end.
+//! file the rows are looked at in the end. Then the list is given to the store whole, over both; and the steps of the
+//! first account alone, over one database where it is alone and over one where another is beside it.
 //!
 //! A list `NAME.events` has to reach, for both accounts, all that `NAME.reached` names, a name a line.
 
 use crate::answers::{answered, as_of_rooms, set_next_job, skip_to, text};
+use crate::beside::differs_beside;
 use crate::fault::Fault;
 use crate::tables::{Tables, remove_files};
+use crate::whole::Whole;
 use room_core::{CoreFault, LAST_MOMENT, Name};
-use room_lines::{Line, Rooms, print_outcomes};
-use room_rows::{Act, Conversation, Step, difference, print_devices, print_room};
+use room_lines::{Line, print_answer};
+use room_rows::{Act, Conversation, Rooms, Step, difference, print_devices, print_room};
 use room_store::StoreFault;
 use std::alloc::Global;
 use std::collections::BTreeSet;
@@ -23,7 +26,7 @@ use std::{fs, str};
 const ACCOUNTS: [&str; 2] = ["alice", "bob"];
 
 /// How many steps the second account comes behind the first.
-const BEHIND: usize = 5;
+pub const BEHIND: usize = 5;
 
 /// Whether the list holds over memory and over a file, and reaches what it has to. Prints what it reached.
 pub fn hold(rt: &HostRuntime, name: &str) -> Result<bool, Fault> {
@@ -36,6 +39,7 @@ pub fn hold(rt: &HostRuntime, name: &str) -> Result<bool, Fault> {
     let mut in_memory = Trial::new(rt, Tables::in_memory(rt)?, true);
     let mut in_file = Trial::new(rt, Tables::in_file(rt)?, false);
     let holds = in_memory.run(rt, &players)? && in_file.run(rt, &players)?;
+    let holds = holds && holds_whole(rt, &players)?;
     remove_files(rt);
     if !holds {
         return Ok(false);
@@ -48,6 +52,21 @@ pub fn hold(rt: &HostRuntime, name: &str) -> Result<bool, Fault> {
     let due = format!(in rt.alloc(); "{name}.reached")?;
     let due = fs::read_to_string(rt, due.as_str())?;
     in_memory.reaches(rt, due.as_str())
+}
+
+/// Whether the list holds as one that the store is given whole, in memory and in a file, and whether the first account
+/// is told the same, and has the same rows, beside another.
+fn holds_whole(rt: &HostRuntime, players: &[Player; 2]) -> Result<bool, Fault> {
+    let [first, second] = players;
+    let (firsts, seconds) = (first.steps.as_slice(), second.steps.as_slice());
+    let mut differs = Whole::new(rt, Tables::in_memory(rt)?).run(rt, firsts, seconds)?;
+    if differs.is_none() {
+        differs = Whole::new(rt, Tables::in_file(rt)?).run(rt, firsts, seconds)?;
+    }
+    if differs.is_none() {
+        differs = differs_beside(rt, first.account, firsts)?;
+    }
+    print_differing(rt, "the whole list", differs)
 }
 
 /// One of the accounts, and its steps.
@@ -106,7 +125,7 @@ impl Trial {
                 return Ok(false);
             }
         }
-        let differs = self.rows_differ(rt)?;
+        let differs = rows_differ(rt, &mut self.tables, &self.rooms)?;
         print_differing(rt, "the end", differs)
     }
 
@@ -117,7 +136,7 @@ impl Trial {
         };
         let mut differs = self.take(rt, player.account, step)?;
         if differs.is_none() && self.is_close {
-            differs = self.rows_differ(rt)?;
+            differs = rows_differ(rt, &mut self.tables, &self.rooms)?;
         }
         let place = format!(in rt.alloc(); "step {at}")?;
         print_differing(rt, place.as_str(), differs)
@@ -170,8 +189,8 @@ impl Trial {
             }
         }
         let (mut found, mut due) = (Vec::new(rt.alloc()), Vec::new(rt.alloc()));
-        print_outcomes(&mut found, &[by_tables])?;
-        print_outcomes(&mut due, &[by_rooms])?;
+        print_answer(&mut found, by_tables.as_ref().ok())?;
+        print_answer(&mut due, by_rooms.as_ref().ok())?;
         differing(rt.alloc(), text(found)?, text(due)?)
     }
 
@@ -182,19 +201,6 @@ impl Trial {
             self.reached.insert(entry)?;
         }
         Ok(())
-    }
-
-    /// Where the tables hold other rows than those of the rooms and the devices, the first that differs.
-    fn rows_differ(&mut self, rt: &HostRuntime) -> Result<Option<String>, Fault> {
-        let (mut found, mut due) = (Vec::new(rt.alloc()), Vec::new(rt.alloc()));
-        for name in ACCOUNTS {
-            let account = account_of(name)?;
-            self.tables.print_account(account, &mut found)?;
-            print_room(&mut due, account, self.rooms.room(account))?;
-        }
-        self.tables.print_devices(&mut found)?;
-        print_devices(&mut due, self.rooms.devices())?;
-        differing(rt.alloc(), text(found)?, text(due)?)
     }
 
     /// Whether every account reached all that is due. Prints what was reached, and what was not.
@@ -222,8 +228,25 @@ impl Trial {
     }
 }
 
+/// Where the tables hold other rows than those of the rooms and the devices, the first that differs.
+pub fn rows_differ(
+    rt: &HostRuntime,
+    tables: &mut Tables,
+    rooms: &Rooms,
+) -> Result<Option<String>, Fault> {
+    let (mut found, mut due) = (Vec::new(rt.alloc()), Vec::new(rt.alloc()));
+    for name in ACCOUNTS {
+        let account = account_of(name)?;
+        tables.print_account(account, &mut found)?;
+        print_room(&mut due, account, rooms.room(account))?;
+    }
+    tables.print_devices(&mut found)?;
+    print_devices(&mut due, rooms.devices())?;
+    differing(rt.alloc(), text(found)?, text(due)?)
+}
+
 /// Where the texts differ, their first lines that do.
-fn differing(alloc: Global, found: String, due: String) -> Result<Option<String>, Fault> {
+pub fn differing(alloc: Global, found: String, due: String) -> Result<Option<String>, Fault> {
     match difference(found.as_str(), due.as_str()) {
         Some((found, due)) => Ok(Some(format!(in alloc; "\n  found {found}\n  due {due}")?)),
         None => Ok(None),

@@ -1,4 +1,5 @@
 use room_rows::RowFault;
+use room_serve::RunFault;
 use room_store::{OpenFault, StoreFault};
 use std::alloc::{AllocError, AllocFailed};
 use std::io;
@@ -59,6 +60,14 @@ impl From<sqlite::Error> for Fault {
 impl From<RowFault> for Fault {
     fn from(fault: RowFault) -> Fault {
         Fault::Row(fault)
+    }
+}
+
+impl From<RunFault> for Fault {
+    fn from(fault: RunFault) -> Fault {
+        match fault {
+            RunFault::Memory => Fault::Memory,
+        }
     }
 }
 

@@ -6,10 +6,13 @@
 #![tactic(auto)]
 
 mod answers;
+mod beside;
 mod cells;
 mod fault;
+mod program;
 mod rows;
 mod tables;
+mod whole;
 
 use crate::fault::Fault;
 use std::env;

@@ -24,8 +24,8 @@ pub fn hold(rt: &HostRuntime, file: &str) -> Result<bool, Fault> {
     Ok(failing == 0)
 }
 
-/// Whether a row holds: rooms in memory and the shared tables, in memory and where the row says so in a file, each in a
-/// run of its own, answer what the row says. Where one does not, the first line that is another is printed. A row that
+/// Whether a row holds: rooms in memory, the shared tables, in memory and where the row says so in a file, and the program
+/// on a script, in memory and on a file, each in a run of its own, answer what the row says. Where one does not, the first line that is another is printed. A row that
 /// changes tables by hand says nothing of rooms.
 fn holds(rt: &HostRuntime, file: &str, row: &str) -> Result<bool, Fault> {
     let (title, lines) = row.split_once('\n').unwrap_or((row, ""));

@@ -1,17 +1,25 @@
 //! Shared tables in memory or in a file. Each event comes to a store of its own, over the one connection.
 
+ghost use Rattle.std.specs.Prelude.{All, IfOk, IsTrue};
+ghost use Rattle.room_core.specs.Fits.{fits};
+
 use crate::fault::Fault;
-use room_core::{Name, Reply};
+use room_core::{Event, Name, Reply};
 use room_lines::Line;
 use room_rows::print_hex;
+use room_serve::{Outcome, run_events};
 use room_store::{OpenFault, Refused, Store, StoreFault};
 use sqlite::types::ValueRef;
 use sqlite::{Alter, Connection, File, FileStore, MemStore, Row};
+use std::alloc::Global;
 use std::fs;
 use std::io::Write;
 
-/// The files of a database that stands in one. They are made in the current folder, and removed.
-const FILES: [&str; 2] = ["worked_rows.db", "worked_rows.db-wal"];
+/// The file of a database that stands in one. It is made in the current folder, and removed, and so is the log beside
+/// it.
+pub const FILE: &str = "worked_rows.db";
+
+const LOG: &str = "worked_rows.db-wal";
 
 /// The queries of an account's rows, each under the name of its table.
 const OF_ACCOUNT: [(&str, &str); 4] = [
@@ -77,6 +85,15 @@ impl Tables {
         }
     }
 
+    /// What each line's event comes to, the store being given them as one list.
+    pub fn run(&mut self, rt: &HostRuntime, lines: &[&Line]) -> Result<Vec<Outcome>, Fault> {
+        let events = events_of(rt.alloc(), lines)?;
+        match self {
+            Tables::Memory(waiting) => run_over(rt, waiting, events.as_slice()),
+            Tables::File(waiting) => run_over(rt, waiting, events.as_slice()),
+        }
+    }
+
     /// Changes rows by hand.
     pub fn execute(&mut self, sql: &str, values: &[ValueRef<'_>]) -> Result<(), Fault> {
         match self {
@@ -117,15 +134,15 @@ impl Tables {
 
 /// A connection to the file. Where it can't be opened, it is opened once more.
 fn file(rt: &HostRuntime) -> Result<Connection<FileStore<File>>, Fault> {
-    match Connection::open(rt, FILES[0]) {
+    match Connection::open(rt, FILE) {
         Ok(connection) => Ok(connection),
-        Err(_) => Ok(Connection::open(rt, FILES[0])?),
+        Err(_) => Ok(Connection::open(rt, FILE)?),
     }
 }
 
 /// Removes the files, those of them that are there.
 pub fn remove_files(rt: &HostRuntime) {
-    for file in FILES {
+    for file in [FILE, LOG] {
         let _ = fs::remove_file(rt, file);
     }
 }
@@ -155,6 +172,34 @@ fn apply_over<S: Alter + Drop>(
     }
     *waiting = Some(store.close());
     Ok(outcome)
+}
+
+fn events_of<'a>(alloc: Global, lines: &[&'a Line]) -> Result<Vec<(u64, Event<'a>)>, Fault>
+    ensures { IfOk result (λ events. All (λ e. IsTrue (fits e.1)) events.items) }
+{
+    Ok(lines.iter().map(|line| timed(*line)).collect(alloc)?)
+}
+
+fn timed(line: &Line) -> (u64, Event<'_>)
+    ensures { IsTrue (fits result.1) }
+{
+    (line.moment, line.event())
+}
+
+fn run_over<S: Alter + Drop>(
+    rt: &HostRuntime,
+    waiting: &mut Option<Connection<S>>,
+    events: &[(u64, Event<'_>)],
+) -> Result<Vec<Outcome>, Fault>
+    requires { All (λ e. IsTrue (fits e.1)) events.now }
+{
+    let Some(connection) = waiting.take() else {
+        return Err(Fault::Away);
+    };
+    let mut store = opened(connection)?;
+    let outcomes = run_events(rt.alloc(), &mut store, events);
+    *waiting = Some(store.close());
+    Ok(outcomes?)
 }
 
 /// The store over the connection. One that is refused for want of memory is opened once more.

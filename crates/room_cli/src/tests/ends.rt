@@ -37,13 +37,18 @@ impl Read for Endless {
 #[test]
 fn inputs_over_the_limit(rt: HostRuntime) -> Result<(), Fail> {
     for words in ["script :memory:", "station a.db", "grants a.db"] {
-        let found = finish(rt.alloc(), words, Endless, NOW)?;
+        let found = finish(&rt, words, Endless, NOW)?;
         assert!(rt; found.is(2, "", INPUT), "{words:?}: {found:?}");
     }
-    let found = finish(rt.alloc(), "grants a.db", Endless.take(67_108_864), NOW)?;
-    assert!(rt; found.is(3, "", STORE), "{found:?}");
+    // The bytes are those of one line that is none, and one line feed more is too long.
+    let most = Endless.take(67_108_864);
+    let found = finish(&rt, "script :memory:", most, NOW)?;
+    assert!(rt; found.is(2, "", "ipp-room: line 1\n"), "{found:?}");
+    let most = Endless.take(67_108_864);
+    let found = finish(&rt, "grants :memory:", most, NOW)?;
+    assert!(rt; found.is(0, "1 bad\n", ""), "{found:?}");
     let one_more = Endless.take(67_108_864).chain(Failing { good: 1 });
-    let found = finish(rt.alloc(), "grants a.db", one_more, NOW)?;
+    let found = finish(&rt, "script :memory:", one_more, NOW)?;
     assert!(rt; found.is(2, "", INPUT), "{found:?}");
     Ok(())
 }
@@ -52,7 +57,7 @@ fn inputs_over_the_limit(rt: HostRuntime) -> Result<(), Fail> {
 fn readers_that_fail(rt: HostRuntime) -> Result<(), Fail> {
     for words in ["script :memory:", "station :memory:", "grants :memory:"] {
         for good in 0..3 {
-            let found = finish(rt.alloc(), words, Failing { good }, NOW)?;
+            let found = finish(&rt, words, Failing { good }, NOW)?;
             assert!(rt; found.is(4, "", IO), "{words:?}: {found:?}");
         }
     }
@@ -99,7 +104,7 @@ fn writers_that_fail(rt: HostRuntime) -> Result<(), Fail> {
         let mut output = Narrow { room, flushes };
         let mut errors = Vec::new(rt.alloc());
         let words = "script :memory:";
-        let found = status_of(rt.alloc(), words, NOW, input, &mut output, &mut errors)?;
+        let found = status_of(&rt, words, NOW, input, &mut output, &mut errors)?;
         assert_eq!(rt; found, status, "{room}");
         let text = if status == 0 { "" } else { IO };
         assert_eq!(rt; errors.as_slice(), text.as_bytes(), "{room}");
@@ -109,7 +114,7 @@ fn writers_that_fail(rt: HostRuntime) -> Result<(), Fail> {
         flushes: true,
     };
     let mut errors = Vec::new(rt.alloc());
-    let found = status_of(rt.alloc(), "--help", NOW, input, &mut output, &mut errors)?;
+    let found = status_of(&rt, "--help", NOW, input, &mut output, &mut errors)?;
     assert_eq!(rt; found, 4);
     Ok(())
 }
@@ -124,7 +129,7 @@ fn failed_events_come_before_writing(rt: HostRuntime) -> Result<(), Fail> {
     let words = "open :memory: alice";
     let late = Some(4_102_444_800);
     let input = b"".as_slice();
-    let found = status_of(rt.alloc(), words, late, input, &mut output, &mut errors)?;
+    let found = status_of(&rt, words, late, input, &mut output, &mut errors)?;
     assert_eq!(rt; found, 3);
     assert_eq!(rt; errors.as_slice(), STORE.as_bytes());
     Ok(())
@@ -142,7 +147,7 @@ fn standard_error_that_fails(rt: HostRuntime) -> Result<(), Fail> {
     };
     let words = "open :memory: Alice";
     let input = b"".as_slice();
-    let found = status_of(rt.alloc(), words, NOW, input, &mut output, &mut errors)?;
+    let found = status_of(&rt, words, NOW, input, &mut output, &mut errors)?;
     assert_eq!(rt; found, 2);
     Ok(())
 }

@@ -1,0 +1,15 @@
+-- The exit statuses of a run that ends early (this project's own).
+use Rattle.std.specs.Prelude.{ℕ}
+use Rattle.room_commands.specs.declared.fault.Fault.{Fault}
+use Rattle.room_commands.specs.declared.fault.Fault.TheVariants.{Usage, Name, Input, Line, Store, Memory, Io}
+
+-- 1 for usage, 2 for bad input of which nothing was run, 3 for the store and for memory, 4 for reading
+-- and writing
+abbrev pub status_of : Fault → ℕ
+status_of (Usage error) = 1
+status_of Name = 2
+status_of Input = 2
+status_of (Line number) = 2
+status_of Store = 3
+status_of Memory = 3
+status_of Io = 4

@@ -1,0 +1,141 @@
+//! Why a run of the program ends with a status other than 0.
+ghost use Rattle.std.specs.Prelude.{◌≡◌};
+ghost use Rattle.room_commands.specs.Statuses.{status_of};
+
+use room_grants::GrantFault;
+use room_lines::LineFault;
+use room_serve::RunFault;
+use room_store::{OpenFault, StoreFault};
+use room_streams::StreamFault;
+use std::alloc::AllocError;
+use std::io;
+use std::io::{ErrorKind, Write};
+use thiserror::Error;
+
+/// Why the program ends early. Its text is what standard error carries.
+#[derive(Debug, Drop, Error)]
+pub enum Fault {
+    /// The words are no command line of the program. The text is the parser's, its line feed with it.
+    #[error("{0}")]
+    Usage(clap::Error),
+    /// A word in the place of an account or a device is no name.
+    #[error("ipp-room: name")]
+    Name,
+    /// Standard input is longer than its limit.
+    #[error("ipp-room: input")]
+    Input,
+    /// The line of this number, counted from 1, is the first that is no line of its grammar.
+    #[error("ipp-room: line {0}")]
+    Line(usize),
+    /// The database can't be had, or refused an event.
+    #[error("ipp-room: store")]
+    Store,
+    /// Memory ran out.
+    #[error("ipp-room: memory")]
+    Memory,
+    /// Reading or writing failed, or the clock has no moment to give.
+    #[error("ipp-room: io")]
+    Io,
+}
+
+impl Fault {
+    /// The exit status: 1 for usage, 2 for bad input of which nothing was run, 3 for the store and
+    /// for memory, 4 for reading and writing.
+    pub fn status(&self) -> u8
+        ensures { result ≡ status_of self.now }
+    {
+        match self {
+            Fault::Usage(_) => 1,
+            Fault::Name | Fault::Input | Fault::Line(_) => 2,
+            Fault::Store | Fault::Memory => 3,
+            Fault::Io => 4,
+        }
+    }
+
+    /// Writes its text as a line.
+    pub fn report<E: Write>(&self, errors: &mut E) -> io::Result<()> {
+        match self {
+            Fault::Usage(error) => write!(errors, "{error}"),
+            fault => writeln!(errors, "{fault}"),
+        }
+    }
+}
+
+impl From<AllocError> for Fault {
+    fn from(_error: AllocError) -> Fault {
+        Fault::Memory
+    }
+}
+
+impl From<LineFault> for Fault {
+    fn from(fault: LineFault) -> Fault {
+        match fault {
+            LineFault::Line(number) => Fault::Line(number),
+            LineFault::Memory => Fault::Memory,
+        }
+    }
+}
+
+impl From<StreamFault> for Fault {
+    fn from(fault: StreamFault) -> Fault {
+        match fault {
+            StreamFault::Read => Fault::Io,
+            StreamFault::Memory => Fault::Memory,
+            StreamFault::TooLong => Fault::Input,
+        }
+    }
+}
+
+impl From<GrantFault> for Fault {
+    fn from(fault: GrantFault) -> Fault {
+        match fault {
+            GrantFault::Read => Fault::Io,
+            GrantFault::Memory => Fault::Memory,
+            GrantFault::TooMany => Fault::Input,
+        }
+    }
+}
+
+impl From<OpenFault> for Fault {
+    fn from(fault: OpenFault) -> Fault {
+        match fault {
+            OpenFault::Memory => Fault::Memory,
+            OpenFault::NotOurs | OpenFault::WrongVersion(_) | OpenFault::Storage => Fault::Store,
+        }
+    }
+}
+
+impl From<RunFault> for Fault {
+    fn from(fault: RunFault) -> Fault {
+        match fault {
+            RunFault::Memory => Fault::Memory,
+        }
+    }
+}
+
+impl From<StoreFault> for Fault {
+    fn from(fault: StoreFault) -> Fault {
+        match fault {
+            StoreFault::Memory => Fault::Memory,
+            StoreFault::Storage | StoreFault::Moment | StoreFault::Damaged => Fault::Store,
+        }
+    }
+}
+
+impl From<io::Error> for Fault {
+    fn from(error: io::Error) -> Fault {
+        match error.kind() {
+            ErrorKind::OutOfMemory => Fault::Memory,
+            _ => Fault::Io,
+        }
+    }
+}
+
+impl From<clap::Error> for Fault {
+    fn from(error: clap::Error) -> Fault {
+        match error.kind() {
+            clap::error::ErrorKind::OutOfMemory => Fault::Memory,
+            _ => Fault::Usage(error),
+        }
+    }
+}

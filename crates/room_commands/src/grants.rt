@@ -1,0 +1,44 @@
+//! Records of grants as events.
+ghost use Rattle.std.specs.Prelude.{All, IfOk, IfSome, IsTrue};
+ghost use Rattle.room_core.specs.Fits.{fits};
+ghost use Rattle.room_grants.specs.Lines.{IsInRange};
+
+use room_core::Event;
+use room_grants::GrantLine;
+use std::alloc::{AllocError, Global};
+
+/// The good ones at the moment, in order.
+pub fn grants_of(
+    alloc: Global,
+    moment: u64,
+    lines: &[GrantLine],
+) -> Result<Vec<(u64, Event<'_>)>, AllocError>
+    requires { All IsInRange lines.now }
+    ensures fit { IfOk result (λ events. All (λ e. IsTrue (fits e.1)) events.items) }
+{
+    lines
+        .iter()
+        .filter_map(|line| grant_at(moment, line))
+        .collect(alloc)
+}
+
+fn grant_at(moment: u64, line: &GrantLine) -> Option<(u64, Event<'_>)>
+    requires { IsInRange line.now }
+    ensures { IfSome result (λ e. IsTrue (fits e.1)) }
+{
+    match *line {
+        GrantLine::Good {
+            account,
+            month,
+            pages,
+        } => Some((
+            moment,
+            Event::Grant {
+                account,
+                month,
+                pages,
+            },
+        )),
+        GrantLine::Bad(_) => None,
+    }
+}

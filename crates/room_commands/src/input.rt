@@ -1,0 +1,30 @@
+//! What standard input has for a command.
+ghost use Rattle.std.specs.Prelude.{IfOk, All};
+ghost use Rattle.room_grants.specs.Lines.{IsInRange};
+
+use crate::fault::Fault;
+use room_grants::{GrantLine, read_grants};
+use room_lines::{Grammar, Line};
+use room_streams::{Counted, read_whole};
+use std::alloc::Global;
+use std::io::Read;
+
+/// The most bytes that lines may have.
+const MOST_BYTES: usize = 67_108_864;
+
+/// The lines, all of which have to be of the grammar.
+pub fn read_lines<R: Read + Drop>(
+    alloc: Global,
+    input: R,
+    grammar: Grammar,
+) -> Result<Vec<Line>, Fault> {
+    let text = read_whole(alloc, &mut Counted::new(input), MOST_BYTES)?;
+    Ok(grammar.read(alloc, text.as_slice())?)
+}
+
+/// The records of a file of grants, good and bad.
+pub fn read_records<R: Read + Drop>(alloc: Global, input: R) -> Result<Vec<GrantLine>, Fault>
+    ensures ranges { IfOk result (λ lines. All IsInRange lines.items) }
+{
+    Ok(read_grants(alloc, &mut Counted::new(input))?)
+}

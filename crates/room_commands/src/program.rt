@@ -1,0 +1,175 @@
+//! One run of the program, over any reader, any writers and any databases.
+ghost use Rattle.std.specs.Prelude.{IsTrue};
+ghost use Rattle.room_lines.specs.Actions.{is_in_range};
+
+use crate::command::Command;
+use crate::fault::Fault;
+use crate::grants::grants_of;
+use crate::input::{read_lines, read_records};
+use crate::opener::Opener;
+use crate::printing::{print_grants, print_outcomes, print_text};
+use crate::tables::{Begin, first_failure, outcomes_of, prepare};
+use room_lines::{Action, Grammar, Line, events_of};
+use sqlite::{Alter, Connection};
+use std::alloc::Global;
+use std::io;
+use std::io::{Read, Write};
+
+/// Does what the words after the program's name ask for, and answers the exit status. `now` is the
+/// clock's moment in seconds since 1970-01-01T00:00:00Z, or `None` where it has none to give. What is
+/// wrong is found in this order: the words, the names among them, the clock, reading, the input, the
+/// store, writing. Where the status is not 0, `errors` gets the fault's text.
+///
+/// `opener` is asked for the database once nothing else can be wrong, and gets it back before anything is
+/// printed. In `:memory:` each run makes tables of its own. `listen` is not there yet: it is a fault of the
+/// store with nothing run.
+pub fn run<S, F, R, W, E>(
+    alloc: Global,
+    words: &[&str],
+    now: Option<u64>,
+    opener: F,
+    input: R,
+    output: &mut W,
+    errors: &mut E,
+) -> u8
+where
+    S: Alter + Drop,
+    F: Opener<Kept = Connection<S>> + Drop,
+    R: Read + Drop,
+    W: Write,
+    E: Write,
+{
+    match perform(alloc, words, now, opener, input, output) {
+        Ok(()) => 0,
+        Err(fault) => {
+            // The status tells of the fault even where its text can't be written.
+            let _ = fault.report(errors);
+            fault.status()
+        }
+    }
+}
+
+fn perform<S, F, R, W>(
+    alloc: Global,
+    words: &[&str],
+    now: Option<u64>,
+    opener: F,
+    input: R,
+    output: &mut W,
+) -> Result<(), Fault>
+where
+    S: Alter + Drop,
+    F: Opener<Kept = Connection<S>> + Drop,
+    R: Read + Drop,
+    W: Write,
+{
+    match Command::read(alloc, words)? {
+        Command::Help { text } => Ok(print_text(output, text.as_str())?),
+        Command::Create { database } => {
+            prepare(opener, database, Begin::Create)?;
+            Ok(print_text(output, "ok\n")?)
+        }
+        Command::Migrate { database } => {
+            prepare(opener, database, Begin::Migrate)?;
+            Ok(print_text(output, "ok\n")?)
+        }
+        Command::Open { database, account } => {
+            let action = Action::Open { account };
+            run_now(alloc, now, opener, database, action, output)
+        }
+        Command::Device { database, name, on } => {
+            let action = Action::Device { name, on };
+            run_now(alloc, now, opener, database, action, output)
+        }
+        Command::Rate {
+            database,
+            name,
+            units,
+        } => {
+            let action = Action::Rate { name, units };
+            run_now(alloc, now, opener, database, action, output)
+        }
+        Command::Script { database } => {
+            let lines = read_lines(alloc, input, Grammar::Script)?;
+            run_lines(alloc, opener, database, lines.as_slice(), output)
+        }
+        Command::Station { database } => {
+            let moment = now.ok_or(Fault::Io)?;
+            let lines = read_lines(alloc, input, Grammar::Station { moment })?;
+            run_lines(alloc, opener, database, lines.as_slice(), output)
+        }
+        Command::Grants { database } => {
+            let moment = now.ok_or(Fault::Io)?;
+            run_grants(alloc, moment, opener, database, input, output)
+        }
+        Command::Listen { .. } => Err(Fault::Store),
+    }
+}
+
+// One action at the clock's moment.
+fn run_now<S, F, W>(
+    alloc: Global,
+    now: Option<u64>,
+    opener: F,
+    database: &str,
+    action: Action,
+    output: &mut W,
+) -> Result<(), Fault>
+where
+    S: Alter + Drop,
+    F: Opener<Kept = Connection<S>> + Drop,
+    W: Write,
+    requires { IsTrue (is_in_range action) }
+{
+    let moment = now.ok_or(Fault::Io)?;
+    run_lines(alloc, opener, database, &[Line { moment, action }], output)
+}
+
+// Runs all lines and then prints all outcomes.
+fn run_lines<S, F, W>(
+    alloc: Global,
+    opener: F,
+    database: &str,
+    lines: &[Line],
+    output: &mut W,
+) -> Result<(), Fault>
+where
+    S: Alter + Drop,
+    F: Opener<Kept = Connection<S>> + Drop,
+    W: Write,
+{
+    let events = events_of(alloc, lines)?;
+    let outcomes = outcomes_of(alloc, opener, database, events.as_slice())?;
+    let printed = print_outcomes(output, outcomes.as_slice());
+    ended(first_failure(outcomes.as_slice()), printed)
+}
+
+// Runs all good records and then prints what all records came to.
+fn run_grants<S, F, R, W>(
+    alloc: Global,
+    moment: u64,
+    opener: F,
+    database: &str,
+    input: R,
+    output: &mut W,
+) -> Result<(), Fault>
+where
+    S: Alter + Drop,
+    F: Opener<Kept = Connection<S>> + Drop,
+    R: Read + Drop,
+    W: Write,
+{
+    let records = read_records(alloc, input)?;
+    let events = grants_of(alloc, moment, records.as_slice())?;
+    let outcomes = outcomes_of(alloc, opener, database, events.as_slice())?;
+    let printed = print_grants(output, records.as_slice(), outcomes.as_slice());
+    ended(first_failure(outcomes.as_slice()), printed)
+}
+
+// An event that failed comes before a line that could not be written.
+fn ended(failure: Option<Fault>, printed: io::Result<()>) -> Result<(), Fault> {
+    match failure {
+        Some(fault) => Err(fault),
+        None => Ok(printed?),
+    }
+}

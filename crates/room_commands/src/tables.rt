@@ -1,0 +1,75 @@
+//! The tables of a run's database, and the events that come to them.
+ghost use Rattle.std.specs.Prelude.{All, IsTrue};
+ghost use Rattle.room_core.specs.Fits.{fits};
+
+use crate::command::MEMORY;
+use crate::fault::Fault;
+use crate::opener::Opener;
+use room_core::Event;
+use room_serve::{Outcome, run_events};
+use room_store::{Refused, Store};
+use sqlite::{Alter, Connection};
+use std::alloc::Global;
+
+/// How a command comes by the tables. In memory they are made, since no run before can have made them.
+#[derive(Clone, Copy)]
+pub enum Begin {
+    Create,
+    Migrate,
+    Open,
+}
+
+/// Makes the tables, or brings them up to date, and no more.
+pub fn prepare<S: Alter + Drop, F: Opener<Kept = Connection<S>> + Drop>(
+    mut opener: F,
+    database: &str,
+    how: Begin,
+) -> Result<(), Fault> {
+    let store = store_of(&mut opener, database, how)?;
+    opener.close(store.close());
+    Ok(())
+}
+
+/// What each of the events comes to, over tables that are there.
+pub fn outcomes_of<S: Alter + Drop, F: Opener<Kept = Connection<S>> + Drop>(
+    alloc: Global,
+    mut opener: F,
+    database: &str,
+    events: &[(u64, Event<'_>)],
+) -> Result<Vec<Outcome>, Fault>
+    requires { All (λ e. IsTrue (fits e.1)) events.now }
+{
+    let mut store = store_of(&mut opener, database, Begin::Open)?;
+    let outcomes = run_events(alloc, &mut store, events);
+    opener.close(store.close());
+    Ok(outcomes?)
+}
+
+/// The first failed event's fault.
+pub fn first_failure(outcomes: &[Outcome]) -> Option<Fault> {
+    outcomes.iter().find_map(|outcome| match outcome {
+        Outcome::Answered(_) => None,
+        Outcome::Failed(fault) => Some(Fault::from(*fault)),
+    })
+}
+
+fn store_of<S: Alter + Drop, F: Opener<Kept = Connection<S>>>(
+    opener: &mut F,
+    database: &str,
+    how: Begin,
+) -> Result<Store<S>, Fault> {
+    let connection = opener.open(database)?;
+    let store = match how {
+        Begin::Create => Store::create(connection),
+        _ if database == MEMORY => Store::create(connection),
+        Begin::Migrate => Store::migrate(connection),
+        Begin::Open => Store::open(connection),
+    };
+    match store {
+        Ok(store) => Ok(store),
+        Err(Refused { connection, fault }) => {
+            opener.close(connection);
+            Err(Fault::from(fault))
+        }
+    }
+}

@@ -1,0 +1,10 @@
+//! Files of grants: records of comma-separated fields, each of an account, a month and pages.
+#![tactic(auto)]
+
+mod fault;
+mod grants;
+mod line;
+
+pub use fault::GrantFault;
+pub use grants::{MOST_BYTES, MOST_RECORDS, read_grants};
+pub use line::GrantLine;

@@ -1,0 +1,122 @@
+-- Databases that agree, and machines that are given the same.
+use Rattle.std.proofs.Common.{◌≡◌, ℕ, Bool, true, false, cond, List, [], ◌∷◌, map, filter, Option, Some, None, length, refl, sym, ap, subst, ◌∙◌, arith}
+use Rattle.sqlite.specs.Effect.{Database}
+use Rattle.room_core.specs.declared.event.Event.{Event}
+use Rattle.room_core.specs.declared.event.Event.TheVariants as event
+use Rattle.room_rules.specs.Devices.{Devices}
+use Rattle.room_state.specs.Rooms.{RoomValue}
+use Rattle.room_tables.proofs.AgreedRows.{still_holds}
+use Rattle.room_tables.specs.Accounts.{AgreeOnRows, Holds}
+use Rattle.room_tables.specs.Devices.{AgreeOnDevices, HoldsDevices}
+use Rattle.room_serve.specs.declared.outcome.Outcome.{Outcome}
+use Rattle.room_serve.specs.declared.outcome.Outcome.TheVariants.{Answered, Failed}
+use Rattle.room_serve.specs.Own.{Timed, own}
+use Rattle.room_serve.specs.Alone.{Alone, alone, answer_next, answer_on}
+use Rattle.room_serve.specs.Outcomes.{NoneFailed, answered_of, failed_of}
+use Rattle.room_serve.specs.Agreement.{Agree, HaveSameOwn, unplaced, unplaced_at}
+use Rattle.room_serve.specs.Isolation.{AreTheSame, IsRun}
+use Rattle.room_serve.specs.Runs.{IsAlone}
+
+-- ---- databases
+
+pub still_devices : (a b : Database) → AgreeOnDevices a b → (devices : Devices) → HoldsDevices a devices → HoldsDevices b devices
+still_devices a b agree devices holds = record {
+  are_devices = holds.are_devices;
+  device_rows = λ name. agree.same_devices name ∙ holds.device_rows name;
+  rate_rows = λ name. agree.same_rates name ∙ holds.rate_rows name;
+}
+
+pub hold_the_same : (name : List ℕ) (a b : Database) → Agree name a b → (room : Option RoomValue) (devices : Devices) → Holds a name room → HoldsDevices a devices → Holds b name room × HoldsDevices b devices
+hold_the_same name a b agree room devices holds has = (still_holds name a b agree.rows room holds, still_devices a b agree.devices devices has)
+
+agree_on_rows : (name : List ℕ) (a b : Database) (room : Option RoomValue) → Holds a name room → Holds b name room → AgreeOnRows name a b
+agree_on_rows name a b None one other = record {
+  same_account = other.no_account ∙ sym one.no_account;
+  same_jobs = λ number. other.no_job number ∙ sym (one.no_job number);
+  same_documents = λ job number. other.no_document job number ∙ sym (one.no_document job number);
+  same_grants = λ month. other.no_grant month ∙ sym (one.no_grant month);
+}
+agree_on_rows name a b (Some room) one other = record {
+  same_account = other.rows.account_row ∙ sym one.rows.account_row;
+  same_jobs = λ number. other.rows.job_rows number ∙ sym (one.rows.job_rows number);
+  same_documents = λ job number. other.rows.document_rows job number ∙ sym (one.rows.document_rows job number);
+  same_grants = λ month. other.rows.grant_rows month ∙ sym (one.rows.grant_rows month);
+}
+
+pub agree_again : (name : List ℕ) (a b : Database) (room : Option RoomValue) (devices : Devices) → Holds a name room → HoldsDevices a devices → Holds b name room → HoldsDevices b devices → Agree name a b
+agree_again name a b room devices one on other off = record {
+  rows = agree_on_rows name a b room one other;
+  devices = record {
+    same_devices = λ name. off.device_rows name ∙ sym (on.device_rows name);
+    same_rates = λ name. off.rate_rows name ∙ sym (on.rate_rows name);
+  };
+}
+
+-- ---- machines
+
+-- what an event is answered does not depend on where its bytes lie
+placed_anywhere : (so_far : Alone) (now : ℕ) (e : Event) → answer_next so_far (now, unplaced e) ≡ answer_next so_far (now, e)
+placed_anywhere so_far now e = by_room so_far.room e
+  where
+    by_room : (room : Option RoomValue) (e : Event) → answer_next (record { replies = so_far.replies; room = room; devices = so_far.devices }) (now, unplaced e) ≡ answer_next (record { replies = so_far.replies; room = room; devices = so_far.devices }) (now, e)
+    by_room room (event.Open account) = refl
+    by_room None (event.Ipp account body) = refl
+    by_room (Some room) (event.Ipp account body) = refl
+    by_room None (event.Release device account job password impressions) = refl
+    by_room (Some room) (event.Release device account job password impressions) = refl
+    by_room room (event.Start device account job) = refl
+    by_room room (event.Settle device account job impressions failed) = refl
+    by_room room (event.Grant account month pages) = refl
+    by_room room (event.Device name on) = refl
+    by_room room (event.Rate name units) = refl
+
+unplaced_alike : (so_far : Alone) (events : List Timed) → answer_on so_far (map unplaced_at events) ≡ answer_on so_far events
+unplaced_alike so_far [] = refl
+unplaced_alike so_far (e ∷ events) = ap (λ s. answer_on s (map unplaced_at events)) (placed_anywhere so_far e.0 e.1) ∙ unplaced_alike (answer_next so_far e) events
+
+pub same_alone : (name : List ℕ) (first second : List Timed) → HaveSameOwn name first second → (room : Option RoomValue) (devices : Devices) → alone room devices (own name first) ≡ alone room devices (own name second)
+same_alone name first second same room devices =
+    let start : Alone = record { replies = []; room = room; devices = devices } in
+    sym (unplaced_alike start (own name first)) ∙ ap (answer_on start) same ∙ unplaced_alike start (own name second)
+
+-- ---- lists of which nothing of the account's failed
+
+shorter : {X Y : Type 0} (x : X) (xs : List X) (y : Y) (ys : List Y) → length (x ∷ xs) ≡ length (y ∷ ys) → length xs ≡ length ys
+shorter x xs y ys same = omega (arith, same)
+
+kept : (p : Timed → Bool) (x : Timed) (xs ys : List Timed) → filter p xs ≡ filter p ys → filter p (x ∷ xs) ≡ filter p (x ∷ ys)
+kept p x xs ys same = elim (p x) as (λ b. cond b (x ∷ filter p xs) (filter p xs) ≡ cond b (x ∷ filter p ys) (filter p ys)) [ true ↦ ap (λ l. x ∷ l) same | false ↦ same ]
+
+-- what is not picked is not missed
+dropped : (p : Timed → Bool) (x : Timed) (xs : List Timed) → filter p (x ∷ xs) ≡ [] → (filter p xs ≡ []) × ((ys : List Timed) → filter p ys ≡ filter p (x ∷ ys))
+dropped p x xs none = by (p x) none
+  where
+    by : (b : Bool) → cond b (x ∷ filter p xs) (filter p xs) ≡ [] → (filter p xs ≡ []) × ((ys : List Timed) → filter p ys ≡ cond b (x ∷ filter p ys) (filter p ys))
+    by true is = let no : ⊥ = cc in absurd no
+    by false is = (is, λ ys. refl)
+
+pub all_answered : (name : List ℕ) (events : List Timed) (outcomes : List Outcome) → length outcomes ≡ length events → NoneFailed name events outcomes → own name (answered_of events outcomes) ≡ own name events
+all_answered name [] outcomes same none = refl
+all_answered name (e ∷ events) [] same none = let no : ⊥ = cc in absurd no
+all_answered name (e ∷ events) (Answered reply ∷ outcomes) same none = kept _ e _ events (all_answered name events outcomes (shorter (Answered reply) outcomes e events same) none)
+all_answered name (e ∷ events) (Failed fault ∷ outcomes) same none =
+    let without = dropped _ e (failed_of events outcomes) none in
+    all_answered name events outcomes (shorter (Failed fault) outcomes e events same) without.0 ∙ without.1 events
+
+-- ---- the headline
+
+module _ (first second : List Timed) (firsts seconds : List Outcome) (a b a_new b_new : Database) (a_open b_open : Bool) where
+  pub isolates : IsRun first firsts a a_open a_new → IsRun second seconds b b_open b_new
+      → (name : List ℕ) → ((room : Option RoomValue) × Holds a name room) → ((devices : Devices) × HoldsDevices a devices) → Agree name a b → HaveSameOwn name first second
+      → NoneFailed name first firsts → NoneFailed name second seconds
+      → AreTheSame name first second firsts seconds a_open b_open a_new b_new
+  isolates one other name sound devices agree same none none_either =
+      let there = hold_the_same name a b agree sound.0 devices.0 sound.1 devices.1 in
+      let machine = alone sound.0 devices.0 (own name first) in
+      let ones = subst (λ l. IsAlone first firsts a a_open a_new name (alone sound.0 devices.0 l)) (all_answered name first firsts one.each none) (one.alone name sound.0 devices.0 sound.1 devices.1) in
+      let others = subst (λ l. IsAlone second seconds b b_open b_new name (alone sound.0 devices.0 l)) (all_answered name second seconds other.each none_either) (other.alone name sound.0 devices.0 there.0 there.1) in
+      let alike = subst (λ m. IsAlone second seconds b b_open b_new name m) (sym (same_alone name first second same sound.0 devices.0)) others in
+      record {
+        replies = ones.replies ∙ sym alike.replies;
+        agree = λ a_is b_is. agree_again name a_new b_new machine.room machine.devices (ones.rows a_is) (ones.devices a_is) (alike.rows b_is) (alike.devices b_is);
+      }

@@ -1,0 +1,4 @@
+pub mod Whose
+pub mod Grown
+pub mod RunLemmas
+pub mod Agreed

@@ -1,0 +1,53 @@
+-- One account's machine by itself, and the devices by themselves, from left to right (all this project's own).
+use Rattle.std.specs.Prelude.{List, [], ◌∷◌, ◌++◌, Option, if◌then◌else◌}
+use Rattle.room_core.specs.DeviceEvents.{device_answered}
+use Rattle.room_core.specs.Machine.{answered}
+use Rattle.room_core.specs.declared.event.Reply.{Reply}
+use Rattle.room_rules.specs.Devices.{Devices}
+use Rattle.room_state.specs.Rooms.{RoomValue}
+use Rattle.room_serve.specs.Own.{Timed, is_of_device}
+
+-- ---- an account
+
+-- what it was told, and the room and the devices that there are then
+pub record Alone : Type 0 where
+  pub replies : List Reply
+  pub room : Option RoomValue
+  pub devices : Devices
+
+-- an event of a device changes the devices, any other is answered to the account
+abbrev pub answer_next : Alone → Timed → Alone
+answer_next so_far e =
+    if is_of_device e.1 then record { replies = so_far.replies; room = so_far.room; devices = (device_answered so_far.devices e.1).devices }
+    else record {
+      replies = so_far.replies ++ (answered so_far.room so_far.devices e.0 e.1).reply ∷ [];
+      room = (answered so_far.room so_far.devices e.0 e.1).room;
+      devices = so_far.devices;
+    }
+
+abbrev pub answer_on : Alone → List Timed → Alone
+answer_on so_far [] = so_far
+answer_on so_far (e ∷ events) = answer_on (answer_next so_far e) events
+
+abbrev pub alone : Option RoomValue → Devices → List Timed → Alone
+alone room devices events = answer_on (record { replies = []; room = room; devices = devices }) events
+
+-- ---- the devices
+
+-- what was answered to their events, and what devices there are then
+pub record DevicesAlone : Type 0 where
+  pub replies : List Reply
+  pub devices : Devices
+
+abbrev pub change_next : DevicesAlone → Timed → DevicesAlone
+change_next so_far e = record {
+  replies = so_far.replies ++ (device_answered so_far.devices e.1).reply ∷ [];
+  devices = (device_answered so_far.devices e.1).devices;
+}
+
+abbrev pub change_on : DevicesAlone → List Timed → DevicesAlone
+change_on so_far [] = so_far
+change_on so_far (e ∷ events) = change_on (change_next so_far e) events
+
+abbrev pub devices_alone : Devices → List Timed → DevicesAlone
+devices_alone devices events = change_on (record { replies = []; devices = devices }) events

@@ -1,0 +1,6 @@
+pub mod Own
+pub mod Alone
+pub mod Outcomes
+pub mod Runs
+pub mod Agreement
+pub mod Isolation

@@ -1,0 +1,34 @@
+-- Which events of a list were answered, which failed, and what was answered (all this project's own).
+use Rattle.std.specs.Prelude.{◌≡◌, ℕ, Bool, List, [], ◌∷◌, Result, Ok, Err, if◌then◌else◌}
+use Rattle.room_core.specs.declared.event.Event.{Event}
+use Rattle.room_core.specs.declared.event.Reply.{Reply}
+use Rattle.room_store.specs.declared.fault.StoreFault.{StoreFault}
+use Rattle.room_serve.specs.declared.outcome.Outcome.{Outcome}
+use Rattle.room_serve.specs.declared.outcome.Outcome.TheVariants.{Answered, Failed}
+use Rattle.room_serve.specs.Own.{Timed, own}
+
+abbrev pub outcome_of : Result Reply StoreFault → Outcome
+outcome_of (Ok reply) = Answered reply
+outcome_of (Err fault) = Failed fault
+
+-- the events that were answered, in order
+abbrev pub answered_of : List Timed → List Outcome → List Timed
+answered_of (e ∷ events) (Answered reply ∷ outcomes) = e ∷ answered_of events outcomes
+answered_of (e ∷ events) (Failed fault ∷ outcomes) = answered_of events outcomes
+answered_of _ _ = []
+
+-- those that failed
+abbrev pub failed_of : List Timed → List Outcome → List Timed
+failed_of (e ∷ events) (Answered reply ∷ outcomes) = failed_of events outcomes
+failed_of (e ∷ events) (Failed fault ∷ outcomes) = e ∷ failed_of events outcomes
+failed_of _ _ = []
+
+-- what was answered to the events of a kind, in order
+abbrev pub replies_to : (Event → Bool) → List Timed → List Outcome → List Reply
+replies_to kind (e ∷ events) (Answered reply ∷ outcomes) = if kind e.1 then reply ∷ replies_to kind events outcomes else replies_to kind events outcomes
+replies_to kind (e ∷ events) (Failed fault ∷ outcomes) = replies_to kind events outcomes
+replies_to kind _ _ = []
+
+-- of the account's own events and those of devices, none failed
+abbrev pub NoneFailed : List ℕ → List Timed → List Outcome → Type 0
+NoneFailed name events outcomes = own name (failed_of events outcomes) ≡ []

@@ -1,0 +1,34 @@
+ghost use Rattle.std.specs.Prelude.{◌≡◌};
+ghost use Rattle.room_serve.specs.Outcomes.{outcome_of};
+
+use room_core::Reply;
+use room_store::StoreFault;
+
+/// What an event of a list came to.
+#[derive(Debug, Drop)]
+pub enum Outcome {
+    Answered(Reply),
+    /// It could not be answered, and changed nothing.
+    Failed(StoreFault),
+}
+
+impl Outcome {
+    /// What was answered, if it was.
+    pub fn reply(&self) -> Option<&Reply> {
+        match self {
+            Outcome::Answered(reply) => Some(reply),
+            Outcome::Failed(_) => None,
+        }
+    }
+}
+
+impl From<Result<Reply, StoreFault>> for Outcome {
+    ghost from_gives = { λ answer outcome. outcome ≡ outcome_of answer };
+
+    fn from(answer: Result<Reply, StoreFault>) -> Outcome {
+        match answer {
+            Ok(reply) => Outcome::Answered(reply),
+            Err(fault) => Outcome::Failed(fault),
+        }
+    }
+}

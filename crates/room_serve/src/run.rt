@@ -1,0 +1,49 @@
+//! A list of events, one after another.
+ghost use Rattle.std.specs.Prelude.{◌≡◌, ◌++◌, ◌∷◌, [], ◌<◌, ◌≤◌, length, All, IfOk, OnErr, IsTrue};
+ghost use Rattle.std.specs.Vec.{vec_capacity, vec_len};
+ghost use Rattle.sqlite.specs.Held.{state};
+ghost use Rattle.room_core.specs.Fits.{fits};
+ghost use Rattle.room_tables.specs.Calls.{Goes, OfStore};
+ghost use Rattle.room_tables.specs.Keyed.{HasSchema};
+ghost use Rattle.room_serve.specs.Runs.{RunsAlone, RunsDevices};
+
+use crate::fault::RunFault;
+use crate::outcome::Outcome;
+use room_core::Event;
+use room_store::Store;
+use sqlite::Alter;
+use std::alloc::Global;
+
+/// Answers the events in order, each at its moment in seconds from 1970, and tells what each came to. An event
+/// that fails changes nothing, and those after it are answered all the same.
+///
+/// `Memory` where there is no room for all outcomes, which is asked for before the first event.
+pub fn run_events<S: Alter>(
+    alloc: Global,
+    store: &mut Store<S>,
+    events: &[(u64, Event<'_>)],
+) -> Result<Vec<Outcome>, RunFault>
+    requires fit { All (λ e. IsTrue (fits e.1)) events.now }
+    ensures each { IfOk result (λ outcomes. length outcomes.items ≡ length events.now) }
+    ensures alone { OfStore S.Store store.old store.new (λ db. IfOk result (λ outcomes. RunsAlone events.now outcomes.items db (state S.Store store.new).is_open (state S.Store store.new).now)) }
+    ensures devices { OfStore S.Store store.old store.new (λ db. IfOk result (λ outcomes. RunsDevices events.now outcomes.items db (state S.Store store.new).is_open (state S.Store store.new).now)) }
+    ensures schema { OfStore S.Store store.old store.new (λ db. IsTrue (state S.Store store.new).is_open → HasSchema (state S.Store store.new).now) }
+    ensures unchanged { OnErr result (store.new ≡ store.old) }
+    ensures goes { Goes (state S.Store store.old) (state S.Store store.new) }
+{
+    let mut outcomes = Vec::with_capacity(alloc, events.len())?;
+    for (now, event) in events {
+        let answer = store.apply(alloc, *now, event);
+        keep(&mut outcomes, Outcome::from(answer));
+    }
+    Ok(outcomes)
+}
+
+/// Adds an outcome for which there is room.
+fn keep(outcomes: &mut Vec<Outcome>, outcome: Outcome)
+    requires room { vec_len outcomes.old < vec_capacity outcomes.old }
+    ensures kept { outcomes.new.items ≡ outcomes.old.items ++ outcome ∷ [] }
+    ensures capacity { vec_capacity outcomes.old ≤ vec_capacity outcomes.new }
+{
+    outcomes.push(outcome).unwrap();
+}

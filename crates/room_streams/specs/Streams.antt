@@ -1,0 +1,36 @@
+-- What a call of a source takes of the bytes that may be left in it.
+use Rattle.std.specs.Prelude.{◌≡◌, ℕ, Bool, true, false, List, [], ◌++◌, Option, Some, None, Result, Ok, Err, ⊤, refl}
+use Rattle.room_streams.specs.declared.fault.StreamFault.{StreamFault}
+use Rattle.room_streams.specs.declared.fault.StreamFault.TheVariants.{Read, Memory, TooLong}
+
+-- the bytes came first of what was left before, and what is left now came behind them
+abbrev pub Yields : (List ℕ → Type 0) → (List ℕ → Type 0) → List ℕ → Type 0
+Yields before after bytes = (rest : List ℕ) → after rest → before (bytes ++ rest)
+
+-- nothing is left
+abbrev pub IsSpent : (List ℕ → Type 0) → Type 0
+IsSpent left = (rest : List ℕ) → left rest → rest ≡ []
+
+-- what may be left in a reader whose bytes may be known, and which may have told its end
+abbrev pub MayBeLeft : Option (List ℕ) → Bool → List ℕ → Type 0
+MayBeLeft known true rest = rest ≡ []
+MayBeLeft None false rest = ⊤
+MayBeLeft (Some bytes) false rest = rest ≡ bytes
+
+-- something may be left in each reader
+pub some_left_of : (known : Option (List ℕ)) (ended : Bool) → (rest : List ℕ) × MayBeLeft known ended rest
+some_left_of known true = ([], refl)
+some_left_of None false = ([], tt)
+some_left_of (Some bytes) false = (bytes, refl)
+
+-- 1 of a call that failed, by whatever error
+abbrev pub failed_reads : {A E : Type 0} → Result A E → ℕ
+failed_reads (Ok count) = 0
+failed_reads (Err error) = 1
+
+-- the calls of the source that failed in a call that ended so: one where it tells of reading, else none
+abbrev pub read_faults : {A : Type 0} → Result A StreamFault → ℕ
+read_faults (Ok bytes) = 0
+read_faults (Err Read) = 1
+read_faults (Err Memory) = 0
+read_faults (Err TooLong) = 0

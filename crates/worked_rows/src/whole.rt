@@ -1,0 +1,92 @@
+//! A list of events of both accounts that is given to the store whole, from one change by hand to the next.
+
+use crate::answers::{answered, set_next_job, skip_to, text};
+use crate::cells::{BEHIND, differing, rows_differ};
+use crate::fault::Fault;
+use crate::tables::Tables;
+use room_lines::{Line, print_answer};
+use room_rows::{Rooms, Step};
+use room_serve::Outcome;
+use room_store::StoreFault;
+
+/// The rooms and the shared tables, and the lines that neither was given yet.
+#[derive(Drop)]
+pub struct Whole<'a> {
+    rooms: Rooms,
+    tables: Tables,
+    waiting: Vec<&'a Line>,
+}
+
+impl<'a> Whole<'a> {
+    pub fn new(rt: &HostRuntime, tables: Tables) -> Whole<'a> {
+        Whole {
+            rooms: Rooms::new(rt.alloc()),
+            tables,
+            waiting: Vec::new(rt.alloc()),
+        }
+    }
+
+    /// Where the tables answer another than the rooms, or hold other rows in the end, what is found and what is due.
+    /// The steps come in turns, those of the second account behind.
+    pub fn run(
+        mut self,
+        rt: &HostRuntime,
+        firsts: &'a [Step],
+        seconds: &'a [Step],
+    ) -> Result<Option<String>, Fault> {
+        for at in 0..firsts.len().saturating_add(BEHIND) {
+            let mut differs = self.take(rt, firsts.get(at))?;
+            if differs.is_none() && BEHIND <= at {
+                differs = self.take(rt, seconds.get(at - BEHIND))?;
+            }
+            if differs.is_some() {
+                return Ok(differs);
+            }
+        }
+        match self.give(rt)? {
+            Some(differs) => Ok(Some(differs)),
+            None => self.rows_differ(rt),
+        }
+    }
+
+    fn rows_differ(&mut self, rt: &HostRuntime) -> Result<Option<String>, Fault> {
+        rows_differ(rt, &mut self.tables, &self.rooms)
+    }
+
+    fn take(&mut self, rt: &HostRuntime, step: Option<&'a Step>) -> Result<Option<String>, Fault> {
+        match step {
+            None => Ok(None),
+            Some(Step::Event(line)) => {
+                self.waiting.push(line)?;
+                Ok(None)
+            }
+            Some(Step::NextJob { account, number }) => {
+                let differs = self.give(rt)?;
+                skip_to(&mut self.rooms, *account, *number)?;
+                set_next_job(&mut self.tables, *account, *number)?;
+                Ok(differs)
+            }
+            Some(Step::Sql(_)) => Err(Fault::ByHand),
+        }
+    }
+
+    /// Gives the lines that wait to the store as one list, and to the rooms one by one. An event that failed for want
+    /// of memory changed nothing, so the rooms are not given it.
+    fn give(&mut self, rt: &HostRuntime) -> Result<Option<String>, Fault> {
+        let (mut found, mut due) = (Vec::new(rt.alloc()), Vec::new(rt.alloc()));
+        let outcomes = self.tables.run(rt, self.waiting.as_slice())?;
+        for (line, outcome) in self.waiting.iter().zip(outcomes.iter()) {
+            match outcome {
+                Outcome::Answered(reply) => {
+                    print_answer(&mut found, Some(reply))?;
+                    let by_rooms = answered(&mut self.rooms, line.moment, line);
+                    print_answer(&mut due, by_rooms.as_ref().ok())?;
+                }
+                Outcome::Failed(StoreFault::Memory) => {}
+                Outcome::Failed(fault) => return Err(Fault::Tables(*fault)),
+            }
+        }
+        self.waiting = Vec::new(rt.alloc());
+        differing(rt.alloc(), text(found)?, text(due)?)
+    }
+}
