@@ -2,3 +2,5 @@ pub mod Whose
 pub mod Grown
 pub mod RunLemmas
 pub mod Agreed
+pub mod Applying
+pub mod Exchanging

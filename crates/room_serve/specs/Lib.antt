@@ -4,3 +4,5 @@ pub mod Outcomes
 pub mod Runs
 pub mod Agreement
 pub mod Isolation
+pub mod Wires
+pub mod Exchanges

@@ -1,13 +1,18 @@
 //! Lists of events of many accounts over one store, and what each account may rely on whatever the others
-//! ask.
+//! ask; and messages of HTTP, each one event.
 #![tactic(auto)]
 
+mod exchange;
 mod fault;
 mod laws;
 mod outcome;
 mod run;
+mod wire;
 
+pub use exchange::serve_one;
 pub use fault::RunFault;
 pub use laws::{agreement, isolation};
 pub use outcome::Outcome;
+pub use room_http::WireFault;
 pub use run::run_events;
+pub use wire::{After, Wire};

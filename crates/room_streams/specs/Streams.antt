@@ -1,5 +1,5 @@
--- What a call of a source takes of the bytes that may be left in it.
-use Rattle.std.specs.Prelude.{◌≡◌, ℕ, Bool, true, false, List, [], ◌++◌, Option, Some, None, Result, Ok, Err, ⊤, refl}
+-- What a call of a source takes of the bytes that may be left in it, and a call of a sink of what it is handed.
+use Rattle.std.specs.Prelude.{◌≡◌, ◌==◌, ◌&&◌, ℕ, Bool, true, false, if◌then◌else◌, nat_lt, List, [], ◌++◌, length, Option, Some, None, Result, Ok, Err, ⊤, refl}
 use Rattle.room_streams.specs.declared.fault.StreamFault.{StreamFault}
 use Rattle.room_streams.specs.declared.fault.StreamFault.TheVariants.{Read, Memory, TooLong}
 
@@ -27,6 +27,11 @@ some_left_of (Some bytes) false = (bytes, refl)
 abbrev pub failed_reads : {A E : Type 0} → Result A E → ℕ
 failed_reads (Ok count) = 0
 failed_reads (Err error) = 1
+
+-- 1 of a write that failed, by whatever error, or that took nothing of a piece that is not empty
+abbrev pub failed_writes : {E : Type 0} → Result ℕ E → List ℕ → ℕ
+failed_writes (Ok count) piece = if count == 0 && nat_lt 0 (length piece) then 1 else 0
+failed_writes (Err error) piece = 1
 
 -- the calls of the source that failed in a call that ended so: one where it tells of reading, else none
 abbrev pub read_faults : {A : Type 0} → Result A StreamFault → ℕ

@@ -1,11 +1,13 @@
 ghost use Rattle.std.specs.Prelude.{◌≡◌, ◌+◌, ◌-◌, ◌^◌, ◌<◌, ◌≤◌, ℕ, List, [], false, IfOk, OnErr, length, take};
+ghost use Rattle.std.specs.Io.KnownBytes.{WriteAppends};
 
+use crate::sink::Sink;
 use crate::source::Source;
 use std::io;
-use std::io::Read;
+use std::io::{Read, Write};
 
-/// A reader of std with a count of the calls of it that failed. Once it has told its end it is not called
-/// again.
+/// A reader or a writer of std with a count of the calls of it that failed. A reader that has told its end is
+/// not called again.
 #[derive(Drop)]
 pub struct Counted<R> {
     inner: R,
@@ -61,5 +63,23 @@ impl<R: Read> Source for Counted<R> {
             Err(_) => self.failures += 1,
         }
         result
+    }
+}
+
+impl<W: Write> Sink for Counted<W> {
+    ghost use Rattle.room_streams.specs.Counts.{failures_of, inner_of};
+
+    ghost given = { λ s. W.contents (inner_of s) };
+
+    ghost failures = { failures_of };
+
+    fn write(&mut self, piece: &[u8]) -> io::Result<usize> {
+        match self.inner.write(piece) {
+            Ok(count) if count > 0 || piece.is_empty() => Ok(count),
+            failed => {
+                self.failures += 1;
+                failed
+            }
+        }
     }
 }

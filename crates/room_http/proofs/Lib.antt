@@ -1,0 +1,11 @@
+pub mod Streams
+pub mod Completing
+pub mod Heads
+pub mod Parts
+pub mod LineEnds
+pub mod Lines
+pub mod Sections
+pub mod ChunkSteps
+pub mod Spelling
+pub mod Joining
+pub mod Openings

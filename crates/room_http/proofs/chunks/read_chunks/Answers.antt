@@ -1,0 +1,74 @@
+use Rattle.std.proofs.Common.{◌≡◌, ◌+◌, ◌<◌, ◌≤◌, ◌++◌, [], ◌∷◌, length, rules, arith}
+use Rattle.httparse.specs.Ascii.{crlf_bytes}
+use Rattle.httparse.specs.Grammar.{chunk_size, print_chunk_line}
+use Rattle.room_http.specs.Chunks.{Chunk, IsNoChunk, IsTooLongWith, has_no_line}
+use Rattle.room_http.proofs.ChunkSteps.{chunk_cut, chunk_not_ended, chunk_taken, chunk_too_long, longer_by, one_more, takes_behind}
+use Rattle.room_http.proofs.Streams.{Yields_more}
+use Rattle.room_http.proofs.chunks.read_chunks.Goals as goal
+
+pub returns-in-Invalid-clause-is : goal.returns-in-Invalid-clause-is
+returns-in-Invalid-clause-is g c =
+    let left = g.R.Source.left in
+    let so_far = c.chunks.invariant in
+    let line = rw c.in-Invalid.is at c.in_ok-read_size_line.ensures.is in
+    takes_behind (left c.args.reader.now) (left c.chunks.reader) (left c.read_size_line.new.reader) so_far.0 so_far.1 c.chunks.body.items (λ body behind. IsNoChunk behind) so_far.2 so_far.4 so_far.3
+    (line.0, line.1, λ rest h. has_no_line (line.2 rest h))
+
+pub returns-then-size-len-clause-is : goal.returns-then-size-len-clause-is
+returns-then-size-len-clause-is g c =
+    let left = g.R.Source.left in
+    let so_far = c.chunks.invariant in
+    let body = c.chunks.body.items in
+    let line = rw c.in-Size.is at c.in_ok-read_size_line.ensures.is in
+    let told : c.in-Size.size ≡ chunk_size line.0 = line.3 in
+    let large : 16842752 < length body + c.in-Size.size = search rules in
+    takes_behind (left c.args.reader.now) (left c.chunks.reader) (left c.read_size_line.new.reader) so_far.0 so_far.1 body (λ body behind. IsTooLongWith (length body) behind) so_far.2 so_far.4 so_far.3
+    (chunk_too_long (left c.chunks.reader) (left c.read_size_line.new.reader) (length body) line.0 line.1 line.2 (omega (arith, told, large)))
+
+pub returns-then-not-branch-clause-is : goal.returns-then-not-branch-clause-is
+returns-then-not-branch-clause-is g c =
+    let left = g.R.Source.left in
+    let so_far = c.chunks.invariant in
+    let line = rw c.in-Size.is at c.in_ok-read_size_line.ensures.is in
+    let bulk = rw c.if-not-branch.true at c.in_ok-read_into-in-Size.ensures.is in
+    let told : c.in-Size.size ≡ chunk_size line.0 = line.3 in
+    takes_behind (left c.args.reader.now) (left c.chunks.reader) (left c.read_into.new.reader) so_far.0 so_far.1 c.chunks.body.items (λ body behind. IsNoChunk behind) so_far.2 so_far.4 so_far.3
+    (chunk_cut (left c.chunks.reader) (left c.read_size_line.new.reader) (left c.read_into.new.reader) line.0 bulk.0 line.1 line.2 bulk.3 bulk.4 (omega (arith, told, bulk.1)))
+
+pub returns-then-not-branch-2-clause-is : goal.returns-then-not-branch-2-clause-is
+returns-then-not-branch-2-clause-is g c =
+    let left = g.R.Source.left in
+    let so_far = c.chunks.invariant in
+    let line = rw c.in-Size.is at c.in_ok-read_size_line.ensures.is in
+    let bulk = rw c.if-not-branch.false at c.in_ok-read_into-in-Size.ensures.is in
+    let end = rw c.if-not-branch-2.true at c.in_ok-read_line_end-in-Size.ensures.is in
+    let told : c.in-Size.size ≡ chunk_size line.0 = line.3 in
+    let some : 0 < chunk_size line.0 = omega (arith, c.in-Size.size-test.1, told) in
+    takes_behind (left c.args.reader.now) (left c.chunks.reader) (left c.read_line_end.new.reader) so_far.0 so_far.1 c.chunks.body.items (λ body behind. IsNoChunk behind) so_far.2 so_far.4 so_far.3
+    (chunk_not_ended (left c.chunks.reader) (left c.read_size_line.new.reader) (left c.read_into.new.reader) (left c.read_line_end.new.reader) line.0 bulk.0 line.1 some (omega (arith, told, bulk.1)) line.2 bulk.3 end)
+
+pub chunks-preserved : goal.chunks-preserved
+chunks-preserved g c =
+    let left = g.R.Source.left in
+    let so_far = c.chunks.invariant in
+    let body = c.chunks.body.items in
+    let line = rw c.in-Size.is at c.in_ok-read_size_line.ensures.is in
+    let bulk = rw c.if-not-branch.false at c.in_ok-read_into-in-Size.ensures.is in
+    let end = rw c.if-not-branch-2.false at c.in_ok-read_line_end-in-Size.ensures.is in
+    let chunk : Chunk = record { line = line.0; bytes = bulk.0 } in
+    let text = print_chunk_line line.0 ++ bulk.0 ++ crlf_bytes in
+    let told : c.in-Size.size ≡ chunk_size line.0 = line.3 in
+    let size : length bulk.0 ≡ c.in-Size.size = bulk.1 in
+    let sized : chunk_size line.0 ≡ length bulk.0 = omega (arith, told, size) in
+    let some : 0 < length bulk.0 = omega (arith, c.in-Size.size-test.1, size) in
+    let longer : length c.read_into.new.body.items ≡ length body + length bulk.0 = longer_by body c.read_into.new.body.items bulk.0 bulk.2 in
+    let fits : length c.read_into.new.body.items ≤ 16842752 = search rules in
+    let count : g.R.Source.failures c.read_line_end.new.reader ≡ g.R.Source.failures c.args.reader.now = search rules in
+    let taken = chunk_taken (left c.chunks.reader) (left c.read_size_line.new.reader) (left c.read_into.new.reader) (left c.read_line_end.new.reader) line.0 bulk.0 line.2 bulk.3 end in (
+      so_far.0 ++ chunk ∷ [],
+      so_far.1 ++ text,
+      rw bulk.2 (one_more so_far.0 so_far.1 body line.0 bulk.0 so_far.2 line.1 sized some),
+      Yields_more (left c.args.reader.now) (left c.chunks.reader) (left c.read_line_end.new.reader) so_far.1 text so_far.3 taken,
+      fits,
+      count,
+    )

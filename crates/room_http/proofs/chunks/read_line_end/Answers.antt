@@ -1,0 +1,31 @@
+use Rattle.std.proofs.Common.{◌≡◌, ℕ, List, [], ◌∷◌, get_or, drop, ap}
+use Rattle.room_http.proofs.Streams.{Yields_more}
+use Rattle.room_http.proofs.chunks.read_line_end.Goals as goal
+
+pub returns-then-first-ne13-clause-is : goal.returns-then-first-ne13-clause-is
+returns-then-first-ne13-clause-is g c =
+    (c.in-Some.first ∷ [], rw c.in-Some.is at c.in_ok-first.ensures.took, λ rest h after e. c.if-first-ne13.true (ap (λ (s : List ℕ). get_or s 0 0) e))
+
+pub returns-in_default-2-clause-is : goal.returns-in_default-2-clause-is
+returns-in_default-2-clause-is g c =
+    let left = g.R.Source.left in
+    let one = rw c.in-Some.is at c.in_ok-first.ensures.took in
+    let two = rw c.in_default-2.is at c.in_ok-second.ensures.took in
+    let end = rw c.in_default-2.is at c.in_ok-second.ensures.end in (
+      c.in-Some.first ∷ [],
+      Yields_more (left c.args.reader.now) (left c.read_byte.new.reader) (left c.read_byte-2.new.reader) (c.in-Some.first ∷ []) [] one two,
+      λ rest h after e.
+          let none : rest ≡ [] = end rest h in
+          let some : rest ≡ 10 ∷ after = ap (λ (s : List ℕ). drop 1 s) e in
+          cc,
+    )
+
+pub returns-then-second-ne10-clause-is : goal.returns-then-second-ne10-clause-is
+returns-then-second-ne10-clause-is g c =
+    let left = g.R.Source.left in
+    let one = rw c.in-Some.is at c.in_ok-first.ensures.took in
+    let two = rw c.in-Some-2.is at c.in_ok-second.ensures.took in (
+      c.in-Some.first ∷ c.in-Some-2.second ∷ [],
+      Yields_more (left c.args.reader.now) (left c.read_byte.new.reader) (left c.read_byte-2.new.reader) (c.in-Some.first ∷ []) (c.in-Some-2.second ∷ []) one two,
+      λ rest h after e. c.if-second-ne10.true (ap (λ (s : List ℕ). get_or s 1 0) e),
+    )

@@ -1,0 +1,53 @@
+-- What a call takes of an input, and writes.
+use Rattle.std.specs.Prelude.{◌≡◌, ℕ, ◌<◌, ◌≤◌, ⊤, Bool, true, List, ◌++◌, length, take, Option, Result, Ok, Err}
+use Rattle.std.specs.Io.KnownBytes.{Appends}
+use Rattle.room_streams.specs.Streams.{Yields}
+use Rattle.room_http.specs.Http.{Http, Nothing, Refused, Carried}
+use Rattle.room_http.specs.Texts.{interim_text}
+use Rattle.room_http.specs.declared.fault.WireFault.{WireFault}
+use Rattle.room_http.specs.declared.fault.WireFault.TheVariants.{Read, Write, Memory, Ended}
+use Rattle.room_http.specs.declared.receiving.Received.{Received}
+use Rattle.room_http.specs.declared.receiving.Received.TheVariants as received
+
+-- the calls of the source that failed in a call that ended so
+abbrev pub read_faults : {A : Type 0} → Result A WireFault → ℕ
+read_faults (Ok value) = 0
+read_faults (Err Read) = 1
+read_faults (Err Write) = 0
+read_faults (Err Memory) = 0
+read_faults (Err Ended) = 0
+
+-- the calls of the sink that failed
+abbrev pub write_faults : {A : Type 0} → Result A WireFault → ℕ
+write_faults (Ok value) = 0
+write_faults (Err Read) = 0
+write_faults (Err Write) = 1
+write_faults (Err Memory) = 0
+write_faults (Err Ended) = 0
+
+-- a front of the text was written that is not all of it
+abbrev pub AppendsFront : Option (List ℕ) → Option (List ℕ) → List ℕ → Type 0
+AppendsFront old new text = (n : ℕ) × (n < length text) × Appends old new (take n text)
+
+-- Some bytes were taken, and with what is left now behind them this holds.
+abbrev pub Takes : (List ℕ → Type 0) → (List ℕ → Type 0) → (List ℕ → List ℕ → Type 0) → Type 0
+Takes before after P = (taken : List ℕ) × Yields before after taken × ((rest : List ℕ) → after rest → P (taken ++ rest) rest)
+
+-- what was received, by what the whole input is, and what was written
+abbrev pub ReceivedIs : (List ℕ → Type 0) → (List ℕ → Type 0) → Option (List ℕ) → Option (List ℕ) → Received → Type 0
+ReceivedIs before after old new received.Nothing = Takes before after (λ b rest. Http b Nothing) × (new ≡ old)
+ReceivedIs before after old new (received.Refused why) = (interim : Bool) × Takes before after (λ b rest. Http b (Refused interim why)) × Appends old new (interim_text interim)
+ReceivedIs before after old new (received.Carried order body) = Takes before after (λ b rest. Http b (Carried order body.items rest)) × Appends old new (interim_text order.expects)
+
+-- what is written where there was a fault: nothing or the 100 text, or a front of it
+abbrev pub FailedReceiving : Option (List ℕ) → Option (List ℕ) → WireFault → Type 0
+FailedReceiving old new Read = (interim : Bool) × Appends old new (interim_text interim)
+FailedReceiving old new Memory = (interim : Bool) × Appends old new (interim_text interim)
+FailedReceiving old new Write = AppendsFront old new (interim_text true)
+FailedReceiving old new Ended = ⊥
+
+-- a message of IPP has a header
+abbrev pub HasHeader : Received → Type 0
+HasHeader received.Nothing = ⊤
+HasHeader (received.Refused why) = ⊤
+HasHeader (received.Carried order body) = 8 ≤ length body.items

@@ -1,0 +1,13 @@
+pub mod Kinds
+pub mod Words
+pub mod Fields
+pub mod Framing
+pub mod Judging
+pub mod Texts
+pub mod Heads
+pub mod Chunks
+pub mod Trailers
+pub mod Bodies
+pub mod Http
+pub mod Exchange
+pub mod Reading

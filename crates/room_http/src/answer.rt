@@ -1,0 +1,84 @@
+//! The texts of answers, in memory of a fixed size.
+ghost use Rattle.std.specs.Prelude.{◌≡◌, ◌+◌, ◌++◌, ◌≤◌, [], length, unwrap_or};
+ghost use Rattle.http.specs.StatusCode.{reason_phrase};
+ghost use Rattle.arrayvec.specs.ArrayVec.{array_vec_len};
+ghost use Rattle.room_http.specs.Texts.{allowed, answer_head, refusal_text, status_line};
+
+use crate::refusal::Refusal;
+use arrayvec::ArrayVec;
+use http::StatusCode;
+use itoa::Buffer;
+
+/// Adds bytes that there is room for.
+pub(crate) fn put<const N: usize>(text: &mut ArrayVec<u8, N>, bytes: &[u8])
+    requires { array_vec_len text.old + length bytes.now ≤ N }
+    ensures items { text.new.items ≡ text.old.items ++ bytes.now }
+    ensures len { array_vec_len text.new ≡ array_vec_len text.old + length bytes.now }
+{
+    let _ = text.try_extend_from_slice(bytes);
+}
+
+/// Adds a status line (RFC 9112 section 4).
+fn put_status<const N: usize>(text: &mut ArrayVec<u8, N>, status: StatusCode)
+    requires room { array_vec_len text.old + 64 ≤ N }
+    requires short { length (unwrap_or (reason_phrase status) []) ≤ 31 }
+    ensures items { text.new.items ≡ text.old.items ++ status_line status }
+    ensures len { array_vec_len text.new ≤ array_vec_len text.old + 64 }
+{
+    put(text, b"HTTP/1.1 ");
+    put(text, status.as_str().as_bytes());
+    put(text, b" ");
+    put(text, phrase_of(status).as_bytes());
+    put(text, b"\r\n");
+}
+
+/// The phrase that goes with a status.
+fn phrase_of(status: StatusCode) -> &'static str
+    ensures { result.now ≡ unwrap_or (reason_phrase status) [] }
+{
+    match status.canonical_reason() {
+        Some(phrase) => phrase,
+        None => "",
+    }
+}
+
+/// The answer to what is refused, which ends the connection. For the method it names the one that there is (RFC
+/// 9110 section 15.5.6).
+pub fn refusal_text(refusal: Refusal) -> ArrayVec<u8, 256>
+    ensures { result.items ≡ refusal_text refusal }
+{
+    let mut text = ArrayVec::new();
+    put_status(&mut text, refusal.status());
+    put(&mut text, b"Content-Length: 0\r\nConnection: close\r\n");
+    put(&mut text, allowed(refusal));
+    put(&mut text, b"\r\n");
+    text
+}
+
+/// The field that names the method that there is.
+fn allowed(refusal: Refusal) -> &'static [u8]
+    ensures value { result.now ≡ allowed refusal }
+    ensures short { length result.now ≤ 13 }
+{
+    match refusal {
+        Refusal::MethodNotAllowed => b"Allow: POST\r\n",
+        _ => b"",
+    }
+}
+
+/// Adds the head of an answer of so many bytes, which tells where the connection ends with it.
+pub fn put_answer_head<const N: usize>(text: &mut ArrayVec<u8, N>, size: usize, closes: bool)
+    requires { array_vec_len text.old + 256 ≤ N }
+    ensures items { text.new.items ≡ text.old.items ++ answer_head size closes }
+    ensures len { array_vec_len text.new ≤ array_vec_len text.old + 256 }
+{
+    let mut digits = Buffer::new();
+    put_status(text, StatusCode::OK);
+    put(text, b"Content-Type: application/ipp\r\nContent-Length: ");
+    put(text, digits.format(size).as_bytes());
+    put(text, b"\r\n");
+    if closes {
+        put(text, b"Connection: close\r\n");
+    }
+    put(text, b"\r\n");
+}

@@ -1,0 +1,186 @@
+//! What a head is refused for, or what it orders.
+ghost use Rattle.std.specs.Prelude.{◌≡◌, ◌≤◌, IfOk, bytes_eq, codes, length, map};
+ghost use Rattle.std.specs.List.{list_any};
+ghost use Rattle.room_http.specs.Fields.{plain_field, values_named};
+ghost use Rattle.room_http.specs.Judging.{FitsLimit, account_of, closes, expects, is_close, is_expectation, is_ipp, is_ipp_type, is_job_part, is_too_long, judged, queue_in, said};
+
+use crate::digits::are_digits;
+use crate::fields::{Field, Found, find_field};
+use crate::framing::{BODY_LIMIT, Framing, framing_of};
+use crate::refusal::Refusal;
+use crate::words::{before, is_same_word, lists, without_margin};
+use room_rules::Name;
+
+const QUEUES: &[u8] = b"/ipp/print/";
+
+/// The head of a request.
+#[derive(Clone, Copy, Debug)]
+pub struct Request<'a> {
+    pub method: &'a [u8],
+    pub target: &'a [u8],
+    /// Of its version, HTTP/1.0 or HTTP/1.1.
+    pub minor: u8,
+    pub fields: &'a [Field<'a>],
+}
+
+/// What a head that is not refused orders.
+#[derive(Clone, Copy, Debug)]
+pub struct Order {
+    /// Whose queue the message is for.
+    pub account: Name,
+    /// Where its body ends.
+    pub framing: Framing,
+    /// Whether the client waits for `100 Continue` before it sends the body.
+    pub expects: bool,
+    /// Whether the connection ends with the answer.
+    pub closes: bool,
+}
+
+/// What the head orders, or the first refusal that applies: `BadRequest` where its fields do not frame a body,
+/// `MethodNotAllowed`, `NotFound` for a path of no queue, `UnsupportedMediaType`, `PayloadTooLarge` for a
+/// Content-Length past `BODY_LIMIT`.
+#[tactic(auto, unfolding(crate::specs::Judging::judged))]
+pub fn judge(request: &Request<'_>) -> Result<Order, Refusal>
+    ensures value { result ≡ judged (said request.now) }
+    ensures fits { IfOk result (λ order. FitsLimit order.framing) }
+{
+    let Some(framing) = framing_of(request.fields) else {
+        return Err(Refusal::BadRequest);
+    };
+    if !is_post(request.method) {
+        return Err(Refusal::MethodNotAllowed);
+    }
+    let Some(account) = account_of(request.target) else {
+        return Err(Refusal::NotFound);
+    };
+    if !is_ipp(request.fields) {
+        return Err(Refusal::UnsupportedMediaType);
+    }
+    if framing.is_too_long() {
+        return Err(Refusal::PayloadTooLarge);
+    }
+    Ok(Order {
+        account,
+        framing,
+        expects: request.expects(),
+        closes: request.closes(),
+    })
+}
+
+/// Whether the method is POST, which is compared with case (RFC 9110 section 9.1).
+pub fn is_post(method: &[u8]) -> bool
+    ensures { result ≡ bytes_eq method.now (codes "POST") }
+{
+    method == b"POST".as_slice()
+}
+
+/// The account whose queue the target is: `/ipp/print/NAME`, or `/ipp/print/NAME/` and 1 to 6 digits, up to the
+/// first `?`. None for any other. Nothing is percent-decoded.
+pub fn account_of(target: &[u8]) -> Option<Name>
+    ensures { result ≡ account_of target.now }
+{
+    let path = before(b'?', target);
+    if path.starts_with(QUEUES) {
+        queue_in(&path[QUEUES.len()..])
+    } else {
+        None
+    }
+}
+
+/// The name at the front of what stands behind `/ipp/print/`.
+fn queue_in(rest: &[u8]) -> Option<Name>
+    ensures { result ≡ queue_in rest.now }
+{
+    let name = before(b'/', rest);
+    if is_job_part(&rest[name.len()..]) {
+        Name::read(name)
+    } else {
+        None
+    }
+}
+
+/// Whether this may stand behind the name of a queue: nothing, or `/` and 1 to 6 digits.
+fn is_job_part(part: &[u8]) -> bool
+    ensures { result ≡ is_job_part part.now }
+{
+    match part {
+        [] => true,
+        [_, digits @ ..] => !digits.is_empty() && digits.len() <= 6 && are_digits(digits),
+    }
+}
+
+/// Whether the first Content-Type is `application/ipp`, whatever stands behind a `;`.
+fn is_ipp(fields: &[Field<'_>]) -> bool
+    ensures { result ≡ is_ipp (values_named (codes "content-type") (map plain_field fields.now)) }
+{
+    match find_field(fields, b"content-type") {
+        Found::Absent => false,
+        Found::One(value) => is_ipp_type(value),
+        Found::Many(first) => is_ipp_type(first),
+    }
+}
+
+/// Whether a value of Content-Type is `application/ipp`, whatever stands behind a `;` (RFC 9110 section 8.3.1).
+pub fn is_ipp_type(value: &[u8]) -> bool
+    ensures { result ≡ is_ipp_type value.now }
+{
+    is_same_word(
+        without_margin(b" ", before(b';', value)),
+        b"application/ipp",
+    )
+}
+
+impl Framing {
+    /// Whether it tells of more bytes than a body may have.
+    fn is_too_long(self) -> bool
+        ensures { result ≡ is_too_long self }
+    {
+        match self {
+            Framing::Length(size) => size > BODY_LIMIT as u64,
+            Framing::Chunked => false,
+        }
+    }
+}
+
+impl Request<'_> {
+    /// Whether a client of HTTP/1.1 waits for `100 Continue` (RFC 9110 section 10.1.1).
+    fn expects(&self) -> bool
+        ensures { result ≡ expects (said self.now) }
+    {
+        self.minor == 1 && has_expectation(self.fields)
+    }
+
+    /// Whether the connection ends with the answer: after HTTP/1.0, and where the client says so (RFC 9112
+    /// section 9.6).
+    fn closes(&self) -> bool
+        ensures { result ≡ closes (said self.now) }
+    {
+        self.minor == 0 || has_close(self.fields)
+    }
+}
+
+fn has_expectation(fields: &[Field<'_>]) -> bool
+    ensures { result ≡ list_any (λ field. is_expectation (plain_field field)) fields.now }
+{
+    fields.iter().any(|field| field.is_expectation())
+}
+
+fn has_close(fields: &[Field<'_>]) -> bool
+    ensures { result ≡ list_any (λ field. is_close (plain_field field)) fields.now }
+{
+    fields.iter().any(|field| field.is_close())
+}
+
+impl Field<'_> {
+    fn is_expectation(&self) -> bool
+        ensures { result ≡ is_expectation (plain_field self.now) }
+    {
+        self.is_named(b"expect") && is_same_word(self.value, b"100-continue")
+    }
+
+    fn is_close(&self) -> bool
+        ensures { result ≡ is_close (plain_field self.now) }
+    {
+        self.is_named(b"connection") && lists(b"close", self.value)
+    }
+}

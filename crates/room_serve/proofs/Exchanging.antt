@@ -1,0 +1,40 @@
+-- An answer behind what was written before it.
+use Rattle.std.proofs.Common.{◌≡◌, ℕ, List, take, Option, Result, Ok, Err, IfOk, IfErr, OnErr, sym, subst}
+use Rattle.std.specs.Io.KnownBytes.{Appends}
+use Rattle.sqlite.specs.Held.{Held}
+use Rattle.sqlite_trees.specs.declared.store.Store.{Ghosts}
+use Rattle.room_core.specs.declared.event.Reply.{Reply}
+use Rattle.room_http.specs.Exchange.{AppendsFront, Takes}
+use Rattle.room_http.specs.Http.{Http, Carried}
+use Rattle.room_http.specs.Texts.{interim_text}
+use Rattle.room_http.specs.declared.fault.WireFault.{WireFault}
+use Rattle.room_http.specs.declared.fault.WireFault.TheVariants.{Write}
+use Rattle.room_http.specs.declared.judging.Order.{Order}
+use Rattle.room_http.proofs.Streams.{Appends_more}
+use Rattle.room_store.specs.declared.fault.StoreFault.{StoreFault}
+use Rattle.room_serve.specs.Exchanges.{Answers, Applies, AppendsBehind, Breaks, after_telling, has_carried, in_answer, text_told}
+use Rattle.room_serve.specs.declared.wire.After.{After}
+
+-- a front of a text, behind another text
+pub behind : (a b c : Option (List ℕ)) (first text : List ℕ) → Appends a b first → AppendsFront b c text → AppendsBehind a c first text
+behind a b c first text all part = (part.0, part.1, Appends_more a b c first (take part.0 text) all part.2)
+
+module _ {S : Type 0} (store : Ghosts S) (now : ℕ) (before after : List ℕ → Type 0) (a b c : Option (List ℕ)) (old new : Held S) (order : Order) (body : List ℕ) where
+  abbrev pub Message : Type 0
+  Message = Takes before after (λ text rest. Http text (Carried order body rest))
+
+  abbrev pub Told : After → Type 0
+  Told next = (told : Result Reply StoreFault) × Applies store now order.account body old new told × Appends b c (text_told body order.closes told) × (next ≡ after_telling order.closes told)
+
+  abbrev pub ToldInPart : Type 0
+  ToldInPart = (told : Result Reply StoreFault) × Applies store now order.account body old new told × AppendsFront b c (text_told body order.closes told)
+
+  pub answered : (result : Result After WireFault) → Message → Appends a b (interim_text order.expects) → IfOk result Told → IfOk result (Answers store now before after a c old new)
+  answered (Ok next) message interim told =
+      subst (Answers store now before after a c old new) (sym told.3) (has_carried order body told.0 message told.1 (Appends_more a b c (interim_text order.expects) (text_told body order.closes told.0) interim told.2))
+  answered (Err fault) message interim told = tt
+
+  pub broke : (result : Result After WireFault) → Message → Appends a b (interim_text order.expects) → OnErr result ToldInPart → IfErr result (λ fault. fault ≡ Write) → IfErr result (Breaks store now before after a c old new)
+  broke (Ok next) message interim told is = tt
+  broke (Err fault) message interim told is =
+      subst (Breaks store now before after a c old new) (sym is) (in_answer order body told.0 message told.1 (behind a b c (interim_text order.expects) (text_told body order.closes told.0) interim told.2))

@@ -1,0 +1,13 @@
+-- A connection, as contracts see it.
+use Rattle.std.specs.Prelude.{Bool}
+use Rattle.room_serve.specs.declared.wire.Wire.{Wire}
+
+abbrev pub reader_of : {R W : Type 0} → Wire R W → R
+reader_of wire = wire.reader
+
+abbrev pub writer_of : {R W : Type 0} → Wire R W → W
+writer_of wire = wire.writer
+
+-- after Close, or any fault
+abbrev pub has_ended : {R W : Type 0} → Wire R W → Bool
+has_ended wire = wire.has_ended
