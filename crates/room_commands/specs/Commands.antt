@@ -14,4 +14,4 @@ is_rated_in_range (command.Rate database name units) = nat_le 1 units && nat_le 
 is_rated_in_range (command.Grants database) = true
 is_rated_in_range (command.Station database) = true
 is_rated_in_range (command.Script database) = true
-is_rated_in_range (command.Listen database port connections) = true
+is_rated_in_range (command.Listen listening) = true

@@ -16,6 +16,8 @@ pub const MEMORY: &str = ":memory:";
 
 const SWITCHES: [&str; 2] = ["on", "off"];
 
+const LISTEN: &str = "listen";
+
 const LAST_PORT: u32 = 65_535;
 
 const MOST_CONNECTIONS: u32 = 1_000_000;
@@ -64,12 +66,30 @@ pub enum Command<'a> {
     Script {
         database: &'a str,
     },
-    /// Serves so many connections, at most 1000000, on a port from 1 on.
-    Listen {
-        database: &'a str,
-        port: u32,
-        connections: u32,
-    },
+    /// Serves connections.
+    Listen(Listening<'a>),
+}
+
+/// The command `listen`: so many connections, at most 1000000, one after another on a port of 127.0.0.1, which is
+/// not 0.
+#[derive(Clone, Copy, Debug)]
+pub struct Listening<'a> {
+    pub database: &'a str,
+    pub port: u16,
+    pub connections: u32,
+}
+
+impl<'a> Listening<'a> {
+    /// What the words after the program's name ask for, or `None` where they are another command, or ask for help.
+    pub fn read(alloc: Global, words: &'a [&'a str]) -> Result<Option<Listening<'a>>, Fault> {
+        if words.first() != Some(&LISTEN) {
+            return Ok(None);
+        }
+        match Command::read(alloc, words)? {
+            Command::Listen(listen) => Ok(Some(listen)),
+            _ => Ok(None),
+        }
+    }
 }
 
 // Why words that the parser let through are no command line all the same.
@@ -147,11 +167,11 @@ fn of_matches<'a>(matches: &ArgMatches<'a>) -> Result<Command<'a>, Unfit>
         "grants" => Ok(Command::Grants { database }),
         "station" => Ok(Command::Station { database }),
         "script" => Ok(Command::Script { database }),
-        "listen" => Ok(Command::Listen {
+        LISTEN => Ok(Command::Listen(Listening {
             database,
-            port: number(words, "PORT", 1, LAST_PORT, Unfit::Port)?,
+            port: port(words)?,
             connections: number(words, "COUNT", 0, MOST_CONNECTIONS, Unfit::Count)?,
-        }),
+        })),
         _ => Err(Unfit::Missing),
     }
 }
@@ -162,6 +182,11 @@ fn word<'a>(words: &ArgMatches<'a>, id: &str) -> Result<&'a str, Unfit> {
 
 fn name(words: &ArgMatches<'_>, id: &str) -> Result<Name, Unfit> {
     Name::read(word(words, id)?.as_bytes()).ok_or(Unfit::Name)
+}
+
+fn port(words: &ArgMatches<'_>) -> Result<u16, Unfit> {
+    let port = number(words, "PORT", 1, LAST_PORT, Unfit::Port)?;
+    u16::try_from(port).map_err(|_| Unfit::Port)
 }
 
 fn number(
@@ -211,9 +236,10 @@ fn rate<'a>(alloc: Global) -> Result<clap::Command<'a>, AllocError> {
 }
 
 fn listen<'a>(alloc: Global) -> Result<clap::Command<'a>, AllocError> {
-    on_database(alloc, "listen", "Serves connections on 127.0.0.1")?
+    let count = "How many connections are served before it ends, 0 to 1000000";
+    on_database(alloc, LISTEN, "Serves connections on 127.0.0.1")?
         .arg(required(alloc, "PORT").help("1 to 65535"))?
-        .arg(required(alloc, "COUNT").help("0 to 1000000"))
+        .arg(required(alloc, "COUNT").help(count))
 }
 
 fn on_database<'a>(

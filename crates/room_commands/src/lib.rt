@@ -11,8 +11,9 @@ mod printing;
 mod program;
 mod tables;
 
-pub use command::MEMORY;
+pub use command::{Listening, MEMORY};
 pub use database::{InFile, InMemory, run_on};
 pub use fault::Fault;
 pub use opener::Opener;
 pub use program::run;
+pub use tables::{Begin, store_of};

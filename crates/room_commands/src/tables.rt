@@ -53,7 +53,9 @@ pub fn first_failure(outcomes: &[Outcome]) -> Option<Fault> {
     })
 }
 
-fn store_of<S: Alter + Drop, F: Opener<Kept = Connection<S>>>(
+/// The store that a command works on. The tables of `:memory:` are made whatever `how` says; after a refusal the
+/// opener has its connection back.
+pub fn store_of<S: Alter + Drop, F: Opener<Kept = Connection<S>>>(
     opener: &mut F,
     database: &str,
     how: Begin,

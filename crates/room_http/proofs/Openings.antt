@@ -5,7 +5,7 @@ use Rattle.httparse.specs.Grammar.{RequestHead, print_request, HasNoRequest}
 use Rattle.httparse.specs.Spans.{IsRequestAt, header_bytes, name_and_value}
 use Rattle.httparse.specs.declared.spans.HeaderSpan.{HeaderSpan}
 use Rattle.httparse.specs.declared.spans.RequestSpans.{RequestSpans}
-use Rattle.room_http.specs.Exchange.{Takes}
+use Rattle.room_http.specs.Exchange.{Takes, TakesHead}
 use Rattle.room_http.specs.Http.{Orders}
 use Rattle.room_http.specs.declared.judging.Order.{Order}
 use Rattle.room_http.proofs.Streams.{Yields_more}
@@ -29,11 +29,11 @@ pub is_cut_at : (text rest : List ℕ) → rest ≡ [] → text ≢ [] → lengt
 is_cut_at text rest end some short none = subst IsNoHead (sym (ap (λ r. text ++ r) end ∙ append-nil text)) (is_cut some short none)
 
 -- what was read behind a head
-pub behind_head : (a b c : List ℕ → Type 0) (order : Order) (Q H : List ℕ → List ℕ → Type 0) → Takes a b (λ text rest. Orders text order rest) → Takes b c Q
+pub behind_head : (a b c : List ℕ → Type 0) (order : Order) (Q H : List ℕ → List ℕ → Type 0) → TakesHead a b order → Takes b c Q
     → ((whole behind rest : List ℕ) → Orders whole order behind → Q behind rest → H whole rest) → Takes a c H
 behind_head a b c order Q H first second join = (
-  first.0 ++ second.0,
-  Yields_more a b c first.0 second.0 first.1 second.1,
-  λ rest left. subst (λ (text : List ℕ). H text rest) (sym (append_assoc first.0 second.0 rest))
-      (join (first.0 ++ (second.0 ++ rest)) (second.0 ++ rest) rest (first.2 (second.0 ++ rest) (second.1 rest left)) (second.2 rest left)),
+  first.taken ++ second.0,
+  Yields_more a b c first.taken second.0 first.yields second.1,
+  λ rest left. subst (λ (text : List ℕ). H text rest) (sym (append_assoc first.taken second.0 rest))
+      (join (first.taken ++ (second.0 ++ rest)) (second.0 ++ rest) rest (first.orders (second.0 ++ rest)) (second.2 rest left)),
 )

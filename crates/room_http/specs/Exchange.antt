@@ -2,10 +2,11 @@
 use Rattle.std.specs.Prelude.{◌≡◌, ℕ, ◌<◌, ◌≤◌, ⊤, Bool, true, List, ◌++◌, length, take, Option, Result, Ok, Err}
 use Rattle.std.specs.Io.KnownBytes.{Appends}
 use Rattle.room_streams.specs.Streams.{Yields}
-use Rattle.room_http.specs.Http.{Http, Nothing, Refused, Carried}
+use Rattle.room_http.specs.Http.{Http, Nothing, Orders, Refused, Carried}
 use Rattle.room_http.specs.Texts.{interim_text}
 use Rattle.room_http.specs.declared.fault.WireFault.{WireFault}
 use Rattle.room_http.specs.declared.fault.WireFault.TheVariants.{Read, Write, Memory, Ended}
+use Rattle.room_http.specs.declared.judging.Order.{Order}
 use Rattle.room_http.specs.declared.receiving.Received.{Received}
 use Rattle.room_http.specs.declared.receiving.Received.TheVariants as received
 
@@ -33,18 +34,25 @@ AppendsFront old new text = (n : ℕ) × (n < length text) × Appends old new (t
 abbrev pub Takes : (List ℕ → Type 0) → (List ℕ → Type 0) → (List ℕ → List ℕ → Type 0) → Type 0
 Takes before after P = (taken : List ℕ) × Yields before after taken × ((rest : List ℕ) → after rest → P (taken ++ rest) rest)
 
+-- A head that orders this was taken, and nothing behind it.
+pub record TakesHead (before after : List ℕ → Type 0) (order : Order) : Type 0 where
+  pub taken : List ℕ
+  pub yields : Yields before after taken
+  pub orders : (rest : List ℕ) → Orders (taken ++ rest) order rest
+
 -- what was received, by what the whole input is, and what was written
 abbrev pub ReceivedIs : (List ℕ → Type 0) → (List ℕ → Type 0) → Option (List ℕ) → Option (List ℕ) → Received → Type 0
 ReceivedIs before after old new received.Nothing = Takes before after (λ b rest. Http b Nothing) × (new ≡ old)
 ReceivedIs before after old new (received.Refused why) = (interim : Bool) × Takes before after (λ b rest. Http b (Refused interim why)) × Appends old new (interim_text interim)
 ReceivedIs before after old new (received.Carried order body) = Takes before after (λ b rest. Http b (Carried order body.items rest)) × Appends old new (interim_text order.expects)
 
--- what is written where there was a fault: nothing or the 100 text, or a front of it
-abbrev pub FailedReceiving : Option (List ℕ) → Option (List ℕ) → WireFault → Type 0
-FailedReceiving old new Read = (interim : Bool) × Appends old new (interim_text interim)
-FailedReceiving old new Memory = (interim : Bool) × Appends old new (interim_text interim)
-FailedReceiving old new Write = AppendsFront old new (interim_text true)
-FailedReceiving old new Ended = ⊥
+-- what is written where there was a fault: nothing or the 100 text, or a front of it, before anything behind the head
+-- was taken
+abbrev pub FailedReceiving : (List ℕ → Type 0) → (List ℕ → Type 0) → Option (List ℕ) → Option (List ℕ) → WireFault → Type 0
+FailedReceiving before after old new Read = (interim : Bool) × Appends old new (interim_text interim)
+FailedReceiving before after old new Memory = (interim : Bool) × Appends old new (interim_text interim)
+FailedReceiving before after old new Write = (order : Order) × TakesHead before after order × (order.expects ≡ true) × AppendsFront old new (interim_text true)
+FailedReceiving before after old new Ended = ⊥
 
 -- a message of IPP has a header
 abbrev pub HasHeader : Received → Type 0

@@ -7,8 +7,8 @@ use Rattle.httparse.specs.declared.spans.HeaderSpan.{HeaderSpan}
 use Rattle.room_streams.specs.Streams.{IsSpent, Yields}
 use Rattle.room_http.specs.Bodies.{HasBody, IsNoBody, IsTooLongBody, HasBehindChunks}
 use Rattle.room_http.specs.Chunks.{AreChunks, Chunk, HasNoLineEnd, HasNoSizeLine, IsLast, IsNoChunk, IsSizeLine}
-use Rattle.room_http.specs.Exchange.{Takes}
-use Rattle.room_http.specs.Http.{Http, Nothing, Orders, Refused}
+use Rattle.room_http.specs.Exchange.{Takes, TakesHead}
+use Rattle.room_http.specs.Http.{Http, Nothing, Refused}
 use Rattle.room_http.specs.Judging.{FitsLimit}
 use Rattle.room_http.specs.Trailers.{AreTrailers, HasNoTrailers, Section, print_trailers}
 use Rattle.room_http.specs.declared.body.Body.{Body}
@@ -89,4 +89,4 @@ BodyIs framing before after body_is.TooLong = (framing ≡ framing_is.Chunked) �
 abbrev pub OpeningIs : (List ℕ → Type 0) → (List ℕ → Type 0) → Opening → Type 0
 OpeningIs before after opening_is.Nothing = Takes before after (λ b rest. Http b Nothing)
 OpeningIs before after (opening_is.Refused why) = Takes before after (λ b rest. Http b (Refused false why))
-OpeningIs before after (opening_is.Ordered order) = Takes before after (λ b rest. Orders b order rest) × FitsLimit order.framing
+OpeningIs before after (opening_is.Ordered order) = TakesHead before after order × FitsLimit order.framing

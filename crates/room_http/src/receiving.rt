@@ -47,7 +47,8 @@ pub(crate) enum Opening {
 /// Reads one message and no byte behind it. Where its client waits for the 100 text, that is written between
 /// head and body.
 ///
-/// `Read`, `Write` or `Memory` where that failed; nothing but the 100 text, or a front of it, was written then.
+/// `Read`, `Write` or `Memory` where that failed; nothing but the 100 text, or a front of it, was written then. Where
+/// it is due, that text is written before anything behind the head is read.
 pub fn receive<R: Source, W: Sink>(
     alloc: Global,
     reader: &mut R,
@@ -57,7 +58,7 @@ pub fn receive<R: Source, W: Sink>(
     requires writes { W.failures writer.old < 2 ^ 64 - 1 }
     ensures received { IfOk result (ReceivedIs (R.left reader.old) (R.left reader.new) (W.given writer.old) (W.given writer.new)) }
     ensures header { IfOk result HasHeader }
-    ensures fault { IfErr result (FailedReceiving (W.given writer.old) (W.given writer.new)) }
+    ensures fault { IfErr result (FailedReceiving (R.left reader.old) (R.left reader.new) (W.given writer.old) (W.given writer.new)) }
     ensures reads { R.failures reader.new ≡ R.failures reader.old + read_faults result }
     ensures writes { W.failures writer.new ≡ W.failures writer.old + write_faults result }
 {

@@ -43,6 +43,7 @@ pub(crate) fn send_interim<W: Sink>(writer: &mut W, expects: bool) -> Result<(),
     requires { W.failures writer.old < 2 ^ 64 - 1 }
     ensures sent { OnOk result (Appends (W.given writer.old) (W.given writer.new) (interim_text expects)) }
     ensures front { OnErr result (AppendsFront (W.given writer.old) (W.given writer.new) (interim_text true)) }
+    ensures due { OnErr result (expects ≡ true) }
     ensures cause { IfErr result (λ fault. fault ≡ WireFault.Write) }
     ensures count { W.failures writer.new ≡ W.failures writer.old + write_faults result }
 {

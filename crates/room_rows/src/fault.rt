@@ -1,10 +1,12 @@
+use hex::FromHexError;
 use room_lines::LineFault;
 use std::alloc::{AllocError, AllocFailed};
+use std::io;
 use std::num::ParseIntError;
 use thiserror::Error;
 
 /// Why a conversation is none, or an answer can't be told.
-#[derive(Clone, Copy, Debug, PartialEq, Error)]
+#[derive(Debug, Drop, Error)]
 pub enum RowFault {
     #[error("a message has no line")]
     Message,
@@ -26,11 +28,19 @@ pub enum RowFault {
     Text,
     #[error("a document has five words")]
     Document,
+    #[error("a call that comes so often is `= END N times`")]
+    Times,
+    #[error("bytes are pairs of hexadecimal digits")]
+    Digits,
+    #[error("a line that the notation does not have: {0}")]
+    Unknown(String),
     /// A line that no script has.
     #[error("script: {0}")]
     Script(LineFault),
     #[error("memory ran out")]
     Memory,
+    #[error("{0}")]
+    Io(io::Error),
 }
 
 impl From<AllocError> for RowFault {
@@ -42,6 +52,15 @@ impl From<AllocError> for RowFault {
 impl<T: Drop> From<AllocFailed<T>> for RowFault {
     fn from(_error: AllocFailed<T>) -> RowFault {
         RowFault::Memory
+    }
+}
+
+impl From<FromHexError> for RowFault {
+    fn from(error: FromHexError) -> RowFault {
+        match error {
+            FromHexError::OutOfMemory => RowFault::Memory,
+            _ => RowFault::Digits,
+        }
     }
 }
 
@@ -57,5 +76,11 @@ impl From<LineFault> for RowFault {
             LineFault::Memory => RowFault::Memory,
             fault => RowFault::Script(fault),
         }
+    }
+}
+
+impl From<io::Error> for RowFault {
+    fn from(error: io::Error) -> RowFault {
+        RowFault::Io(error)
     }
 }

@@ -1,21 +1,30 @@
-//! Conversations with the print room in a notation that a person can read, the machine in memory that they are held
-//! against, the rows that stand for its rooms, and what an event reaches. Tests over rooms and over tables share them.
+//! Conversations with the print room, exchanges over HTTP and runs of the program in a notation that a person can read,
+//! the machine in memory that conversations are held against, the rows that stand for its rooms, and what an event
+//! reaches. Tests over rooms, over tables, over HTTP and of the program share them.
 #![tactic(auto)]
 
 mod comparing;
 mod conversation;
 mod devices;
+mod exchange;
 mod fault;
+mod http;
 mod listing;
 mod notation;
 mod reached;
 mod rooms;
+mod run;
+mod runs;
 mod step;
 
 pub use comparing::difference;
 pub use conversation::Conversation;
+pub use exchange::{ENDED, Exchange, told};
 pub use fault::RowFault;
+pub use http::{Carriage, http_answer, http_request};
 pub use listing::{print_devices, print_hex, print_room};
 pub use reached::Act;
 pub use rooms::Rooms;
+pub use run::Run;
+pub use runs::{FileStep, RunStep, run_steps};
 pub use step::Step;

@@ -5,7 +5,8 @@
 //! - `TAG NAME = VALUE` is an attribute, without a NAME a further value. A value is made of digits and of
 //!   texts in double quotes, each of them as often as `*N` behind it says;
 //! - `job ACCOUNT N STATE REASON` is the group of job N as it is answered to the request that made it;
-//! - `refused STATUS ID WORD` is the whole answer to a refused request of version 1.1.
+//! - `refused STATUS ID WORD` is the whole answer to a refused request of version 1.1;
+//! - another line with a text in double quotes is a value by itself.
 
 use crate::fault::RowFault;
 use std::alloc::Global;
@@ -23,6 +24,10 @@ pub fn spell(alloc: Global, text: &mut String, line: &str) -> Result<(), RowFaul
     }
     match line.split_once(" = ") {
         Some((tag_and_name, value)) => spell_attribute(alloc, text, tag_and_name, value),
+        None if line.contains('"') => {
+            text.push_str(digits_of(alloc, line)?.as_str())?;
+            Ok(())
+        }
         None => spell_words(alloc, text, line),
     }
 }

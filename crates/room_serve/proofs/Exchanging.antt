@@ -1,18 +1,18 @@
 -- An answer behind what was written before it.
-use Rattle.std.proofs.Common.{◌≡◌, ℕ, List, take, Option, Result, Ok, Err, IfOk, IfErr, OnErr, sym, subst}
+use Rattle.std.proofs.Common.{◌≡◌, ℕ, List, take, Option, Result, Ok, Err, IfOk, IfErr, OnErr, refl, sym, subst}
 use Rattle.std.specs.Io.KnownBytes.{Appends}
 use Rattle.sqlite.specs.Held.{Held}
 use Rattle.sqlite_trees.specs.declared.store.Store.{Ghosts}
 use Rattle.room_core.specs.declared.event.Reply.{Reply}
-use Rattle.room_http.specs.Exchange.{AppendsFront, Takes}
+use Rattle.room_http.specs.Exchange.{AppendsFront, FailedReceiving, Takes}
 use Rattle.room_http.specs.Http.{Http, Carried}
 use Rattle.room_http.specs.Texts.{interim_text}
 use Rattle.room_http.specs.declared.fault.WireFault.{WireFault}
-use Rattle.room_http.specs.declared.fault.WireFault.TheVariants.{Write}
+use Rattle.room_http.specs.declared.fault.WireFault.TheVariants.{Read, Write, Memory, Ended}
 use Rattle.room_http.specs.declared.judging.Order.{Order}
 use Rattle.room_http.proofs.Streams.{Appends_more}
 use Rattle.room_store.specs.declared.fault.StoreFault.{StoreFault}
-use Rattle.room_serve.specs.Exchanges.{Answers, Applies, AppendsBehind, Breaks, after_telling, has_carried, in_answer, text_told}
+use Rattle.room_serve.specs.Exchanges.{Answers, Applies, AppendsBehind, Breaks, after_telling, has_carried, in_answer, in_interim, text_told}
 use Rattle.room_serve.specs.declared.wire.After.{After}
 
 -- a front of a text, behind another text
@@ -38,3 +38,10 @@ module _ {S : Type 0} (store : Ghosts S) (now : ℕ) (before after : List ℕ �
   broke (Ok next) message interim told is = tt
   broke (Err fault) message interim told is =
       subst (Breaks store now before after a c old new) (sym is) (in_answer order body told.0 message told.1 (behind a b c (interim_text order.expects) (text_told body order.closes told.0) interim told.2))
+
+-- nothing was applied of a message that was not received
+pub not_received : {S : Type 0} (store : Ghosts S) (now : ℕ) (before after : List ℕ → Type 0) (a b : Option (List ℕ)) (db : Held S) (fault : WireFault) → FailedReceiving before after a b fault → Breaks store now before after a b db db fault
+not_received store now before after a b db Read failed = (failed, refl)
+not_received store now before after a b db Write failed = in_interim failed.0 failed.1 failed.2 failed.3 refl
+not_received store now before after a b db Memory failed = (failed, refl)
+not_received store now before after a b db Ended failed = absurd failed

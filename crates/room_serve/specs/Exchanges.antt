@@ -10,7 +10,7 @@ use Rattle.room_core.specs.declared.event.Event.{Event}
 use Rattle.room_core.specs.declared.event.Event.TheVariants as event
 use Rattle.room_core.specs.declared.event.Reply.{Reply}
 use Rattle.room_core.specs.declared.event.Reply.TheVariants as reply_is
-use Rattle.room_http.specs.Exchange.{AppendsFront, Takes}
+use Rattle.room_http.specs.Exchange.{AppendsFront, Takes, TakesHead}
 use Rattle.room_http.specs.Http.{Http, Nothing, Refused, Carried}
 use Rattle.room_http.specs.Texts.{answer_text, interim_text, refusal_text}
 use Rattle.room_http.specs.declared.fault.WireFault.{WireFault}
@@ -86,7 +86,7 @@ module _ {S : Type 0} (store : Ghosts S) (now : ℕ) (before after : List ℕ �
 
   -- a front of the answer was written that is not all of it
   pub data IsBroken : Type 0 where
-    in_interim : AppendsFront given given2 (interim_text true) → new ≡ old → IsBroken
+    in_interim : (order : Order) → TakesHead before after order → order.expects ≡ true → AppendsFront given given2 (interim_text true) → new ≡ old → IsBroken
     in_refusal : (interim : Bool) (why : Refusal) → Takes before after (λ b rest. Http b (Refused interim why)) → AppendsBehind given given2 (interim_text interim) (refusal_text why) → new ≡ old → IsBroken
     in_answer : (order : Order) (body : List ℕ) (told : Result Reply StoreFault) → Takes before after (λ b rest. Http b (Carried order body rest)) → Applies store now order.account body old new told
         → AppendsBehind given given2 (interim_text order.expects) (text_told body order.closes told) → IsBroken

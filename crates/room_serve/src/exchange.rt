@@ -48,6 +48,7 @@ pub fn serve_one<S: Alter, R: Source, W: Sink>(
     outcome
 }
 
+#[tactic(auto, using(crate::proofs::Exchanging::not_received))]
 fn exchange<S: Alter, R: Source, W: Sink>(
     alloc: Global,
     store: &mut Store<S>,

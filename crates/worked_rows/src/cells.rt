@@ -5,7 +5,8 @@
 //! second account comes some steps behind the first, so that the two are in different states. In memory the rows are
 //! looked at after each step, and before each event the same event is refused at a moment that is out of range; in a
 //! file the rows are looked at in the end. Then the list is given to the store whole, over both; and the steps of the
-//! first account alone, over one database where it is alone and over one where another is beside it.
+//! first account alone, over one database where it is alone and over one where another is beside it. Then its requests
+//! come over HTTP.
 //!
 //! A list `NAME.events` has to reach, for both accounts, all that `NAME.reached` names, a name a line.
 
@@ -14,6 +15,7 @@ use crate::beside::differs_beside;
 use crate::fault::Fault;
 use crate::tables::{Tables, remove_files};
 use crate::whole::Whole;
+use crate::wired::Wired;
 use room_core::{CoreFault, LAST_MOMENT, Name};
 use room_lines::{Line, print_answer};
 use room_rows::{Act, Conversation, Rooms, Step, difference, print_devices, print_room};
@@ -54,8 +56,8 @@ pub fn hold(rt: &HostRuntime, name: &str) -> Result<bool, Fault> {
     in_memory.reaches(rt, due.as_str())
 }
 
-/// Whether the list holds as one that the store is given whole, in memory and in a file, and whether the first account
-/// is told the same, and has the same rows, beside another.
+/// Whether the list holds as one that the store is given whole, in memory and in a file, whether the first account
+/// is told the same, and has the same rows, beside another, and whether requests are answered the same over HTTP.
 fn holds_whole(rt: &HostRuntime, players: &[Player; 2]) -> Result<bool, Fault> {
     let [first, second] = players;
     let (firsts, seconds) = (first.steps.as_slice(), second.steps.as_slice());
@@ -65,6 +67,9 @@ fn holds_whole(rt: &HostRuntime, players: &[Player; 2]) -> Result<bool, Fault> {
     }
     if differs.is_none() {
         differs = differs_beside(rt, first.account, firsts)?;
+    }
+    if differs.is_none() {
+        differs = Wired::new(rt)?.run(rt, firsts, seconds)?;
     }
     print_differing(rt, "the whole list", differs)
 }
@@ -235,14 +240,21 @@ pub fn rows_differ(
     rooms: &Rooms,
 ) -> Result<Option<String>, Fault> {
     let (mut found, mut due) = (Vec::new(rt.alloc()), Vec::new(rt.alloc()));
+    print_rows(tables, &mut found)?;
     for name in ACCOUNTS {
         let account = account_of(name)?;
-        tables.print_account(account, &mut found)?;
         print_room(&mut due, account, rooms.room(account))?;
     }
-    tables.print_devices(&mut found)?;
     print_devices(&mut due, rooms.devices())?;
     differing(rt.alloc(), text(found)?, text(due)?)
+}
+
+/// Prints the rows of both accounts and of the devices.
+pub fn print_rows(tables: &mut Tables, output: &mut Vec<u8>) -> Result<(), Fault> {
+    for name in ACCOUNTS {
+        tables.print_account(account_of(name)?, output)?;
+    }
+    tables.print_devices(output)
 }
 
 /// Where the texts differ, their first lines that do.

@@ -22,7 +22,7 @@ pub enum Fault {
     Name,
     #[error("an answer is no text")]
     Answer,
-    /// There are no tables to hold the row against.
+    /// There are no tables to hold the row against, or the file of its runs can't be had.
     #[error("tables: {0}")]
     Open(OpenFault),
     /// The tables could not answer where the machine can.

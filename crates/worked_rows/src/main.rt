@@ -1,18 +1,23 @@
 //! The program `worked_rows`: holds the files that its words name against the print room.
 //!
-//! - Of a file of worked rows, `NAME.rows`, it prints how many rows hold, and of each row that does not what was
-//!   answered instead.
+//! - Of a file of conversations, `NAME.rows`, of exchanges over HTTP, `NAME.exchanges`, or of runs of the program,
+//!   `NAME.runs`, it prints how many rows hold, and of each row that does not what differs.
 //! - Of a list of events, `NAME.events`, it prints what the list reached.
 #![tactic(auto)]
 
 mod answers;
 mod beside;
 mod cells;
+mod exchanges;
 mod fault;
+mod files;
 mod program;
 mod rows;
+mod runs;
 mod tables;
 mod whole;
+mod wired;
+mod wires;
 
 use crate::fault::Fault;
 use std::env;

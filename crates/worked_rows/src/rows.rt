@@ -1,49 +1,97 @@
-//! Files of rows. The line `# TITLE` begins a row; the lines behind it are those of its conversation.
+//! Files of rows. The line `# TITLE` begins a row; the lines behind it are those of its conversation, in a file
+//! `NAME.exchanges` of its exchange over HTTP, and in a file `NAME.runs` of its runs of the program.
 
 use crate::answers::WAYS;
+use crate::exchanges::{PIECES, answers};
 use crate::fault::Fault;
-use room_rows::{Conversation, difference};
+use crate::runs;
+use room_rows::{Conversation, Exchange, difference};
 use std::fs;
 use std::io::Write;
 
-/// Whether each row of the file holds.
+/// What the rows of a file are.
+#[derive(Clone, Copy)]
+enum Kind {
+    Conversations,
+    Exchanges,
+    Runs,
+}
+
+impl Kind {
+    fn of(file: &str) -> Kind {
+        if file.ends_with(".exchanges") {
+            Kind::Exchanges
+        } else if file.ends_with(".runs") {
+            Kind::Runs
+        } else {
+            Kind::Conversations
+        }
+    }
+
+    /// Where a row with these lines does not hold, what differs.
+    fn differs(self, rt: &HostRuntime, lines: &str) -> Result<Option<String>, Fault> {
+        match self {
+            Kind::Conversations => conversation_differs(rt, lines),
+            Kind::Exchanges => exchange_differs(rt, lines),
+            Kind::Runs => runs::differs(rt, lines),
+        }
+    }
+}
+
+/// Whether each row of the file holds. Of one that does not what differs is printed.
 pub fn hold(rt: &HostRuntime, file: &str) -> Result<bool, Fault> {
     let text = fs::read_to_string(rt, file)?;
     let Some(text) = text.as_str().strip_prefix("# ") else {
         return Err(Fault::NoTitle);
     };
+    let kind = Kind::of(file);
     let (mut holding, mut failing) = (0u64, 0u64);
     for row in text.split("\n# ") {
-        if holds(rt, file, row)? {
-            holding = holding.saturating_add(1);
-        } else {
-            failing = failing.saturating_add(1);
+        let (title, lines) = row.split_once('\n').unwrap_or((row, ""));
+        match kind.differs(rt, lines)? {
+            None => holding = holding.saturating_add(1),
+            Some(differs) => {
+                failing = failing.saturating_add(1);
+                writeln!(rt.stdout(), "{file}: {title}, {differs}")?;
+            }
         }
     }
     writeln!(rt.stdout(), "{file}: {holding} rows hold")?;
     Ok(failing == 0)
 }
 
-/// Whether a row holds: rooms in memory, the shared tables, in memory and where the row says so in a file, and the program
-/// on a script, in memory and on a file, each in a run of its own, answer what the row says. Where one does not, the first line that is another is printed. A row that
-/// changes tables by hand says nothing of rooms.
-fn holds(rt: &HostRuntime, file: &str, row: &str) -> Result<bool, Fault> {
-    let (title, lines) = row.split_once('\n').unwrap_or((row, ""));
+/// Where a conversation does not hold: rooms in memory, the shared tables, in memory and where the row says so in a file,
+/// and the program on a script, in memory and on a file, each in a run of its own, have to answer what the row says. A
+/// row that changes tables by hand says nothing of rooms.
+fn conversation_differs(rt: &HostRuntime, lines: &str) -> Result<Option<String>, Fault> {
     let talk = Conversation::read(rt.alloc(), lines)?;
     let steps = talk.steps(rt.alloc())?;
-    let mut all = true;
     for way in WAYS {
         let Some(answered) = way.answers(rt, &talk, steps.as_slice())? else {
             continue;
         };
         if let Some((answered, expected)) = difference(answered.as_str(), talk.expected()) {
-            all = false;
-            writeln!(
-                rt.stdout(),
-                "{file}: {title}, {}\n  answered {answered}\n  expected {expected}",
-                way.name()
-            )?;
+            return Ok(Some(told(rt, way.name(), answered, expected)?));
         }
     }
-    Ok(all)
+    Ok(None)
+}
+
+/// Where an exchange does not hold: `serve_one` has to answer what the row says, also where each read and each write is
+/// of one byte.
+fn exchange_differs(rt: &HostRuntime, lines: &str) -> Result<Option<String>, Fault> {
+    let exchange = Exchange::read(rt.alloc(), lines)?;
+    let due = exchange.due(rt.alloc())?;
+    for pieces in PIECES {
+        let answered = answers(rt, &exchange, pieces)?;
+        if let Some((answered, expected)) = difference(answered.as_str(), due.as_str()) {
+            return Ok(Some(told(rt, pieces.name(), answered, expected)?));
+        }
+    }
+    Ok(None)
+}
+
+/// The first line that is another than expected, and the way in which it came.
+fn told(rt: &HostRuntime, way: &str, answered: &str, expected: &str) -> Result<String, Fault> {
+    Ok(format!(in rt.alloc(); "{way}\n  answered {answered}\n  expected {expected}")?)
 }

@@ -4,6 +4,7 @@ ghost use Rattle.std.specs.Prelude.{All, IfOk, IsTrue};
 ghost use Rattle.room_core.specs.Fits.{fits};
 
 use crate::fault::Fault;
+use crate::wires::{Served, serve};
 use room_core::{Event, Name, Reply};
 use room_lines::Line;
 use room_rows::print_hex;
@@ -91,6 +92,21 @@ impl Tables {
         match self {
             Tables::Memory(waiting) => run_over(rt, waiting, events.as_slice()),
             Tables::File(waiting) => run_over(rt, waiting, events.as_slice()),
+        }
+    }
+
+    /// What so many calls of `serve_one` on one connection come to (`wires`).
+    pub fn serve(
+        &mut self,
+        rt: &HostRuntime,
+        moment: u64,
+        input: &[u8],
+        most: usize,
+        calls: usize,
+    ) -> Result<Served, Fault> {
+        match self {
+            Tables::Memory(waiting) => serve_over(rt, waiting, moment, input, most, calls),
+            Tables::File(waiting) => serve_over(rt, waiting, moment, input, most, calls),
         }
     }
 
@@ -200,6 +216,23 @@ fn run_over<S: Alter + Drop>(
     let outcomes = run_events(rt.alloc(), &mut store, events);
     *waiting = Some(store.close());
     Ok(outcomes?)
+}
+
+fn serve_over<S: Alter + Drop>(
+    rt: &HostRuntime,
+    waiting: &mut Option<Connection<S>>,
+    moment: u64,
+    input: &[u8],
+    most: usize,
+    calls: usize,
+) -> Result<Served, Fault> {
+    let Some(connection) = waiting.take() else {
+        return Err(Fault::Away);
+    };
+    let mut store = opened(connection)?;
+    let served = serve(rt.alloc(), &mut store, moment, input, most, calls);
+    *waiting = Some(store.close());
+    served
 }
 
 /// The store over the connection. One that is refused for want of memory is opened once more.

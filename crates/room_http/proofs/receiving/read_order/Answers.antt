@@ -14,15 +14,15 @@ returns-in-Ok-clause-is g c =
     let head = found.0.0 in
     let room : length headers ≡ 64 = search rules in
     let at = subst (λ (t : List ℕ). IsRequestAt t headers spans head) (sym c.as_slice.ensures.value) found.0.1 in (
-      (
-        text,
-        c.in_ok-spans.ensures.took,
-        λ rest left. record {
+      record {
+        taken = text;
+        yields = c.in_ok-spans.ensures.took;
+        orders = λ rest. record {
           head = head;
           opens = opens_with text headers spans head rest found.0.1 room found.2 c.read_head.ensures.short;
           judged = sym (c.judge_spans.ensures.value head at) ∙ c.in-Ok.is;
-        },
-      ),
+        };
+      },
       c.in-Ok.ensures.fits,
     )
 

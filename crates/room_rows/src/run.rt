@@ -1,12 +1,26 @@
-//! A run of the program, and how it should end.
+//! Runs of the program: their words, what they are given, and how they should end.
 
-use crate::fault::Fault;
-use crate::text::unescaped;
-use room_commands::run_on;
-use std::alloc::Global;
+use crate::fault::RowFault;
+use std::alloc::{AllocError, Global};
 
 /// The clock's moment where a row says none.
 const NOW: u64 = 1_788_220_800;
+
+/// The runs whose second line is bad, each between two good ones.
+const BAD_LINES: [(&str, &str, &str, &str); 2] = [
+    (
+        "script ? ",
+        "script :memory:",
+        "1000 open alice",
+        "1000 open bob",
+    ),
+    (
+        "station ? ",
+        "station :memory:",
+        "start d1 alice 1",
+        "start d1 alice 1",
+    ),
+];
 
 /// What a run prints, or what is in it.
 #[derive(Drop)]
@@ -22,6 +36,7 @@ enum Told {
     Usage,
 }
 
+/// A run, and how it should end.
 #[derive(Drop)]
 pub struct Run {
     words: String,
@@ -33,11 +48,28 @@ pub struct Run {
 }
 
 impl Run {
+    /// The run that a line begins: `$ WORDS` is one of the words, `script ? LINE` and `station ? LINE` are one with this
+    /// bad line.
+    pub(crate) fn begun(alloc: Global, line: &str) -> Result<Option<Run>, RowFault> {
+        if line == "$" {
+            return Ok(Some(Run::new(alloc, "")?));
+        }
+        if let Some(words) = line.strip_prefix("$ ") {
+            return Ok(Some(Run::new(alloc, words)?));
+        }
+        for (prefix, words, first, third) in BAD_LINES {
+            if let Some(second) = line.strip_prefix(prefix) {
+                return Ok(Some(Run::with_bad_line(alloc, words, [first, second, third])?));
+            }
+        }
+        Ok(None)
+    }
+
     /// That of the words, which are parted by a space.
-    pub fn new(alloc: Global, words: &str) -> Result<Run, Fault> {
+    fn new(alloc: Global, words: &str) -> Result<Run, RowFault> {
         let words = unescaped(alloc, words)?;
         Ok(Run {
-            words: String::from_utf8(words).map_err(|_| Fault::Words)?,
+            words: String::from_utf8(words).map_err(|_| RowFault::Text)?,
             clock: Some(NOW),
             input: Vec::new(alloc),
             printed: Printed::Whole(Vec::new(alloc)),
@@ -47,7 +79,7 @@ impl Run {
     }
 
     /// A run in memory of a script, or of the lines of a station, whose second line is bad.
-    pub fn with_bad_line(alloc: Global, words: &str, lines: [&str; 3]) -> Result<Run, Fault> {
+    fn with_bad_line(alloc: Global, words: &str, lines: [&str; 3]) -> Result<Run, RowFault> {
         let mut run = Run::new(alloc, words)?;
         for line in lines {
             run.add_input(alloc, line, true)?;
@@ -63,7 +95,7 @@ impl Run {
     /// - `> TEXT` is a line of its input, `>. TEXT` one without its end, `* N TEXT` so many;
     /// - `< TEXT` is a line that it prints, and `<~ TEXT` a text that stands somewhere in what it prints;
     /// - `status N TEXT` is its exit status and the line on standard error, `usage` the status 1 and any text.
-    pub fn add(&mut self, alloc: Global, line: &str) -> Result<bool, Fault> {
+    pub(crate) fn add(&mut self, alloc: Global, line: &str) -> Result<bool, RowFault> {
         if let Some(clock) = line.strip_prefix("clock ") {
             self.clock = if clock == "none" {
                 None
@@ -93,7 +125,7 @@ impl Run {
         Ok(true)
     }
 
-    fn add_input(&mut self, alloc: Global, text: &str, is_ended: bool) -> Result<(), Fault> {
+    fn add_input(&mut self, alloc: Global, text: &str, is_ended: bool) -> Result<(), RowFault> {
         self.input
             .extend_from_slice(unescaped(alloc, text)?.as_slice())?;
         if is_ended {
@@ -102,8 +134,8 @@ impl Run {
         Ok(())
     }
 
-    fn add_many(&mut self, alloc: Global, text: &str) -> Result<(), Fault> {
-        let (times, text) = text.split_once(' ').ok_or(Fault::Number)?;
+    fn add_many(&mut self, alloc: Global, text: &str) -> Result<(), RowFault> {
+        let (times, text) = text.split_once(' ').ok_or(RowFault::Number)?;
         let times: u32 = times.parse()?;
         for _ in 0..times {
             self.add_input(alloc, text, true)?;
@@ -111,7 +143,7 @@ impl Run {
         Ok(())
     }
 
-    fn add_printed(&mut self, text: &str) -> Result<(), Fault> {
+    fn add_printed(&mut self, text: &str) -> Result<(), RowFault> {
         if let Printed::Whole(printed) = &mut self.printed {
             printed.extend_from_slice(text.as_bytes())?;
             printed.push(b'\n')?;
@@ -119,30 +151,39 @@ impl Run {
         Ok(())
     }
 
+    /// Its words, those after the program's name.
+    pub fn words(&self, alloc: Global) -> Result<Vec<&str>, AllocError> {
+        if self.words.is_empty() {
+            return Ok(Vec::new(alloc));
+        }
+        self.words.split(' ').collect(alloc)
+    }
+
+    /// The clock's moment, if it has one.
+    pub fn clock(&self) -> Option<u64> {
+        self.clock
+    }
+
+    /// What stands on standard input.
+    pub fn input(&self) -> &[u8] {
+        self.input.as_slice()
+    }
+
     /// How the run ended, where it is otherwise than it should.
-    pub fn differs(&self, rt: &HostRuntime) -> Result<Option<String>, Fault> {
-        let words: Vec<&str> = if self.words.is_empty() {
-            Vec::new(rt.alloc())
-        } else {
-            self.words.split(' ').collect(rt.alloc())?
-        };
-        let (mut output, mut errors) = (Vec::new(rt.alloc()), Vec::new(rt.alloc()));
-        let input = self.input.as_slice();
-        let status = run_on(
-            rt,
-            words.as_slice(),
-            self.clock,
-            input,
-            &mut output,
-            &mut errors,
-        );
-        let output = String::from_utf8_lossy(rt.alloc(), output.as_slice())?;
-        let errors = String::from_utf8_lossy(rt.alloc(), errors.as_slice())?;
+    pub fn differs(
+        &self,
+        alloc: Global,
+        status: u8,
+        output: &[u8],
+        errors: &[u8],
+    ) -> Result<Option<String>, AllocError> {
+        let output = String::from_utf8_lossy(alloc, output)?;
+        let errors = String::from_utf8_lossy(alloc, errors)?;
         if status == self.status && self.prints(output.as_str()) && self.tells(errors.as_str()) {
             return Ok(None);
         }
         let words = self.words.as_str();
-        Ok(Some(format!(in rt.alloc();
+        Ok(Some(format!(in alloc;
             "{words}: status {status}\n  printed {output}\n  told {errors}"
         )?))
     }
@@ -160,4 +201,23 @@ impl Run {
             Told::Usage => !errors.is_empty(),
         }
     }
+}
+
+/// The bytes that a text stands for, in which a backslash, an x and two hexadecimal digits stand for a byte.
+fn unescaped(alloc: Global, text: &str) -> Result<Vec<u8>, RowFault> {
+    let mut pieces = text.split("\\x");
+    let mut bytes = Vec::new(alloc);
+    if let Some(first) = pieces.next() {
+        bytes.extend_from_slice(first.as_bytes())?;
+    }
+    for piece in pieces {
+        let piece = piece.as_bytes();
+        let (Some(digits), Some(rest)) = (piece.get(..2), piece.get(2..)) else {
+            return Err(RowFault::Digits);
+        };
+        let byte = hex::decode(alloc, digits)?;
+        bytes.extend_from_slice(byte.as_slice())?;
+        bytes.extend_from_slice(rest)?;
+    }
+    Ok(bytes)
 }

@@ -1,0 +1,197 @@
+//! An exchange over one connection of HTTP, in a notation that a person can read:
+//!
+//! - `> TEXT` is sent with CR LF behind it, and `< TEXT` is written so. The lines under each spell further bytes
+//!   (`notation` says how).
+//! - `= END` ends what one call of `serve_one` reads and writes, and says what it answers; `= END N times` says that
+//!   this comes so often.
+//! - `refused STATUS PHRASE` is what is written of a refusal, and the end of the call that answers `close`.
+//! - `at MOMENT` is the moment of the calls.
+//!
+//! An empty line, and one that begins with `-- `, say nothing.
+
+use crate::fault::RowFault;
+use crate::notation::spell;
+use std::alloc::{AllocError, Global};
+
+/// The moment of calls where none is named, in seconds since 1970-01-01T00:00:00Z.
+const MOMENT: u64 = 1_788_220_800;
+
+/// How a call ends on a connection that has ended: it reads and writes nothing.
+pub const ENDED: &str = "ended";
+
+/// What one call reads and writes, how it ends, and how often it comes.
+#[derive(Drop)]
+struct Call {
+    read: Vec<u8>,
+    written: Vec<u8>,
+    end: String,
+    times: u32,
+}
+
+/// The calls on one connection, all at one moment.
+#[derive(Drop)]
+pub struct Exchange {
+    moment: u64,
+    calls: Vec<Call>,
+}
+
+/// The digits of what the next call reads and writes, and which of the two the last line was about.
+#[derive(Drop)]
+struct Open {
+    read: String,
+    written: String,
+    is_written: bool,
+}
+
+impl Open {
+    fn new(alloc: Global) -> Open {
+        Open {
+            read: String::new(alloc),
+            written: String::new(alloc),
+            is_written: false,
+        }
+    }
+
+    fn add(&mut self, alloc: Global, line: &str) -> Result<(), RowFault> {
+        if let Some(text) = line.strip_prefix('>') {
+            self.is_written = false;
+            return push_line(alloc, &mut self.read, text.trim_start());
+        }
+        if let Some(text) = line.strip_prefix('<') {
+            self.is_written = true;
+            return push_line(alloc, &mut self.written, text.trim_start());
+        }
+        if self.is_written {
+            return spell(alloc, &mut self.written, line.trim());
+        }
+        spell(alloc, &mut self.read, line.trim())
+    }
+
+    fn refuse(&mut self, alloc: Global, status: &str) -> Result<(), RowFault> {
+        let status = format!(in alloc; "HTTP/1.1 {status}")?;
+        for line in [
+            status.as_str(),
+            "Content-Length: 0",
+            "Connection: close",
+            "",
+        ] {
+            push_line(alloc, &mut self.written, line)?;
+        }
+        Ok(())
+    }
+
+    fn end(self, alloc: Global, end: &str) -> Result<Call, RowFault> {
+        let (end, times) = match end.strip_suffix(" times") {
+            Some(end) => end.split_once(' ').ok_or(RowFault::Times)?,
+            None => (end, "1"),
+        };
+        Ok(Call {
+            read: bytes_of(alloc, self.read.as_str())?,
+            written: bytes_of(alloc, self.written.as_str())?,
+            end: String::from_str(alloc, end)?,
+            times: times.parse()?,
+        })
+    }
+}
+
+impl Exchange {
+    /// That of the lines.
+    pub fn read(alloc: Global, lines: &str) -> Result<Exchange, RowFault> {
+        let mut exchange = Exchange {
+            moment: MOMENT,
+            calls: Vec::new(alloc),
+        };
+        let mut open = Open::new(alloc);
+        for line in lines.lines() {
+            if line.is_empty() || line.starts_with("-- ") {
+                continue;
+            }
+            if let Some(moment) = line.strip_prefix("at ") {
+                exchange.moment = moment.parse()?;
+            } else if let Some(end) = line.strip_prefix("= ") {
+                exchange.calls.push(open.end(alloc, end)?)?;
+                open = Open::new(alloc);
+            } else if let Some(status) = line.strip_prefix("refused ") {
+                open.refuse(alloc, status)?;
+                exchange.calls.push(open.end(alloc, "close")?)?;
+                open = Open::new(alloc);
+            } else {
+                open.add(alloc, line)?;
+            }
+        }
+        Ok(exchange)
+    }
+
+    pub fn moment(&self) -> u64 {
+        self.moment
+    }
+
+    /// How many calls there are.
+    pub fn count(&self) -> usize {
+        let mut count = 0usize;
+        for call in self.calls.as_slice() {
+            count = count.saturating_add(call.times as usize);
+        }
+        count
+    }
+
+    /// All that is sent.
+    pub fn input(&self, alloc: Global) -> Result<Vec<u8>, AllocError> {
+        let mut input = Vec::new(alloc);
+        for call in self.calls.as_slice() {
+            for _ in 0..call.times {
+                input.extend_from_slice(call.read.as_slice())?;
+            }
+        }
+        Ok(input)
+    }
+
+    /// What should be told of the calls. What is sent to a connection that has ended is left.
+    pub fn due(&self, alloc: Global) -> Result<String, RowFault> {
+        let (mut ends, mut written) = (Vec::new(alloc), Vec::new(alloc));
+        let mut left = 0usize;
+        for call in self.calls.as_slice() {
+            for _ in 0..call.times {
+                ends.push(call.end.as_str())?;
+                written.extend_from_slice(call.written.as_slice())?;
+                if call.end.as_str() == ENDED {
+                    left = left.saturating_add(call.read.len());
+                }
+            }
+        }
+        told(alloc, ends.as_slice(), left, written.as_slice())
+    }
+}
+
+/// What is told of calls, in lines: how each ended, how many bytes they left, and what they wrote.
+pub fn told(alloc: Global, ends: &[&str], left: usize, written: &[u8]) -> Result<String, RowFault> {
+    let mut text = String::new(alloc);
+    for end in ends {
+        text.push_str(end)?;
+        text.push_str("\n")?;
+    }
+    text.push_str(format!(in alloc; "{left} left\n")?.as_str())?;
+    push_legible(alloc, &mut text, written)?;
+    Ok(text)
+}
+
+/// Adds bytes as a text: what is printed of ASCII and line feeds as they are, each other byte by its number.
+fn push_legible(alloc: Global, text: &mut String, bytes: &[u8]) -> Result<(), RowFault> {
+    for byte in bytes {
+        match *byte {
+            b'\n' | b' '..=b'~' => text.push(char::from(*byte))?,
+            byte => text.push_str(format!(in alloc; "\\x{byte:02x}")?.as_str())?,
+        }
+    }
+    Ok(())
+}
+
+fn push_line(alloc: Global, digits: &mut String, line: &str) -> Result<(), RowFault> {
+    digits.push_str(hex::encode(alloc, line.as_bytes())?.as_str())?;
+    digits.push_str("0d0a")?;
+    Ok(())
+}
+
+fn bytes_of(alloc: Global, digits: &str) -> Result<Vec<u8>, RowFault> {
+    Ok(hex::decode(alloc, digits.as_bytes())?)
+}
