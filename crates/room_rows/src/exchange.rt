@@ -6,6 +6,7 @@
 //!   this comes so often.
 //! - `refused STATUS PHRASE` is what is written of a refusal, and the end of the call that answers `close`.
 //! - `at MOMENT` is the moment of the calls.
+//! - `failing` says that the exchange is also one over connections of which a call fails.
 //!
 //! An empty line, and one that begins with `-- `, say nothing.
 
@@ -33,6 +34,7 @@ struct Call {
 pub struct Exchange {
     moment: u64,
     calls: Vec<Call>,
+    is_failing: bool,
 }
 
 /// The digits of what the next call reads and writes, and which of the two the last line was about.
@@ -100,6 +102,7 @@ impl Exchange {
         let mut exchange = Exchange {
             moment: MOMENT,
             calls: Vec::new(alloc),
+            is_failing: false,
         };
         let mut open = Open::new(alloc);
         for line in lines.lines() {
@@ -108,6 +111,8 @@ impl Exchange {
             }
             if let Some(moment) = line.strip_prefix("at ") {
                 exchange.moment = moment.parse()?;
+            } else if line == "failing" {
+                exchange.is_failing = true;
             } else if let Some(end) = line.strip_prefix("= ") {
                 exchange.calls.push(open.end(alloc, end)?)?;
                 open = Open::new(alloc);
@@ -124,6 +129,10 @@ impl Exchange {
 
     pub fn moment(&self) -> u64 {
         self.moment
+    }
+
+    pub fn is_failing(&self) -> bool {
+        self.is_failing
     }
 
     /// How many calls there are.

@@ -3,6 +3,7 @@
 
 use crate::fault::Fault;
 use crate::tables::Tables;
+use crate::wires::Sides;
 use room_rows::{Conversation, ENDED, Exchange, Step, told};
 use room_serve::{After, WireFault};
 
@@ -16,7 +17,7 @@ pub enum Pieces {
 pub const PIECES: [Pieces; 2] = [Pieces::Whole, Pieces::Bytes];
 
 impl Pieces {
-    fn most(self) -> usize {
+    pub fn most(self) -> usize {
         match self {
             Pieces::Whole => usize::MAX,
             Pieces::Bytes => 1,
@@ -39,7 +40,10 @@ pub fn answers(rt: &HostRuntime, exchange: &Exchange, pieces: Pieces) -> Result<
         rt,
         exchange.moment(),
         input.as_slice(),
-        pieces.most(),
+        Sides {
+            most: pieces.most(),
+            failing: None,
+        },
         exchange.count(),
     )?;
     let mut ends = Vec::new(alloc);
@@ -66,7 +70,7 @@ fn name_of(end: Result<After, WireFault>) -> &'static str {
 }
 
 /// Tables in memory in which two accounts are open and a device is on.
-fn opened_tables(rt: &HostRuntime) -> Result<Tables, Fault> {
+pub fn opened_tables(rt: &HostRuntime) -> Result<Tables, Fault> {
     let mut tables = Tables::in_memory(rt)?;
     let steps = Conversation::read(rt.alloc(), "opened")?.steps(rt.alloc())?;
     for step in steps.as_slice() {

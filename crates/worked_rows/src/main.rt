@@ -9,6 +9,7 @@ mod answers;
 mod beside;
 mod cells;
 mod exchanges;
+mod failing;
 mod fault;
 mod files;
 mod program;

@@ -4,7 +4,7 @@
 use crate::answers::WAYS;
 use crate::exchanges::{PIECES, answers};
 use crate::fault::Fault;
-use crate::runs;
+use crate::{failing, runs};
 use room_rows::{Conversation, Exchange, difference};
 use std::fs;
 use std::io::Write;
@@ -78,7 +78,7 @@ fn conversation_differs(rt: &HostRuntime, lines: &str) -> Result<Option<String>,
 }
 
 /// Where an exchange does not hold: `serve_one` has to answer what the row says, also where each read and each write is
-/// of one byte.
+/// of one byte, and where the row says so, also over connections of which a call fails.
 fn exchange_differs(rt: &HostRuntime, lines: &str) -> Result<Option<String>, Fault> {
     let exchange = Exchange::read(rt.alloc(), lines)?;
     let due = exchange.due(rt.alloc())?;
@@ -87,6 +87,9 @@ fn exchange_differs(rt: &HostRuntime, lines: &str) -> Result<Option<String>, Fau
         if let Some((answered, expected)) = difference(answered.as_str(), due.as_str()) {
             return Ok(Some(told(rt, pieces.name(), answered, expected)?));
         }
+    }
+    if exchange.is_failing() {
+        return failing::differs(rt, &exchange);
     }
     Ok(None)
 }

@@ -4,7 +4,7 @@ ghost use Rattle.std.specs.Prelude.{All, IfOk, IsTrue};
 ghost use Rattle.room_core.specs.Fits.{fits};
 
 use crate::fault::Fault;
-use crate::wires::{Served, serve};
+use crate::wires::{Served, Sides, serve};
 use room_core::{Event, Name, Reply};
 use room_lines::Line;
 use room_rows::print_hex;
@@ -101,12 +101,12 @@ impl Tables {
         rt: &HostRuntime,
         moment: u64,
         input: &[u8],
-        most: usize,
+        sides: Sides,
         calls: usize,
     ) -> Result<Served, Fault> {
         match self {
-            Tables::Memory(waiting) => serve_over(rt, waiting, moment, input, most, calls),
-            Tables::File(waiting) => serve_over(rt, waiting, moment, input, most, calls),
+            Tables::Memory(waiting) => serve_over(rt, waiting, moment, input, sides, calls),
+            Tables::File(waiting) => serve_over(rt, waiting, moment, input, sides, calls),
         }
     }
 
@@ -223,14 +223,14 @@ fn serve_over<S: Alter + Drop>(
     waiting: &mut Option<Connection<S>>,
     moment: u64,
     input: &[u8],
-    most: usize,
+    sides: Sides,
     calls: usize,
 ) -> Result<Served, Fault> {
     let Some(connection) = waiting.take() else {
         return Err(Fault::Away);
     };
     let mut store = opened(connection)?;
-    let served = serve(rt.alloc(), &mut store, moment, input, most, calls);
+    let served = serve(rt.alloc(), &mut store, moment, input, sides, calls);
     *waiting = Some(store.close());
     served
 }

@@ -5,6 +5,7 @@ use crate::answers::{set_next_job, text};
 use crate::cells::{BEHIND, differing, print_rows};
 use crate::fault::Fault;
 use crate::tables::Tables;
+use crate::wires::WHOLE;
 use room_core::Event;
 use room_lines::Line;
 use room_rows::{Carriage, Step, http_answer, http_request};
@@ -73,7 +74,7 @@ impl Wired {
         let request = http_request(rt.alloc(), account, body, carriage)?;
         let served = self
             .by_http
-            .serve(rt, line.moment, request.as_slice(), usize::MAX, 1)?;
+            .serve(rt, line.moment, request.as_slice(), WHOLE, 1)?;
         let due = http_answer(rt.alloc(), &by_store.map_err(Fault::Tables)?)?;
         if served.written.as_slice() == due.as_slice() && served.left == 0 {
             return Ok(None);

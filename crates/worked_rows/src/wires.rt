@@ -7,17 +7,89 @@ use room_streams::Counted;
 use sqlite::Alter;
 use std::alloc::Global;
 use std::io;
-use std::io::{Read, Write};
+use std::io::{ErrorKind, Read, Write};
 
-/// Bytes of which a call gives so many at most.
+/// How the two sides of a connection behave.
+#[derive(Clone, Copy)]
+pub struct Sides {
+    /// How many bytes a call gives or takes at most.
+    pub most: usize,
+    /// The call that fails, if one does.
+    pub failing: Option<Failing>,
+}
+
+/// All is there at once, and nothing fails.
+pub const WHOLE: Sides = Sides {
+    most: usize::MAX,
+    failing: None,
+};
+
+/// The call of a side that fails, counted from 0, and all behind it.
+#[derive(Clone, Copy)]
+pub enum Failing {
+    Read(u64),
+    Write(u64),
+    /// It is a write that takes nothing.
+    Full(u64),
+}
+
+/// The calls of a side up to the one that fails, if one does.
+#[derive(Clone, Copy)]
+struct Calls {
+    left: Option<u64>,
+    has_failed: bool,
+}
+
+impl Calls {
+    fn up_to(failing: Option<u64>) -> Calls {
+        Calls {
+            left: failing,
+            has_failed: false,
+        }
+    }
+
+    /// Whether the next one fails.
+    fn fails(&mut self) -> bool {
+        match self.left {
+            Some(0) => {
+                self.has_failed = true;
+                true
+            }
+            Some(left) => {
+                self.left = Some(left - 1);
+                false
+            }
+            None => false,
+        }
+    }
+}
+
 #[derive(Drop)]
 struct Given<'a> {
     left: &'a [u8],
     most: usize,
+    calls: Calls,
+}
+
+impl<'a> Given<'a> {
+    fn of(input: &'a [u8], sides: Sides) -> Given<'a> {
+        let failing = match sides.failing {
+            Some(Failing::Read(at)) => Some(at),
+            _ => None,
+        };
+        Given {
+            left: input,
+            most: sides.most,
+            calls: Calls::up_to(failing),
+        }
+    }
 }
 
 impl Read for Given<'_> {
     fn read(&mut self, buffer: &mut [u8]) -> io::Result<usize> {
+        if self.calls.fails() {
+            return Err(io::Error::from(ErrorKind::ConnectionReset));
+        }
         let count = self.left.len().min(buffer.len()).min(self.most);
         let (piece, left) = self.left.split_at(count);
         buffer[..count].copy_from_slice(piece);
@@ -26,15 +98,38 @@ impl Read for Given<'_> {
     }
 }
 
-/// Bytes of which a call takes so many at most.
 #[derive(Drop)]
 struct Taken {
     bytes: Vec<u8>,
     most: usize,
+    calls: Calls,
+    takes_nothing: bool,
+}
+
+impl Taken {
+    fn by(alloc: Global, sides: Sides) -> Taken {
+        let (failing, takes_nothing) = match sides.failing {
+            Some(Failing::Write(at)) => (Some(at), false),
+            Some(Failing::Full(at)) => (Some(at), true),
+            _ => (None, false),
+        };
+        Taken {
+            bytes: Vec::new(alloc),
+            most: sides.most,
+            calls: Calls::up_to(failing),
+            takes_nothing,
+        }
+    }
 }
 
 impl Write for Taken {
     fn write(&mut self, piece: &[u8]) -> io::Result<usize> {
+        if self.calls.fails() {
+            if self.takes_nothing {
+                return Ok(0);
+            }
+            return Err(io::Error::from(ErrorKind::BrokenPipe));
+        }
         let count = piece.len().min(self.most);
         self.bytes.extend_from_slice(&piece[..count])?;
         Ok(count)
@@ -51,23 +146,21 @@ pub struct Served {
     pub ends: Vec<Result<After, WireFault>>,
     pub written: Vec<u8>,
     pub left: usize,
+    /// Whether a side failed.
+    pub has_failed: bool,
 }
 
-/// So many calls at the moment, on a connection with this input, of which each call of the reader and of the writer
-/// gives and takes at most so many bytes.
+/// So many calls at the moment, on a connection with this input.
 pub fn serve<S: Alter>(
     alloc: Global,
     store: &mut Store<S>,
     moment: u64,
     input: &[u8],
-    most: usize,
+    sides: Sides,
     calls: usize,
 ) -> Result<Served, Fault> {
-    let mut given = Given { left: input, most };
-    let mut taken = Taken {
-        bytes: Vec::new(alloc),
-        most,
-    };
+    let mut given = Given::of(input, sides);
+    let mut taken = Taken::by(alloc, sides);
     let mut ends = Vec::new(alloc);
     let mut wire = Wire::new(Counted::new(&mut given), Counted::new(&mut taken));
     'calls: for _ in 0..calls {
@@ -76,6 +169,7 @@ pub fn serve<S: Alter>(
     drop(wire);
     Ok(Served {
         ends,
+        has_failed: given.calls.has_failed || taken.calls.has_failed,
         written: taken.bytes,
         left: given.left.len(),
     })

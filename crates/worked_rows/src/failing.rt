@@ -1,0 +1,141 @@
+//! An exchange over a connection of which one call fails, for each call in turn. The call of `serve_one` in which that
+//! comes tells it, and each behind it that the connection has ended. What was written is a front of what the exchange
+//! writes, and not all of it. Where a read failed, the rows are those before the message; where a write did, those before
+//! or behind it.
+
+use crate::cells::print_rows;
+use crate::exchanges::{PIECES, opened_tables};
+use crate::fault::Fault;
+use crate::tables::Tables;
+use crate::wires::{Failing, Served, Sides, WHOLE};
+use room_rows::Exchange;
+use room_serve::WireFault;
+
+/// What an exchange has written after a number of its calls, and the rows then.
+#[derive(Drop)]
+struct State {
+    written: Vec<u8>,
+    rows: Vec<u8>,
+}
+
+/// Where a call fails.
+#[derive(Clone, Copy)]
+enum Side {
+    Read,
+    Write,
+    Full,
+}
+
+const SIDES: [Side; 3] = [Side::Read, Side::Write, Side::Full];
+
+impl Side {
+    fn failing(self, at: u64) -> Failing {
+        match self {
+            Side::Read => Failing::Read(at),
+            Side::Write => Failing::Write(at),
+            Side::Full => Failing::Full(at),
+        }
+    }
+
+    fn fault(self) -> WireFault {
+        match self {
+            Side::Read => WireFault::Read,
+            Side::Write | Side::Full => WireFault::Write,
+        }
+    }
+
+    fn name(self) -> &'static str {
+        match self {
+            Side::Read => "read",
+            Side::Write => "write",
+            Side::Full => "write that takes nothing",
+        }
+    }
+}
+
+/// Where the exchange comes to something else, if it does.
+pub fn differs(rt: &HostRuntime, exchange: &Exchange) -> Result<Option<String>, Fault> {
+    let input = exchange.input(rt.alloc())?;
+    let mut states = Vec::new(rt.alloc());
+    for calls in 0..=exchange.count() {
+        states.push(state_behind(rt, exchange, input.as_slice(), calls)?)?;
+    }
+    for pieces in PIECES {
+        for side in SIDES {
+            for at in 0..u64::MAX {
+                let sides = Sides {
+                    most: pieces.most(),
+                    failing: Some(side.failing(at)),
+                };
+                let mut tables = opened_tables(rt)?;
+                let served = tables.serve(
+                    rt,
+                    exchange.moment(),
+                    input.as_slice(),
+                    sides,
+                    exchange.count(),
+                )?;
+                if !served.has_failed {
+                    break;
+                }
+                let rows = rows_of(rt, &mut tables)?;
+                if !is_due(side, &served, rows.as_slice(), states.as_slice()) {
+                    let (side, pieces) = (side.name(), pieces.name());
+                    return Ok(Some(format!(in rt.alloc(); "{side} {at} that fails, {pieces}")?));
+                }
+            }
+        }
+    }
+    Ok(None)
+}
+
+fn state_behind(
+    rt: &HostRuntime,
+    exchange: &Exchange,
+    input: &[u8],
+    calls: usize,
+) -> Result<State, Fault> {
+    let mut tables = opened_tables(rt)?;
+    let served = tables.serve(rt, exchange.moment(), input, WHOLE, calls)?;
+    Ok(State {
+        written: served.written,
+        rows: rows_of(rt, &mut tables)?,
+    })
+}
+
+fn rows_of(rt: &HostRuntime, tables: &mut Tables) -> Result<Vec<u8>, Fault> {
+    let mut rows = Vec::new(rt.alloc());
+    print_rows(tables, &mut rows)?;
+    Ok(rows)
+}
+
+/// Whether so came what has to come where a side fails.
+fn is_due(side: Side, served: &Served, rows: &[u8], states: &[State]) -> bool {
+    let mut answered = 0usize;
+    let mut has_failed = false;
+    for end in served.ends.as_slice() {
+        match end {
+            Ok(_) if !has_failed => answered = answered.saturating_add(1),
+            Err(fault) if !has_failed && *fault == side.fault() => has_failed = true,
+            Err(WireFault::Ended) if has_failed => {}
+            _ => return false,
+        }
+    }
+    let (Some(before), Some(all)) = (states.get(answered), states.last()) else {
+        return false;
+    };
+    let written = served.written.as_slice();
+    let is_front = written.starts_with(before.written.as_slice())
+        && all.written.as_slice().starts_with(written);
+    let is_applied = match states.get(answered.saturating_add(1)) {
+        Some(behind) => behind.rows.as_slice() == rows,
+        None => false,
+    };
+    let is_unapplied = before.rows.as_slice() == rows;
+    match side {
+        Side::Read => is_front && is_unapplied,
+        Side::Write | Side::Full => {
+            is_front && written.len() < all.written.len() && (is_unapplied || is_applied)
+        }
+    }
+}
