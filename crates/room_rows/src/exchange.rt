@@ -54,6 +54,10 @@ impl Open {
         }
     }
 
+    fn is_empty(&self) -> bool {
+        self.read.is_empty() && self.written.is_empty()
+    }
+
     fn add(&mut self, alloc: Global, line: &str) -> Result<(), RowFault> {
         if let Some(text) = line.strip_prefix('>') {
             self.is_written = false;
@@ -124,6 +128,9 @@ impl Exchange {
                 open.add(alloc, line)?;
             }
         }
+        if !open.is_empty() {
+            return Err(RowFault::Call);
+        }
         Ok(exchange)
     }
 
@@ -184,11 +191,12 @@ pub fn told(alloc: Global, ends: &[&str], left: usize, written: &[u8]) -> Result
     Ok(text)
 }
 
-/// Adds bytes as a text: what is printed of ASCII and line feeds as they are, each other byte by its number.
+/// Adds bytes as a text: line feeds and what is printed of ASCII but for the backslash as they are, each other byte by
+/// its number.
 fn push_legible(alloc: Global, text: &mut String, bytes: &[u8]) -> Result<(), RowFault> {
     for byte in bytes {
         match *byte {
-            b'\n' | b' '..=b'~' => text.push(char::from(*byte))?,
+            b'\n' | b' '..=b'[' | b']'..=b'~' => text.push(char::from(*byte))?,
             byte => text.push_str(format!(in alloc; "\\x{byte:02x}")?.as_str())?,
         }
     }

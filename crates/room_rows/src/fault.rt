@@ -28,6 +28,8 @@ pub enum RowFault {
     Text,
     #[error("a document has five words")]
     Document,
+    #[error("what is sent and written belongs to a call, which `= END` or `refused STATUS PHRASE` ends")]
+    Call,
     #[error("a call that comes so often is `= END N times`")]
     Times,
     #[error("bytes are pairs of hexadecimal digits")]

@@ -28,7 +28,7 @@ use std::{fs, str};
 const ACCOUNTS: [&str; 2] = ["alice", "bob"];
 
 /// How many steps the second account comes behind the first.
-pub const BEHIND: usize = 5;
+const BEHIND: usize = 5;
 
 /// Whether the list holds over memory and over a file, and reaches what it has to. Prints what it reached.
 pub fn hold(rt: &HostRuntime, name: &str) -> Result<bool, Fault> {
@@ -72,6 +72,26 @@ fn holds_whole(rt: &HostRuntime, players: &[Player; 2]) -> Result<bool, Fault> {
         differs = Wired::new(rt)?.run(rt, firsts, seconds)?;
     }
     print_differing(rt, "the whole list", differs)
+}
+
+/// The steps of both accounts in turns, those of the second behind.
+pub fn in_turns<'a>(
+    alloc: Global,
+    firsts: &'a [Step],
+    seconds: &'a [Step],
+) -> Result<Vec<&'a Step>, Fault> {
+    let mut steps = Vec::new(alloc);
+    for at in 0..firsts.len().saturating_add(BEHIND) {
+        if let Some(step) = firsts.get(at) {
+            steps.push(step)?;
+        }
+        if BEHIND <= at
+            && let Some(step) = seconds.get(at - BEHIND)
+        {
+            steps.push(step)?;
+        }
+    }
+    Ok(steps)
 }
 
 /// One of the accounts, and its steps.

@@ -1,7 +1,7 @@
 //! A list of events of both accounts that is given to the store whole, from one change by hand to the next.
 
 use crate::answers::{answered, set_next_job, skip_to, text};
-use crate::cells::{BEHIND, differing, rows_differ};
+use crate::cells::{differing, in_turns, rows_differ};
 use crate::fault::Fault;
 use crate::tables::Tables;
 use room_lines::{Line, print_answer};
@@ -27,20 +27,15 @@ impl<'a> Whole<'a> {
     }
 
     /// Where the tables answer another than the rooms, or hold other rows in the end, what is found and what is due.
-    /// The steps come in turns, those of the second account behind.
     pub fn run(
         mut self,
         rt: &HostRuntime,
         firsts: &'a [Step],
         seconds: &'a [Step],
     ) -> Result<Option<String>, Fault> {
-        for at in 0..firsts.len().saturating_add(BEHIND) {
-            let mut differs = self.take(rt, firsts.get(at))?;
-            if differs.is_none() && BEHIND <= at {
-                differs = self.take(rt, seconds.get(at - BEHIND))?;
-            }
-            if differs.is_some() {
-                return Ok(differs);
+        for step in in_turns(rt.alloc(), firsts, seconds)?.as_slice() {
+            if let Some(differs) = self.take(rt, step)? {
+                return Ok(Some(differs));
             }
         }
         match self.give(rt)? {
@@ -53,20 +48,19 @@ impl<'a> Whole<'a> {
         rows_differ(rt, &mut self.tables, &self.rooms)
     }
 
-    fn take(&mut self, rt: &HostRuntime, step: Option<&'a Step>) -> Result<Option<String>, Fault> {
+    fn take(&mut self, rt: &HostRuntime, step: &'a Step) -> Result<Option<String>, Fault> {
         match step {
-            None => Ok(None),
-            Some(Step::Event(line)) => {
+            Step::Event(line) => {
                 self.waiting.push(line)?;
                 Ok(None)
             }
-            Some(Step::NextJob { account, number }) => {
+            Step::NextJob { account, number } => {
                 let differs = self.give(rt)?;
                 skip_to(&mut self.rooms, *account, *number)?;
                 set_next_job(&mut self.tables, *account, *number)?;
                 Ok(differs)
             }
-            Some(Step::Sql(_)) => Err(Fault::ByHand),
+            Step::Sql(_) => Err(Fault::ByHand),
         }
     }
 

@@ -2,7 +2,7 @@
 //! event: each answer has to be the store's, and in the end the rows have to be the same.
 
 use crate::answers::{set_next_job, text};
-use crate::cells::{BEHIND, differing, print_rows};
+use crate::cells::{differing, in_turns, print_rows};
 use crate::fault::Fault;
 use crate::tables::Tables;
 use crate::wires::WHOLE;
@@ -28,20 +28,15 @@ impl Wired {
     }
 
     /// Where the databases differ in an answer, or in their rows in the end, what is found over HTTP and what is due.
-    /// The steps come in turns, those of the second account behind.
     pub fn run(
         mut self,
         rt: &HostRuntime,
         firsts: &[Step],
         seconds: &[Step],
     ) -> Result<Option<String>, Fault> {
-        for at in 0..firsts.len().saturating_add(BEHIND) {
-            let mut differs = self.take(rt, firsts.get(at))?;
-            if differs.is_none() && BEHIND <= at {
-                differs = self.take(rt, seconds.get(at - BEHIND))?;
-            }
-            if differs.is_some() {
-                return Ok(differs);
+        for step in in_turns(rt.alloc(), firsts, seconds)?.as_slice() {
+            if let Some(differs) = self.take(rt, step)? {
+                return Ok(Some(differs));
             }
         }
         let (mut found, mut due) = (Vec::new(rt.alloc()), Vec::new(rt.alloc()));
@@ -50,16 +45,15 @@ impl Wired {
         differing(rt.alloc(), text(found)?, text(due)?)
     }
 
-    fn take(&mut self, rt: &HostRuntime, step: Option<&Step>) -> Result<Option<String>, Fault> {
+    fn take(&mut self, rt: &HostRuntime, step: &Step) -> Result<Option<String>, Fault> {
         match step {
-            None => Ok(None),
-            Some(Step::Event(line)) => self.take_event(rt, line),
-            Some(Step::NextJob { account, number }) => {
+            Step::Event(line) => self.take_event(rt, line),
+            Step::NextJob { account, number } => {
                 set_next_job(&mut self.by_http, *account, *number)?;
                 set_next_job(&mut self.by_store, *account, *number)?;
                 Ok(None)
             }
-            Some(Step::Sql(_)) => Err(Fault::ByHand),
+            Step::Sql(_) => Err(Fault::ByHand),
         }
     }
 

@@ -1,4 +1,5 @@
-//! Connections of HTTP over memory: what is read from one is there at once, and what is written is kept.
+//! Connections of HTTP over memory, of which a side may fail: what is read from one is there at once, and what is written
+//! is kept.
 
 use crate::fault::Fault;
 use room_serve::{After, Wire, WireFault, serve_one};
