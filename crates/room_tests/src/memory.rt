@@ -1,7 +1,7 @@
 //! Each call where a request for memory is refused: it answers its fault for memory and leaves what it was
 //! given as it was, and made again it gives the usual answer. Run as they are, these tests meet no refusal;
-//! `tools/refuse-memory` runs them once for each request that they make. The machine as a whole is tried by
-//! the rows of `worked_rows`.
+//! `tools/refuse-memory` runs them once for each request that they make, and so the rows of `worked_rows` and
+//! `worked_tables`, which reach the machine as a whole, the store and what stands on it.
 
 ghost use Rattle.room_texts.specs.Limits.{IsPlace};
 ghost use Rattle.room_texts.specs.Places.{plain_place};
@@ -12,7 +12,9 @@ use ipp_coding::{
     put_header, put_more, read_message,
 };
 use room_asks::{AskFault, read_ask};
+use room_grants::{GrantFault, GrantLine, read_grants};
 use room_rules::{CoreFault, Device, Job, JobState, Name, Standing, Word, set_device};
+use room_streams::Counted;
 use room_texts::{
     Place, PrinterNow, Success, put_job, put_line, put_printer, put_reply, put_success,
 };
@@ -121,6 +123,20 @@ fn set_device_again(rt: HostRuntime) -> Result<(), Fail> {
     }
     assert_eq!(rt; answer, Ok(()));
     assert_eq!(rt; devices.len(), 1);
+    Ok(())
+}
+
+#[test]
+fn read_grants_again(rt: HostRuntime) -> Result<(), Fail> {
+    let file = b"alice,2026-09,100\n\"bob\",2026-09\n";
+    let mut lines = read_grants(rt.alloc(), &mut Counted::new(file.as_slice()));
+    if matches!(&lines, Err(GrantFault::Memory)) {
+        lines = read_grants(rt.alloc(), &mut Counted::new(file.as_slice()));
+    }
+    let lines = lines?;
+    let [GrantLine::Good { pages: 100, .. }, GrantLine::Bad(2)] = lines.as_slice() else {
+        return Err("other lines")?;
+    };
     Ok(())
 }
 

@@ -2,13 +2,13 @@
 
 use crate::fault::Fault;
 use crate::program::{by_program_in_file, by_program_in_memory};
-use crate::tables::{Tables, remove_files};
+use crate::tables::{Tables, remove_files, tell_again};
 use room_core::{CoreFault, LAST_JOB, Name, Reply};
 use room_lines::{Line, print_answer};
 use room_rows::{Conversation, Rooms, Step};
 use room_store::StoreFault;
+use sqlite::Alter;
 use sqlite::types::ValueRef;
-use std::alloc::Global;
 
 /// Who answers.
 #[derive(Clone, Copy)]
@@ -40,20 +40,16 @@ impl Way {
     ) -> Result<Option<String>, Fault> {
         match self {
             Way::Rooms if steps.iter().any(Step::is_by_hand) => Ok(None),
-            Way::Rooms => Ok(Some(by_rooms(rt.alloc(), steps)?)),
-            Way::TablesInMemory => Ok(Some(by_tables(rt, Tables::in_memory(rt)?, steps)?)),
+            Way::Rooms => Ok(Some(by_rooms(rt, steps)?)),
+            Way::TablesInMemory => Ok(Some(by_tables_in_memory(rt, steps)?)),
             Way::TablesInFile if !talk.is_reopened() => Ok(None),
-            Way::TablesInFile => {
-                let printed = by_tables(rt, Tables::in_file(rt)?, steps)?;
-                remove_files(rt);
-                Ok(Some(printed))
-            }
+            Way::TablesInFile => Ok(Some(by_tables_in_file(rt, steps)?)),
             Way::ProgramInMemory => match talk.script(rt.alloc())? {
-                Some(script) => Ok(Some(by_program_in_memory(rt, script.as_str())?)),
+                Some(script) => Ok(Some(by_program_in_memory(rt, script.as_str(), steps)?)),
                 None => Ok(None),
             },
             Way::ProgramInFile => match talk.script(rt.alloc())? {
-                Some(script) => Ok(Some(by_program_in_file(rt, script.as_str())?)),
+                Some(script) => Ok(Some(by_program_in_file(rt, script.as_str(), steps)?)),
                 None => Ok(None),
             },
         }
@@ -70,13 +66,13 @@ impl Way {
     }
 }
 
-fn by_rooms(alloc: Global, steps: &[Step]) -> Result<String, Fault> {
-    let mut rooms = Rooms::new(alloc);
-    let mut output = Vec::new(alloc);
+fn by_rooms(rt: &HostRuntime, steps: &[Step]) -> Result<String, Fault> {
+    let mut rooms = Rooms::new(rt.alloc());
+    let mut output = Vec::new(rt.alloc());
     for step in steps {
         match step {
             Step::Event(line) => {
-                let outcome = answered(&mut rooms, line.moment, line);
+                let outcome = answered(rt, &mut rooms, line.moment, line);
                 print_answer(&mut output, outcome.as_ref().ok())?;
             }
             Step::NextJob { account, number } => skip_to(&mut rooms, *account, *number)?,
@@ -87,10 +83,18 @@ fn by_rooms(alloc: Global, steps: &[Step]) -> Result<String, Fault> {
 }
 
 /// What a room answers to a line's event at the moment. One that is refused for want of memory is given once more:
-/// after a refusal everything is as before (`tools/refuse-memory` has requests for memory refused).
-pub fn answered(rooms: &mut Rooms, moment: u64, line: &Line) -> Result<Reply, CoreFault> {
+/// after a refusal everything is as before.
+pub fn answered(
+    rt: &HostRuntime,
+    rooms: &mut Rooms,
+    moment: u64,
+    line: &Line,
+) -> Result<Reply, CoreFault> {
     match rooms.answer(moment, &line.action.event()) {
-        Err(CoreFault::Memory) => rooms.answer(moment, &line.action.event()),
+        Err(CoreFault::Memory) => {
+            tell_again(rt);
+            rooms.answer(moment, &line.action.event())
+        }
         outcome => outcome,
     }
 }
@@ -107,21 +111,46 @@ pub fn skip_to(rooms: &mut Rooms, account: Name, number: u32) -> Result<(), Faul
     Ok(())
 }
 
-fn by_tables(rt: &HostRuntime, mut tables: Tables, steps: &[Step]) -> Result<String, Fault> {
+fn by_tables_in_memory(rt: &HostRuntime, steps: &[Step]) -> Result<String, Fault> {
+    let mut tables = Tables::in_memory(rt)?;
     let mut output = Vec::new(rt.alloc());
     for step in steps {
-        tables.reopen(rt)?;
-        match step {
-            Step::Event(line) => print(&mut output, tables.apply(rt, line.moment, line)?)?,
-            Step::NextJob { account, number } => set_next_job(&mut tables, *account, *number)?,
-            Step::Sql(sql) => tables.execute(sql.as_str(), &[])?,
-        }
+        take(rt, &mut tables, step, &mut output)?;
     }
     text(output)
 }
 
+fn by_tables_in_file(rt: &HostRuntime, steps: &[Step]) -> Result<String, Fault> {
+    let mut tables = Tables::in_file(rt)?;
+    let mut output = Vec::new(rt.alloc());
+    for step in steps {
+        tables.reopen(rt)?;
+        take(rt, &mut tables, step, &mut output)?;
+    }
+    remove_files(rt);
+    text(output)
+}
+
+/// Does a step on tables, and prints what they answer.
+pub fn take<S: Alter + Drop>(
+    rt: &HostRuntime,
+    tables: &mut Tables<S>,
+    step: &Step,
+    output: &mut Vec<u8>,
+) -> Result<(), Fault> {
+    match step {
+        Step::Event(line) => print(output, tables.apply(rt, line.moment, line)?),
+        Step::NextJob { account, number } => set_next_job(tables, *account, *number),
+        Step::Sql(sql) => tables.execute(sql.as_str(), &[]),
+    }
+}
+
 /// The same as `skip_to`, by hand.
-pub fn set_next_job(tables: &mut Tables, account: Name, number: u32) -> Result<(), Fault> {
+pub fn set_next_job<S: Alter + Drop>(
+    tables: &mut Tables<S>,
+    account: Name,
+    number: u32,
+) -> Result<(), Fault> {
     tables.execute(
         "UPDATE account SET next_job = ?1 WHERE name = ?2",
         &[

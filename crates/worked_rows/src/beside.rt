@@ -9,6 +9,7 @@ use crate::tables::Tables;
 use room_core::Name;
 use room_lines::{Line, print_answer};
 use room_rows::{Conversation, Rooms, Step};
+use sqlite::MemStore;
 use std::alloc::Global;
 
 /// What the other asks first: fifty jobs, numbered as the account's will be.
@@ -40,7 +41,7 @@ const ALL_OFF: &str = "\
 /// the own ones.
 #[derive(Drop)]
 struct Side<'a> {
-    tables: Tables,
+    tables: Tables<MemStore>,
     lines: Vec<&'a Line>,
     is_own: Vec<bool>,
     printed: Vec<u8>,
@@ -123,7 +124,7 @@ pub fn differs_beside(
     steps: &[Step],
 ) -> Result<Option<String>, Fault> {
     let fifty_jobs = steps_of(rt.alloc(), FIFTY_JOBS)?;
-    let between = asked_between(rt.alloc(), account, steps)?;
+    let between = asked_between(rt, account, steps)?;
     let ending = Conversation::read(rt.alloc(), ALL_OFF)?;
     let last = ending.steps(rt.alloc())?;
     let (mut alone, mut beside) = (Side::new(rt)?, Side::new(rt)?);
@@ -148,13 +149,14 @@ fn steps_of(alloc: Global, asked: &str) -> Result<Vec<Step>, Fault> {
 }
 
 /// What the other asks behind each step of the account.
-fn asked_between(alloc: Global, account: Name, steps: &[Step]) -> Result<Vec<Vec<Step>>, Fault> {
+fn asked_between(rt: &HostRuntime, account: Name, steps: &[Step]) -> Result<Vec<Vec<Step>>, Fault> {
+    let alloc = rt.alloc();
     let mut rooms = Rooms::new(alloc);
     let mut all = Vec::new(alloc);
     for (at, step) in steps.iter().enumerate() {
         match step {
             Step::Event(line) => {
-                let _ = answered(&mut rooms, line.moment, line);
+                let _ = answered(rt, &mut rooms, line.moment, line);
             }
             Step::NextJob { account, number } => skip_to(&mut rooms, *account, *number)?,
             Step::Sql(_) => return Err(Fault::ByHand),

@@ -20,6 +20,7 @@ use room_core::{CoreFault, LAST_MOMENT, Name};
 use room_lines::{Line, print_answer};
 use room_rows::{Act, Conversation, Rooms, Step, difference, print_devices, print_room};
 use room_store::StoreFault;
+use sqlite::Alter;
 use std::alloc::Global;
 use std::collections::BTreeSet;
 use std::io::Write;
@@ -120,16 +121,16 @@ fn account_of(name: &str) -> Result<Name, Fault> {
 
 /// The rooms and the shared tables, and what each account reached: its name, a space, and what it is called.
 #[derive(Drop)]
-struct Trial {
+struct Trial<S: Alter> {
     rooms: Rooms,
-    tables: Tables,
+    tables: Tables<S>,
     reached: BTreeSet<String>,
     /// Whether each step is looked at closely, and not the end alone.
     is_close: bool,
 }
 
-impl Trial {
-    fn new(rt: &HostRuntime, tables: Tables, is_close: bool) -> Trial {
+impl<S: Alter + Drop> Trial<S> {
+    fn new(rt: &HostRuntime, tables: Tables<S>, is_close: bool) -> Trial<S> {
         Trial {
             rooms: Rooms::new(rt.alloc()),
             tables,
@@ -190,7 +191,7 @@ impl Trial {
 
     /// Whether both refuse the event at the first moment out of range.
     fn refuses_late(&mut self, rt: &HostRuntime, line: &Line) -> Result<bool, Fault> {
-        let by_rooms = answered(&mut self.rooms, LAST_MOMENT + 1, line);
+        let by_rooms = answered(rt, &mut self.rooms, LAST_MOMENT + 1, line);
         let by_tables = self.tables.apply(rt, LAST_MOMENT + 1, line)?;
         Ok(
             matches!(&by_rooms, Err(CoreFault::Moment))
@@ -205,7 +206,7 @@ impl Trial {
         line: &Line,
     ) -> Result<Option<String>, Fault> {
         let act = Act::of(rt.alloc(), &line.action.event(), &self.rooms);
-        let by_rooms = answered(&mut self.rooms, line.moment, line);
+        let by_rooms = answered(rt, &mut self.rooms, line.moment, line);
         let by_tables = as_of_rooms(self.tables.apply(rt, line.moment, line)?)?;
         if let Ok(reply) = &by_rooms {
             let names = act.reached(rt.alloc(), reply, self.rooms.room(account))?;
@@ -254,9 +255,9 @@ impl Trial {
 }
 
 /// Where the tables hold other rows than those of the rooms and the devices, the first that differs.
-pub fn rows_differ(
+pub fn rows_differ<S: Alter + Drop>(
     rt: &HostRuntime,
-    tables: &mut Tables,
+    tables: &mut Tables<S>,
     rooms: &Rooms,
 ) -> Result<Option<String>, Fault> {
     let (mut found, mut due) = (Vec::new(rt.alloc()), Vec::new(rt.alloc()));
@@ -270,11 +271,23 @@ pub fn rows_differ(
 }
 
 /// Prints the rows of both accounts and of the devices.
-pub fn print_rows(tables: &mut Tables, output: &mut Vec<u8>) -> Result<(), Fault> {
+pub fn print_rows<S: Alter + Drop>(
+    tables: &mut Tables<S>,
+    output: &mut Vec<u8>,
+) -> Result<(), Fault> {
+    print_accounts(tables, output)?;
+    tables.print_devices(output)
+}
+
+/// Prints those of both accounts.
+pub fn print_accounts<S: Alter + Drop>(
+    tables: &mut Tables<S>,
+    output: &mut Vec<u8>,
+) -> Result<(), Fault> {
     for name in ACCOUNTS {
         tables.print_account(account_of(name)?, output)?;
     }
-    tables.print_devices(output)
+    Ok(())
 }
 
 /// Where the texts differ, their first lines that do.

@@ -3,10 +3,8 @@
 //! writes, and not all of it. Where a read failed, the rows are those before the message; where a write did, those before
 //! or behind it.
 
-use crate::cells::print_rows;
-use crate::exchanges::{PIECES, opened_tables};
+use crate::exchanges::{PIECES, opened_tables, rows_of};
 use crate::fault::Fault;
-use crate::tables::Tables;
 use crate::wires::{Failing, Served, Sides, WHOLE};
 use room_rows::Exchange;
 use room_serve::WireFault;
@@ -78,7 +76,7 @@ pub fn differs(rt: &HostRuntime, exchange: &Exchange) -> Result<Option<String>, 
                 if !served.has_failed {
                     break;
                 }
-                let rows = rows_of(rt, &mut tables)?;
+                let rows = rows_of(rt.alloc(), &mut tables)?;
                 if !is_due(side, &served, rows.as_slice(), states.as_slice()) {
                     let (side, pieces) = (side.name(), pieces.name());
                     return Ok(Some(format!(in rt.alloc(); "{side} {at} that fails, {pieces}")?));
@@ -99,14 +97,8 @@ fn state_behind(
     let served = tables.serve(rt, exchange.moment(), input, WHOLE, calls)?;
     Ok(State {
         written: served.written,
-        rows: rows_of(rt, &mut tables)?,
+        rows: rows_of(rt.alloc(), &mut tables)?,
     })
-}
-
-fn rows_of(rt: &HostRuntime, tables: &mut Tables) -> Result<Vec<u8>, Fault> {
-    let mut rows = Vec::new(rt.alloc());
-    print_rows(tables, &mut rows)?;
-    Ok(rows)
 }
 
 /// Whether so came what has to come where a side fails.

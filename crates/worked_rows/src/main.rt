@@ -1,20 +1,25 @@
 //! The program `worked_rows`: holds the files that its words name against the print room.
 //!
-//! - Of a file of conversations, `NAME.rows`, of exchanges over HTTP, `NAME.exchanges`, or of runs of the program,
-//!   `NAME.runs`, it prints how many rows hold, and of each row that does not what differs.
+//! - Of a file of conversations, `NAME.rows`, of exchanges over HTTP, `NAME.exchanges`, of runs of the program,
+//!   `NAME.runs`, or of runs over storage that stops, `NAME.stops`, it prints how many rows hold, and of each row that
+//!   does not what differs.
 //! - Of a list of events, `NAME.events`, it prints what the list reached.
 #![tactic(auto)]
 
 mod answers;
 mod beside;
 mod cells;
+mod disks;
 mod exchanges;
 mod failing;
 mod fault;
 mod files;
+mod found;
+mod migrated;
 mod program;
 mod rows;
 mod runs;
+mod stopped;
 mod tables;
 mod whole;
 mod wired;

@@ -1,10 +1,11 @@
 //! Files of rows. The line `# TITLE` begins a row; the lines behind it are those of its conversation, in a file
-//! `NAME.exchanges` of its exchange over HTTP, and in a file `NAME.runs` of its runs of the program.
+//! `NAME.exchanges` of its exchange over HTTP, in a file `NAME.runs` of its runs of the program, and in a file
+//! `NAME.stops` of a run over storage that stops.
 
 use crate::answers::WAYS;
 use crate::exchanges::{PIECES, answers};
 use crate::fault::Fault;
-use crate::{failing, runs};
+use crate::{failing, runs, stopped};
 use room_rows::{Conversation, Exchange, difference};
 use std::fs;
 use std::io::Write;
@@ -15,6 +16,7 @@ enum Kind {
     Conversations,
     Exchanges,
     Runs,
+    Stops,
 }
 
 impl Kind {
@@ -23,6 +25,8 @@ impl Kind {
             Kind::Exchanges
         } else if file.ends_with(".runs") {
             Kind::Runs
+        } else if file.ends_with(".stops") {
+            Kind::Stops
         } else {
             Kind::Conversations
         }
@@ -34,6 +38,7 @@ impl Kind {
             Kind::Conversations => conversation_differs(rt, lines),
             Kind::Exchanges => exchange_differs(rt, lines),
             Kind::Runs => runs::differs(rt, lines),
+            Kind::Stops => stopped::differs(rt, lines),
         }
     }
 }
@@ -83,7 +88,7 @@ fn exchange_differs(rt: &HostRuntime, lines: &str) -> Result<Option<String>, Fau
     let exchange = Exchange::read(rt.alloc(), lines)?;
     let due = exchange.due(rt.alloc())?;
     for pieces in PIECES {
-        let answered = answers(rt, &exchange, pieces)?;
+        let answered = answers(rt, &exchange, pieces, due.as_str())?;
         if let Some((answered, expected)) = difference(answered.as_str(), due.as_str()) {
             return Ok(Some(told(rt, pieces.name(), answered, expected)?));
         }

@@ -1,4 +1,4 @@
-//! Shared tables in memory or in a file. Each event comes to a store of its own, over the one connection.
+//! Shared tables. Each event comes to a store of its own, over the one connection.
 
 ghost use Rattle.std.specs.Prelude.{All, IfOk, IsTrue};
 ghost use Rattle.room_core.specs.Fits.{fits};
@@ -9,7 +9,7 @@ use room_core::{Event, Name, Reply};
 use room_lines::Line;
 use room_rows::print_hex;
 use room_serve::{Outcome, run_events};
-use room_store::{OpenFault, Refused, Store, StoreFault};
+use room_store::{Refused, Store, StoreFault};
 use sqlite::types::ValueRef;
 use sqlite::{Alter, Connection, File, FileStore, MemStore, Row};
 use std::alloc::Global;
@@ -40,36 +40,60 @@ const OF_ACCOUNT: [(&str, &str); 4] = [
 const OF_DEVICES: &str =
     "SELECT name, accepting, units FROM device, rates WHERE device = name ORDER BY device.rowid";
 
-/// The connection is away during a use.
+/// Tables of any store. The connection is away during a use.
 #[derive(Drop)]
-pub enum Tables {
-    Memory(Option<Connection<MemStore>>),
-    File(Option<Connection<FileStore<File>>>),
+pub struct Tables<S: Alter> {
+    waiting: Option<Connection<S>>,
 }
 
-impl Tables {
+impl Tables<MemStore> {
     /// New tables in memory.
-    pub fn in_memory(rt: &HostRuntime) -> Result<Tables, Fault> {
-        let connection = created(Connection::open_in_memory(rt.alloc())?)?;
-        Ok(Tables::Memory(Some(connection)))
+    pub fn in_memory(rt: &HostRuntime) -> Result<Tables<MemStore>, Fault> {
+        Tables::create(rt, Connection::open_in_memory(rt.alloc())?)
     }
+}
 
+impl Tables<FileStore<File>> {
     /// New tables in the file.
-    pub fn in_file(rt: &HostRuntime) -> Result<Tables, Fault> {
+    pub fn in_file(rt: &HostRuntime) -> Result<Tables<FileStore<File>>, Fault> {
         remove_files(rt);
-        Ok(Tables::File(Some(created(file(rt)?)?)))
+        Tables::create(rt, file(rt)?)
     }
 
     /// Closes the file and opens it again.
     pub fn reopen(&mut self, rt: &HostRuntime) -> Result<(), Fault> {
-        let Tables::File(waiting) = self else {
-            return Ok(());
-        };
-        if let Some(connection) = waiting.take() {
+        if let Some(connection) = self.waiting.take() {
             connection.close()?;
         }
-        *waiting = Some(file(rt)?);
+        self.waiting = Some(file(rt)?);
         Ok(())
+    }
+}
+
+impl<S: Alter + Drop> Tables<S> {
+    /// Those that a connection has.
+    pub fn of(connection: Connection<S>) -> Tables<S> {
+        Tables {
+            waiting: Some(connection),
+        }
+    }
+
+    /// Makes them. Where memory is refused, they are made once more.
+    pub fn create(rt: &HostRuntime, connection: Connection<S>) -> Result<Tables<S>, Fault> {
+        let refused = match Store::create(connection) {
+            Ok(store) => return Ok(Tables::of(store.close())),
+            Err(refused) => refused,
+        };
+        tell_again(rt);
+        match Store::create(refused.connection) {
+            Ok(store) => Ok(Tables::of(store.close())),
+            Err(Refused { fault, .. }) => Err(Fault::Open(fault)),
+        }
+    }
+
+    /// The connection, at the end of all uses.
+    pub fn end(self) -> Result<Connection<S>, Fault> {
+        self.waiting.ok_or(Fault::Away)
     }
 
     /// What is answered to a line's event at the moment. One that is refused for want of memory is given once more:
@@ -80,19 +104,34 @@ impl Tables {
         moment: u64,
         line: &Line,
     ) -> Result<Result<Reply, StoreFault>, Fault> {
-        match self {
-            Tables::Memory(waiting) => apply_over(rt, waiting, moment, line),
-            Tables::File(waiting) => apply_over(rt, waiting, moment, line),
+        let mut store = self.store(rt)?;
+        let event = line.action.event();
+        let mut outcome = store.apply(rt.alloc(), moment, &event);
+        if matches!(&outcome, Err(StoreFault::Memory | StoreFault::Storage)) {
+            tell_again(rt);
+            outcome = store.apply(rt.alloc(), moment, &event);
         }
+        self.waiting = Some(store.close());
+        Ok(outcome)
     }
 
     /// What each line's event comes to, the store being given them as one list.
     pub fn run(&mut self, rt: &HostRuntime, lines: &[&Line]) -> Result<Vec<Outcome>, Fault> {
         let events = events_of(rt.alloc(), lines)?;
-        match self {
-            Tables::Memory(waiting) => run_over(rt, waiting, events.as_slice()),
-            Tables::File(waiting) => run_over(rt, waiting, events.as_slice()),
-        }
+        self.run_all(rt, events.as_slice())
+    }
+
+    fn run_all(
+        &mut self,
+        rt: &HostRuntime,
+        events: &[(u64, Event<'_>)],
+    ) -> Result<Vec<Outcome>, Fault>
+        requires { All (λ e. IsTrue (fits e.1)) events.now }
+    {
+        let mut store = self.store(rt)?;
+        let outcomes = run_events(rt.alloc(), &mut store, events);
+        self.waiting = Some(store.close());
+        Ok(outcomes?)
     }
 
     /// What so many calls of `serve_one` on one connection come to (`wires`).
@@ -104,24 +143,37 @@ impl Tables {
         sides: Sides,
         calls: usize,
     ) -> Result<Served, Fault> {
-        match self {
-            Tables::Memory(waiting) => serve_over(rt, waiting, moment, input, sides, calls),
-            Tables::File(waiting) => serve_over(rt, waiting, moment, input, sides, calls),
+        let mut store = self.store(rt)?;
+        let served = serve(rt.alloc(), &mut store, moment, input, sides, calls);
+        self.waiting = Some(store.close());
+        served
+    }
+
+    /// The store over them. Where memory is refused, it is opened once more.
+    fn store(&mut self, rt: &HostRuntime) -> Result<Store<S>, Fault> {
+        let Some(connection) = self.waiting.take() else {
+            return Err(Fault::Away);
+        };
+        let refused = match Store::open(connection) {
+            Ok(store) => return Ok(store),
+            Err(refused) => refused,
+        };
+        tell_again(rt);
+        match Store::open(refused.connection) {
+            Ok(store) => Ok(store),
+            Err(Refused { fault, .. }) => Err(Fault::Open(fault)),
         }
     }
 
     /// Changes rows by hand.
     pub fn execute(&mut self, sql: &str, values: &[ValueRef<'_>]) -> Result<(), Fault> {
-        match self {
-            Tables::Memory(Some(connection)) => {
+        match &mut self.waiting {
+            Some(connection) => {
                 connection.execute(sql, values)?;
+                Ok(())
             }
-            Tables::File(Some(connection)) => {
-                connection.execute(sql, values)?;
-            }
-            Tables::Memory(None) | Tables::File(None) => return Err(Fault::Away),
+            None => Err(Fault::Away),
         }
-        Ok(())
     }
 
     /// Prints the rows of the account, each on a line: the table, and the columns in their order.
@@ -140,19 +192,27 @@ impl Tables {
     }
 
     fn query(&mut self, sql: &str, values: &[ValueRef<'_>]) -> Result<Vec<Row>, Fault> {
-        match self {
-            Tables::Memory(Some(connection)) => Ok(connection.query_all(sql, values)?),
-            Tables::File(Some(connection)) => Ok(connection.query_all(sql, values)?),
-            Tables::Memory(None) | Tables::File(None) => Err(Fault::Away),
+        match &mut self.waiting {
+            Some(connection) => Ok(connection.query_all(sql, values)?),
+            None => Err(Fault::Away),
         }
     }
+}
+
+/// Tells that a call is made once more, since the first was refused. No call is where memory and storage are there, so
+/// that in the gate each such line is a row that fails; `tools/refuse-memory` has requests for memory refused.
+pub fn tell_again(rt: &HostRuntime) {
+    let _ = writeln!(rt.stdout(), "asked again");
 }
 
 /// A connection to the file. Where it can't be opened, it is opened once more.
 fn file(rt: &HostRuntime) -> Result<Connection<FileStore<File>>, Fault> {
     match Connection::open(rt, FILE) {
         Ok(connection) => Ok(connection),
-        Err(_) => Ok(Connection::open(rt, FILE)?),
+        Err(_) => {
+            tell_again(rt);
+            Ok(Connection::open(rt, FILE)?)
+        }
     }
 }
 
@@ -161,33 +221,6 @@ pub fn remove_files(rt: &HostRuntime) {
     for file in [FILE, LOG] {
         let _ = fs::remove_file(rt, file);
     }
-}
-
-/// Makes the tables.
-fn created<S: Alter + Drop>(connection: Connection<S>) -> Result<Connection<S>, Fault> {
-    match Store::create(connection) {
-        Ok(store) => Ok(store.close()),
-        Err(Refused { fault, .. }) => Err(Fault::Open(fault)),
-    }
-}
-
-fn apply_over<S: Alter + Drop>(
-    rt: &HostRuntime,
-    waiting: &mut Option<Connection<S>>,
-    moment: u64,
-    line: &Line,
-) -> Result<Result<Reply, StoreFault>, Fault> {
-    let Some(connection) = waiting.take() else {
-        return Err(Fault::Away);
-    };
-    let mut store = opened(connection)?;
-    let event = line.action.event();
-    let mut outcome = store.apply(rt.alloc(), moment, &event);
-    if matches!(&outcome, Err(StoreFault::Memory)) {
-        outcome = store.apply(rt.alloc(), moment, &event);
-    }
-    *waiting = Some(store.close());
-    Ok(outcome)
 }
 
 fn events_of<'a>(alloc: Global, lines: &[&'a Line]) -> Result<Vec<(u64, Event<'a>)>, Fault>
@@ -200,56 +233,6 @@ fn timed(line: &Line) -> (u64, Event<'_>)
     ensures { IsTrue (fits result.1) }
 {
     (line.moment, line.event())
-}
-
-fn run_over<S: Alter + Drop>(
-    rt: &HostRuntime,
-    waiting: &mut Option<Connection<S>>,
-    events: &[(u64, Event<'_>)],
-) -> Result<Vec<Outcome>, Fault>
-    requires { All (λ e. IsTrue (fits e.1)) events.now }
-{
-    let Some(connection) = waiting.take() else {
-        return Err(Fault::Away);
-    };
-    let mut store = opened(connection)?;
-    let outcomes = run_events(rt.alloc(), &mut store, events);
-    *waiting = Some(store.close());
-    Ok(outcomes?)
-}
-
-fn serve_over<S: Alter + Drop>(
-    rt: &HostRuntime,
-    waiting: &mut Option<Connection<S>>,
-    moment: u64,
-    input: &[u8],
-    sides: Sides,
-    calls: usize,
-) -> Result<Served, Fault> {
-    let Some(connection) = waiting.take() else {
-        return Err(Fault::Away);
-    };
-    let mut store = opened(connection)?;
-    let served = serve(rt.alloc(), &mut store, moment, input, sides, calls);
-    *waiting = Some(store.close());
-    served
-}
-
-/// The store over the connection. One that is refused for want of memory is opened once more.
-fn opened<S: Alter + Drop>(connection: Connection<S>) -> Result<Store<S>, Fault> {
-    match Store::open(connection) {
-        Ok(store) => Ok(store),
-        Err(
-            Refused {
-                connection,
-                fault: OpenFault::Memory | OpenFault::Storage,
-            },
-        ) => match Store::open(connection) {
-            Ok(store) => Ok(store),
-            Err(Refused { fault, .. }) => Err(Fault::Open(fault)),
-        },
-        Err(Refused { fault, .. }) => Err(Fault::Open(fault)),
-    }
 }
 
 fn print_rows(output: &mut Vec<u8>, table: &str, rows: &[Row]) -> Result<(), Fault> {

@@ -7,18 +7,18 @@ use crate::tables::Tables;
 use room_lines::{Line, print_answer};
 use room_rows::{Rooms, Step};
 use room_serve::Outcome;
-use room_store::StoreFault;
+use sqlite::Alter;
 
 /// The rooms and the shared tables, and the lines that neither was given yet.
 #[derive(Drop)]
-pub struct Whole<'a> {
+pub struct Whole<'a, S: Alter> {
     rooms: Rooms,
-    tables: Tables,
+    tables: Tables<S>,
     waiting: Vec<&'a Line>,
 }
 
-impl<'a> Whole<'a> {
-    pub fn new(rt: &HostRuntime, tables: Tables) -> Whole<'a> {
+impl<'a, S: Alter + Drop> Whole<'a, S> {
+    pub fn new(rt: &HostRuntime, tables: Tables<S>) -> Whole<'a, S> {
         Whole {
             rooms: Rooms::new(rt.alloc()),
             tables,
@@ -64,8 +64,7 @@ impl<'a> Whole<'a> {
         }
     }
 
-    /// Gives the lines that wait to the store as one list, and to the rooms one by one. An event that failed for want
-    /// of memory changed nothing, so the rooms are not given it.
+    /// Gives the lines that wait to the store as one list, and to the rooms one by one. No event may fail.
     fn give(&mut self, rt: &HostRuntime) -> Result<Option<String>, Fault> {
         let (mut found, mut due) = (Vec::new(rt.alloc()), Vec::new(rt.alloc()));
         let outcomes = self.tables.run(rt, self.waiting.as_slice())?;
@@ -73,10 +72,9 @@ impl<'a> Whole<'a> {
             match outcome {
                 Outcome::Answered(reply) => {
                     print_answer(&mut found, Some(reply))?;
-                    let by_rooms = answered(&mut self.rooms, line.moment, line);
+                    let by_rooms = answered(rt, &mut self.rooms, line.moment, line);
                     print_answer(&mut due, by_rooms.as_ref().ok())?;
                 }
-                Outcome::Failed(StoreFault::Memory) => {}
                 Outcome::Failed(fault) => return Err(Fault::Tables(*fault)),
             }
         }

@@ -9,12 +9,13 @@ use crate::wires::WHOLE;
 use room_core::Event;
 use room_lines::Line;
 use room_rows::{Carriage, Step, http_answer, http_request};
+use sqlite::MemStore;
 
 /// The two databases, and how many requests came so far.
 #[derive(Drop)]
 pub struct Wired {
-    by_http: Tables,
-    by_store: Tables,
+    by_http: Tables<MemStore>,
+    by_store: Tables<MemStore>,
     requests: u64,
 }
 

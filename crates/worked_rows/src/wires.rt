@@ -99,6 +99,9 @@ impl Read for Given<'_> {
     }
 }
 
+/// The bytes for which a writer has room from its beginning, so that want of memory is no failed write of most exchanges.
+const ROOM: usize = 65_536;
+
 #[derive(Drop)]
 struct Taken {
     bytes: Vec<u8>,
@@ -108,18 +111,18 @@ struct Taken {
 }
 
 impl Taken {
-    fn by(alloc: Global, sides: Sides) -> Taken {
+    fn by(alloc: Global, sides: Sides) -> Result<Taken, Fault> {
         let (failing, takes_nothing) = match sides.failing {
             Some(Failing::Write(at)) => (Some(at), false),
             Some(Failing::Full(at)) => (Some(at), true),
             _ => (None, false),
         };
-        Taken {
-            bytes: Vec::new(alloc),
+        Ok(Taken {
+            bytes: Vec::with_capacity(alloc, ROOM)?,
             most: sides.most,
             calls: Calls::up_to(failing),
             takes_nothing,
-        }
+        })
     }
 }
 
@@ -161,7 +164,7 @@ pub fn serve<S: Alter>(
     calls: usize,
 ) -> Result<Served, Fault> {
     let mut given = Given::of(input, sides);
-    let mut taken = Taken::by(alloc, sides);
+    let mut taken = Taken::by(alloc, sides)?;
     let mut ends = Vec::new(alloc);
     let mut wire = Wire::new(Counted::new(&mut given), Counted::new(&mut taken));
     'calls: for _ in 0..calls {

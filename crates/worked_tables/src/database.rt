@@ -1,6 +1,5 @@
 //! The database that the commands of a row run on. A call that is refused memory is made once more, so that a
-//! row answers the same where one request for memory is refused; so is a call on a store that the storage
-//! refuses, since the storage may have been refused memory.
+//! row answers the same where one request for memory is refused.
 
 use crate::answer::Answer;
 use crate::command::{Command, StoreCall};
@@ -8,6 +7,7 @@ use crate::fault::{Fault, Wrong};
 use room_store::{OpenFault, Refused, Store};
 use sqlite::{Alter, Connection, File, FileStore, MemStore};
 use std::fs;
+use std::io::Write;
 
 #[derive(Drop)]
 pub enum Database {
@@ -24,7 +24,10 @@ impl Database {
     fn in_file(rt: &HostRuntime, name: &str) -> Result<Database, Fault> {
         match Connection::open(rt, name) {
             Ok(connection) => Ok(Database::File(connection)),
-            Err(_) => Ok(Database::File(Connection::open(rt, name)?)),
+            Err(_) => {
+                tell_again(rt);
+                Ok(Database::File(Connection::open(rt, name)?))
+            }
         }
     }
 
@@ -61,11 +64,12 @@ fn run_on<S: Alter + Drop>(
     command: &Command<'_>,
 ) -> Result<(Connection<S>, Answer), Fault> {
     if let Command::Store(call) = command {
-        return store(connection, *call);
+        return store(rt, connection, *call);
     }
     let mut connection = connection;
     let mut answer = answered(rt, &mut connection, command);
     if is_refused_memory(&answer) {
+        tell_again(rt);
         answer = answered(rt, &mut connection, command);
     }
     match answer {
@@ -111,6 +115,12 @@ fn answered<S: Alter>(
     }
 }
 
+/// Tells that a call is made once more, since the first was refused memory. None is where memory is there, so that in
+/// the gate such a line is a fault.
+pub fn tell_again(rt: &HostRuntime) {
+    let _ = writeln!(rt.stdout(), "asked again");
+}
+
 /// What a file says. Where it can't be read, it is read once more.
 pub fn read_text(rt: &HostRuntime, file: &str) -> Result<String, Fault> {
     match fs::read_to_string(rt, file) {
@@ -137,14 +147,22 @@ fn tables<S: Alter>(connection: &Connection<S>) -> usize {
     connection.schema().tables.as_slice().len()
 }
 
+/// A call that the storage refuses is made once more as well, since the storage may have been refused memory.
 fn store<S: Alter + Drop>(
+    rt: &HostRuntime,
     connection: Connection<S>,
     call: StoreCall,
 ) -> Result<(Connection<S>, Answer), Fault> {
-    let (connection, answer) = store_once(connection, call)?;
+    let (connection, answer) = match store_once(connection, call)? {
+        (connection, Answer::Open(OpenFault::Storage)) => store_once(connection, call)?,
+        answered => answered,
+    };
     match answer {
-        Answer::Open(OpenFault::Memory | OpenFault::Storage) => store_once(connection, call),
-        _ => Ok((connection, answer)),
+        Answer::Open(OpenFault::Memory) => {
+            tell_again(rt);
+            store_once(connection, call)
+        }
+        answer => Ok((connection, answer)),
     }
 }
 

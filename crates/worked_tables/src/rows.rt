@@ -1,10 +1,10 @@
 //! Files of rows. The line `# TITLE` begins a row, which starts on an empty database in memory; the lines behind
 //! it are its commands and what they answer. Where memory is refused outside of the calls, the row is held once
-//! more. So a row should hold whichever one request for memory is refused: `rt try --fail-alloc N -- FILE.rows`
-//! refuses one.
+//! more. So a row should hold whichever one request for memory is refused: `tools/refuse-memory` refuses one after
+//! the other.
 
 use crate::command::Command;
-use crate::database::{Database, read_text};
+use crate::database::{Database, read_text, tell_again};
 use crate::fault::{Fault, Wrong};
 use crate::script::Script;
 use std::io::Write;
@@ -31,7 +31,10 @@ pub fn hold(rt: &HostRuntime, file: &str) -> Result<bool, Fault> {
 fn holds(rt: &HostRuntime, file: &str, row: &str) -> Result<bool, Fault> {
     let (title, lines) = row.split_once('\n').unwrap_or((row, ""));
     let outcome = match run(rt, lines) {
-        Err(Fault::Memory) => run(rt, lines),
+        Err(Fault::Memory) => {
+            tell_again(rt);
+            run(rt, lines)
+        }
         outcome => outcome,
     };
     let outcome = match outcome {
