@@ -54,14 +54,15 @@ pub enum Action {
 }
 
 impl Action {
-    ghost use Rattle.std.specs.Prelude.{IsTrue};
+    ghost use Rattle.std.specs.Prelude.{◌≡◌, ℕ, IsTrue};
     ghost use Rattle.room_core.specs.Fits.{fits};
-    ghost use Rattle.room_lines.specs.Actions.{is_in_range};
+    ghost use Rattle.room_lines.specs.Actions.{event_of, is_in_range};
 
     /// The event that it is. A release without impressions leaves those of the job.
     pub fn event(&self) -> Event<'_>
         requires { IsTrue (is_in_range self.now) }
-        ensures { IsTrue (fits result) }
+        ensures fit { IsTrue (fits result) }
+        ensures same { (at : ℕ × ℕ) × (result ≡ event_of at self.now) }
     {
         match self {
             Action::Open { account } => Event::Open { account: *account },

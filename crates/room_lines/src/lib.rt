@@ -3,10 +3,12 @@
 
 mod action;
 mod fault;
+mod line;
 mod lines;
 mod printing;
 
 pub use action::Action;
 pub use fault::LineFault;
-pub use lines::{Grammar, Line, events_of};
+pub use line::{Line, events_of};
+pub use lines::Grammar;
 pub use printing::print_answer;

@@ -1,46 +1,16 @@
 //! The grammar of lines: fields parted by one space, lines ended by a line feed, the last of which may
 //! be missing. Nothing is trimmed, so a carriage return, a tab or a further space makes a line bad.
-ghost use Rattle.std.specs.Prelude.{◌≤◌, All, IfOk, IsTrue};
-ghost use Rattle.room_core.specs.Fits.{fits};
+ghost use Rattle.std.specs.Prelude.{◌≤◌, IfOk, IsTrue};
 ghost use Rattle.room_rules.specs.Limits.{first_month, last_month};
-ghost use Rattle.room_lines.specs.Actions.{is_in_range, are_impressions};
+ghost use Rattle.room_lines.specs.Actions.{are_impressions, is_in_range, is_of_operator, is_of_station};
+ghost use Rattle.room_lines.specs.Lines.{IsAllowed};
 
 use crate::action::Action;
 use crate::fault::LineFault;
-use room_core::{Event, LAST_JOB, LAST_MOMENT, MOST_IMPRESSIONS, MOST_PAGES, MOST_RATE, Name};
+use crate::line::Line;
+use room_core::{LAST_JOB, LAST_MOMENT, MOST_IMPRESSIONS, MOST_PAGES, MOST_RATE, Name};
 use room_fields::FieldFault;
-use std::alloc::{AllocError, Global};
-
-/// A line that was read: what to do, and the moment at which it counts as done, in seconds since
-/// 1970-01-01T00:00:00Z.
-#[derive(Debug, Drop)]
-pub struct Line {
-    pub moment: u64,
-    pub action: Action,
-    ghost in_range: { IsTrue (is_in_range action) },
-}
-
-impl Line {
-    /// The event that it asks for.
-    pub fn event(&self) -> Event<'_>
-        ensures { IsTrue (fits result) }
-    {
-        self.action.event()
-    }
-}
-
-/// The events that the lines ask for, each at its moment, in order.
-pub fn events_of(alloc: Global, lines: &[Line]) -> Result<Vec<(u64, Event<'_>)>, AllocError>
-    ensures fit { IfOk result (λ events. All (λ e. IsTrue (fits e.1)) events.items) }
-{
-    lines.iter().map(timed).collect(alloc)
-}
-
-fn timed(line: &Line) -> (u64, Event<'_>)
-    ensures { IsTrue (fits result.1) }
-{
-    (line.moment, line.event())
-}
+use std::alloc::Global;
 
 /// Which lines an input may have.
 #[derive(Clone, Copy, Debug)]
@@ -49,6 +19,8 @@ pub enum Grammar {
     Script,
     /// `release`, `start` and `settle`, all at one moment.
     Station { moment: u64 },
+    /// `open`, `device`, `rate` and `grant`, all at one moment.
+    Operator { moment: u64 },
 }
 
 impl Grammar {
@@ -70,7 +42,10 @@ impl Grammar {
         Ok(lines)
     }
 
-    fn read_line(self, alloc: Global, line: &[u8]) -> Result<Line, FieldFault> {
+    /// One line, without what ends it. `Malformed` where it is none of the grammar's.
+    pub fn read_line(self, alloc: Global, line: &[u8]) -> Result<Line, FieldFault>
+        ensures allowed { IfOk result (IsAllowed self) }
+    {
         let mut fields = Fields { rest: Some(line) };
         let line = match self {
             Grammar::Script => Line {
@@ -80,6 +55,11 @@ impl Grammar {
             Grammar::Station { moment } => {
                 let kind = fields.take()?;
                 let action = station_action(alloc, kind, &mut fields)?;
+                Line { moment, action }
+            }
+            Grammar::Operator { moment } => {
+                let kind = fields.take()?;
+                let action = operator_action(kind, &mut fields)?;
                 Line { moment, action }
             }
         };
@@ -92,6 +72,20 @@ fn script_action(alloc: Global, fields: &mut Fields<'_>) -> Result<Action, Field
     ensures { IfOk result (λ action. IsTrue (is_in_range action)) }
 {
     match fields.take()? {
+        b"ipp" => Ok(Action::Ipp {
+            account: fields.name()?,
+            body: fields.bytes(alloc)?,
+        }),
+        kind @ (b"release" | b"start" | b"settle") => station_action(alloc, kind, fields),
+        kind => operator_action(kind, fields),
+    }
+}
+
+fn operator_action(kind: &[u8], fields: &mut Fields<'_>) -> Result<Action, FieldFault>
+    ensures range { IfOk result (λ action. IsTrue (is_in_range action)) }
+    ensures kind { IfOk result (λ action. IsTrue (is_of_operator action)) }
+{
+    match kind {
         b"open" => Ok(Action::Open {
             account: fields.name()?,
         }),
@@ -108,16 +102,13 @@ fn script_action(alloc: Global, fields: &mut Fields<'_>) -> Result<Action, Field
             month: fields.month()?,
             pages: fields.number(0, MOST_PAGES)?,
         }),
-        b"ipp" => Ok(Action::Ipp {
-            account: fields.name()?,
-            body: fields.bytes(alloc)?,
-        }),
-        kind => station_action(alloc, kind, fields),
+        _ => Err(FieldFault::Malformed),
     }
 }
 
 fn station_action(alloc: Global, kind: &[u8], fields: &mut Fields<'_>) -> Result<Action, FieldFault>
-    ensures { IfOk result (λ action. IsTrue (is_in_range action)) }
+    ensures range { IfOk result (λ action. IsTrue (is_in_range action)) }
+    ensures kind { IfOk result (λ action. IsTrue (is_of_station action)) }
 {
     match kind {
         b"release" => Ok(Action::Release {

@@ -1,0 +1,39 @@
+//! A line that was read.
+ghost use Rattle.std.specs.Prelude.{◌≡◌, ℕ, All, IfOk, IsTrue};
+ghost use Rattle.room_core.specs.Fits.{fits};
+ghost use Rattle.room_lines.specs.Actions.{event_of, is_in_range};
+
+use crate::action::Action;
+use room_core::Event;
+use std::alloc::{AllocError, Global};
+
+/// What to do, and the moment at which it counts as done, in seconds since 1970-01-01T00:00:00Z.
+#[derive(Debug, Drop)]
+pub struct Line {
+    pub moment: u64,
+    pub action: Action,
+    ghost in_range: { IsTrue (is_in_range action) },
+}
+
+impl Line {
+    /// The event that it asks for.
+    pub fn event(&self) -> Event<'_>
+        ensures fit { IsTrue (fits result) }
+        ensures same { (at : ℕ × ℕ) × (result ≡ event_of at self.now.action) }
+    {
+        self.action.event()
+    }
+}
+
+/// The events that the lines ask for, each at its moment, in order.
+pub fn events_of(alloc: Global, lines: &[Line]) -> Result<Vec<(u64, Event<'_>)>, AllocError>
+    ensures fit { IfOk result (λ events. All (λ e. IsTrue (fits e.1)) events.items) }
+{
+    lines.iter().map(timed).collect(alloc)
+}
+
+fn timed(line: &Line) -> (u64, Event<'_>)
+    ensures { IsTrue (fits result.1) }
+{
+    (line.moment, line.event())
+}

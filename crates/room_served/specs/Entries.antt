@@ -1,0 +1,18 @@
+-- The event that something that came asks for (all this project's own).
+use Rattle.std.specs.Prelude.{ℕ}
+use Rattle.room_core.specs.declared.event.Event.{Event}
+use Rattle.room_core.specs.declared.event.Event.TheVariants as event
+use Rattle.room_lines.specs.Actions.{event_of}
+use Rattle.room_serve.specs.Own.{Timed}
+use Rattle.room_served.specs.declared.entry.Entry.{Entry}
+use Rattle.room_served.specs.declared.entry.Entry.TheVariants as entry
+
+-- with its bytes at this place
+abbrev pub event_at : ℕ × ℕ → Entry → Event
+event_at at (entry.Message moment account body) = event.Ipp account (record { ref_ptr = at; now = body })
+event_at at (entry.Line line) = event_of at line.action
+
+-- an event counts by its bytes, wherever they lie
+abbrev pub timed : Entry → Timed
+timed (entry.Message moment account body) = (moment, event_at (0, 0) (entry.Message moment account body))
+timed (entry.Line line) = (line.moment, event_at (0, 0) (entry.Line line))

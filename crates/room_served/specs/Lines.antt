@@ -1,0 +1,67 @@
+-- What a line is answered, and what it does to the rooms (all this project's own).
+use Rattle.std.specs.Prelude.{◌≡◌, ◌⊎◌, ◌==◌, ◌+◌, ℕ, List, ◌∷◌, ◌++◌, [], codes, drop, Option, Some, Result}
+use Rattle.std.specs.List.{position}
+use Rattle.sqlite_trees.specs.declared.store.Store.{Ghosts}
+use Rattle.room_core.specs.declared.event.Reply.{Reply}
+use Rattle.room_lines.specs.Lines.{IsAllowed}
+use Rattle.room_lines.specs.declared.lines.Grammar.{Grammar}
+use Rattle.room_lines.specs.declared.lines.Grammar.TheVariants as grammar_is
+use Rattle.room_lines.specs.declared.line.Line.{Line}
+use Rattle.room_store.specs.declared.fault.StoreFault.{StoreFault}
+use Rattle.room_served.specs.declared.entry.Entry.{Entry}
+use Rattle.room_served.specs.declared.entry.Entry.TheVariants as entry_is
+use Rattle.room_served.specs.declared.line_connection.LineConnection.{LineConnection}
+use Rattle.room_served.specs.declared.line_connection.Side.{Side}
+use Rattle.room_served.specs.declared.line_connection.Side.TheVariants.{Station, Operator}
+use Rattle.room_served.specs.declared.served.Served.{Served}
+use Rattle.room_served.specs.Journals.{Applies, journal, moment_of, store_of}
+use Rattle.room_served.specs.LineTexts.{line_text}
+
+-- ---- a connection
+
+abbrev pub side_of : LineConnection → Side
+side_of connection = connection.side
+
+-- what came and was not answered yet
+abbrev pub input_of : LineConnection → List ℕ
+input_of connection = connection.input.items
+
+-- what waits to go
+abbrev pub output_of : LineConnection → List ℕ
+output_of connection = connection.output.items
+
+abbrev pub grammar_of : Side → ℕ → Grammar
+grammar_of Station moment = grammar_is.Station moment
+grammar_of Operator moment = grammar_is.Operator moment
+
+-- where the first line feed stands
+abbrev pub line_end : List ℕ → Option ℕ
+line_end input = position (λ b. b == 10) input
+
+-- it is a line, and one of those of the grammar
+abbrev pub IsAllowedEntry : Grammar → Entry → Type 0
+IsAllowedEntry grammar entry = (line : Line) × (entry ≡ entry_is.Line line) × IsAllowed grammar line
+
+module _ {S : Type 0} (store : Ghosts S) where
+  -- what a line asks for is applied, once, at the moment, and stands in the journal; what it came to is told
+  pub record Asks (side : Side) (old : Served S) (text : List ℕ) (new : Served S) : Type 0 where
+    pub entry : Entry
+    pub allowed : IsAllowedEntry (grammar_of side (moment_of old)) entry
+    pub told : Result Reply StoreFault
+    pub journal : journal new ≡ journal old ++ (entry, told) ∷ []
+    pub applies : Applies store entry (store_of old) (store_of new) told
+    pub moment : moment_of new ≡ moment_of old
+    pub says : text ≡ line_text told
+
+  -- a line that is none of its side's
+  abbrev pub IsBad : Served S → List ℕ → Served S → Type 0
+  IsBad old text new = (text ≡ codes "bad-line\n") × (new ≡ old)
+
+  -- the first line that came is taken, and its answer waits behind the others
+  pub record Takes (before after : LineConnection) (old new : Served S) : Type 0 where
+    pub end : ℕ
+    pub first : line_end (input_of before) ≡ Some end
+    pub rest : input_of after ≡ drop (end + 1) (input_of before)
+    pub text : List ℕ
+    pub output : output_of after ≡ output_of before ++ text
+    pub gives : Asks (side_of before) old text new ⊎ IsBad old text new

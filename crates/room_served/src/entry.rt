@@ -1,0 +1,45 @@
+//! What came, and the moment at which it counts as done.
+ghost use Rattle.std.specs.Prelude.{◌≡◌, ℕ, IsTrue};
+ghost use Rattle.room_core.specs.Fits.{fits};
+ghost use Rattle.room_served.specs.Entries.{event_at, timed};
+
+use bytes::Bytes;
+use room_core::{Event, Name};
+use room_lines::Line;
+
+/// What a connection asked of the rooms or the devices, at a moment in seconds since 1970-01-01T00:00:00Z.
+#[derive(Debug, Drop)]
+pub enum Entry {
+    /// A message of IPP for the queue of an account.
+    Message {
+        moment: u64,
+        account: Name,
+        body: Bytes,
+    },
+    /// A line of a station or an operator.
+    Line(Line),
+}
+
+impl Entry {
+    pub(crate) fn moment(&self) -> u64
+        ensures { result ≡ (timed self.now).0 }
+    {
+        match self {
+            Entry::Message { moment, .. } => *moment,
+            Entry::Line(line) => line.moment,
+        }
+    }
+
+    pub(crate) fn event(&self) -> Event<'_>
+        ensures fit { IsTrue (fits result) }
+        ensures same { (at : ℕ × ℕ) × (result ≡ event_at at self.now) }
+    {
+        match self {
+            Entry::Message { account, body, .. } => Event::Ipp {
+                account: *account,
+                body: body.as_slice(),
+            },
+            Entry::Line(line) => line.event(),
+        }
+    }
+}

@@ -1,0 +1,167 @@
+//! A connection of lines: what came and is no whole line yet, and answers that wait to go.
+ghost use Rattle.std.specs.Prelude.{◌≡◌, ◌<◌, ℕ, List, ◌++◌, [], codes, drop, length, nat_lt, take, false, true, IfOk, IfSome, None, OnErr, OnOk, Ok};
+ghost use Rattle.std.specs.Io.KnownBytes.{Appends, Consumes, Keeps};
+ghost use Rattle.room_served.specs.Journals.{Continues};
+ghost use Rattle.room_served.specs.Lines.{IsAllowedEntry, Takes, grammar_of, input_of, line_end, output_of, side_of};
+
+use crate::entry::Entry;
+use crate::line_text::{put_bad, put_told};
+use crate::served::Served;
+use bytes::{Buf, BufMut, BytesMut};
+use http_server::Rope;
+use room_fields::FieldFault;
+use room_lines::Grammar;
+use sqlite::Alter;
+use std::alloc::{AllocError, Global};
+use std::io;
+use std::io::{Read, Write};
+
+/// The most bytes of a line, without what ends it.
+pub const MOST_LINE: usize = 65_536;
+
+/// How many bytes are asked for at once.
+const ROOM: usize = 4_096;
+
+/// Whose lines a connection carries.
+#[derive(Clone, Copy, Debug, PartialEq, Eq)]
+pub enum Side {
+    /// `release`, `start` and `settle`.
+    Station,
+    /// `open`, `device`, `rate` and `grant`.
+    Operator,
+}
+
+impl Side {
+    pub(crate) fn grammar(self, moment: u64) -> Grammar
+        ensures { result ≡ grammar_of self moment }
+    {
+        match self {
+            Side::Station => Grammar::Station { moment },
+            Side::Operator => Grammar::Operator { moment },
+        }
+    }
+}
+
+/// A connection that carries lines one way and their answers the other. It makes no system call: the caller moves the
+/// bytes.
+#[derive(Drop)]
+pub struct LineConnection {
+    pub(crate) alloc: Global,
+    pub(crate) side: Side,
+    pub(crate) input: BytesMut,
+    pub(crate) output: Rope,
+}
+
+impl LineConnection {
+    /// A connection on which nothing came yet. It takes no memory.
+    pub fn new(alloc: Global, side: Side) -> LineConnection
+        ensures side { side_of result ≡ side }
+        ensures input { input_of result ≡ [] }
+        ensures output { output_of result ≡ [] }
+    {
+        LineConnection {
+            alloc,
+            side,
+            input: BytesMut::new(alloc),
+            output: Rope::new(alloc),
+        }
+    }
+
+    /// Reads once. `Ok(0)` tells the end of what comes.
+    pub fn read_from<R: Read>(&mut self, reader: &mut R) -> io::Result<usize>
+        ensures came { IfOk result (λ n. (more : List ℕ) × (length more ≡ n) × Consumes (R.remaining reader.old) (R.remaining reader.new) more × (input_of self.new ≡ input_of self.old ++ more)) }
+        ensures nothing { OnErr result (input_of self.new ≡ input_of self.old) }
+        ensures output { output_of self.new ≡ output_of self.old }
+        ensures side { side_of self.new ≡ side_of self.old }
+    {
+        self.input.reserve(ROOM)?;
+        self.input.read_from(reader)
+    }
+
+    /// Answers the line at the front of what came, at the moment of what is served: what it asks for is applied, once, or
+    /// it is a bad line, which changes nothing. `Ok(false)` where no line is whole yet. Where memory for an answer was
+    /// refused, the connection has to be closed; the line may have been applied.
+    pub fn answer<S: Alter>(&mut self, served: &mut Served<S>) -> Result<bool, AllocError>
+        ensures taken { result ≡ Ok true → Takes S.Store self.old self.new served.old served.new }
+        ensures none { result ≡ Ok false → (line_end (input_of self.old) ≡ None) × (self.new ≡ self.old) × (served.new ≡ served.old) }
+        ensures continues { Continues S.Store served.old served.new }
+        ensures side { side_of self.new ≡ side_of self.old }
+    {
+        let Some(end) = line_end(self.input.as_slice()) else {
+            return Ok(false);
+        };
+        let grammar = self.side.grammar(served.moment);
+        let entry = entry_of(self.alloc, grammar, &self.input.as_slice()[..end])?;
+        self.input.advance(end + 1);
+        match entry {
+            Some(entry) => put_told(self.alloc, &mut self.output, served.apply(&entry))?,
+            None => put_bad(&mut self.output)?,
+        }
+        Ok(true)
+    }
+
+    /// Whether what came is more than a line may have, and no line yet.
+    pub fn is_too_long(&self) -> bool
+        ensures { result ≡ nat_lt 65536 (length (input_of self.now)) }
+    {
+        self.input.len() > MOST_LINE
+    }
+
+    /// Answers what came and is no line as a bad one.
+    pub fn refuse_rest(&mut self) -> Result<(), AllocError>
+        ensures input { input_of self.new ≡ [] }
+        ensures output { OnOk result (output_of self.new ≡ output_of self.old ++ codes "bad-line\n") }
+        ensures side { side_of self.new ≡ side_of self.old }
+    {
+        self.input.clear();
+        put_bad(&mut self.output)
+    }
+
+    /// Whether some of what came was not answered yet.
+    pub fn has_rest(&self) -> bool
+        ensures { result ≡ nat_lt 0 (length (input_of self.now)) }
+    {
+        !self.input.is_empty()
+    }
+
+    /// Whether answers wait to go.
+    pub fn wants_write(&self) -> bool
+        ensures { result ≡ nat_lt 0 (length (output_of self.now)) }
+    {
+        !self.output.is_empty()
+    }
+
+    /// Writes once.
+    pub fn write_to<W: Write>(&mut self, writer: &mut W) -> io::Result<usize>
+        ensures went { IfOk result (λ n. (output_of self.new ≡ drop n (output_of self.old)) × Appends (W.contents writer.old) (W.contents writer.new) (take n (output_of self.old))) }
+        ensures nothing { OnErr result (self.new ≡ self.old) }
+        ensures input { input_of self.new ≡ input_of self.old }
+        ensures side { side_of self.new ≡ side_of self.old }
+    {
+        let count = writer.write(self.output.chunk())?;
+        self.output.advance(count);
+        Ok(count)
+    }
+}
+
+/// Where the first line ends.
+fn line_end(input: &[u8]) -> Option<usize>
+    ensures place { result ≡ line_end input.now }
+    ensures within { IfSome result (λ place. place < length input.now) }
+{
+    input.iter().position(|byte| *byte == b'\n')
+}
+
+/// What a line asks for, or `None` where it is a bad one.
+fn entry_of(alloc: Global, grammar: Grammar, line: &[u8]) -> Result<Option<Entry>, AllocError>
+    ensures { IfOk result (λ entry. IfSome entry (λ entry. IsAllowedEntry grammar entry)) }
+{
+    if line.len() > MOST_LINE {
+        return Ok(None);
+    }
+    match grammar.read_line(alloc, line) {
+        Ok(line) => Ok(Some(Entry::Line(line))),
+        Err(FieldFault::Malformed) => Ok(None),
+        Err(FieldFault::Memory) => Err(AllocError),
+    }
+}

@@ -1,0 +1,113 @@
+//! Rooms in memory, and connections to them.
+
+use http_server::{Config, Connection};
+use room_served::{LineConnection, Served, Side, answer_requests};
+use room_store::Store;
+use sqlite::MemStore;
+use std::hash::RandomState;
+use std::test::Fail;
+
+pub const NOW: u64 = 1_788_220_800;
+
+/// Rooms of which none is open yet.
+pub fn rooms(rt: &HostRuntime) -> Result<Served<MemStore>, Fail> {
+    let connection = sqlite::Connection::open_in_memory(rt.alloc())?;
+    match Store::create(connection) {
+        Ok(store) => Ok(Served::new(rt.alloc(), store, NOW)),
+        Err(refused) => Err(Fail::from(refused.fault)),
+    }
+}
+
+/// More than a connection in these tests needs of reads, of lines or of writes, one after another.
+const MANY: u32 = 10_000;
+
+/// What goes out for what comes in on one connection of HTTP, in pieces of so many bytes.
+pub fn exchange(
+    rt: &HostRuntime,
+    rooms: &mut Served<MemStore>,
+    input: &[u8],
+    piece: usize,
+) -> Result<Vec<u8>, Fail> {
+    let config = Config {
+        max_body_len: 16_842_752,
+        ..Config::default()
+    };
+    let mut connection = Connection::new(rt.alloc(), RandomState::new(rt)?, config);
+    let mut output = Vec::new(rt.alloc());
+    for bytes in input.chunks(piece.max(1)) {
+        hear(&mut connection, rooms, bytes, &mut output)?;
+    }
+    Ok(output)
+}
+
+fn hear(
+    connection: &mut Connection,
+    rooms: &mut Served<MemStore>,
+    bytes: &[u8],
+    output: &mut Vec<u8>,
+) -> Result<(), Fail> {
+    let mut reader = bytes;
+    for _ in 0..MANY {
+        if reader.is_empty() || !connection.wants_read() {
+            break;
+        }
+        connection.read_from(&mut reader)?;
+        answer_requests(connection, rooms);
+        for _ in 0..MANY {
+            if !connection.wants_write() {
+                break;
+            }
+            connection.write_to(output)?;
+        }
+    }
+    Ok(())
+}
+
+/// What goes out for lines that come in on one connection, in pieces of so many bytes.
+pub fn lines(
+    rt: &HostRuntime,
+    rooms: &mut Served<MemStore>,
+    side: Side,
+    input: &[u8],
+    piece: usize,
+) -> Result<Vec<u8>, Fail> {
+    let mut connection = LineConnection::new(rt.alloc(), side);
+    let mut output = Vec::new(rt.alloc());
+    for bytes in input.chunks(piece.max(1)) {
+        hear_lines(&mut connection, rooms, bytes, &mut output)?;
+    }
+    Ok(output)
+}
+
+pub fn hear_lines(
+    connection: &mut LineConnection,
+    rooms: &mut Served<MemStore>,
+    bytes: &[u8],
+    output: &mut Vec<u8>,
+) -> Result<(), Fail> {
+    let mut reader = bytes;
+    for _ in 0..MANY {
+        if reader.is_empty() {
+            break;
+        }
+        connection.read_from(&mut reader)?;
+        answer_all(connection, rooms)?;
+        for _ in 0..MANY {
+            if !connection.wants_write() {
+                break;
+            }
+            connection.write_to(output)?;
+        }
+    }
+    Ok(())
+}
+
+/// Answers each line that came.
+fn answer_all(connection: &mut LineConnection, rooms: &mut Served<MemStore>) -> Result<(), Fail> {
+    for _ in 0..MANY {
+        if !connection.answer(rooms)? {
+            break;
+        }
+    }
+    Ok(())
+}
