@@ -1,6 +1,6 @@
 //! The grammar of lines: fields parted by one space, lines ended by a line feed, the last of which may
 //! be missing. Nothing is trimmed, so a carriage return, a tab or a further space makes a line bad.
-ghost use Rattle.std.specs.Prelude.{◌≤◌, IfOk, IsTrue};
+ghost use Rattle.std.specs.Prelude.{◌≤◌, All, IfOk, IsTrue};
 ghost use Rattle.room_rules.specs.Limits.{first_month, last_month};
 ghost use Rattle.room_lines.specs.Actions.{are_impressions, is_in_range, is_of_operator, is_of_station};
 ghost use Rattle.room_lines.specs.Lines.{IsAllowed};
@@ -26,7 +26,9 @@ pub enum Grammar {
 impl Grammar {
     /// The lines of an input in order, or the number of the first bad line. An input of no bytes has
     /// no lines.
-    pub fn read(self, alloc: Global, input: &[u8]) -> Result<Vec<Line>, LineFault> {
+    pub fn read(self, alloc: Global, input: &[u8]) -> Result<Vec<Line>, LineFault>
+        ensures allowed { IfOk result (λ lines. All (IsAllowed self) lines.items) }
+    {
         let mut lines = Vec::new(alloc);
         if input.is_empty() {
             return Ok(lines);

@@ -15,7 +15,7 @@ use Rattle.room_serve.specs.Agreement.{unplaced}
 use Rattle.room_state.specs.Rooms.{RoomValue}
 use Rattle.room_store.specs.declared.fault.StoreFault.{StoreFault}
 use Rattle.room_tables.specs.Accounts.{Holds}
-use Rattle.room_served.specs.Entries.{event_at, timed}
+use Rattle.room_served.specs.Entries.{event_at}
 use Rattle.room_served.specs.Journals.{AppliesEvent}
 use Rattle.room_served.specs.declared.entry.Entry.{Entry}
 use Rattle.room_served.specs.declared.entry.Entry.TheVariants as entry
@@ -85,7 +85,3 @@ module _ {S : Type 0} (store : Ghosts S) (now : ℕ) (old new : Held S) (told : 
 
   pub applies_anywhere : (at : ℕ × ℕ) (x : Entry) → AppliesEvent store now (event_at at x) old new told → AppliesEvent store now (event_at (0, 0) x) old new told
   applies_anywhere at x applies = subst (λ e. AppliesEvent store now e old new told) (entry_anywhere at x) (unplaced_applies (event_at at x) applies)
-
-pub its_timed : (x : Entry) → event_at (0, 0) x ≡ (timed x).1
-its_timed (entry.Message moment account body) = refl
-its_timed (entry.Line line) = refl

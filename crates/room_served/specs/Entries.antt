@@ -12,7 +12,10 @@ abbrev pub event_at : ℕ × ℕ → Entry → Event
 event_at at (entry.Message moment account body) = event.Ipp account (record { ref_ptr = at; now = body })
 event_at at (entry.Line line) = event_of at line.action
 
+abbrev pub moment_at : Entry → ℕ
+moment_at (entry.Message moment account body) = moment
+moment_at (entry.Line line) = line.moment
+
 -- an event counts by its bytes, wherever they lie
 abbrev pub timed : Entry → Timed
-timed (entry.Message moment account body) = (moment, event_at (0, 0) (entry.Message moment account body))
-timed (entry.Line line) = (line.moment, event_at (0, 0) (entry.Line line))
+timed x = (moment_at x, event_at (0, 0) x)

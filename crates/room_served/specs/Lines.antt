@@ -1,5 +1,6 @@
 -- What a line is answered, and what it does to the rooms (all this project's own).
-use Rattle.std.specs.Prelude.{◌≡◌, ◌⊎◌, ◌==◌, ◌+◌, ℕ, List, ◌∷◌, ◌++◌, [], codes, drop, Option, Some, Result}
+use Rattle.std.specs.Prelude.{◌≡◌, ◌⊎◌, ◌==◌, ◌+◌, ℕ, List, ◌∷◌, ◌++◌, [], codes, drop, length, take, Option, None, Some, Result}
+use Rattle.std.specs.Io.KnownBytes.{Appends, Consumes}
 use Rattle.std.specs.List.{position}
 use Rattle.sqlite_trees.specs.declared.store.Store.{Ghosts}
 use Rattle.room_core.specs.declared.event.Reply.{Reply}
@@ -38,6 +39,14 @@ grammar_of Operator moment = grammar_is.Operator moment
 abbrev pub line_end : List ℕ → Option ℕ
 line_end input = position (λ b. b == 10) input
 
+-- so many bytes that a reader had left came behind those that were there
+abbrev pub Comes : Option (List ℕ) → Option (List ℕ) → LineConnection → LineConnection → ℕ → Type 0
+Comes left left2 before after n = (more : List ℕ) × (length more ≡ n) × Consumes left left2 more × (input_of after ≡ input_of before ++ more)
+
+-- so many of the bytes that waited went to a writer
+abbrev pub Leaves : Option (List ℕ) → Option (List ℕ) → LineConnection → LineConnection → ℕ → Type 0
+Leaves given given2 before after n = Appends given given2 (take n (output_of before)) × (output_of after ≡ drop n (output_of before))
+
 -- it is a line, and one of those of the grammar
 abbrev pub IsAllowedEntry : Grammar → Entry → Type 0
 IsAllowedEntry grammar entry = (line : Line) × (entry ≡ entry_is.Line line) × IsAllowed grammar line
@@ -65,3 +74,9 @@ module _ {S : Type 0} (store : Ghosts S) where
     pub text : List ℕ
     pub output : output_of after ≡ output_of before ++ text
     pub gives : Asks (side_of before) old text new ⊎ IsBad old text new
+
+-- no line is whole yet, and nothing has changed
+pub record IsWaiting {S : Type 0} (before after : LineConnection) (old new : Served S) : Type 0 where
+  pub none : line_end (input_of before) ≡ None
+  pub connection : after ≡ before
+  pub served : new ≡ old

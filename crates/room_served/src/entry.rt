@@ -1,7 +1,7 @@
 //! What came, and the moment at which it counts as done.
 ghost use Rattle.std.specs.Prelude.{◌≡◌, ℕ, IsTrue};
 ghost use Rattle.room_core.specs.Fits.{fits};
-ghost use Rattle.room_served.specs.Entries.{event_at, timed};
+ghost use Rattle.room_served.specs.Entries.{event_at, moment_at};
 
 use bytes::Bytes;
 use room_core::{Event, Name};
@@ -22,7 +22,7 @@ pub enum Entry {
 
 impl Entry {
     pub(crate) fn moment(&self) -> u64
-        ensures { result ≡ (timed self.now).0 }
+        ensures { result ≡ moment_at self.now }
     {
         match self {
             Entry::Message { moment, .. } => *moment,

@@ -1,8 +1,7 @@
 //! A connection of lines: what came and is no whole line yet, and answers that wait to go.
-ghost use Rattle.std.specs.Prelude.{◌≡◌, ◌<◌, ℕ, List, ◌++◌, [], codes, drop, length, nat_lt, take, false, true, IfOk, IfSome, None, OnErr, OnOk, Ok};
-ghost use Rattle.std.specs.Io.KnownBytes.{Appends, Consumes, Keeps};
+ghost use Rattle.std.specs.Prelude.{◌≡◌, ◌<◌, ◌++◌, [], codes, length, nat_lt, false, true, IfOk, IfSome, OnErr, OnOk, Ok};
 ghost use Rattle.room_served.specs.Journals.{Continues};
-ghost use Rattle.room_served.specs.Lines.{IsAllowedEntry, Takes, grammar_of, input_of, line_end, output_of, side_of};
+ghost use Rattle.room_served.specs.Lines.{Comes, IsAllowedEntry, IsWaiting, Leaves, Takes, grammar_of, input_of, line_end, output_of, side_of};
 
 use crate::entry::Entry;
 use crate::line_text::{put_bad, put_told};
@@ -69,7 +68,7 @@ impl LineConnection {
 
     /// Reads once. `Ok(0)` tells the end of what comes.
     pub fn read_from<R: Read>(&mut self, reader: &mut R) -> io::Result<usize>
-        ensures came { IfOk result (λ n. (more : List ℕ) × (length more ≡ n) × Consumes (R.remaining reader.old) (R.remaining reader.new) more × (input_of self.new ≡ input_of self.old ++ more)) }
+        ensures came { IfOk result (Comes (R.remaining reader.old) (R.remaining reader.new) self.old self.new) }
         ensures nothing { OnErr result (input_of self.new ≡ input_of self.old) }
         ensures output { output_of self.new ≡ output_of self.old }
         ensures side { side_of self.new ≡ side_of self.old }
@@ -83,7 +82,7 @@ impl LineConnection {
     /// refused, the connection has to be closed; the line may have been applied.
     pub fn answer<S: Alter>(&mut self, served: &mut Served<S>) -> Result<bool, AllocError>
         ensures taken { result ≡ Ok true → Takes S.Store self.old self.new served.old served.new }
-        ensures none { result ≡ Ok false → (line_end (input_of self.old) ≡ None) × (self.new ≡ self.old) × (served.new ≡ served.old) }
+        ensures none { result ≡ Ok false → IsWaiting self.old self.new served.old served.new }
         ensures continues { Continues S.Store served.old served.new }
         ensures side { side_of self.new ≡ side_of self.old }
     {
@@ -133,7 +132,7 @@ impl LineConnection {
 
     /// Writes once.
     pub fn write_to<W: Write>(&mut self, writer: &mut W) -> io::Result<usize>
-        ensures went { IfOk result (λ n. (output_of self.new ≡ drop n (output_of self.old)) × Appends (W.contents writer.old) (W.contents writer.new) (take n (output_of self.old))) }
+        ensures went { IfOk result (Leaves (W.contents writer.old) (W.contents writer.new) self.old self.new) }
         ensures nothing { OnErr result (self.new ≡ self.old) }
         ensures input { input_of self.new ≡ input_of self.old }
         ensures side { side_of self.new ≡ side_of self.old }

@@ -28,36 +28,17 @@ const STATION_TOLD: &[u8] =
     b"not-pending\nok reserved 24 left 76\ndocuments 1\ndocument 1 1 application/octet-stream 5\nHello\n\
     ok charged 10 left 90\nnot-processing\nbad-line\nno-account\nbad-line\n";
 
-/// What an operator's lines and, behind a job, a station's are told, in pieces of so many bytes.
-fn run(rt: &HostRuntime, piece: usize) -> Result<[Vec<u8>; 2], Fail> {
-    let mut rooms = rooms(rt)?;
-    let operator = lines(rt, &mut rooms, Side::Operator, OPERATOR, piece)?;
-    exchange(rt, &mut rooms, PRINT, piece)?;
-    let station = lines(rt, &mut rooms, Side::Station, STATION, piece)?;
-    Ok([operator, station])
-}
-
+/// An operator's lines, a job, and a station's lines: a byte at a time, cut within lines, and all at once.
 #[test]
-fn one_byte_at_a_time(rt: HostRuntime) -> Result<(), Fail> {
-    let [operator, station] = run(&rt, 1)?;
-    assert_eq!(rt; operator.as_slice(), OPERATOR_TOLD);
-    assert_eq!(rt; station.as_slice(), STATION_TOLD);
-    Ok(())
-}
-
-#[test]
-fn lines_cut_in_two(rt: HostRuntime) -> Result<(), Fail> {
-    let [operator, station] = run(&rt, 13)?;
-    assert_eq!(rt; operator.as_slice(), OPERATOR_TOLD);
-    assert_eq!(rt; station.as_slice(), STATION_TOLD);
-    Ok(())
-}
-
-#[test]
-fn all_in_one_piece(rt: HostRuntime) -> Result<(), Fail> {
-    let [operator, station] = run(&rt, 100_000)?;
-    assert_eq!(rt; operator.as_slice(), OPERATOR_TOLD);
-    assert_eq!(rt; station.as_slice(), STATION_TOLD);
+fn in_pieces_of_each_size(rt: HostRuntime) -> Result<(), Fail> {
+    for piece in [1, 13, 100_000] {
+        let mut rooms = rooms(&rt)?;
+        let told = lines(&rt, &mut rooms, Side::Operator, OPERATOR, piece)?;
+        assert_eq!(rt; told.as_slice(), OPERATOR_TOLD);
+        exchange(&rt, &mut rooms, PRINT, piece)?;
+        let told = lines(&rt, &mut rooms, Side::Station, STATION, piece)?;
+        assert_eq!(rt; told.as_slice(), STATION_TOLD);
+    }
     Ok(())
 }
 

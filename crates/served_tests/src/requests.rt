@@ -17,6 +17,20 @@ const ANSWER: &[u8] = b"\x01\x01\x00\x00\x00\x00\x00\x01\x01\
     \x47\x00\x12attributes-charset\x00\x05utf-8\
     \x48\x00\x1battributes-natural-language\x00\x02en\x03";
 
+/// The head of a message for the queue of alice that carries it.
+const HEAD: &[u8] =
+    b"POST /ipp/print/alice HTTP/1.1\r\nHost: localhost\r\nContent-Type: application/ipp\r\nContent-Length: 119\r\n\r\n";
+
+/// The same for an account that is not open.
+const HEAD_OF_NOBODY: &[u8] =
+    b"POST /ipp/print/nobody HTTP/1.1\r\nHost: localhost\r\nContent-Type: application/ipp\r\nContent-Length: 119\r\n\r\n";
+
+/// The head of its answer.
+const ANSWER_HEAD: &[u8] =
+    b"HTTP/1.1 200 OK\r\ncontent-type: application/ipp\r\ncontent-length: 72\r\n\r\n";
+
+const NOT_FOUND: &[u8] = b"HTTP/1.1 404 Not Found\r\ncontent-length: 0\r\n\r\n";
+
 /// Pieces of one byte, of some, and all at once.
 const PIECES: [usize; 3] = [1, 50, 100_000];
 
@@ -53,13 +67,7 @@ fn answers(
 
 #[test]
 fn first_answer(rt: HostRuntime) -> Result<(), Fail> {
-    let is_due = answers(
-        &rt,
-        b"POST /ipp/print/alice HTTP/1.1\r\nHost: localhost\r\nContent-Type: application/ipp\r\nContent-Length: 119\r\n\r\n",
-        REQUEST,
-        b"HTTP/1.1 200 OK\r\ncontent-type: application/ipp\r\ncontent-length: 72\r\n\r\n",
-        ANSWER,
-    )?;
+    let is_due = answers(&rt, HEAD, REQUEST, ANSWER_HEAD, ANSWER)?;
     assert!(rt; is_due);
     Ok(())
 }
@@ -79,7 +87,6 @@ fn other_method(rt: HostRuntime) -> Result<(), Fail> {
 
 #[test]
 fn no_queue(rt: HostRuntime) -> Result<(), Fail> {
-    let due = b"HTTP/1.1 404 Not Found\r\ncontent-length: 0\r\n\r\n".as_slice();
     let fields =
         b" HTTP/1.1\r\nHost: localhost\r\nContent-Type: application/ipp\r\nContent-Length: 119\r\n\r\n";
     for path in [
@@ -94,20 +101,14 @@ fn no_queue(rt: HostRuntime) -> Result<(), Fail> {
         head.extend_from_slice(b"POST ")?;
         head.extend_from_slice(path)?;
         head.extend_from_slice(fields)?;
-        assert!(rt; answers(&rt, head.as_slice(), REQUEST, due, b"")?);
+        assert!(rt; answers(&rt, head.as_slice(), REQUEST, NOT_FOUND, b"")?);
     }
     Ok(())
 }
 
 #[test]
 fn account_not_open(rt: HostRuntime) -> Result<(), Fail> {
-    let is_due = answers(
-        &rt,
-        b"POST /ipp/print/nobody HTTP/1.1\r\nHost: localhost\r\nContent-Type: application/ipp\r\nContent-Length: 119\r\n\r\n",
-        REQUEST,
-        b"HTTP/1.1 404 Not Found\r\ncontent-length: 0\r\n\r\n",
-        b"",
-    )?;
+    let is_due = answers(&rt, HEAD_OF_NOBODY, REQUEST, NOT_FOUND, b"")?;
     assert!(rt; is_due);
     Ok(())
 }
@@ -152,20 +153,12 @@ fn short_body(rt: HostRuntime) -> Result<(), Fail> {
 fn one_behind_another(rt: HostRuntime) -> Result<(), Fail> {
     let mut body = Vec::new(rt.alloc());
     body.extend_from_slice(REQUEST)?;
-    body.extend_from_slice(
-        b"POST /ipp/print/nobody HTTP/1.1\r\nHost: localhost\r\nContent-Type: application/ipp\r\nContent-Length: 119\r\n\r\n",
-    )?;
+    body.extend_from_slice(HEAD_OF_NOBODY)?;
     body.extend_from_slice(REQUEST)?;
     let mut due = Vec::new(rt.alloc());
     due.extend_from_slice(ANSWER)?;
-    due.extend_from_slice(b"HTTP/1.1 404 Not Found\r\ncontent-length: 0\r\n\r\n")?;
-    let is_due = answers(
-        &rt,
-        b"POST /ipp/print/alice HTTP/1.1\r\nHost: localhost\r\nContent-Type: application/ipp\r\nContent-Length: 119\r\n\r\n",
-        body.as_slice(),
-        b"HTTP/1.1 200 OK\r\ncontent-type: application/ipp\r\ncontent-length: 72\r\n\r\n",
-        due.as_slice(),
-    )?;
+    due.extend_from_slice(NOT_FOUND)?;
+    let is_due = answers(&rt, HEAD, body.as_slice(), ANSWER_HEAD, due.as_slice())?;
     assert!(rt; is_due);
     Ok(())
 }

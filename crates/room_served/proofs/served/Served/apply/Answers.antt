@@ -1,7 +1,7 @@
 use Rattle.std.proofs.Common.{subst}
 use Rattle.room_core.specs.declared.event.Event.{Event}
 use Rattle.room_served.proofs.Journaling.{one_more}
-use Rattle.room_served.proofs.Placing.{applies_anywhere, its_timed}
+use Rattle.room_served.proofs.Placing.{applies_anywhere}
 use Rattle.room_served.specs.Entries.{timed}
 use Rattle.room_served.specs.Journals.{AppliesEvent}
 use Rattle.room_served.proofs.served.Served.apply.Goals as goal
@@ -29,7 +29,7 @@ returns-clause-applies g c =
     } in
     let placed = subst (λ (e : Event). AppliesEvent g.S.Store c.moment.result e old new told) same.1 applied in
     let moved = applies_anywhere g.S.Store c.moment.result old new told same.0 c.args.entry.now placed in
-    subst (λ now. AppliesEvent g.S.Store now (timed c.args.entry.now).1 old new told) c.moment.ensures (subst (λ (e : Event). AppliesEvent g.S.Store c.moment.result e old new told) (its_timed c.args.entry.now) moved)
+    subst (λ now. AppliesEvent g.S.Store now (timed c.args.entry.now).1 old new told) c.moment.ensures moved
 
 pub returns-clause-continues : goal.returns-clause-continues
 returns-clause-continues g c = one_more g.S.Store c.args.entry.now c.apply-told.result c.args.self.now (record c.args.self.now { store = c.apply-told.new.self; journal = c.and-self.result }) c.and-self.ensures (returns-clause-applies g c)
