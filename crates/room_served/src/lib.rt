@@ -4,6 +4,7 @@
 
 mod entry;
 mod laws;
+mod limits;
 mod line_connection;
 mod line_text;
 mod request;
@@ -14,6 +15,7 @@ mod turns;
 
 pub use entry::Entry;
 pub use laws::always_runs;
+pub use limits::connection_config;
 pub use line_connection::{LineConnection, MOST_LINE, Side};
 pub use served::Served;
 pub use turns::answer_requests;

@@ -1,7 +1,7 @@
 //! Rooms in memory, and connections to them.
 
-use http_server::{Config, Connection};
-use room_served::{LineConnection, Served, Side, answer_requests};
+use http_server::Connection;
+use room_served::{LineConnection, Served, Side, answer_requests, connection_config};
 use room_store::Store;
 use sqlite::MemStore;
 use std::hash::RandomState;
@@ -28,11 +28,7 @@ pub fn exchange(
     input: &[u8],
     piece: usize,
 ) -> Result<Vec<u8>, Fail> {
-    let config = Config {
-        max_body_len: 16_842_752,
-        ..Config::default()
-    };
-    let mut connection = Connection::new(rt.alloc(), RandomState::new(rt)?, config);
+    let mut connection = Connection::new(rt.alloc(), RandomState::new(rt)?, connection_config());
     let mut output = Vec::new(rt.alloc());
     for bytes in input.chunks(piece.max(1)) {
         hear(&mut connection, rooms, bytes, &mut output)?;
