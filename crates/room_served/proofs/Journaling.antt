@@ -18,6 +18,9 @@ module _ {S : Type 0} (store : Ghosts S) where
   pub stays : (served : Served S) → Continues store served served
   stays served = record { more = []; journal = sym (append-nil (journal served)); leads = refl }
 
+  pub as_it_was : (old new : Served S) → store_of new ≡ store_of old → journal new ≡ journal old → Continues store old new
+  as_it_was old new same kept = record { more = []; journal = kept ∙ sym (append-nil (journal old)); leads = same }
+
   pub one_more : (entry : Entry) (told : Result Reply StoreFault) (old new : Served S) → journal new ≡ journal old ++ (entry, told) ∷ [] → Applies store entry (store_of old) (store_of new) told → Continues store old new
   one_more entry told old new kept applies = record { more = (entry, told) ∷ []; journal = kept; leads = (store_of new, applies, refl) }
 

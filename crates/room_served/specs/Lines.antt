@@ -1,7 +1,7 @@
 -- What a line is answered, and what it does to the rooms (all this project's own).
-use Rattle.std.specs.Prelude.{◌≡◌, ◌⊎◌, ◌==◌, ◌+◌, ℕ, List, ◌∷◌, ◌++◌, [], codes, drop, length, take, Option, None, Some, Result}
+use Rattle.std.specs.Prelude.{◌≡◌, ◌⊎◌, ◌==◌, ◌+◌, ℕ, Bool, List, ◌∷◌, ◌++◌, [], codes, drop, length, take, Option, None, Some, Result}
 use Rattle.std.specs.Io.KnownBytes.{Appends, Consumes}
-use Rattle.std.specs.List.{position}
+use Rattle.std.specs.List.{position, starts_with}
 use Rattle.sqlite_trees.specs.declared.store.Store.{Ghosts}
 use Rattle.room_core.specs.declared.event.Reply.{Reply}
 use Rattle.room_lines.specs.Lines.{IsAllowed}
@@ -38,6 +38,10 @@ grammar_of Operator moment = grammar_is.Operator moment
 -- where the first line feed stands
 abbrev pub line_end : List ℕ → Option ℕ
 line_end input = position (λ b. b == 10) input
+
+-- it begins a line that may be answered with documents
+abbrev pub begins_start : List ℕ → Bool
+begins_start input = starts_with (λ a b. a == b) input (codes "start ")
 
 -- so many bytes that a reader had left came behind those that were there
 abbrev pub Comes : Option (List ℕ) → Option (List ℕ) → LineConnection → LineConnection → ℕ → Type 0

@@ -1,7 +1,7 @@
 //! A connection of lines: what came and is no whole line yet, and answers that wait to go.
-ghost use Rattle.std.specs.Prelude.{◌≡◌, ◌<◌, ◌++◌, [], codes, length, nat_lt, false, true, IfOk, IfSome, OnErr, OnOk, Ok};
+ghost use Rattle.std.specs.Prelude.{◌≡◌, ◌<◌, ◌≤◌, ◌+◌, ◌++◌, [], codes, length, nat_lt, false, true, IfOk, IfSome, OnErr, OnOk, Ok};
 ghost use Rattle.room_served.specs.Journals.{Continues};
-ghost use Rattle.room_served.specs.Lines.{Comes, IsAllowedEntry, IsWaiting, Leaves, Takes, grammar_of, input_of, line_end, output_of, side_of};
+ghost use Rattle.room_served.specs.Lines.{Comes, IsAllowedEntry, IsWaiting, Leaves, Takes, begins_start, grammar_of, input_of, line_end, output_of, side_of};
 
 use crate::entry::Entry;
 use crate::line_text::{put_bad, put_told};
@@ -121,6 +121,20 @@ impl LineConnection {
         ensures { result ≡ nat_lt 0 (length (input_of self.now)) }
     {
         !self.input.is_empty()
+    }
+
+    /// Whether what came begins a line that may be answered with documents.
+    pub fn begins_start(&self) -> bool
+        ensures { result ≡ begins_start (input_of self.now) }
+    {
+        self.input.as_slice().starts_with(b"start ")
+    }
+
+    /// How many bytes wait: those that came, and those that are to go.
+    pub fn held(&self) -> usize
+        ensures { result ≤ length (input_of self.now) + length (output_of self.now) }
+    {
+        self.input.len().saturating_add(self.output.len())
     }
 
     /// Whether answers wait to go.

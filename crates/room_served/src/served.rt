@@ -39,6 +39,7 @@ impl<S: Alter> Served<S> {
         ensures moment { moment_of self.new ≡ moment }
         ensures store { store_of self.new ≡ store_of self.old }
         ensures journal { journal self.new ≡ journal self.old }
+        ensures continues { Continues S.Store self.old self.new }
     {
         self.moment = moment;
     }
