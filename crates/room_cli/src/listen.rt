@@ -1,8 +1,8 @@
 //! `listen`: connections on a port of this machine, served one after another.
 
-use crate::clock::moment;
 use room_commands::{Begin, Fault, InFile, InMemory, Listening, MEMORY, Opener, store_of};
 use room_serve::{After, Wire, serve_one};
+use room_sockets::moment;
 use room_store::Store;
 use room_streams::Counted;
 use sqlite::{Alter, Connection};

@@ -15,3 +15,5 @@ is_rated_in_range (command.Grants database) = true
 is_rated_in_range (command.Station database) = true
 is_rated_in_range (command.Script database) = true
 is_rated_in_range (command.Listen listening) = true
+is_rated_in_range (command.Serve serving) = true
+is_rated_in_range (command.Send sending) = true

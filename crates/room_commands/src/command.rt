@@ -1,24 +1,22 @@
-//! The command line: its commands, their words, and what each word may be.
+//! The command line: its commands, and what their words may be.
 ghost use Rattle.std.specs.Prelude.{◌≤◌, IfOk, IsTrue};
 ghost use Rattle.room_commands.specs.Commands.{is_rated_in_range};
 
+use crate::address::{Address, LAST_PORT};
 use crate::fault::Fault;
-use clap::builder::ValueParser;
+use crate::listening::Listening;
+use crate::sending::Sending;
+use crate::serving::Serving;
+use crate::words::{
+    ADDRESS, DATABASE, FOLDER, GRANTS, LISTEN, OPERATORS, PORT, SEND, SERVE, STATIONS, program,
+};
+use clap::ArgMatches;
 use clap::error::ErrorKind;
-use clap::{Arg, ArgMatches};
 use room_core::{MOST_RATE, Name};
-use std::alloc::{AllocError, Global};
-
-const PROGRAM: &str = "ipp-room";
+use std::alloc::Global;
 
 /// The database that lives in memory for one run.
 pub const MEMORY: &str = ":memory:";
-
-const SWITCHES: [&str; 2] = ["on", "off"];
-
-const LISTEN: &str = "listen";
-
-const LAST_PORT: u32 = 65_535;
 
 const MOST_CONNECTIONS: u32 = 1_000_000;
 
@@ -68,28 +66,10 @@ pub enum Command<'a> {
     },
     /// Serves connections.
     Listen(Listening<'a>),
-}
-
-/// The command `listen`: so many connections, at most 1000000, one after another on a port of 127.0.0.1, which is
-/// not 0.
-#[derive(Clone, Copy, Debug)]
-pub struct Listening<'a> {
-    pub database: &'a str,
-    pub port: u16,
-    pub connections: u32,
-}
-
-impl<'a> Listening<'a> {
-    /// What the words after the program's name ask for, or `None` where they are another command, or ask for help.
-    pub fn read(alloc: Global, words: &'a [&'a str]) -> Result<Option<Listening<'a>>, Fault> {
-        if words.first() != Some(&LISTEN) {
-            return Ok(None);
-        }
-        match Command::read(alloc, words)? {
-            Command::Listen(listen) => Ok(Some(listen)),
-            _ => Ok(None),
-        }
-    }
+    /// Serves HTTP and lines.
+    Serve(Serving<'a>),
+    /// Sends lines or grants to what serves them.
+    Send(Sending<'a>),
 }
 
 // Why words that the parser let through are no command line all the same.
@@ -99,6 +79,9 @@ enum Unfit {
     Units,
     Port,
     Count,
+    ServedPort,
+    ServedAddress,
+    Address,
     Name,
 }
 
@@ -110,6 +93,11 @@ impl Unfit {
             Unfit::Units => Some("UNITS is a number from 1 to 100"),
             Unfit::Port => Some("PORT is a number from 1 to 65535"),
             Unfit::Count => Some("COUNT is a number from 0 to 1000000"),
+            Unfit::ServedPort => Some("PORT is a number from 0 to 65535"),
+            Unfit::ServedAddress => {
+                Some("STATIONS and OPERATORS are ports from 0 to 65535, or paths")
+            }
+            Unfit::Address => Some("ADDRESS is a port from 1 to 65535, or a path"),
             Unfit::Name => None,
         }
     }
@@ -146,7 +134,10 @@ fn of_matches<'a>(matches: &ArgMatches<'a>) -> Result<Command<'a>, Unfit>
     let Some((command, words)) = matches.subcommand() else {
         return Err(Unfit::Missing);
     };
-    let database = word(words, "DB")?;
+    if command == SEND {
+        return Ok(Command::Send(sending(words)?));
+    }
+    let database = word(words, DATABASE)?;
     match command {
         "create" => Ok(Command::Create { database }),
         "open" => Ok(Command::Open {
@@ -169,11 +160,25 @@ fn of_matches<'a>(matches: &ArgMatches<'a>) -> Result<Command<'a>, Unfit>
         "script" => Ok(Command::Script { database }),
         LISTEN => Ok(Command::Listen(Listening {
             database,
-            port: port(words)?,
+            port: port(words, 1, Unfit::Port)?,
             connections: number(words, "COUNT", 0, MOST_CONNECTIONS, Unfit::Count)?,
+        })),
+        SERVE => Ok(Command::Serve(Serving {
+            database,
+            port: port(words, 0, Unfit::ServedPort)?,
+            stations: address(words, STATIONS, 0, Unfit::ServedAddress)?,
+            operators: address(words, OPERATORS, 0, Unfit::ServedAddress)?,
         })),
         _ => Err(Unfit::Missing),
     }
+}
+
+fn sending<'a>(words: &ArgMatches<'a>) -> Result<Sending<'a>, Unfit> {
+    Ok(Sending {
+        address: address(words, ADDRESS, 1, Unfit::Address)?,
+        grants: words.get_flag(GRANTS),
+        folder: words.get_str(FOLDER),
+    })
 }
 
 fn word<'a>(words: &ArgMatches<'a>, id: &str) -> Result<&'a str, Unfit> {
@@ -184,9 +189,18 @@ fn name(words: &ArgMatches<'_>, id: &str) -> Result<Name, Unfit> {
     Name::read(word(words, id)?.as_bytes()).ok_or(Unfit::Name)
 }
 
-fn port(words: &ArgMatches<'_>) -> Result<u16, Unfit> {
-    let port = number(words, "PORT", 1, LAST_PORT, Unfit::Port)?;
-    u16::try_from(port).map_err(|_| Unfit::Port)
+fn port(words: &ArgMatches<'_>, least: u32, unfit: Unfit) -> Result<u16, Unfit> {
+    let port = number(words, PORT, least, LAST_PORT, unfit)?;
+    u16::try_from(port).map_err(|_| unfit)
+}
+
+fn address<'a>(
+    words: &ArgMatches<'a>,
+    id: &str,
+    least: u32,
+    unfit: Unfit,
+) -> Result<Address<'a>, Unfit> {
+    Address::read(word(words, id)?, least).ok_or(unfit)
 }
 
 fn number(
@@ -199,58 +213,4 @@ fn number(
     ensures { IfOk result (λ number. (least ≤ number) × (number ≤ most)) }
 {
     room_fields::number(word(words, id)?.as_bytes(), least, most).ok_or(unfit)
-}
-
-fn program<'a>(alloc: Global) -> Result<clap::Command<'a>, AllocError> {
-    clap::Command::new(alloc, PROGRAM)
-        .about("Keeps IPP printers whose jobs wait until they are released")
-        .no_binary_name(true)
-        .bin_name(PROGRAM)?
-        .subcommand_required(true)
-        .subcommand(on_database(alloc, "create", "Makes the tables of a database")?)?
-        .subcommand(open(alloc)?)?
-        .subcommand(on_database(alloc, "migrate", "Brings older tables up to date")?)?
-        .subcommand(device(alloc)?)?
-        .subcommand(rate(alloc)?)?
-        .subcommand(on_database(alloc, "grants", "Takes the grants of standard input")?)?
-        .subcommand(on_database(alloc, "station", "Runs the lines of a station")?)?
-        .subcommand(on_database(alloc, "script", "Runs lines that have moments")?)?
-        .subcommand(listen(alloc)?)
-}
-
-fn open<'a>(alloc: Global) -> Result<clap::Command<'a>, AllocError> {
-    on_database(alloc, "open", "Opens an account")?.arg(required(alloc, "ACCOUNT"))
-}
-
-fn device<'a>(alloc: Global) -> Result<clap::Command<'a>, AllocError> {
-    let switch = ValueParser::Names(SWITCHES.as_slice());
-    on_database(alloc, "device", "Turns a device on or off")?
-        .arg(required(alloc, "NAME"))?
-        .arg(required(alloc, "SWITCH").value_parser(switch))
-}
-
-fn rate<'a>(alloc: Global) -> Result<clap::Command<'a>, AllocError> {
-    on_database(alloc, "rate", "Sets a device's units per impression")?
-        .arg(required(alloc, "NAME"))?
-        .arg(required(alloc, "UNITS").help("1 to 100"))
-}
-
-fn listen<'a>(alloc: Global) -> Result<clap::Command<'a>, AllocError> {
-    let count = "How many connections are served before it ends, 0 to 1000000";
-    on_database(alloc, LISTEN, "Serves connections on 127.0.0.1")?
-        .arg(required(alloc, "PORT").help("1 to 65535"))?
-        .arg(required(alloc, "COUNT").help(count))
-}
-
-fn on_database<'a>(
-    alloc: Global,
-    name: &'a str,
-    about: &'a str,
-) -> Result<clap::Command<'a>, AllocError> {
-    let database = required(alloc, "DB").help("A file, or :memory: for this run alone");
-    clap::Command::new(alloc, name).about(about).arg(database)
-}
-
-fn required<'a>(alloc: Global, name: &'a str) -> Arg<'a> {
-    Arg::new(alloc, name).required(true)
 }

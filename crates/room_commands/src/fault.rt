@@ -2,6 +2,7 @@
 ghost use Rattle.std.specs.Prelude.{◌≡◌};
 ghost use Rattle.room_commands.specs.Statuses.{status_of};
 
+use room_client::ClientFault;
 use room_grants::GrantFault;
 use room_lines::LineFault;
 use room_serve::RunFault;
@@ -21,10 +22,10 @@ pub enum Fault {
     /// A word in the place of an account or a device is no name.
     #[error("ipp-room: name")]
     Name,
-    /// Standard input is longer than its limit.
+    /// Standard input is longer than its limit, or a line of it that was to be sent is.
     #[error("ipp-room: input")]
     Input,
-    /// The line of this number, counted from 1, is the first that is no line of its grammar.
+    /// The line or record of this number, counted from 1, is the first that is no line of its grammar.
     #[error("ipp-room: line {0}")]
     Line(usize),
     /// The database can't be had, or refused an event.
@@ -39,7 +40,7 @@ pub enum Fault {
 }
 
 impl Fault {
-    /// The exit status: 1 for usage, 2 for bad input of which nothing was run, 3 for the store and
+    /// The exit status: 1 for usage, 2 for bad input, of which nothing was run unless it was sent, 3 for the store and
     /// for memory, 4 for reading and writing.
     pub fn status(&self) -> u8
         ensures { result ≡ status_of self.now }
@@ -92,6 +93,16 @@ impl From<GrantFault> for Fault {
             GrantFault::Read => Fault::Io,
             GrantFault::Memory => Fault::Memory,
             GrantFault::TooMany => Fault::Input,
+        }
+    }
+}
+
+impl From<ClientFault> for Fault {
+    fn from(fault: ClientFault) -> Fault {
+        match fault {
+            ClientFault::Io | ClientFault::Broken => Fault::Io,
+            ClientFault::TooLong => Fault::Input,
+            ClientFault::Memory => Fault::Memory,
         }
     }
 }

@@ -1,19 +1,28 @@
 //! The commands of the program: what its words ask for, done over any reader, any writers and any databases.
 #![tactic(auto)]
 
+mod address;
 mod command;
 mod database;
 mod fault;
 mod grants;
 mod input;
+mod listening;
 mod opener;
 mod printing;
 mod program;
+mod sending;
+mod serving;
 mod tables;
+mod words;
 
-pub use command::{Listening, MEMORY};
+pub use address::Address;
+pub use command::MEMORY;
 pub use database::{InFile, InMemory, run_on};
 pub use fault::Fault;
+pub use listening::Listening;
 pub use opener::Opener;
 pub use program::run;
+pub use sending::Sending;
+pub use serving::Serving;
 pub use tables::{Begin, store_of};

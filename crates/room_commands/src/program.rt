@@ -21,8 +21,8 @@ use std::io::{Read, Write};
 /// store, writing. Where the status is not 0, `errors` gets the fault's text.
 ///
 /// `opener` is asked for the database once nothing else can be wrong, and gets it back before anything is
-/// printed. In `:memory:` each run makes tables of its own. Of `listen` it answers `Io` with nothing run, since it has no
-/// sockets (`Listening` says what its words ask for).
+/// printed. In `:memory:` each run makes tables of its own. Of `listen`, `serve` and `send` it answers `Io` with nothing run,
+/// since it has no sockets (`Listening`, `Serving` and `Sending` say what their words ask for).
 pub fn run<S, F, R, W, E>(
     alloc: Global,
     words: &[&str],
@@ -102,7 +102,7 @@ where
             let moment = now.ok_or(Fault::Io)?;
             run_grants(alloc, moment, opener, database, input, output)
         }
-        Command::Listen(_) => Err(Fault::Io),
+        Command::Listen(_) | Command::Serve(_) | Command::Send(_) => Err(Fault::Io),
     }
 }
 

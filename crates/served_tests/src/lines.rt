@@ -6,7 +6,7 @@ use std::process::Abort;
 use std::test::Fail;
 
 /// Print-Job of the five bytes `Hello` for the queue of alice: 124 bytes.
-const PRINT: &[u8] =
+pub const PRINT: &[u8] =
     b"POST /ipp/print/alice HTTP/1.1\r\nHost: localhost\r\nContent-Type: application/ipp\r\nContent-Length: 124\r\n\r\n\
     \x01\x01\x00\x02\x00\x00\x00\x02\x01\
     \x47\x00\x12attributes-charset\x00\x05utf-8\

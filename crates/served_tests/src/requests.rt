@@ -1,4 +1,4 @@
-//! Requests over HTTP: the first worked rows, and every refusal.
+//! Requests over HTTP: the first worked row, paths of no queue, one request behind another, and a long body.
 
 use crate::rooms::{exchange, lines, rooms};
 use room_served::{Served, Side};
@@ -7,13 +7,13 @@ use std::process::Abort;
 use std::test::Fail;
 
 /// Validate-Job for the queue of alice: 119 bytes.
-const REQUEST: &[u8] = b"\x01\x01\x00\x04\x00\x00\x00\x01\x01\
+pub const REQUEST: &[u8] = b"\x01\x01\x00\x04\x00\x00\x00\x01\x01\
     \x47\x00\x12attributes-charset\x00\x05utf-8\
     \x48\x00\x1battributes-natural-language\x00\x02en\
     \x45\x00\x0bprinter-uri\x00\x1fipp://localhost/ipp/print/alice\x03";
 
 /// The answer to it: 72 bytes.
-const ANSWER: &[u8] = b"\x01\x01\x00\x00\x00\x00\x00\x01\x01\
+pub const ANSWER: &[u8] = b"\x01\x01\x00\x00\x00\x00\x00\x01\x01\
     \x47\x00\x12attributes-charset\x00\x05utf-8\
     \x48\x00\x1battributes-natural-language\x00\x02en\x03";
 
@@ -35,7 +35,7 @@ const NOT_FOUND: &[u8] = b"HTTP/1.1 404 Not Found\r\ncontent-length: 0\r\n\r\n";
 const PIECES: [usize; 3] = [1, 50, 100_000];
 
 /// Rooms of which alice's is open.
-fn open_rooms(rt: &HostRuntime) -> Result<Served<MemStore>, Fail> {
+pub fn open_rooms(rt: &HostRuntime) -> Result<Served<MemStore>, Fail> {
     let mut rooms = rooms(rt)?;
     lines(rt, &mut rooms, Side::Operator, b"open alice\n", 100)?;
     Ok(rooms)
@@ -73,19 +73,6 @@ fn first_answer(rt: HostRuntime) -> Result<(), Fail> {
 }
 
 #[test]
-fn other_method(rt: HostRuntime) -> Result<(), Fail> {
-    let is_due = answers(
-        &rt,
-        b"GET /ipp/print/alice HTTP/1.1\r\nHost: localhost\r\n\r\n",
-        b"",
-        b"HTTP/1.1 405 Method Not Allowed\r\nallow: POST\r\ncontent-length: 0\r\n\r\n",
-        b"",
-    )?;
-    assert!(rt; is_due);
-    Ok(())
-}
-
-#[test]
 fn no_queue(rt: HostRuntime) -> Result<(), Fail> {
     let fields =
         b" HTTP/1.1\r\nHost: localhost\r\nContent-Type: application/ipp\r\nContent-Length: 119\r\n\r\n";
@@ -103,48 +90,6 @@ fn no_queue(rt: HostRuntime) -> Result<(), Fail> {
         head.extend_from_slice(fields)?;
         assert!(rt; answers(&rt, head.as_slice(), REQUEST, NOT_FOUND, b"")?);
     }
-    Ok(())
-}
-
-#[test]
-fn account_not_open(rt: HostRuntime) -> Result<(), Fail> {
-    let is_due = answers(&rt, HEAD_OF_NOBODY, REQUEST, NOT_FOUND, b"")?;
-    assert!(rt; is_due);
-    Ok(())
-}
-
-#[test]
-fn other_type(rt: HostRuntime) -> Result<(), Fail> {
-    let due = b"HTTP/1.1 415 Unsupported Media Type\r\ncontent-length: 0\r\n\r\n".as_slice();
-    let of_text = answers(
-        &rt,
-        b"POST /ipp/print/alice HTTP/1.1\r\nHost: localhost\r\nContent-Type: text/plain\r\nContent-Length: 119\r\n\r\n",
-        REQUEST,
-        due,
-        b"",
-    )?;
-    assert!(rt; of_text);
-    let of_none = answers(
-        &rt,
-        b"POST /ipp/print/alice HTTP/1.1\r\nHost: localhost\r\nContent-Length: 119\r\n\r\n",
-        REQUEST,
-        due,
-        b"",
-    )?;
-    assert!(rt; of_none);
-    Ok(())
-}
-
-#[test]
-fn short_body(rt: HostRuntime) -> Result<(), Fail> {
-    let is_due = answers(
-        &rt,
-        b"POST /ipp/print/alice HTTP/1.1\r\nHost: localhost\r\nContent-Type: application/ipp\r\nContent-Length: 7\r\n\r\n",
-        b"\x01\x01\x00\x04\x00\x00\x00",
-        b"HTTP/1.1 400 Bad Request\r\ncontent-length: 0\r\n\r\n",
-        b"",
-    )?;
-    assert!(rt; is_due);
     Ok(())
 }
 

@@ -19,9 +19,9 @@ pub fn rooms(rt: &HostRuntime) -> Result<Served<MemStore>, Fail> {
 }
 
 /// More than a connection in these tests needs of reads, of lines or of writes, one after another.
-const MANY: u32 = 10_000;
+pub const MANY: u32 = 10_000;
 
-/// What goes out for what comes in on one connection of HTTP, in pieces of so many bytes.
+/// What goes out for what comes in on one connection of HTTP, in pieces of so many bytes, and then the end.
 pub fn exchange(
     rt: &HostRuntime,
     rooms: &mut Served<MemStore>,
@@ -32,6 +32,9 @@ pub fn exchange(
     let mut output = Vec::new(rt.alloc());
     for bytes in input.chunks(piece.max(1)) {
         hear(&mut connection, rooms, bytes, &mut output)?;
+    }
+    if connection.wants_read() {
+        read_once(&mut connection, rooms, &mut b"".as_slice(), &mut output)?;
     }
     Ok(output)
 }
@@ -47,14 +50,24 @@ fn hear(
         if reader.is_empty() || !connection.wants_read() {
             break;
         }
-        connection.read_from(&mut reader)?;
-        answer_requests(connection, rooms);
-        for _ in 0..MANY {
-            if !connection.wants_write() {
-                break;
-            }
-            connection.write_to(output)?;
+        read_once(connection, rooms, &mut reader, output)?;
+    }
+    Ok(())
+}
+
+fn read_once(
+    connection: &mut Connection,
+    rooms: &mut Served<MemStore>,
+    reader: &mut &[u8],
+    output: &mut Vec<u8>,
+) -> Result<(), Fail> {
+    connection.read_from(reader)?;
+    answer_requests(connection, rooms);
+    for _ in 0..MANY {
+        if !connection.wants_write() {
+            break;
         }
+        connection.write_to(output)?;
     }
     Ok(())
 }

@@ -1,0 +1,4 @@
+pub mod Answers
+pub mod Grants
+pub mod Names
+pub mod Outcomes

@@ -1,0 +1,6 @@
+-- What a document is called that is kept (this project's own).
+use Rattle.std.specs.Prelude.{ℕ, List, ◌++◌, codes, decimal}
+
+-- `ACCOUNT-JOB-NUMBER`
+abbrev pub document_name : List ℕ → ℕ → ℕ → List ℕ
+document_name account job number = account ++ codes "-" ++ decimal job ++ codes "-" ++ decimal number

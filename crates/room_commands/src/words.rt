@@ -1,0 +1,109 @@
+//! The words of the command line, as its parser and its help know them.
+
+use clap::builder::ValueParser;
+use clap::{Arg, ArgAction};
+use std::alloc::{AllocError, Global};
+
+const PROGRAM: &str = "ipp-room";
+
+pub(crate) const LISTEN: &str = "listen";
+
+pub(crate) const SERVE: &str = "serve";
+
+pub(crate) const SEND: &str = "send";
+
+const SWITCHES: [&str; 2] = ["on", "off"];
+
+pub(crate) const DATABASE: &str = "DB";
+
+pub(crate) const PORT: &str = "PORT";
+
+pub(crate) const STATIONS: &str = "STATIONS";
+
+pub(crate) const OPERATORS: &str = "OPERATORS";
+
+pub(crate) const ADDRESS: &str = "ADDRESS";
+
+pub(crate) const GRANTS: &str = "grants";
+
+pub(crate) const FOLDER: &str = "FOLDER";
+
+/// The program, with all its commands.
+pub(crate) fn program<'a>(alloc: Global) -> Result<clap::Command<'a>, AllocError> {
+    clap::Command::new(alloc, PROGRAM)
+        .about("Keeps IPP printers whose jobs wait until they are released")
+        .no_binary_name(true)
+        .bin_name(PROGRAM)?
+        .subcommand_required(true)
+        .subcommand(on_database(alloc, "create", "Makes the tables of a database")?)?
+        .subcommand(open(alloc)?)?
+        .subcommand(on_database(alloc, "migrate", "Brings older tables up to date")?)?
+        .subcommand(device(alloc)?)?
+        .subcommand(rate(alloc)?)?
+        .subcommand(on_database(alloc, "grants", "Takes the grants of standard input")?)?
+        .subcommand(on_database(alloc, "station", "Runs the lines of a station")?)?
+        .subcommand(on_database(alloc, "script", "Runs lines that have moments")?)?
+        .subcommand(listen(alloc)?)?
+        .subcommand(serve(alloc)?)?
+        .subcommand(send(alloc)?)
+}
+
+fn open<'a>(alloc: Global) -> Result<clap::Command<'a>, AllocError> {
+    on_database(alloc, "open", "Opens an account")?.arg(required(alloc, "ACCOUNT"))
+}
+
+fn device<'a>(alloc: Global) -> Result<clap::Command<'a>, AllocError> {
+    let switch = ValueParser::Names(SWITCHES.as_slice());
+    on_database(alloc, "device", "Turns a device on or off")?
+        .arg(required(alloc, "NAME"))?
+        .arg(required(alloc, "SWITCH").value_parser(switch))
+}
+
+fn rate<'a>(alloc: Global) -> Result<clap::Command<'a>, AllocError> {
+    on_database(alloc, "rate", "Sets a device's units per impression")?
+        .arg(required(alloc, "NAME"))?
+        .arg(required(alloc, "UNITS").help("1 to 100"))
+}
+
+fn listen<'a>(alloc: Global) -> Result<clap::Command<'a>, AllocError> {
+    let count = "How many connections are served before it ends, 0 to 1000000";
+    on_database(alloc, LISTEN, "Serves connections on 127.0.0.1")?
+        .arg(required(alloc, PORT).help("1 to 65535"))?
+        .arg(required(alloc, "COUNT").help(count))
+}
+
+fn serve<'a>(alloc: Global) -> Result<clap::Command<'a>, AllocError> {
+    on_database(alloc, SERVE, "Serves HTTP and lines on this machine")?
+        .arg(required(alloc, PORT).help("0 to 65535, where 0 takes a free one"))?
+        .arg(required(alloc, STATIONS).help("A port, or the path of a socket"))?
+        .arg(required(alloc, OPERATORS).help("A port, or the path of a socket"))
+}
+
+fn send<'a>(alloc: Global) -> Result<clap::Command<'a>, AllocError> {
+    let grants = Arg::new(alloc, GRANTS)
+        .long("grants")
+        .action(ArgAction::SetTrue)
+        .help("Standard input is a file of grants")
+        .conflicts_with(FOLDER)?;
+    let folder = Arg::new(alloc, FOLDER)
+        .long("into")
+        .help("Where documents go that are not to be printed");
+    clap::Command::new(alloc, SEND)
+        .about("Sends the lines of standard input to what serves them")
+        .arg(required(alloc, ADDRESS).help("A port, or the path of a socket"))?
+        .arg(grants)?
+        .arg(folder)
+}
+
+fn on_database<'a>(
+    alloc: Global,
+    name: &'a str,
+    about: &'a str,
+) -> Result<clap::Command<'a>, AllocError> {
+    let database = required(alloc, DATABASE).help("A file, or :memory: for this run alone");
+    clap::Command::new(alloc, name).about(about).arg(database)
+}
+
+fn required<'a>(alloc: Global, name: &'a str) -> Arg<'a> {
+    Arg::new(alloc, name).required(true)
+}

@@ -1,0 +1,3 @@
+pub mod Patience
+pub mod HttpPeers
+pub mod LinePeers

@@ -1,0 +1,69 @@
+-- What a connection of lines has taken and told (all this project's own).
+use Rattle.std.specs.Prelude.{◌≡◌, ◌≢◌, ◌⊎◌, ℕ, List, [], ◌∷◌, ◌++◌, codes, None}
+use Rattle.std.specs.List.{flat_map}
+use Rattle.sqlite_trees.specs.declared.store.Store.{Ghosts}
+use Rattle.room_served.specs.Lines.{Asks, IsBad, input_of, line_end, output_of, side_of}
+use Rattle.room_served.specs.declared.line_connection.LineConnection.{LineConnection}
+use Rattle.room_served.specs.declared.line_connection.Side.{Side}
+use Rattle.room_served.specs.declared.served.Served.{Served}
+use Rattle.room_connections.specs.declared.line_peer.LinePeer.{LinePeer}
+
+abbrev pub lines_of : LinePeer → LineConnection
+lines_of peer = peer.connection
+
+-- a line as it came, with what ended it, and what was told
+abbrev pub LineCall : Type 0
+LineCall = List ℕ × List ℕ
+
+abbrev pub taken : List LineCall → List ℕ
+taken calls = flat_map (λ (call : LineCall). call.0) calls
+
+abbrev pub told : List LineCall → List ℕ
+told calls = flat_map (λ (call : LineCall). call.1) calls
+
+module _ {S : Type 0} (store : Ghosts S) (side : Side) where
+  -- each line is applied, once, or is a bad one, which changes nothing, and is told of
+  abbrev pub Chain : Served S → List LineCall → Served S → Type 0
+  Chain old [] new = new ≡ old
+  Chain old (call ∷ calls) new = (next : Served S) × (Asks store side old call.1 next ⊎ IsBad store old call.1 next) × Chain next calls new
+
+module _ {S : Type 0} (store : Ghosts S) where
+  -- Bytes came, and the lines in them were taken in order; what was told of each waits behind the others, and goes in order.
+  pub record GoesOn (before after : LineConnection) (old new : Served S) : Type 0 where
+    pub came : List ℕ
+    pub calls : List LineCall
+    pub went : List ℕ
+    pub input : input_of before ++ came ≡ taken calls ++ input_of after
+    pub output : output_of before ++ told calls ≡ went ++ output_of after
+    pub chain : Chain store (side_of before) old calls new
+    pub side : side_of after ≡ side_of before
+
+-- each line that came was taken, unless what was told before waits to go
+abbrev pub HasTaken : LineConnection → Type 0
+HasTaken connection = (output_of connection ≢ []) ⊎ (line_end (input_of connection) ≡ None)
+
+-- ---- the steps of a peer that nothing is applied in
+
+-- bytes came
+pub record Receives (before after : LineConnection) : Type 0 where
+  pub came : List ℕ
+  pub input : input_of after ≡ input_of before ++ came
+  pub output : output_of after ≡ output_of before
+  pub side : side_of after ≡ side_of before
+
+-- bytes went
+pub record Sends (before after : LineConnection) : Type 0 where
+  pub went : List ℕ
+  pub input : input_of after ≡ input_of before
+  pub output : output_of before ≡ went ++ output_of after
+  pub side : side_of after ≡ side_of before
+
+-- what is left is no line
+pub record Refuses (before after : LineConnection) : Type 0 where
+  pub input : input_of after ≡ []
+  pub output : output_of after ≡ output_of before ++ codes "bad-line\n"
+  pub side : side_of after ≡ side_of before
+
+-- no more comes: all was said, or what is left is told to be no line
+abbrev pub IsEnded : LineConnection → LineConnection → Type 0
+IsEnded before after = (after ≡ before) ⊎ Refuses before after

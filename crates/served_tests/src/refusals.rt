@@ -1,0 +1,342 @@
+//! Every refusal of a request over HTTP, and what is taken that another server may refuse.
+
+use crate::requests::{ANSWER, REQUEST, open_rooms};
+use crate::rooms::exchange;
+use std::process::Abort;
+use std::test::Fail;
+
+/// The head of a message for the queue of alice, up to the fields that frame its body.
+const QUEUE: &[u8] =
+    b"POST /ipp/print/alice HTTP/1.1\r\nHost: localhost\r\nContent-Type: application/ipp\r\n";
+
+/// The rest of a head before `REQUEST`.
+const SIZED: &[u8] = b"Content-Length: 119\r\n\r\n";
+
+/// The rest of a head before chunks.
+const CHUNKED: &[u8] = b"Transfer-Encoding: chunked\r\n\r\n";
+
+/// What stands behind the one chunk of a body.
+const LAST: &[u8] = b"\r\n0\r\n\r\n";
+
+const TAKEN: &[u8] =
+    b"HTTP/1.1 200 OK\r\ncontent-type: application/ipp\r\ncontent-length: 72\r\n\r\n";
+
+const CLOSED: &[u8] =
+    b"HTTP/1.1 200 OK\r\ncontent-type: application/ipp\r\ncontent-length: 72\r\nconnection: close\r\n\r\n";
+
+const CONTINUED: &[u8] = b"HTTP/1.1 100 Continue\r\n\r\n";
+
+const BAD: &[u8] = b"HTTP/1.1 400 Bad Request\r\nconnection: close\r\ncontent-length: 0\r\n\r\n";
+
+const TOO_LONG_A_BODY: &[u8] =
+    b"HTTP/1.1 413 Payload Too Large\r\nconnection: close\r\ncontent-length: 0\r\n\r\n";
+
+const UNKNOWN_CODING: &[u8] =
+    b"HTTP/1.1 501 Not Implemented\r\nconnection: close\r\ncontent-length: 0\r\n\r\n";
+
+/// The refusals of the rooms' own, behind which the connection goes on.
+const SHORT: &[u8] = b"HTTP/1.1 400 Bad Request\r\ncontent-length: 0\r\n\r\n";
+
+const NOT_FOUND: &[u8] = b"HTTP/1.1 404 Not Found\r\ncontent-length: 0\r\n\r\n";
+
+const NOT_POST: &[u8] =
+    b"HTTP/1.1 405 Method Not Allowed\r\nallow: POST\r\ncontent-length: 0\r\n\r\n";
+
+const NOT_IPP: &[u8] = b"HTTP/1.1 415 Unsupported Media Type\r\ncontent-length: 0\r\n\r\n";
+
+/// Whether what the pieces make, and then the end, is answered by what the others make: cut into some 300 pieces, which
+/// are of one byte where it is short, and all at once.
+fn is_answered(rt: &HostRuntime, input: &[&[u8]], due: &[&[u8]]) -> Result<bool, Fail> {
+    let mut sent = Vec::new(rt.alloc());
+    for piece in input {
+        sent.extend_from_slice(*piece)?;
+    }
+    let mut answer = Vec::new(rt.alloc());
+    for piece in due {
+        answer.extend_from_slice(*piece)?;
+    }
+    for size in [sent.len() / 300 + 1, sent.len()] {
+        let mut rooms = open_rooms(rt)?;
+        let found = exchange(rt, &mut rooms, sent.as_slice(), size)?;
+        if found.as_slice() != answer.as_slice() {
+            return Ok(false);
+        }
+    }
+    Ok(true)
+}
+
+/// Heads that no request has, and the end inside one.
+#[test]
+fn bad_heads(rt: HostRuntime) -> Result<(), Fail> {
+    for head in [
+        b"GET\r\n\r\n".as_slice(),
+        b"POST  HTTP/1.1\r\n\r\n",
+        b"POST /ipp/print/alice HTTP/1.2\r\nHost: localhost\r\n\r\n",
+        b"POST /ipp/print/alice HTTP/2.0\r\nHost: localhost\r\n\r\n",
+        b"POST /ipp/print/alice HTTP/1.1\r\n\r\n",
+        b"POST /ipp/print/alice HTTP/1.1\r\nHost: localhost\r\nhost: localhost\r\n\r\n",
+        b"POST /ipp/print/alice HTTP/1.0\r\nHost: localhost\r\nHost: localhost\r\n\r\n",
+        b"POST /ipp/print/alice HTTP/1.1\r\nHost: a b\r\n\r\n",
+        b"POST /ipp/print/alice HTTP/1.1\r\nHost: localhost:a\r\n\r\n",
+        b"POST http:///ipp/print/alice HTTP/1.1\r\nHost: localhost\r\n\r\n",
+        b"POST /ipp/print/alice HTTP/1.1\nHost: localhost\n\n",
+        b"POST /ipp/print/alice HTTP/1.1\r\nHost: localhost\nX: 1\r\n\r\n",
+        b"\nPOST /ipp/print/alice HTTP/1.1\r\nHost: localhost\r\n\r\n",
+        b"POST /ipp/print/alice HTTP/1.1\r\nHost : localhost\r\n\r\n",
+        b"POST /ipp/print/alice HTTP/1.1\r\nHost: localhost\r\n X: 1\r\n\r\n",
+        b"POST /ipp/print/alice HTTP/1.1\r\nHost: localhost\r\n: 1\r\n\r\n",
+        b"POST /ipp/print/alice HTTP/1.1\r\nHost: localhost\r\n",
+        b"\r\n",
+        b"P",
+    ] {
+        assert!(rt; is_answered(&rt, &[head], &[BAD])?, "{head:?}");
+    }
+    Ok(())
+}
+
+/// Fields that frame no body, and bodies that are not framed so.
+#[test]
+fn bad_bodies(rt: HostRuntime) -> Result<(), Fail> {
+    for (fields, due) in [
+        (b"Content-Length: +119\r\n\r\n".as_slice(), BAD),
+        (b"Content-Length: 119a\r\n\r\n", BAD),
+        (b"Content-Length: 119, 119\r\n\r\n", BAD),
+        (b"Content-Length:\r\n\r\n", BAD),
+        (b"Content-Length: 119\r\nContent-Length: 118\r\n\r\n", BAD),
+        (b"Content-Length: 18446744073709551616\r\n\r\n", BAD),
+        (
+            b"Content-Length: 119\r\nTransfer-Encoding: chunked\r\n\r\n",
+            BAD,
+        ),
+        (
+            b"Transfer-Encoding: chunked\r\nTransfer-Encoding: chunked\r\n\r\n",
+            BAD,
+        ),
+        (b"Transfer-Encoding: chunked, chunked\r\n\r\n", BAD),
+        (b"Transfer-Encoding: chunked, gzip\r\n\r\n", BAD),
+        (b"Transfer-Encoding: identity\r\n\r\n", BAD),
+        (b"Transfer-Encoding:\r\n\r\n", BAD),
+        (b"Transfer-Encoding: gzip, chunked\r\n\r\n", UNKNOWN_CODING),
+        (
+            b"Transfer-Encoding: gzip\r\nTransfer-Encoding: chunked\r\n\r\n",
+            UNKNOWN_CODING,
+        ),
+        (b"Content-Length: 16842753\r\n\r\n", TOO_LONG_A_BODY),
+        (
+            b"Content-Length: 1190000000000000000\r\n\r\n",
+            TOO_LONG_A_BODY,
+        ),
+        (
+            b"Content-Length: 16842753\r\nExpect: 100-continue\r\n\r\n",
+            TOO_LONG_A_BODY,
+        ),
+        (
+            b"Content-Length: 8\r\n\r\n\x01\x01\x00\x04\x00\x00\x00",
+            BAD,
+        ),
+        (b"Transfer-Encoding: chunked\r\n\r\nx\r\n", BAD),
+        (b"Transfer-Encoding: chunked\r\n\r\n\r\n", BAD),
+        (b"Transfer-Encoding: chunked\r\n\r\n-8\r\n", BAD),
+        (b"Transfer-Encoding: chunked\r\n\r\n8 x\r\n", BAD),
+        (b"Transfer-Encoding: chunked\r\n\r\n8\n", BAD),
+        (
+            b"Transfer-Encoding: chunked\r\n\r\n10000000000000000\r\n",
+            BAD,
+        ),
+        (b"Transfer-Encoding: chunked\r\n\r\n1\r\nab\r\n", BAD),
+        (b"Transfer-Encoding: chunked\r\n\r\n1\r\na\n", BAD),
+        (b"Transfer-Encoding: chunked\r\n\r\n1\r\na\r\n", BAD),
+        (b"Transfer-Encoding: chunked\r\n\r\n0\r\n", BAD),
+        (b"Transfer-Encoding: chunked\r\n\r\n0\r\nX\r\n\r\n", BAD),
+        (b"Transfer-Encoding: chunked\r\n\r\n0\r\nX: 1\n\r\n", BAD),
+        (
+            b"Content-Length: 7\r\n\r\n\x01\x01\x00\x04\x00\x00\x00",
+            SHORT,
+        ),
+        (b"Content-Length: 0\r\n\r\n", SHORT),
+        (b"\r\n", SHORT),
+        (b"Transfer-Encoding: chunked\r\n\r\n0\r\n\r\n", SHORT),
+    ] {
+        assert!(rt; is_answered(&rt, &[QUEUE, fields], &[due])?, "{fields:?}");
+    }
+    Ok(())
+}
+
+/// What the rooms refuse, and in which order: behind the body, after which the connection goes on, and behind 413 and the
+/// 100 text.
+#[test]
+fn refusals_of_the_rooms(rt: HostRuntime) -> Result<(), Fail> {
+    for (head, due) in [
+        (
+            b"PUT /nowhere HTTP/1.1\r\nHost: localhost\r\n".as_slice(),
+            NOT_POST,
+        ),
+        (
+            b"post /ipp/print/alice HTTP/1.1\r\nHost: localhost\r\n",
+            NOT_POST,
+        ),
+        (b"OPTIONS * HTTP/1.1\r\nHost: localhost\r\n", NOT_POST),
+        (
+            b"HEAD / HTTP/1.1\r\nHost: localhost\r\n",
+            b"HTTP/1.1 405 Method Not Allowed\r\nallow: POST\r\n\r\n",
+        ),
+        (b"POST * HTTP/1.1\r\nHost: localhost\r\n", NOT_FOUND),
+        (
+            b"POST /ipp/print/%61lice HTTP/1.1\r\nHost: localhost\r\n",
+            NOT_FOUND,
+        ),
+        (
+            b"POST /IPP/print/alice HTTP/1.1\r\nHost: localhost\r\nContent-Type: text/plain\r\n",
+            NOT_FOUND,
+        ),
+        (
+            b"POST /ipp/print/nobody HTTP/1.1\r\nHost: localhost\r\nContent-Type: application/ipp\r\n",
+            NOT_FOUND,
+        ),
+        (
+            b"POST /ipp/print/nobody HTTP/1.1\r\nHost: localhost\r\nContent-Type: text/plain\r\n",
+            NOT_IPP,
+        ),
+        (
+            b"POST /ipp/print/alice HTTP/1.1\r\nHost: localhost\r\n",
+            NOT_IPP,
+        ),
+        (
+            b"POST /ipp/print/alice HTTP/1.1\r\nHost: localhost\r\nContent-Type: application/ippx\r\n",
+            NOT_IPP,
+        ),
+        (
+            b"POST /ipp/print/alice HTTP/1.1\r\nHost: localhost\r\nContent-Type: text/plain\r\nContent-Type: application/ipp\r\n",
+            NOT_IPP,
+        ),
+    ] {
+        let is_due = is_answered(
+            &rt,
+            &[head, SIZED, REQUEST, QUEUE, SIZED, REQUEST],
+            &[due, TAKEN, ANSWER],
+        )?;
+        assert!(rt; is_due, "{head:?}");
+        let is_due = is_answered(
+            &rt,
+            &[head, b"Content-Length: 16842753\r\n\r\n"],
+            &[TOO_LONG_A_BODY],
+        )?;
+        assert!(rt; is_due, "{head:?}");
+        let is_due = is_answered(
+            &rt,
+            &[head, b"Expect: 100-continue\r\n", SIZED, REQUEST],
+            &[CONTINUED, due],
+        )?;
+        assert!(rt; is_due, "{head:?}");
+    }
+    Ok(())
+}
+
+/// Heads before a body of 119 bytes that are taken, and how the answer begins.
+#[test]
+fn taken_heads(rt: HostRuntime) -> Result<(), Fail> {
+    let of_0 =
+        b"HTTP/1.0 200 OK\r\ncontent-type: application/ipp\r\ncontent-length: 72\r\nconnection: close\r\n\r\n".as_slice();
+    let kept =
+        b"HTTP/1.0 200 OK\r\ncontent-type: application/ipp\r\ncontent-length: 72\r\nconnection: keep-alive\r\n\r\n".as_slice();
+    let line_0 = b"POST /ipp/print/alice HTTP/1.0\r\nContent-Type: application/ipp\r\n".as_slice();
+    let absolute =
+        b"POST http://localhost/ipp/print/alice HTTP/1.1\r\nHost: localhost\r\nContent-Type: application/ipp\r\n".as_slice();
+    let fragment =
+        b"POST /ipp/print/alice#x HTTP/1.1\r\nHost:\r\nContent-Type: APPLICATION/IPP ;x\r\n".as_slice();
+    let query =
+        b"\r\nPOST /ipp/print/alice/1?/x HTTP/1.1\r\nHost: [::1]:80\r\nContent-Type: application/ipp\r\n".as_slice();
+    for (head, fields, due) in [
+        (
+            QUEUE,
+            b"Content-Length: 119\r\ncontent-length: 119\r\n\r\n".as_slice(),
+            TAKEN,
+        ),
+        (
+            QUEUE,
+            b"Content-Length: 0000000000000000000119\r\n\r\n",
+            TAKEN,
+        ),
+        (absolute, SIZED, TAKEN),
+        (fragment, SIZED, TAKEN),
+        (query, SIZED, TAKEN),
+        (
+            QUEUE,
+            b"Expect: 200-ok\r\nContent-Length: 119\r\n\r\n",
+            TAKEN,
+        ),
+        (
+            QUEUE,
+            b"Connection: closed\r\nContent-Length: 119\r\n\r\n",
+            TAKEN,
+        ),
+        (
+            QUEUE,
+            b"Connection: a , Close\r\nContent-Length: 119\r\n\r\n",
+            CLOSED,
+        ),
+        (line_0, SIZED, of_0),
+        (
+            line_0,
+            b"Expect: 100-continue\r\nContent-Length: 119\r\n\r\n",
+            of_0,
+        ),
+        (
+            line_0,
+            b"Connection: keep-alive\r\nContent-Length: 119\r\n\r\n",
+            kept,
+        ),
+    ] {
+        assert!(rt;
+            is_answered(&rt, &[head, fields, REQUEST], &[due, ANSWER])?,
+            "{fields:?}"
+        );
+    }
+    for expect in [
+        b"100-continue".as_slice(),
+        b"x, 100-CONTINUE",
+        b"x\r\nExpect: 100-continue",
+    ] {
+        let is_due = is_answered(
+            &rt,
+            &[QUEUE, b"Expect: ", expect, b"\r\n", SIZED, REQUEST],
+            &[CONTINUED, TAKEN, ANSWER],
+        )?;
+        assert!(rt; is_due, "{expect:?}");
+    }
+    for line in [
+        b"77\r\n".as_slice(),
+        b"0000000000000000000000000077 \t;a=\"b\"\r\n",
+    ] {
+        let is_due = is_answered(
+            &rt,
+            &[QUEUE, CHUNKED, line, REQUEST, LAST],
+            &[TAKEN, ANSWER],
+        )?;
+        assert!(rt; is_due, "{line:?}");
+        assert!(rt; is_answered(&rt, &[line_0, CHUNKED, line, REQUEST, LAST], &[BAD])?);
+    }
+    let twice = &[
+        QUEUE,
+        b"Connection: close\r\n",
+        SIZED,
+        REQUEST,
+        QUEUE,
+        SIZED,
+        REQUEST,
+    ];
+    assert!(rt; is_answered(&rt, twice, &[CLOSED, ANSWER])?);
+    let cut = &[QUEUE, SIZED, REQUEST, b"\r\n"];
+    assert!(rt; is_answered(&rt, cut, &[TAKEN, ANSWER, BAD])?);
+    Ok(())
+}
+
+/// A chunk of one byte more than a body may have.
+#[test]
+fn too_long_a_chunk(rt: HostRuntime) -> Result<(), Fail> {
+    let mut body = Vec::new(rt.alloc());
+    body.resize(16_842_753, b'a')?;
+    let input = &[QUEUE, CHUNKED, b"1010001\r\n", body.as_slice()];
+    assert!(rt; is_answered(&rt, input, &[TOO_LONG_A_BODY])?);
+    Ok(())
+}
