@@ -1,8 +1,10 @@
-"""Messages of IPP and of HTTP, for the programs in bench/ and tools/ (RFC 8010 section 3, RFC 9112)."""
+"""Messages of IPP and of HTTP, for the programs in bench/ and tools/ (RFC 8010 section 3, RFC 9112), and the program that
+they try: `ipp-room` at the top, or the one that the environment variable IPP_ROOM names.
+"""
 import os
 
 TOP = os.path.dirname(os.path.dirname(os.path.abspath(__file__)))
-PROGRAM = f'{TOP}/ipp-room'
+PROGRAM = os.environ.get('IPP_ROOM', f'{TOP}/ipp-room')
 MOMENT = 1788220800
 PRINT_JOB, VALIDATE_JOB, CREATE_JOB, SEND_DOCUMENT, CANCEL_JOB, GET_JOB, GET_JOBS, GET_PRINTER = 2, 4, 5, 6, 8, 9, 10, 11
 OK, INTERNAL_ERROR = 0, 0x0500
@@ -52,5 +54,5 @@ def ask(stream, text):
         answer += more
         end = answer.find(b'\r\n\r\n') + 4
         if whole is None and end >= 4:
-            whole = end + int(answer[:end].split(b'Content-Length: ')[1].split(b'\r')[0])
+            whole = end + int(answer[:end].lower().split(b'content-length: ')[1].split(b'\r')[0])
     return int.from_bytes(answer[end + 2:end + 4], 'big')
