@@ -1,5 +1,5 @@
 -- What a connection of lines has taken and told (all this project's own).
-use Rattle.std.specs.Prelude.{◌≡◌, ◌≢◌, ◌⊎◌, ℕ, List, [], ◌∷◌, ◌++◌, codes, None}
+use Rattle.std.specs.Prelude.{◌≡◌, ◌≢◌, ◌⊎◌, ℕ, List, [], ◌∷◌, ◌++◌, codes, Option, None, Some}
 use Rattle.std.specs.List.{flat_map}
 use Rattle.sqlite_trees.specs.declared.store.Store.{Ghosts}
 use Rattle.room_served.specs.Lines.{Asks, IsBad, input_of, line_end, output_of, side_of}
@@ -7,9 +7,15 @@ use Rattle.room_served.specs.declared.line_connection.LineConnection.{LineConnec
 use Rattle.room_served.specs.declared.line_connection.Side.{Side}
 use Rattle.room_served.specs.declared.served.Served.{Served}
 use Rattle.room_connections.specs.declared.line_peer.LinePeer.{LinePeer}
+use Rattle.room_connections.specs.declared.patience.Patience.{Patience}
+use Rattle.room_connections.specs.declared.step.Next.{Next}
+use Rattle.room_connections.specs.declared.step.Next.TheVariants.{Close}
 
 abbrev pub lines_of : LinePeer → LineConnection
 lines_of peer = peer.connection
+
+abbrev pub patience_of : LinePeer → Patience
+patience_of peer = peer.patience
 
 -- a line as it came, with what ended it, and what was told
 abbrev pub LineCall : Type 0
@@ -37,6 +43,13 @@ module _ {S : Type 0} (store : Ghosts S) where
     pub output : output_of before ++ told calls ≡ went ++ output_of after
     pub chain : Chain store (side_of before) old calls new
     pub side : side_of after ≡ side_of before
+
+  -- a connection that is over may have lost an answer
+  abbrev pub TurnGoesOn : Next → LinePeer → LinePeer → Served S → Served S → Type 0
+  TurnGoesOn next before after old new = next ≢ Close → GoesOn (lines_of before) (lines_of after) old new
+
+  abbrev pub StepGoesOn : Option Next → LinePeer → LinePeer → Served S → Served S → Type 0
+  StepGoesOn next before after old new = next ≢ Some Close → GoesOn (lines_of before) (lines_of after) old new
 
 -- each line that came was taken, unless what was told before waits to go
 abbrev pub HasTaken : LineConnection → Type 0

@@ -20,6 +20,10 @@ most_of Parts = 10000
 abbrev pub is_over : Patience → ℕ → Bool
 is_over patience now = nat_lt (most_of patience.doing) (now - patience.since)
 
+-- no whole piece has moved for two seconds
+abbrev pub is_slow : Patience → ℕ → Bool
+is_slow patience now = nat_lt 2000 (now - patience.since)
+
 -- so much of a piece has moved: 163840 bytes are a whole one, which gives the time anew
 abbrev pub moving : ℕ → ℕ → ℕ → Patience
 moving since moved now = if nat_lt moved 163840 then record { since = since; doing = Moves moved } else record { since = now; doing = Moves 0 }

@@ -2,11 +2,10 @@
 
 ghost use Rattle.std.specs.Prelude.{◌≡◌, ◌≢◌, Some};
 ghost use Rattle.http_server.specs.Connection.{config_of, history};
-ghost use Rattle.http_server.specs.Exchange.{Calls};
-ghost use Rattle.room_served.specs.Answers.{Answers};
+ghost use Rattle.http_server.specs.History.{new_history};
 ghost use Rattle.room_served.specs.Journals.{Continues};
 
-use crate::load::Load;
+use crate::load::{LARGE, Load};
 use crate::patience::Patience;
 use crate::step::{Next, STEPS, Turn, after, drain, was_all};
 use http_server::{Connection, Reason, State};
@@ -29,10 +28,15 @@ pub struct HttpPeer {
 }
 
 impl HttpPeer {
-    ghost use Rattle.room_connections.specs.HttpPeers.{IsAtRest, calls_of, connection_of};
+    ghost use Rattle.room_connections.specs.HttpPeers.{IsAtRest, IsStill, KeepsLimits, MakesCalls, calls_of, connection_of, patience_of};
 
     /// A peer that came just now. It takes no memory.
-    pub fn new(alloc: Global, keys: RandomState, now: u64) -> HttpPeer {
+    pub fn new(alloc: Global, keys: RandomState, now: u64) -> HttpPeer
+        ensures history { history (connection_of result) ≡ new_history }
+        ensures head { (config_of (connection_of result)).limits.max_head_len ≡ 16384 }
+        ensures body { (config_of (connection_of result)).max_body_len ≡ 16842752 }
+        ensures pending { (config_of (connection_of result)).max_pending ≡ 1024 }
+    {
         HttpPeer {
             connection: Connection::new(alloc, keys, connection_config()),
             patience: Patience::new(now),
@@ -50,10 +54,10 @@ impl HttpPeer {
         served: &mut Served<S>,
         turn: Turn,
     ) -> Next
-        ensures calls { Calls (Answers S.Store) served.old served.new (calls_of self.old) (calls_of self.new) }
+        ensures calls { MakesCalls S.Store self.old self.new served.old served.new }
         ensures continues { Continues S.Store served.old served.new }
         ensures rests { result ≡ Next.Wait → IsAtRest self.new }
-        ensures config { config_of (connection_of self.new) ≡ config_of (connection_of self.old) }
+        ensures limits { KeepsLimits self.old self.new }
     {
         if self.parts {
             return drain(stream);
@@ -71,8 +75,8 @@ impl HttpPeer {
     /// One read or one write. Answers what to wait for, where it can't go on.
     fn step<T: Read + Write>(&mut self, stream: &mut T, turn: Turn) -> Option<Next>
         ensures calls { calls_of self.new ≡ calls_of self.old }
-        ensures waits { result ≡ Some Next.Wait → history (connection_of self.new) ≡ history (connection_of self.old) }
-        ensures config { config_of (connection_of self.new) ≡ config_of (connection_of self.old) }
+        ensures waits { result ≡ Some Next.Wait → IsStill self.old self.new }
+        ensures limits { KeepsLimits self.old self.new }
     {
         if self.connection.is_done() {
             return Some(self.finish(turn.now));
@@ -96,8 +100,8 @@ impl HttpPeer {
 
     fn send<T: Write>(&mut self, stream: &mut T, now: u64) -> Option<Next>
         ensures calls { calls_of self.new ≡ calls_of self.old }
-        ensures waits { result ≡ Some Next.Wait → history (connection_of self.new) ≡ history (connection_of self.old) }
-        ensures config { config_of (connection_of self.new) ≡ config_of (connection_of self.old) }
+        ensures waits { result ≡ Some Next.Wait → IsStill self.old self.new }
+        ensures limits { KeepsLimits self.old self.new }
     {
         self.load.answered();
         match self.connection.write_to(stream) {
@@ -115,8 +119,8 @@ impl HttpPeer {
 
     fn receive<T: Read>(&mut self, stream: &mut T, turn: Turn) -> Option<Next>
         ensures calls { calls_of self.new ≡ calls_of self.old }
-        ensures waits { result ≡ Some Next.Wait → history (connection_of self.new) ≡ history (connection_of self.old) }
-        ensures config { config_of (connection_of self.new) ≡ config_of (connection_of self.old) }
+        ensures waits { result ≡ Some Next.Wait → IsStill self.old self.new }
+        ensures limits { KeepsLimits self.old self.new }
     {
         match self.connection.read_from(stream) {
             Ok(count) => {
@@ -145,7 +149,9 @@ impl HttpPeer {
     }
 
     /// How long it may take still.
-    pub fn patience(&self) -> Patience {
+    pub fn patience(&self) -> Patience
+        ensures { result ≡ patience_of self.now }
+    {
         self.patience
     }
 
@@ -154,6 +160,11 @@ impl HttpPeer {
         self.load
             .held()
             .saturating_add(self.connection.output().len())
+    }
+
+    /// Whether a large answer waits to go.
+    pub fn has_large_answer(&self) -> bool {
+        self.connection.output().len() > LARGE
     }
 
     /// Whether a large request is coming.

@@ -10,6 +10,6 @@ mod step;
 
 pub use http_peer::HttpPeer;
 pub use line_peer::LinePeer;
-pub use load::LARGE;
+pub use load::{LARGE, LONGEST};
 pub use patience::Patience;
 pub use step::{Next, Turn};

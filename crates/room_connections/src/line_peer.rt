@@ -1,8 +1,8 @@
 //! A connection of lines: where it stands, and how long it may take.
 
-ghost use Rattle.std.specs.Prelude.{◌≡◌, ◌≢◌, Some};
+ghost use Rattle.std.specs.Prelude.{◌≡◌, ◌≢◌, [], Some};
 ghost use Rattle.room_served.specs.Journals.{Continues};
-ghost use Rattle.room_served.specs.Lines.{input_of};
+ghost use Rattle.room_served.specs.Lines.{input_of, output_of, side_of};
 
 use crate::patience::Patience;
 use crate::step::{Next, STEPS, Turn, after, drain, was_all};
@@ -25,10 +25,14 @@ pub struct LinePeer {
 }
 
 impl LinePeer {
-    ghost use Rattle.room_connections.specs.LinePeers.{GoesOn, HasTaken, IsEnded, Receives, Sends, lines_of};
+    ghost use Rattle.room_connections.specs.LinePeers.{HasTaken, IsEnded, Receives, Sends, StepGoesOn, TurnGoesOn, lines_of, patience_of};
 
     /// A peer that came just now. It takes no memory.
-    pub fn new(alloc: Global, side: Side, now: u64) -> LinePeer {
+    pub fn new(alloc: Global, side: Side, now: u64) -> LinePeer
+        ensures side { side_of (lines_of result) ≡ side }
+        ensures input { input_of (lines_of result) ≡ [] }
+        ensures output { output_of (lines_of result) ≡ [] }
+    {
         LinePeer {
             connection: LineConnection::new(alloc, side),
             patience: Patience::new(now),
@@ -46,7 +50,7 @@ impl LinePeer {
         served: &mut Served<S>,
         turn: Turn,
     ) -> Next
-        ensures goes_on { result ≢ Next.Close → GoesOn S.Store (lines_of self.old) (lines_of self.new) served.old served.new }
+        ensures goes_on { TurnGoesOn S.Store result self.old self.new served.old served.new }
         ensures continues { Continues S.Store served.old served.new }
         ensures rests { result ≡ Next.Wait → HasTaken (lines_of self.new) }
     {
@@ -70,7 +74,7 @@ impl LinePeer {
         served: &mut Served<S>,
         turn: Turn,
     ) -> Option<Next>
-        ensures goes_on { result ≢ Some Next.Close → GoesOn S.Store (lines_of self.old) (lines_of self.new) served.old served.new }
+        ensures goes_on { StepGoesOn S.Store result self.old self.new served.old served.new }
         ensures continues { Continues S.Store served.old served.new }
         ensures rests { result ≡ Some Next.Wait → HasTaken (lines_of self.new) }
     {
@@ -147,7 +151,9 @@ impl LinePeer {
     }
 
     /// How long it may take still.
-    pub fn patience(&self) -> Patience {
+    pub fn patience(&self) -> Patience
+        ensures { result ≡ patience_of self.now }
+    {
         self.patience
     }
 

@@ -3,7 +3,10 @@
 /// A request, or an answer, of more bytes is a large one.
 pub const LARGE: usize = 65_536;
 
-/// The bytes that a connection holds of what came. Its buffer keeps room for the most that it ever held, until it is closed.
+/// The most bytes of one request, with its head.
+pub const LONGEST: usize = 16_859_136;
+
+/// The bytes that a connection holds of what came. Its buffer keeps the room that it ever had, until it is closed.
 #[derive(Clone, Copy, Debug, PartialEq, Eq)]
 pub(crate) struct Load {
     /// What came since the last answer, and the last piece of it.
@@ -38,9 +41,9 @@ impl Load {
         self.coming = 0;
     }
 
-    /// The bytes for which there is room.
+    /// The bytes for which there is room: the buffer grows to twice what it has to hold, or to the longest request.
     pub(crate) fn held(&self) -> usize {
-        self.most
+        self.most.saturating_mul(2).min(LONGEST).max(self.most)
     }
 
     /// Whether a large request is coming.

@@ -1,6 +1,6 @@
 //! How long a connection may take.
 ghost use Rattle.std.specs.Prelude.{◌≡◌, ◌↔◌, IsTrue};
-ghost use Rattle.room_connections.specs.Patience.{after_holding, after_moving, doing_of, is_over, moving, since_of};
+ghost use Rattle.room_connections.specs.Patience.{after_holding, after_moving, doing_of, is_over, is_slow, moving, since_of};
 ghost use Rattle.room_connections.specs.declared.patience.Doing.TheVariants.{Holds, Parts, Rests};
 
 /// How many milliseconds a connection may rest on which nothing was begun.
@@ -17,6 +17,9 @@ const MOST_HOLD: u64 = 60_000;
 
 /// How many milliseconds a peer has, from the last that it was sent, to end the connection too.
 const MOST_PARTING: u64 = 10_000;
+
+/// After how many milliseconds without a piece a connection is a slow one.
+const MOST_PAUSE: u64 = 2_000;
 
 /// What a connection is at.
 #[derive(Clone, Copy, Debug, PartialEq, Eq)]
@@ -119,6 +122,13 @@ impl Patience {
             Doing::Parts => MOST_PARTING,
         };
         now.saturating_sub(self.since) > most
+    }
+
+    /// Whether it may be let go for want of memory.
+    pub fn is_slow(&self, now: u64) -> bool
+        ensures { result ≡ is_slow self.now now }
+    {
+        now.saturating_sub(self.since) > MOST_PAUSE
     }
 }
 

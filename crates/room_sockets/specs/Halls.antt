@@ -1,8 +1,22 @@
 -- What a clause reads of a hall.
-use Rattle.std.specs.Prelude.{◌≡◌, ◌≢◌, ℕ}
+use Rattle.std.specs.Prelude.{◌≡◌, ◌≢◌, ⊤, ℕ}
 use Rattle.slab.specs.Slab.{Slab, get}
+use Rattle.room_served.specs.Lines.{side_of}
+use Rattle.room_served.specs.declared.line_connection.Side.TheVariants as side_is
+use Rattle.room_connections.specs.LinePeers.{lines_of}
 use Rattle.room_sockets.specs.declared.guest.Guest.{Guest}
+use Rattle.room_sockets.specs.declared.guest.Peer.{Peer}
+use Rattle.room_sockets.specs.declared.guest.Peer.TheVariants.{Http, Lines}
 use Rattle.room_sockets.specs.declared.hall.Hall.{Hall}
+use Rattle.room_sockets.specs.declared.hall.Kind.{Kind}
+use Rattle.room_sockets.specs.declared.hall.Kind.TheVariants.{Clients, Operators, Stations}
+
+-- who came in by a door says what that door is for
+abbrev pub IsOf : Kind → Peer → Type 0
+IsOf Clients (Http peer) = ⊤
+IsOf Stations (Lines peer) = side_of (lines_of peer) ≡ side_is.Station
+IsOf Operators (Lines peer) = side_of (lines_of peer) ≡ side_is.Operator
+IsOf _ _ = ⊥
 
 -- the peers that are there, each with its socket and its connection, by their keys
 abbrev pub guests_of : Hall → Slab Guest

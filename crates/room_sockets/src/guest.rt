@@ -91,6 +91,14 @@ impl Guest {
         self.patience().is_over(now)
     }
 
+    /// Whether it hardly reads a large answer. Of a start's documents it is not asked, since they are sent once.
+    pub(crate) fn reads_slowly(&self, now: u64) -> bool {
+        match &self.peer {
+            Peer::Http(peer) => peer.has_large_answer() && peer.patience().is_slow(now),
+            Peer::Lines(_) => false,
+        }
+    }
+
     /// Whether nothing was begun on it, and it keeps the room of a large request.
     pub(crate) fn rests_on_room(&self) -> bool {
         self.patience().rests() && self.held() > LARGE

@@ -59,11 +59,24 @@ enum Kind {
 }
 
 impl Kind {
+    ghost use Rattle.room_sockets.specs.Halls.{IsOf};
+
     fn most(self) -> usize {
         match self {
             Kind::Clients => MOST_CLIENTS,
             Kind::Stations => MOST_STATIONS,
             Kind::Operators => MOST_OPERATORS,
+        }
+    }
+
+    /// Who came in just now.
+    fn peer(self, alloc: Global, keys: RandomState, now: u64) -> Peer
+        ensures { IsOf self result }
+    {
+        match self {
+            Kind::Clients => Peer::Http(HttpPeer::new(alloc, keys, now)),
+            Kind::Stations => Peer::Lines(LinePeer::new(alloc, Side::Station, now)),
+            Kind::Operators => Peer::Lines(LinePeer::new(alloc, Side::Operator, now)),
         }
     }
 }
@@ -314,11 +327,7 @@ impl Hall {
 
     /// Takes a peer in, or drops it where the system or the memory has no room.
     fn adopt(&mut self, stream: Stream, kind: Kind, place: usize, now: u64) {
-        let peer = match kind {
-            Kind::Clients => Peer::Http(HttpPeer::new(self.alloc, self.keys, now)),
-            Kind::Stations => Peer::Lines(LinePeer::new(self.alloc, Side::Station, now)),
-            Kind::Operators => Peer::Lines(LinePeer::new(self.alloc, Side::Operator, now)),
-        };
+        let peer = kind.peer(self.alloc, self.keys, now);
         let mut guest = Guest::new(stream, peer, place);
         let key = self.guests.vacant_key();
         if guest.register(self.poll.registry(), token_of(key)).is_err() {
@@ -349,7 +358,8 @@ impl Hall {
             .is_some_and(|guest| guest.is_held_back())
     }
 
-    /// From time to time drops who took too long, and, where others wait for room, who rests on it.
+    /// From time to time drops who took too long, where others wait for room who rests on it, and where too much is held who
+    /// hardly reads what it asked for.
     fn sweep(&mut self, now: u64) {
         if now.saturating_sub(self.swept) < TICK {
             return;
@@ -363,11 +373,11 @@ impl Hall {
     }
 
     fn has_to_go(&self, key: usize, now: u64) -> bool {
-        let is_short = self.stock.holds_back();
-        match self.guests.get(key) {
-            Some(guest) => guest.is_late(now) || is_short && guest.rests_on_room(),
-            None => false,
-        }
+        self.guests.get(key).is_some_and(|guest| {
+            guest.is_late(now)
+                || self.stock.holds_back() && guest.rests_on_room()
+                || self.stock.is_over() && guest.reads_slowly(now)
+        })
     }
 }
 

@@ -1,10 +1,9 @@
 //! How much all connections may hold together.
 
+use room_connections::LONGEST;
+
 /// The bytes that all connections hold together, at most, but for the documents of one start.
 const MOST_HELD: usize = 268_435_456;
-
-/// The most bytes of one request, with its head.
-const LONGEST: usize = 16_859_136;
 
 /// What all connections hold. Where it nears its bound no further large request goes on coming, but for one peer's, which has
 /// the room that is left for the longest one.
@@ -29,6 +28,11 @@ impl Stock {
     /// of the favoured one.
     fn has_plenty(&self) -> bool {
         self.held <= MOST_HELD - 2 * LONGEST
+    }
+
+    /// Whether they hold too much: large answers made it so, since large requests stop before.
+    pub(crate) fn is_over(&self) -> bool {
+        self.held > MOST_HELD
     }
 
     /// Whether a large request of this peer may go on coming.

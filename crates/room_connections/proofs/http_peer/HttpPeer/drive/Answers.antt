@@ -21,7 +21,7 @@ pub returns-in-Some-clause-rests : goal.returns-in-Some-clause-rests
 returns-in-Some-clause-rests g c = λ waits.
     let same = c.in-Some.ensures.waits (ap Some waits) in
     let there = subst (λ (h : History). Rests (config_of c.answer_requests.new.connection) h) (sym same) c.answer_requests.ensures.rests in
-    subst (λ (k : Config). Rests k (history (connection_of c.step.new.self))) (sym c.in-Some.ensures.config) there
+    subst (λ (k : Config). Rests k (history (connection_of c.step.new.self))) (sym c.in-Some.ensures.limits) there
 
 pub loop-preserved : goal.loop-preserved
 loop-preserved g c =
@@ -29,5 +29,5 @@ loop-preserved g c =
     record {
       calls = (all.0, c.in_default.ensures.calls ∙ all.1, all.2);
       continues = then g.S.Store _ _ _ c.loop.invariant.continues c.answer_requests.ensures.continues;
-      config = c.in_default.ensures.config ∙ c.answer_requests.ensures.config ∙ c.loop.invariant.config;
+      limits = c.in_default.ensures.limits ∙ c.answer_requests.ensures.config ∙ c.loop.invariant.limits;
     }
