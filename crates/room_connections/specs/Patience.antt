@@ -20,9 +20,9 @@ most_of Parts = 10000
 abbrev pub is_over : Patience → ℕ → Bool
 is_over patience now = nat_lt (most_of patience.doing) (now - patience.since)
 
--- no whole piece has moved for two seconds
+-- no whole piece has moved for a quarter of a second
 abbrev pub is_slow : Patience → ℕ → Bool
-is_slow patience now = nat_lt 2000 (now - patience.since)
+is_slow patience now = nat_lt 250 (now - patience.since)
 
 -- so much of a piece has moved: 163840 bytes are a whole one, which gives the time anew
 abbrev pub moving : ℕ → ℕ → ℕ → Patience

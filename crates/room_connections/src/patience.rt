@@ -19,7 +19,7 @@ const MOST_HOLD: u64 = 60_000;
 const MOST_PARTING: u64 = 10_000;
 
 /// After how many milliseconds without a piece a connection is a slow one.
-const MOST_PAUSE: u64 = 2_000;
+const MOST_PAUSE: u64 = 250;
 
 /// What a connection is at.
 #[derive(Clone, Copy, Debug, PartialEq, Eq)]
