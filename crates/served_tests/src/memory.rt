@@ -1,0 +1,89 @@
+//! A connection of lines in memory: rooms answer what is written to it, and what is read from it are their answers.
+ghost use Rattle.std.specs.Prelude.{◌≤◌, IfOk, length};
+
+use crate::rooms::MANY;
+use room_served::{LineConnection, Served, Side};
+use sqlite::MemStore;
+use std::alloc::Global;
+use std::cell::RefCell;
+use std::collections::VecDeque;
+use std::io;
+use std::io::{Error, ErrorKind, Read, Write};
+
+/// Rooms with one connection to them, whose two ways go through a shared reference each.
+#[derive(Drop)]
+pub struct Wired {
+    ends: RefCell<Ends>,
+}
+
+#[derive(Drop)]
+struct Ends {
+    rooms: Served<MemStore>,
+    connection: LineConnection,
+    answers: VecDeque<u8>,
+}
+
+impl Wired {
+    pub fn new(alloc: Global, rooms: Served<MemStore>, side: Side) -> Wired {
+        Wired {
+            ends: RefCell::new(Ends {
+                rooms,
+                connection: LineConnection::new(alloc, side),
+                answers: VecDeque::new(alloc),
+            }),
+        }
+    }
+
+    /// The rooms as the lines left them.
+    pub fn into_rooms(self) -> Served<MemStore> {
+        let Ends {
+            rooms,
+            connection: _,
+            answers: _,
+        } = self.ends.into_inner();
+        rooms
+    }
+}
+
+impl Ends {
+    fn hear(&mut self, bytes: &[u8]) -> io::Result<usize>
+        ensures { IfOk result (λ count. count ≤ length bytes.now) }
+    {
+        let mut reader = bytes;
+        let count = self.connection.read_from(&mut reader)?;
+        for _ in 0..MANY {
+            if !self.connection.answer(&mut self.rooms)? {
+                break;
+            }
+        }
+        for _ in 0..MANY {
+            if !self.connection.wants_write() {
+                break;
+            }
+            self.connection.write_to(&mut self.answers)?;
+        }
+        Ok(count.min(bytes.len()))
+    }
+}
+
+impl Read for &Wired {
+    fn read(&mut self, buf: &mut [u8]) -> io::Result<usize> {
+        match self.ends.try_borrow_mut() {
+            Ok(mut ends) => ends.answers.read(buf),
+            Err(_) => Err(Error::from(ErrorKind::Other)),
+        }
+    }
+}
+
+impl Write for &Wired {
+    fn write(&mut self, buf: &[u8]) -> io::Result<usize> {
+        match self.ends.try_borrow_mut() {
+            Ok(mut ends) => ends.hear(buf),
+            Err(_) => Err(Error::from(ErrorKind::Other)),
+        }
+    }
+
+    fn flush(&mut self) -> io::Result<()> {
+        Ok(())
+    }
+}
