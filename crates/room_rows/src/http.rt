@@ -40,7 +40,7 @@ pub fn http_request(
     let account = str::from_utf8(account.bytes()).map_err(|_| RowFault::Name)?;
     write!(
         text,
-        "POST /ipp/print/{account} HTTP/1.1\r\nContent-Type: application/ipp\r\n"
+        "POST /ipp/print/{account} HTTP/1.1\r\nHost: localhost\r\nContent-Type: application/ipp\r\n"
     )?;
     match carriage {
         Carriage::Length => {

@@ -15,6 +15,7 @@ mod reached;
 mod rooms;
 mod run;
 mod runs;
+mod served;
 mod step;
 
 pub use comparing::difference;
@@ -27,4 +28,5 @@ pub use reached::Act;
 pub use rooms::Rooms;
 pub use run::Run;
 pub use runs::{FileStep, RunStep, run_steps};
+pub use served::{line_answer, line_text, served_answer};
 pub use step::Step;

@@ -37,8 +37,14 @@ pub fn print_devices(output: &mut Vec<u8>, devices: &[Device]) -> io::Result<()>
     Ok(())
 }
 
-fn print_begin(output: &mut Vec<u8>, table: &str, name: Name) -> io::Result<()> {
-    output.write_all(table.as_bytes())?;
+/// Prints the first word of a line, and a name behind it.
+pub(crate) fn print_begin(output: &mut Vec<u8>, word: &str, name: Name) -> io::Result<()> {
+    output.write_all(word.as_bytes())?;
+    print_name(output, name)
+}
+
+/// Prints a space and the name.
+pub(crate) fn print_name(output: &mut Vec<u8>, name: Name) -> io::Result<()> {
     output.write_all(b" ")?;
     output.write_all(name.bytes())
 }

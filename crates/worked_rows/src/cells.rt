@@ -5,8 +5,8 @@
 //! second account comes some steps behind the first, so that the two are in different states. In memory the rows are
 //! looked at after each step, and before each event the same event is refused at a moment that is out of range; in a
 //! file the rows are looked at in the end. Then the list is given to the store whole, over both; and the steps of the
-//! first account alone, over one database where it is alone and over one where another is beside it. Then its requests
-//! come over HTTP.
+//! first account alone, over one database where it is alone and over one where another is beside it. Then the list comes
+//! over connections.
 //!
 //! A list `NAME.events` has to reach, for both accounts, all that `NAME.reached` names, a name a line.
 

@@ -15,6 +15,7 @@ mod failing;
 mod fault;
 mod files;
 mod found;
+mod front;
 mod migrated;
 mod program;
 mod rows;

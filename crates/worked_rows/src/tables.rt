@@ -150,7 +150,7 @@ impl<S: Alter + Drop> Tables<S> {
     }
 
     /// The store over them. Where memory is refused, it is opened once more.
-    fn store(&mut self, rt: &HostRuntime) -> Result<Store<S>, Fault> {
+    pub fn store(&mut self, rt: &HostRuntime) -> Result<Store<S>, Fault> {
         let Some(connection) = self.waiting.take() else {
             return Err(Fault::Away);
         };

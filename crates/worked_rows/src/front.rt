@@ -1,0 +1,81 @@
+//! What one process serves to everybody, over memory: each request over HTTP and each line comes on a connection of its own.
+
+use crate::fault::Fault;
+use crate::tables::Tables;
+use http_server::Connection;
+use room_core::Event;
+use room_lines::Line;
+use room_rows::line_text;
+use room_served::{LineConnection, Served, Side, answer_requests, connection_config};
+use sqlite::MemStore;
+use std::hash::RandomState;
+
+/// More than one connection needs of reads, of lines or of writes, one after another.
+const MANY: u32 = 10_000;
+
+/// Serves tables.
+pub fn serve(rt: &HostRuntime, mut tables: Tables<MemStore>) -> Result<Served<MemStore>, Fault> {
+    Ok(Served::new(rt.alloc(), tables.store(rt)?, 0))
+}
+
+/// What goes out for a request over HTTP at the moment.
+pub fn answer_request(
+    rt: &HostRuntime,
+    served: &mut Served<MemStore>,
+    moment: u64,
+    request: &[u8],
+) -> Result<Vec<u8>, Fault> {
+    served.set_moment(moment);
+    let mut connection = Connection::new(rt.alloc(), RandomState::new(rt)?, connection_config());
+    let mut left = request;
+    let mut output = Vec::new(rt.alloc());
+    for _ in 0..MANY {
+        if left.is_empty() || !connection.wants_read() {
+            break;
+        }
+        connection.read_from(&mut left)?;
+        answer_requests(&mut connection, served);
+        for _ in 0..MANY {
+            if !connection.wants_write() {
+                break;
+            }
+            connection.write_to(&mut output)?;
+        }
+    }
+    Ok(output)
+}
+
+/// What goes out for a line of a station or an operator at its moment.
+pub fn answer_line(
+    rt: &HostRuntime,
+    served: &mut Served<MemStore>,
+    line: &Line,
+) -> Result<Vec<u8>, Fault> {
+    served.set_moment(line.moment);
+    let mut connection = LineConnection::new(rt.alloc(), side_of(&line.action.event()));
+    let text = line_text(rt.alloc(), &line.action)?;
+    let mut left = text.as_slice();
+    let mut output = Vec::new(rt.alloc());
+    for _ in 0..MANY {
+        if left.is_empty() {
+            break;
+        }
+        connection.read_from(&mut left)?;
+    }
+    connection.answer(served)?;
+    for _ in 0..MANY {
+        if !connection.wants_write() {
+            break;
+        }
+        connection.write_to(&mut output)?;
+    }
+    Ok(output)
+}
+
+/// Whose lines ask for it.
+fn side_of(event: &Event<'_>) -> Side {
+    match event {
+        Event::Release { .. } | Event::Start { .. } | Event::Settle { .. } => Side::Station,
+        _ => Side::Operator,
+    }
+}
