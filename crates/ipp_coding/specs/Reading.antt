@@ -1,4 +1,4 @@
--- The message that bytes spell, found from left to right. (That it is the one that spells them is a law: `reads_what_is_spelled`.)
+-- The message that bytes spell, found from left to right. (That it is the one that spells them is a law: `reading_is_spelling`.)
 use Rattle.std.specs.Prelude.{◌≡◌, ℕ, zero, suc, List, [], ◌∷◌, ◌++◌, length, take, drop, slice_index, Bool, false, ◌&&◌, not, Option, Some, None, Result, Ok, Err, nat_lt, nat_le, ◌==◌, if◌then◌else◌}
 use Rattle.byteorder.specs.Endian.{big_number}
 use Rattle.ipp_coding.specs.declared.message.Header.{Header}

@@ -45,7 +45,7 @@ message_spelling m = header_spelling m.header ++ (flat_map group_spelling m.grou
 abbrev pub Fits : List ℕ → Type 0
 Fits bytes = length bytes ≤ 32767
 
--- value tags are 0x10 to 0xFF (RFC 8010 section 3.5.2)
+-- value tags are 0x10 and above (RFC 8010 section 3.5.2); they are bytes by their type
 pub record IsValue (v : PlainValue) : Type 0 where
   pub tag : 16 ≤ v.tag
   pub bytes : Fits v.bytes

@@ -1,3 +1,5 @@
+//! A message, its groups, attributes and values.
+
 use crate::list::List;
 
 /// What stands before the groups of a message: 8 bytes (RFC 8010 section 3.1.1).

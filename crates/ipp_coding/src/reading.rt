@@ -1,3 +1,5 @@
+//! Bytes as a message.
+
 ghost use Rattle.std.specs.Prelude.{◌≡◌, ◌≤◌, ◌+◌, ◌∷◌, ◌↔◌, [], length, drop, IfOk, IfSome, IsErrOf, IsNone, Some, option_map, map, List, ℕ, ◌<◌};
 ghost use Rattle.std.specs.Borrow.{Bor};
 ghost use Rattle.std.specs.List.{flat_map};

@@ -1,3 +1,5 @@
+//! What the bytes of a value say.
+
 ghost use Rattle.std.specs.Prelude.{◌≡◌, List, ℕ, IfSome, Some, None, IsTrue, option_map};
 ghost use Rattle.ipp_coding.specs.Plain.{plain_value};
 ghost use Rattle.ipp_coding.specs.Values.{is_number_tag, is_text_tag, is_language_tag, int_said, bool_in, bool_said, text_in, text_said, IsTextWithLanguage};

@@ -1,3 +1,5 @@
+//! The parts of a message as bytes.
+
 ghost use Rattle.std.specs.Prelude.{◌≡◌, ◌++◌, ◌∷◌, [], None, OnOk, OnErr};
 ghost use Rattle.byteorder.specs.Endian.{big_bytes};
 ghost use Rattle.ipp_coding.specs.Spelling.{header_spelling, first_spelling, further_spelling};

@@ -30,7 +30,7 @@ pub fn check_accepting(unfinished: u32, next_job: u32) -> Result<(), Refusal>
 }
 
 /// The printer-state: 4 where a job of the account is processing, else 5 where no device is on, else 3.
-pub fn printer_state(is_processing: bool, is_device_on: bool) -> u32
+fn printer_state(is_processing: bool, is_device_on: bool) -> u32
     ensures { result ≡ printer_state is_processing is_device_on }
 {
     match (is_processing, is_device_on) {

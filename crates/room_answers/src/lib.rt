@@ -10,7 +10,7 @@ mod response;
 mod station;
 mod text;
 
-pub use accepting::{check_accepting, is_accepting, printer_now, printer_state};
+pub use accepting::{check_accepting, is_accepting, printer_now};
 pub use as_job::AsJob;
 pub use granting::check_grant;
 pub use part::{Part, handed};

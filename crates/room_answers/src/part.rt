@@ -1,3 +1,5 @@
+//! A document as a device gets it.
+
 ghost use Rattle.std.specs.Prelude.{◌≡◌, IfOk, IfErr};
 ghost use Rattle.room_answers.specs.Parts.{part_of};
 

@@ -1,5 +1,5 @@
 -- Keys of the names of attributes with their places, as they are made and as they are sorted.
-use Rattle.std.proofs.Common.{◌≡◌, ℕ, zero, suc, ◌+◌, ◌-◌, ◌<◌, ◌≤◌, Bool, true, false, true≢false, below_more, cond, List, [], ◌∷◌, ◌++◌, Some, length, map, take, get_or, refl, sym, ap, subst, ◌∙◌, arith}
+use Rattle.std.proofs.Common.{◌≡◌, ℕ, zero, suc, ◌+◌, ◌-◌, ◌<◌, ◌≤◌, Bool, true, false, true≢false, below_more, cond, List, [], ◌∷◌, ◌++◌, Some, length, map, take, get_or, refl, sym, ap, subst, ◌∙◌, arith, bytes_eq}
 use Rattle.std.specs.Prelude.{is_some}
 use Rattle.std.specs.List.{find, All}
 use Rattle.std.specs.List.Sorted.{IsPermutation, IsSorted}
@@ -17,7 +17,7 @@ use Rattle.std.proofs.lemmas.List.Sorted.{All-permutation, Contains-permutation,
 use Rattle.ipp_coding.specs.declared.message.Attribute.{Attribute}
 use Rattle.ipp_coding.specs.Plain.{plain_attribute}
 use Rattle.room_asks.specs.declared.firsts.Key.{Key}
-use Rattle.room_asks.specs.Requests.{is_named, same_bytes}
+use Rattle.room_asks.specs.Requests.{is_named}
 use Rattle.room_asks.specs.Templates.{is_repeated}
 use Rattle.room_asks.specs.Names.{IsKeyOf, AreKeys}
 use Rattle.room_asks.proofs.Keys.{key_cmp, key_order, is_same, tied_from_same, same_from_tied, tied_between, same_of_name, name_told}
@@ -106,7 +106,7 @@ sorted_so keys sorted xs are moved up = record {
 
 -- ---- names that come again
 
-come_from : (name : List ℕ) (xs : List Attribute) (p q : ℕ) (x : Attribute) → p < q → p < length xs → same_bytes (name_at xs p x) name ≡ true → is_some (find (is_named name) (map plain_attribute (take q xs))) ≡ true
+come_from : (name : List ℕ) (xs : List Attribute) (p q : ℕ) (x : Attribute) → p < q → p < length xs → bytes_eq (name_at xs p x) name ≡ true → is_some (find (is_named name) (map plain_attribute (take q xs))) ≡ true
 come_from name [] p q x before within same = absurd (omega (arith, within))
 come_from name (y ∷ xs) p zero x before within same = absurd (omega (arith, before))
 come_from name (y ∷ xs) zero (suc q) x before within same = ap (λ (b : Bool). is_some (cond b (Some (plain_attribute y)) (find (is_named name) (map plain_attribute (take q xs))))) same
@@ -115,17 +115,17 @@ come_from name (y ∷ xs) (suc p) (suc q) x before within same =
     elim (is_named name (plain_attribute y)) as (λ b. is_some (cond b (Some (plain_attribute y)) (find (is_named name) (map plain_attribute (take q xs)))) ≡ true)
     [ true ↦ refl | false ↦ later ]
 
-come_gives : (name : List ℕ) (xs : List Attribute) (q : ℕ) (x : Attribute) → is_some (find (is_named name) (map plain_attribute (take q xs))) ≡ true → (p : ℕ) × (p < q) × (p < length xs) × (same_bytes (name_at xs p x) name ≡ true)
+come_gives : (name : List ℕ) (xs : List Attribute) (q : ℕ) (x : Attribute) → is_some (find (is_named name) (map plain_attribute (take q xs))) ≡ true → (p : ℕ) × (p < q) × (p < length xs) × (bytes_eq (name_at xs p x) name ≡ true)
 come_gives name [] zero x come = absurd (let never : ⊥ = cc in never)
 come_gives name [] (suc q) x come = absurd (let never : ⊥ = cc in never)
 come_gives name (y ∷ xs) zero x come = absurd (let never : ⊥ = cc in never)
 come_gives name (y ∷ xs) (suc q) x come =
-    (elim (is_named name (plain_attribute y)) as (λ b. is_named name (plain_attribute y) ≡ b → is_some (cond b (Some (plain_attribute y)) (find (is_named name) (map plain_attribute (take q xs)))) ≡ true → (p : ℕ) × (p < suc q) × (p < length (y ∷ xs)) × (same_bytes (name_at (y ∷ xs) p x) name ≡ true)) [
+    (elim (is_named name (plain_attribute y)) as (λ b. is_named name (plain_attribute y) ≡ b → is_some (cond b (Some (plain_attribute y)) (find (is_named name) (map plain_attribute (take q xs)))) ≡ true → (p : ℕ) × (p < suc q) × (p < length (y ∷ xs)) × (bytes_eq (name_at (y ∷ xs) p x) name ≡ true)) [
       | true ↦ λ same _. (0, omega arith, omega arith, same)
       | false ↦ λ _ later. let at = come_gives name xs q x later in (suc at.0, omega (arith, at.1), omega (arith, at.2), at.3)
     ]) refl come
 
-same_itself : (name : List ℕ) → same_bytes name name ≡ true
+same_itself : (name : List ℕ) → bytes_eq name name ≡ true
 same_itself name = nat_list_eq_equiv.refl name
 
 front : (o p : Ordering) → is_lt (ordering_then o p) ≡ false → is_lt o ≡ false
@@ -166,5 +166,5 @@ same_place keys xs s k e x after below same new =
     let no_less : m.1 ≤ b.1 = no_more m.1 b.1 (ap (λ (o : Ordering). is_lt (ordering_then o (nat_cmp b.1 m.1))) (sym (tied_from_same b.0 m.0 same)) ∙ down) in
     let one_name : name_at xs b.1 x ≡ name_at xs m.1 x = name_told _ _ b.0 m.0 ((s.each k e below).1 x) ((s.each (k - 1) e ahead).1 x) same in
     let not_less : m.1 < b.1 → ⊥ = λ less.
-    true≢false (sym (come_from (name_at xs b.1 x) xs m.1 b.1 x less (s.each (k - 1) e ahead).0 (ap (λ (name : List ℕ). same_bytes name (name_at xs b.1 x)) (sym one_name) ∙ same_itself (name_at xs b.1 x))) ∙ new) in
+    true≢false (sym (come_from (name_at xs b.1 x) xs m.1 b.1 x less (s.each (k - 1) e ahead).0 (ap (λ (name : List ℕ). bytes_eq name (name_at xs b.1 x)) (sym one_name) ∙ same_itself (name_at xs b.1 x))) ∙ new) in
     omega arith

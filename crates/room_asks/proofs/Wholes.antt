@@ -9,7 +9,8 @@ use Rattle.room_asks.specs.declared.ask.Ask.{Ask}
 use Rattle.room_asks.specs.declared.ask.AskFault.{AskFault}
 use Rattle.room_asks.specs.declared.ask.AskFault.TheVariants.{Refused, Memory}
 use Rattle.room_asks.specs.Asks.{PlainAsk, AskParts, ask_parts, asked, assembled, ask_of, AsksAs, IsAsk, IsBare, CanBeSpelled, plain_ask}
-use Rattle.room_asks.specs.Checks.{attribute_checks, document_checks, message_checks, header_checks, malformed_check, message_or_nothing}
+use Rattle.room_asks.specs.CheckOrder.{attribute_checks, document_checks, message_checks, header_checks, message_or_nothing}
+use Rattle.room_asks.specs.Checks.{malformed_check}
 use Rattle.room_asks.specs.Fields.{fields_of, fidelity, wanted}
 use Rattle.room_asks.specs.Operations.{operation_of}
 use Rattle.room_asks.specs.Refusals.{PlainRefusal, refusal_of, bare, checked}

@@ -1,24 +1,23 @@
 -- What a request asks, or why it is refused.
-use Rattle.std.specs.Prelude.{◌≡◌, ◌⊎◌, ℕ, ◌<◌, ◌≤◌, Bool, List, [], length, map, Option, option_map, Result, Ok, Err, IfSome}
+use Rattle.std.specs.Prelude.{◌≡◌, ℕ, ◌<◌, ◌≤◌, Bool, true, List, [], length, map, Option, option_map, Result, Ok, Err, IfSome}
 use Rattle.std.specs.List.{AllByRecursion}
 use Rattle.ipp_coding.specs.declared.message.Header.{Header}
 use Rattle.ipp_coding.specs.Plain.{PlainAttribute, PlainMessage, plain_attribute}
 use Rattle.ipp_coding.specs.Spelling.{IsAttribute}
 use Rattle.ipp_coding.specs.Reading.{header_in, message_of}
-use Rattle.room_rules.specs.Limits.{most_copies, most_impressions, longest_job_name, longest_password, longest_document, last_next_job}
+use Rattle.room_rules.specs.Limits.{most_copies, most_impressions, longest_job_name, longest_password, longest_document, last_next_job, longest_uri}
 use Rattle.room_rules.specs.declared.format.Format.{Format}
 use Rattle.room_rules.specs.declared.refusal.Refusal.{Refusal}
 use Rattle.room_asks.specs.declared.operation.Operation.{Operation}
-use Rattle.room_asks.specs.declared.operation.Operation.TheVariants.{PrintJob, SendDocument}
 use Rattle.room_asks.specs.declared.ask.Ask.{Ask}
 use Rattle.room_asks.specs.declared.ask.AskFault.{AskFault}
 use Rattle.room_asks.specs.declared.ask.AskFault.TheVariants.{Refused, Memory}
 use Rattle.room_asks.specs.declared.parts.Parts.{Parts}
 use Rattle.room_asks.specs.declared.ask.Which.{Which}
-use Rattle.room_asks.specs.Checks.{checks, target_of, message_or_nothing}
+use Rattle.room_asks.specs.CheckOrder.{checks, message_or_nothing}
+use Rattle.room_asks.specs.Checks.{target_of}
 use Rattle.room_asks.specs.Fields.{PlainFields, fields_of, wanted}
-use Rattle.room_asks.specs.Limits.{longest_uri}
-use Rattle.room_asks.specs.Operations.{operation_of}
+use Rattle.room_asks.specs.Operations.{hands_in_document, operation_of}
 use Rattle.room_asks.specs.PlainParts.{plain_target, plain_fields}
 pub use Rattle.room_asks.specs.PlainParts.{plain_names}
 use Rattle.room_asks.specs.Refusals.{checked}
@@ -133,10 +132,6 @@ IsBare Memory given = ⊥
 
 -- ---- what holds of every answer
 
--- an operation that hands in a document
-abbrev pub HasDocument : Operation → Type 0
-HasDocument operation = (operation ≡ PrintJob) ⊎ (operation ≡ SendDocument)
-
 -- the parts of a request lie within their limits
 pub record IsParts (parts : AskParts) : Type 0 where
   pub base_fits : length parts.target.base ≤ longest_uri
@@ -157,7 +152,7 @@ pub record IsAsk (ask : PlainAsk) : Type 0 where
   pub impressions_at_most : ask.impressions ≤ most_impressions
   pub limit_from_one : IfSome ask.limit (λ limit. 1 ≤ limit)
   pub unsupported_spelled : AllByRecursion IsAttribute ask.unsupported
-  pub document_fits : HasDocument ask.operation → length ask.payload ≤ longest_document
+  pub document_fits : hands_in_document ask.operation ≡ true → length ask.payload ≤ longest_document
 
 -- the attributes that go with a refusal
 abbrev pub CanBeSpelled : AskFault → Type 0

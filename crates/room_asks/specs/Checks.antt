@@ -1,19 +1,17 @@
--- The checks of a request that need no row, in their order.
-use Rattle.std.specs.Prelude.{ℕ, Bool, true, false, not, ◌&&◌, nat_lt, List, [], ◌∷◌, ◌++◌, length, Option, Some, None, is_none, is_some, codes, unwrap_or}
+-- The checks of a request that need no row, one by one. Their numbers are their order.
+use Rattle.std.specs.Prelude.{ℕ, Bool, true, false, not, ◌&&◌, nat_lt, List, [], ◌∷◌, length, Option, Some, None, is_none, is_some, codes, unwrap_or}
 use Rattle.std.specs.Str.{str_eq_ignore_ascii_case}
 use Rattle.ipp_coding.specs.declared.message.Header.{Header}
 use Rattle.ipp_coding.specs.Plain.{PlainAttribute, PlainMessage}
-use Rattle.room_rules.specs.Limits.{longest_job_name, longest_password, longest_document}
+use Rattle.room_rules.specs.Limits.{longest_job_name, longest_password, longest_document, longest_uri}
 use Rattle.room_rules.specs.declared.refusal.Word.TheVariants as words
 use Rattle.room_asks.specs.declared.field.Field.TheVariants as fields
 use Rattle.room_asks.specs.declared.operation.Operation.{Operation}
-use Rattle.room_asks.specs.Fields.{any_is_wrong, bytes_of, is_none_if_said, document_format, which_jobs, password, job_name, fidelity}
-use Rattle.room_asks.specs.Limits.{longest_uri}
-use Rattle.room_asks.specs.Operations.{operation_with, operation_of, hands_in_document}
+use Rattle.room_asks.specs.Fields.{any_is_wrong, bytes_of, is_none_if_said, document_format, which_jobs, password, job_name}
+use Rattle.room_asks.specs.Operations.{operation_with, hands_in_document}
 use Rattle.room_asks.specs.Refusals.{Check, refused_where, refused_with}
-use Rattle.room_asks.specs.Requests.{is_served_version, operation_attributes, charset_first, language_second}
+use Rattle.room_asks.specs.Requests.{is_served_version, charset_first, language_second}
 use Rattle.room_asks.specs.Targets.{NamedTarget, JobUri, PlainTarget, target_in, uri_of, reached}
-use Rattle.room_asks.specs.Templates.{template_attributes, unsupported}
 
 -- ---- what the header says
 
@@ -24,9 +22,6 @@ version_check header = refused_where (not (is_served_version header)) 0x0503 wor
 -- 2: the operation is one of the profile (RFC 8011 section 4.1.2)
 abbrev pub operation_check : Header → Check
 operation_check header = refused_where (is_none (operation_with header.code)) 0x0501 words.Operation
-
-abbrev pub header_checks : Header → List Check
-header_checks header = version_check header ∷ operation_check header ∷ []
 
 -- ---- how the message is written
 
@@ -49,9 +44,6 @@ is_utf_8 (Some charset) = str_eq_ignore_ascii_case charset (codes "utf-8")
 abbrev pub charset_check : List PlainAttribute → Check
 charset_check attributes = refused_where (not (is_utf_8 (charset_first attributes))) 0x040D words.Charset
 
-unfoldable pub opening_checks : List PlainAttribute → List Check
-opening_checks attributes = charset_and_language_check attributes ∷ charset_check attributes ∷ []
-
 -- ---- what it is for
 
 -- 6: there is a target (RFC 8011 section 4.1.5)
@@ -70,13 +62,6 @@ queue_check target = refused_where (is_none target) 0x0406 words.NotThisQueue
 abbrev pub named_target : Operation → List PlainAttribute → NamedTarget
 named_target operation attributes = unwrap_or (target_in operation attributes) (JobUri [])
 
-unfoldable pub target_checks : List ℕ → Operation → List PlainAttribute → List Check
-target_checks account operation attributes =
-    target_check (target_in operation attributes)
-    ∷ target_length_check (named_target operation attributes)
-    ∷ queue_check (reached account (named_target operation attributes))
-    ∷ []
-
 -- where it leads, if it leads to the queue
 unfoldable pub target_of : List ℕ → Operation → List PlainAttribute → PlainTarget
 target_of account operation attributes = unwrap_or (reached account (named_target operation attributes)) (record { base = []; job = 0 })
@@ -87,11 +72,11 @@ target_of account operation attributes = unwrap_or (reached account (named_targe
 abbrev pub syntax_check : Operation → List PlainAttribute → Check
 syntax_check operation attributes = refused_where (any_is_wrong operation attributes) 0x0400 words.Syntax
 
--- 10: nothing is compressed (RFC 8011 section 5.4.32)
+-- 10: nothing is compressed (RFC 8011 section 4.2.1.1)
 abbrev pub compression_check : Operation → List PlainAttribute → Check
 compression_check operation attributes = refused_where (not (is_none_if_said (bytes_of fields.Compression operation attributes))) 0x040F words.Compression
 
--- 11: the format of the document is known (RFC 8011 section 5.4.22)
+-- 11: the format of the document is known (RFC 8011 section 4.2.1.1)
 abbrev pub document_format_check : Operation → List PlainAttribute → Check
 document_format_check operation attributes = refused_where (is_none (document_format operation attributes)) 0x040A words.DocumentFormat
 
@@ -116,21 +101,9 @@ password_encryption_check operation attributes = refused_where (not (is_none_if_
 abbrev pub password_length_check : Operation → List PlainAttribute → Check
 password_length_check operation attributes = refused_where (nat_lt longest_password (length (password operation attributes))) 0x0409 words.PasswordTooLong
 
--- 16: the name of the job is (RFC 8011 section 5.1.3)
+-- 16: the name of the job is (RFC 8011 section 5.3.5)
 abbrev pub job_name_length_check : Operation → List PlainAttribute → Check
 job_name_length_check operation attributes = refused_where (nat_lt longest_job_name (length (job_name operation attributes))) 0x0409 words.JobNameTooLong
-
-unfoldable pub field_checks : Operation → List PlainAttribute → List Check
-field_checks operation attributes =
-    syntax_check operation attributes
-    ∷ compression_check operation attributes
-    ∷ document_format_check operation attributes
-    ∷ which_jobs_check operation attributes
-    ∷ password_encryption_missing_check operation attributes
-    ∷ password_encryption_check operation attributes
-    ∷ password_length_check operation attributes
-    ∷ job_name_length_check operation attributes
-    ∷ []
 
 -- ---- its job template attributes and its document; from here on the attributes that are not supported go
 -- with a refusal
@@ -139,7 +112,7 @@ abbrev pub some_attribute : List PlainAttribute → Bool
 some_attribute [] = false
 some_attribute (attribute ∷ more) = true
 
--- 17: the requester does not insist on what is not supported (RFC 8011 section 4.1.7)
+-- 17: the requester does not insist on what is not supported (RFC 8011 section 4.2.1.1)
 abbrev pub template_check : Bool → List PlainAttribute → Check
 template_check insists unsupported = refused_with unsupported (insists && some_attribute unsupported) 0x040B words.Template
 
@@ -147,29 +120,3 @@ template_check insists unsupported = refused_with unsupported (insists && some_a
 abbrev pub document_check : Operation → List PlainAttribute → List ℕ → Check
 document_check operation unsupported payload =
     refused_with unsupported (hands_in_document operation && nat_lt longest_document (length payload)) 0x0408 words.DocumentTooLarge
-
-unfoldable pub document_checks : Operation → Bool → List PlainAttribute → List ℕ → List Check
-document_checks operation insists unsupported payload =
-    template_check insists unsupported ∷ document_check operation unsupported payload ∷ []
-
--- ---- all eighteen
-
--- 4 to 16, of the operation attributes
-unfoldable pub attribute_checks : List ℕ → Operation → List PlainAttribute → List Check
-attribute_checks account operation attributes =
-    opening_checks attributes ++ (target_checks account operation attributes ++ field_checks operation attributes)
-
--- 4 to 18, of a message
-unfoldable pub message_checks : List ℕ → Operation → PlainMessage → List Check
-message_checks account operation m =
-    attribute_checks account operation (operation_attributes m)
-    ++ document_checks operation (fidelity operation (operation_attributes m)) (unsupported (template_attributes operation m)) m.payload
-
--- where no message spells the body, one with nothing in it
-abbrev pub message_or_nothing : Header → Option PlainMessage → PlainMessage
-message_or_nothing header message = unwrap_or message (record { header = header; groups = []; payload = [] })
-
-abbrev pub checks : List ℕ → Header → Option PlainMessage → List Check
-checks account header message =
-    header_checks header
-    ++ (malformed_check message ∷ message_checks account (operation_of header) (message_or_nothing header message))

@@ -1,9 +1,9 @@
 -- The operation attributes that are read: one table, and what they say.
-use Rattle.std.specs.Prelude.{ℕ, Bool, true, false, ◌==◌, ◌&&◌, not, if◌then◌else◌, List, [], ◌∷◌, map, Option, Some, None, codes, option_map, option_and_then, position, unwrap_or}
+use Rattle.std.specs.Prelude.{ℕ, Bool, true, false, ◌==◌, ◌&&◌, not, if◌then◌else◌, List, [], ◌∷◌, map, Option, Some, None, codes, option_map, option_and_then, position, unwrap_or, bytes_eq}
 use Rattle.std.specs.List.{list_any}
-use Rattle.std.specs.Str.{str_eq_ignore_ascii_case}
 use Rattle.ipp_coding.specs.Plain.{PlainValue, PlainAttribute}
 use Rattle.ipp_coding.specs.Values.{bool_said}
+use Rattle.room_rules.specs.Formats.{format_named}
 use Rattle.room_rules.specs.declared.format.Format as format
 use Rattle.room_rules.specs.declared.format.Format.TheVariants as formats
 use Rattle.room_asks.specs.declared.operation.Operation.{Operation}
@@ -14,7 +14,7 @@ use Rattle.room_asks.specs.declared.syntax.Syntax.TheVariants.{Name, Boolean, Co
 use Rattle.room_asks.specs.declared.ask.Which as which
 use Rattle.room_asks.specs.declared.ask.Which.TheVariants as whiches
 use Rattle.room_asks.specs.Operations.{makes_job, describes_document, is_send_document, is_get_jobs, lists_attributes}
-use Rattle.room_asks.specs.Requests.{same_bytes, up_to, named, lone_value}
+use Rattle.room_asks.specs.Requests.{up_to, named, lone_value}
 use Rattle.room_asks.specs.Syntaxes.{are_values_of, name_said, count_said, positive_said}
 
 -- an attribute: its name, the syntax of its values, and the operations that read it
@@ -115,23 +115,7 @@ wanted operation attributes = option_map names_of (values_of RequestedAttributes
 -- `none` alone is known of compressions and encryptions, and need not be said
 abbrev pub is_none_if_said : Option (List ℕ) → Bool
 is_none_if_said None = true
-is_none_if_said (Some keyword) = same_bytes keyword (codes "none")
-
--- letters without case
-abbrev pub is_type : List ℕ → List ℕ → Bool
-is_type text name = str_eq_ignore_ascii_case text name
-
--- the seven media types that are known (RFC 8011 section 5.4.22)
-abbrev pub format_named : List ℕ → Option format.Format
-format_named text =
-    if is_type text (codes "application/octet-stream") then Some formats.OctetStream
-    else if is_type text (codes "application/pdf") then Some formats.Pdf
-    else if is_type text (codes "application/postscript") then Some formats.PostScript
-    else if is_type text (codes "image/jpeg") then Some formats.Jpeg
-    else if is_type text (codes "image/pwg-raster") then Some formats.PwgRaster
-    else if is_type text (codes "image/urf") then Some formats.Urf
-    else if is_type text (codes "text/plain") then Some formats.Plain
-    else None
+is_none_if_said (Some keyword) = bytes_eq keyword (codes "none")
 
 -- up to the first ";"
 abbrev pub without_parameters : List ℕ → List ℕ
@@ -148,8 +132,8 @@ document_format operation attributes = format_said (bytes_of DocumentFormat oper
 abbrev pub which_named : Option (List ℕ) → Option which.Which
 which_named None = Some whiches.NotCompleted
 which_named (Some keyword) =
-    if same_bytes keyword (codes "completed") then Some whiches.Completed
-    else if same_bytes keyword (codes "not-completed") then Some whiches.NotCompleted
+    if bytes_eq keyword (codes "completed") then Some whiches.Completed
+    else if bytes_eq keyword (codes "not-completed") then Some whiches.NotCompleted
     else None
 
 unfoldable pub which_jobs : Operation → List PlainAttribute → Option which.Which

@@ -1,4 +1,3 @@
-pub mod Limits
 pub mod Names
 pub mod Operations
 pub mod Requests
@@ -8,5 +7,6 @@ pub mod Targets
 pub mod Templates
 pub mod Refusals
 pub mod Checks
+pub mod CheckOrder
 pub mod PlainParts
 pub mod Asks

@@ -1,26 +1,21 @@
 -- The parts of a request that the checks look at.
-use Rattle.std.specs.Prelude.{ℕ, Bool, ◌||◌, ◌==◌, if◌then◌else◌, nat_eq, List, [], ◌∷◌, Option, Some, None, codes, find, option_and_then, option_map, slice_get, take, unwrap_or}
-use Rattle.std.specs.Cmp.Lexicographic.{pointwise}
+use Rattle.std.specs.Prelude.{ℕ, Bool, ◌||◌, ◌==◌, if◌then◌else◌, List, [], ◌∷◌, Option, Some, None, codes, find, option_and_then, option_map, slice_get, take, unwrap_or, bytes_eq}
 use Rattle.ipp_coding.specs.declared.message.Header.{Header}
 use Rattle.ipp_coding.specs.Plain.{PlainValue, PlainAttribute, PlainGroup, PlainMessage}
-
--- two lists of bytes are the same
-abbrev pub same_bytes : List ℕ → List ℕ → Bool
-same_bytes a b = pointwise nat_eq a b
 
 -- as far as a place, and all where there is none
 abbrev pub up_to : Option ℕ → List ℕ → List ℕ
 up_to None bytes = bytes
 up_to (Some place) bytes = take place bytes
 
--- versions 1.x and 2.x are served (RFC 8011 section 5.3.14)
+-- versions 1.x and 2.x are served (RFC 8011 section 4.1.8)
 abbrev pub is_served_version : Header → Bool
 is_served_version h = h.major == 1 || h.major == 2
 
 -- ---- attributes of a group
 
 abbrev pub is_named : List ℕ → PlainAttribute → Bool
-is_named name a = same_bytes a.name name
+is_named name a = bytes_eq a.name name
 
 -- of several attributes with one name the first counts (this project's rule)
 abbrev pub named : List ℕ → List PlainAttribute → Option PlainAttribute

@@ -23,7 +23,7 @@ abbrev pub from_one : ℕ → Option ℕ
 from_one zero = None
 from_one (suc n) = Some (suc n)
 
--- an integer 0x21 (RFC 8011 section 5.1.4)
+-- an integer 0x21
 abbrev pub integer_said : PlainValue → Option ℤ
 integer_said value = if value.tag == 0x21 then int_said value else None
 

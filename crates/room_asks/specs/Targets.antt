@@ -1,6 +1,6 @@
 -- What a request is for: a queue, or a job of it (RFC 8011 section 4.1.5). Scheme and authority of a URI
 -- are not looked at, and nothing is percent-decoded (this project's rules).
-use Rattle.std.specs.Prelude.{ℕ, ◌-◌, ◌<◌, ℤ, pos, negsuc, Bool, false, not, ◌||◌, ◌&&◌, ◌==◌, if◌then◌else◌, nat_eq, nat_lt, nat_le, List, [], ◌∷◌, ◌++◌, length, take, drop, Option, Some, None, is_some, codes, option_map, option_and_then, position}
+use Rattle.std.specs.Prelude.{ℕ, ◌-◌, ◌<◌, ℤ, pos, negsuc, Bool, false, not, ◌||◌, ◌&&◌, ◌==◌, if◌then◌else◌, nat_eq, nat_lt, nat_le, List, [], ◌∷◌, ◌++◌, length, take, drop, Option, Some, None, is_some, codes, option_map, option_and_then, position, bytes_eq}
 use Rattle.std.specs.Char.{is_ascii_digit}
 use Rattle.std.specs.List.{starts_with, list_all}
 use Rattle.std.specs.Str.Parse.{digits_value}
@@ -8,7 +8,7 @@ use Rattle.ipp_coding.specs.Plain.{PlainAttribute}
 use Rattle.room_rules.specs.Limits.{last_next_job}
 use Rattle.room_asks.specs.declared.operation.Operation.{Operation}
 use Rattle.room_asks.specs.Operations.{is_for_job}
-use Rattle.room_asks.specs.Requests.{same_bytes, up_to, named, lone_value, single_named}
+use Rattle.room_asks.specs.Requests.{up_to, named, lone_value, single_named}
 use Rattle.room_asks.specs.Syntaxes.{integer_said}
 
 -- ---- which attributes name it
@@ -126,7 +126,7 @@ pub record PlainTarget : Type 0 where
   pub job : ℕ
 
 abbrev pub in_queue : List ℕ → ℕ → UriParts → Option PlainTarget
-in_queue account job parts = if same_bytes parts.path (queue_path account) then Some (record { base = parts.base; job = job }) else None
+in_queue account job parts = if bytes_eq parts.path (queue_path account) then Some (record { base = parts.base; job = job }) else None
 
 abbrev pub at_job : List ℕ → ℕ → PlainTarget
 at_job base job = record { base = base; job = job }

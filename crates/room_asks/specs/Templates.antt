@@ -1,11 +1,11 @@
 -- The job template attributes: copies, job-hold-until, and all others, which are not supported (RFC 8011
 -- sections 4.1.7 and 5.2).
-use Rattle.std.specs.Prelude.{ℕ, Bool, false, ◌||◌, ◌&&◌, ◌==◌, nat_le, if◌then◌else◌, List, [], ◌∷◌, ◌++◌, Option, Some, None, codes, is_some, option_and_then, unwrap_or}
+use Rattle.std.specs.Prelude.{ℕ, Bool, false, ◌||◌, ◌&&◌, ◌==◌, nat_le, if◌then◌else◌, List, [], ◌∷◌, ◌++◌, Option, Some, None, codes, is_some, option_and_then, unwrap_or, bytes_eq}
 use Rattle.ipp_coding.specs.Plain.{PlainValue, PlainAttribute, PlainMessage}
 use Rattle.room_rules.specs.Limits.{most_copies}
 use Rattle.room_asks.specs.declared.operation.Operation.{Operation}
 use Rattle.room_asks.specs.Operations.{makes_job}
-use Rattle.room_asks.specs.Requests.{same_bytes, is_named, named, lone_value, job_group}
+use Rattle.room_asks.specs.Requests.{is_named, named, lone_value, job_group}
 use Rattle.room_asks.specs.Syntaxes.{positive_said}
 
 -- a request that makes a job gives them in its job group
@@ -25,7 +25,7 @@ copies attributes = unwrap_or (option_and_then copies_said (named (codes "copies
 
 -- job-hold-until: one keyword or name `indefinite` (RFC 8011 section 5.2.2)
 abbrev pub is_indefinite : PlainValue → Bool
-is_indefinite value = (value.tag == 0x44 || value.tag == 0x42) && same_bytes value.bytes (codes "indefinite")
+is_indefinite value = (value.tag == 0x44 || value.tag == 0x42) && bytes_eq value.bytes (codes "indefinite")
 
 abbrev pub holds_for_good : Option PlainValue → Bool
 holds_for_good None = false

@@ -1,3 +1,5 @@
+//! What a good request asks, and why one is refused.
+
 ghost use Rattle.std.specs.Prelude.{◌≡◌};
 ghost use Rattle.room_asks.specs.declared.ask.AskFault.TheVariants.{Memory};
 

@@ -1,16 +1,15 @@
 //! The checks of a request in their order, one function each. A check that passes hands on what it
 //! looked at, for those that follow.
 
-ghost use Rattle.std.specs.Prelude.{◌≡◌, ◌<◌, ◌≤◌, ◌∷◌, ◌&&◌, [], IfOk, Ok, Err, Some, None, if◌then◌else◌, length, map, nat_lt, option_map, unwrap_or};
+ghost use Rattle.std.specs.Prelude.{◌≡◌, ◌<◌, ◌≤◌, ◌∷◌, ◌&&◌, [], true, IfOk, Ok, Err, Some, None, if◌then◌else◌, length, map, nat_lt, option_map, unwrap_or};
 ghost use Rattle.ipp_coding.specs.Plain.{plain_attribute, plain_message};
-ghost use Rattle.room_rules.specs.Limits.{longest_job_name, longest_password, longest_document, last_next_job};
+ghost use Rattle.room_rules.specs.Limits.{longest_job_name, longest_password, longest_document, last_next_job, longest_uri};
 ghost use Rattle.room_rules.specs.declared.refusal.Word.TheVariants.{Template, DocumentTooLarge};
 ghost use Rattle.room_rules.specs.declared.format.Format.TheVariants.{OctetStream};
 ghost use Rattle.room_asks.specs.declared.ask.Which.TheVariants.{NotCompleted};
-ghost use Rattle.room_asks.specs.Asks.{HasDocument};
+ghost use Rattle.room_asks.specs.CheckOrder.{document_checks};
 ghost use Rattle.room_asks.specs.Checks as checks;
 ghost use Rattle.room_asks.specs.Fields.{document_format, which_jobs, password, job_name};
-ghost use Rattle.room_asks.specs.Limits.{longest_uri};
 ghost use Rattle.room_asks.specs.Operations.{operation_of, hands_in_document};
 ghost use Rattle.room_asks.specs.PlainParts.{plain_named, plain_target};
 ghost use Rattle.room_asks.specs.Refusals.{checked, refusal_of, told, told_with};
@@ -24,12 +23,10 @@ use crate::target::{Target, TargetUri};
 use crate::{fields, request};
 use ipp_coding::{Attribute, Header, Message};
 use room_rules::{
-    Format, LONGEST_DOCUMENT, LONGEST_JOB_NAME, LONGEST_PASSWORD, Name, Refusal, Word,
+    Format, LONGEST_DOCUMENT, LONGEST_JOB_NAME, LONGEST_PASSWORD, LONGEST_URI, Name, Refusal, Word,
 };
 
-const LONGEST_TARGET: usize = 1023;
-
-/// The major version is 1 or 2.
+/// 1: the major version is 1 or 2.
 pub(crate) fn version(header: Header) -> Result<(), Refusal>
     ensures { told (λ x. x) result ≡ checked (checks.version_check header ∷ []) tt }
 {
@@ -43,7 +40,7 @@ pub(crate) fn version(header: Header) -> Result<(), Refusal>
     }
 }
 
-/// The operation is one of the profile.
+/// 2: the operation is one of the profile.
 pub(crate) fn operation(header: Header) -> Result<Operation, Refusal>
     ensures { told (λ x. x) result ≡ checked (checks.operation_check header ∷ []) (operation_of header) }
 {
@@ -53,7 +50,7 @@ pub(crate) fn operation(header: Header) -> Result<Operation, Refusal>
     })
 }
 
-/// Why a body is refused that no message spells.
+/// 3: why a body is refused that no message spells.
 pub(crate) fn malformed() -> Refusal
     ensures { record { refusal = result; unsupported = [] } ≡ refusal_of (checks.malformed_check None) }
 {
@@ -63,7 +60,7 @@ pub(crate) fn malformed() -> Refusal
     }
 }
 
-/// The message begins with an operation group, and this with a charset and a natural language. Hands
+/// 4: the message begins with an operation group, and this with a charset and a natural language. Hands
 /// on the attributes of the group.
 pub(crate) fn charset_and_language<'m, 'a>(
     message: &'m Message<'a>,
@@ -79,7 +76,7 @@ pub(crate) fn charset_and_language<'m, 'a>(
     }
 }
 
-/// The charset is `utf-8`, letters without case.
+/// 5: the charset is `utf-8`, letters without case.
 pub(crate) fn charset(attributes: &[Attribute<'_>]) -> Result<(), Refusal>
     ensures { told (λ x. x) result ≡ checked (checks.charset_check (map plain_attribute attributes.now) ∷ []) tt }
 {
@@ -92,7 +89,7 @@ pub(crate) fn charset(attributes: &[Attribute<'_>]) -> Result<(), Refusal>
     }
 }
 
-/// There is a target. Hands it on.
+/// 6: there is a target. Hands it on.
 pub(crate) fn target<'a>(
     operation: Operation,
     attributes: &[Attribute<'a>],
@@ -109,12 +106,12 @@ pub(crate) fn target<'a>(
     }
 }
 
-/// The target's URI is no longer than a URI may be.
+/// 7: the target's URI is no longer than a URI may be.
 pub(crate) fn target_length(target: TargetUri<'_>) -> Result<(), Refusal>
     ensures told { told (λ x. x) result ≡ checked (checks.target_length_check (plain_named target.entry) ∷ []) tt }
     ensures length { IfOk result (λ x. length (uri_of (plain_named target.entry)) ≤ longest_uri) }
 {
-    if target.uri().len() > LONGEST_TARGET {
+    if target.uri().len() > LONGEST_URI {
         return Err(Refusal {
             status: 0x0409,
             word: Word::TargetTooLong,
@@ -123,7 +120,7 @@ pub(crate) fn target_length(target: TargetUri<'_>) -> Result<(), Refusal>
     Ok(())
 }
 
-/// The target leads to the account's queue. Hands on where.
+/// 8: the target leads to the account's queue. Hands on where.
 pub(crate) fn queue<'a>(target: TargetUri<'a>, account: Name) -> Result<Target<'a>, Refusal>
     requires { HasNumber (plain_named target) }
     ensures told { told plain_target result ≡ checked (checks.queue_check (reached account (plain_named target.entry)) ∷ []) (unwrap_or (reached account (plain_named target.entry)) (record { base = []; job = 0 })) }
@@ -139,7 +136,7 @@ pub(crate) fn queue<'a>(target: TargetUri<'a>, account: Name) -> Result<Target<'
     }
 }
 
-/// Each attribute that the operation reads is of its syntax.
+/// 9: each attribute that the operation reads is of its syntax.
 pub(crate) fn syntax(operation: Operation, attributes: &[Attribute<'_>]) -> Result<(), Refusal>
     ensures { told (λ x. x) result ≡ checked (checks.syntax_check operation (map plain_attribute attributes.now) ∷ []) tt }
 {
@@ -152,7 +149,7 @@ pub(crate) fn syntax(operation: Operation, attributes: &[Attribute<'_>]) -> Resu
     Ok(())
 }
 
-/// Nothing is compressed.
+/// 10: nothing is compressed.
 pub(crate) fn compression(operation: Operation, attributes: &[Attribute<'_>]) -> Result<(), Refusal>
     ensures { told (λ x. x) result ≡ checked (checks.compression_check operation (map plain_attribute attributes.now) ∷ []) tt }
 {
@@ -166,7 +163,7 @@ pub(crate) fn compression(operation: Operation, attributes: &[Attribute<'_>]) ->
     }
 }
 
-/// The format of the document is known. Hands it on.
+/// 11: the format of the document is known. Hands it on.
 pub(crate) fn document_format(
     operation: Operation,
     attributes: &[Attribute<'_>],
@@ -179,7 +176,7 @@ pub(crate) fn document_format(
     })
 }
 
-/// Jobs are asked for that have ended or that have not. Hands on which.
+/// 12: jobs are asked for that have ended or that have not. Hands on which.
 pub(crate) fn which_jobs(
     operation: Operation,
     attributes: &[Attribute<'_>],
@@ -192,7 +189,7 @@ pub(crate) fn which_jobs(
     })
 }
 
-/// Where there is a password, its encryption is told.
+/// 13: where there is a password, its encryption is told.
 pub(crate) fn password_encryption_missing(
     operation: Operation,
     attributes: &[Attribute<'_>],
@@ -209,7 +206,7 @@ pub(crate) fn password_encryption_missing(
     Ok(())
 }
 
-/// No password is encrypted.
+/// 14: no password is encrypted.
 pub(crate) fn password_encryption(
     operation: Operation,
     attributes: &[Attribute<'_>],
@@ -226,7 +223,7 @@ pub(crate) fn password_encryption(
     }
 }
 
-/// The password is short enough. Hands it on.
+/// 15: the password is short enough. Hands it on.
 pub(crate) fn password_length<'a>(
     operation: Operation,
     attributes: &[Attribute<'a>],
@@ -244,7 +241,7 @@ pub(crate) fn password_length<'a>(
     Ok(password)
 }
 
-/// The name of the job is short enough. Hands it on.
+/// 16: the name of the job is short enough. Hands it on.
 pub(crate) fn job_name_length<'a>(
     operation: Operation,
     attributes: &[Attribute<'a>],
@@ -262,7 +259,7 @@ pub(crate) fn job_name_length<'a>(
     Ok(name)
 }
 
-/// The requester does not insist on what is not supported.
+/// 17: the requester does not insist on what is not supported.
 fn template(insists: bool, unsupported: &[Attribute<'_>]) -> Result<(), Refusal>
     ensures { result ≡ (if insists && checks.some_attribute (map plain_attribute unsupported.now) then Err (record { status = 0x040B; word = Template }) else Ok tt) }
 {
@@ -275,9 +272,9 @@ fn template(insists: bool, unsupported: &[Attribute<'_>]) -> Result<(), Refusal>
     Ok(())
 }
 
-/// The document is short enough.
+/// 18: the document is short enough.
 fn document_length(operation: Operation, payload: &[u8]) -> Result<(), Refusal>
-    ensures fits { IfOk result (λ x. HasDocument operation → length payload.now ≤ longest_document) }
+    ensures fits { IfOk result (λ x. hands_in_document operation ≡ true → length payload.now ≤ longest_document) }
     ensures told { result ≡ (if hands_in_document operation && nat_lt longest_document (length payload.now) then Err (record { status = 0x0408; word = DocumentTooLarge }) else Ok tt) }
 {
     if operation.hands_in_document() && payload.len() > LONGEST_DOCUMENT {
@@ -290,15 +287,15 @@ fn document_length(operation: Operation, payload: &[u8]) -> Result<(), Refusal>
 }
 
 /// The checks of what is known once the job template attributes are.
-#[tactic(auto, unfolding(crate::specs::Checks::document_checks))]
+#[tactic(auto, unfolding(crate::specs::CheckOrder::document_checks))]
 pub(crate) fn template_and_document(
     operation: Operation,
     insists: bool,
     unsupported: &[Attribute<'_>],
     payload: &[u8],
 ) -> Result<(), Refusal>
-    ensures told { told_with (map plain_attribute unsupported.now) result ≡ checked (checks.document_checks operation insists (map plain_attribute unsupported.now) payload.now) tt }
-    ensures fits { IfOk result (λ x. HasDocument operation → length payload.now ≤ longest_document) }
+    ensures told { told_with (map plain_attribute unsupported.now) result ≡ checked (document_checks operation insists (map plain_attribute unsupported.now) payload.now) tt }
+    ensures fits { IfOk result (λ x. hands_in_document operation ≡ true → length payload.now ≤ longest_document) }
 {
     template(insists, unsupported)?;
     document_length(operation, payload)

@@ -4,7 +4,7 @@ ghost use Rattle.std.specs.Prelude.{◌≡◌, ◌==◌, ◌<◌, ◌≤◌, IfO
 ghost use Rattle.ipp_coding.specs.Plain.{plain_value, plain_attribute};
 ghost use Rattle.room_rules.specs.Limits.{longest_job_name, longest_password, most_impressions};
 ghost use Rattle.room_asks.specs.declared.ask.AskFault.TheVariants.{Memory};
-ghost use Rattle.room_asks.specs.Checks.{field_checks};
+ghost use Rattle.room_asks.specs.CheckOrder.{field_checks};
 ghost use Rattle.room_asks.specs.Fields as said;
 ghost use Rattle.room_asks.specs.PlainParts.{plain_fields, plain_names};
 ghost use Rattle.room_asks.specs.Syntaxes.{name_said};
@@ -36,7 +36,7 @@ pub(crate) struct Fields<'a> {
 
 impl<'a> Fields<'a> {
     /// Those that the operation reads, or the first check that they fail.
-    #[tactic(auto, unfolding(crate::specs::Checks::field_checks, crate::specs::Fields::fields_of))]
+    #[tactic(auto, unfolding(crate::specs::CheckOrder::field_checks, crate::specs::Fields::fields_of))]
     pub(crate) fn read(
         operation: Operation,
         attributes: &[Attribute<'a>],
@@ -156,31 +156,8 @@ pub(crate) fn document_format(operation: Operation, attributes: &[Attribute<'_>]
     ensures { result ≡ said.document_format operation (map plain_attribute attributes.now) }
 {
     match Field::DocumentFormat.bytes(operation, attributes) {
-        Some(text) => format_named(without_parameters(text)),
+        Some(text) => Format::named(without_parameters(text)),
         None => Some(Format::OctetStream),
-    }
-}
-
-/// The format of a media type, letters without case.
-fn format_named(name: &[u8]) -> Option<Format>
-    ensures { result ≡ said.format_named name.now }
-{
-    if name.eq_ignore_ascii_case(b"application/octet-stream") {
-        Some(Format::OctetStream)
-    } else if name.eq_ignore_ascii_case(b"application/pdf") {
-        Some(Format::Pdf)
-    } else if name.eq_ignore_ascii_case(b"application/postscript") {
-        Some(Format::PostScript)
-    } else if name.eq_ignore_ascii_case(b"image/jpeg") {
-        Some(Format::Jpeg)
-    } else if name.eq_ignore_ascii_case(b"image/pwg-raster") {
-        Some(Format::PwgRaster)
-    } else if name.eq_ignore_ascii_case(b"image/urf") {
-        Some(Format::Urf)
-    } else if name.eq_ignore_ascii_case(b"text/plain") {
-        Some(Format::Plain)
-    } else {
-        None
     }
 }
 

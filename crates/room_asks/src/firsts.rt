@@ -1,3 +1,5 @@
+//! The first attribute of each name, found by sorting.
+
 ghost use Rattle.std.specs.Prelude.{◌≡◌, ◌∷◌, [], IfOk, length, drop};
 ghost use Rattle.std.specs.Int.{to_be_bytes, w64};
 ghost use Rattle.room_asks.specs.Names.{byte_at, first_bytes, first_eight, IsKeyOf, AreKeys, AreFirsts};

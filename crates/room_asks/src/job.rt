@@ -1,3 +1,5 @@
+//! The job that a request makes.
+
 ghost use Rattle.std.specs.Prelude.{◌≡◌, ◌≤◌};
 ghost use Rattle.room_rules.specs.Limits.{last_moment};
 ghost use Rattle.room_rules.specs.NewJobs.{fresh};

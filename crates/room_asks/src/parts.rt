@@ -1,9 +1,10 @@
+//! The operation attributes of a request, read once for all checks.
+
 ghost use Rattle.std.specs.Prelude.{◌≡◌, ◌<◌, ◌≤◌, IfOk, IfSome, length, map};
 ghost use Rattle.ipp_coding.specs.Plain.{plain_attribute, plain_message};
-ghost use Rattle.room_rules.specs.Limits.{longest_job_name, longest_password, most_impressions, last_next_job};
+ghost use Rattle.room_rules.specs.Limits.{longest_job_name, longest_password, most_impressions, last_next_job, longest_uri};
 ghost use Rattle.room_asks.specs.Asks.{ask_parts, plain_parts, IsParts};
-ghost use Rattle.room_asks.specs.Checks.{attribute_checks, opening_checks};
-ghost use Rattle.room_asks.specs.Limits.{longest_uri};
+ghost use Rattle.room_asks.specs.CheckOrder.{attribute_checks, opening_checks};
 ghost use Rattle.room_asks.specs.Refusals.{checked, told};
 ghost use Rattle.room_asks.specs.Requests.{operation_attributes};
 
@@ -44,7 +45,7 @@ impl<'m, 'a> Parts<'m, 'a> {
 }
 
 /// The operation attributes, which begin with a charset that is known and a language.
-#[tactic(auto, unfolding(crate::specs::Checks::opening_checks))]
+#[tactic(auto, unfolding(crate::specs::CheckOrder::opening_checks))]
 fn opened<'m, 'a>(message: &'m Message<'a>) -> Result<&'m [Attribute<'a>], Refusal>
     ensures { told (λ attributes. map plain_attribute attributes.now) result ≡ checked (opening_checks (operation_attributes (plain_message message.now))) (operation_attributes (plain_message message.now)) }
 {

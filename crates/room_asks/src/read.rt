@@ -1,3 +1,5 @@
+//! A request as what it asks, or as the first check that it fails.
+
 ghost use Rattle.std.specs.Prelude.{◌≡◌, ◌≤◌, length, map, IfOk, IfErr};
 ghost use Rattle.std.specs.List.{AllByRecursion};
 ghost use Rattle.ipp_coding.specs.Plain.{plain_attribute, plain_group, plain_message};
@@ -7,7 +9,7 @@ ghost use Rattle.room_asks.specs.declared.ask.AskFault.TheVariants.{Memory};
 ghost use Rattle.room_asks.specs.Fields.{wanted};
 ghost use Rattle.room_asks.specs.PlainParts.{plain_target, plain_fields};
 ghost use Rattle.room_asks.specs.Asks.{ask_of, asked, assembled, IsBare, plain_ask, AsksAs, IsAsk, CanBeSpelled};
-ghost use Rattle.room_asks.specs.Checks.{header_checks, message_checks};
+ghost use Rattle.room_asks.specs.CheckOrder.{header_checks, message_checks};
 ghost use Rattle.room_asks.specs.Operations.{operation_of};
 ghost use Rattle.room_asks.specs.Refusals.{checked, told};
 

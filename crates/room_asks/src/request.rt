@@ -1,3 +1,5 @@
+//! Groups and attributes of a request, found by name.
+
 // The parts of a message that the checks look at.
 ghost use Rattle.std.specs.Prelude.{◌≡◌, ◌==◌, option_map, option_copied, map, find};
 ghost use Rattle.ipp_coding.specs.Plain.{plain_value, plain_attribute, plain_group};

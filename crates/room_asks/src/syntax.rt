@@ -1,3 +1,5 @@
+//! The syntaxes of attribute values.
+
 ghost use Rattle.std.specs.Prelude.{◌≡◌, ◌≤◌, IfSome, map, option_copied, option_map};
 ghost use Rattle.std.specs.List.{list_all};
 ghost use Rattle.ipp_coding.specs.Plain.{plain_value};

@@ -1,13 +1,15 @@
+//! The target of a request, and where in the account's queue it leads.
+
 ghost use Rattle.std.specs.Prelude.{◌≡◌, ◌<◌, ◌≤◌, IfOk, IfSome, IsTrue, length, map, nat_eq, option_map};
 ghost use Rattle.std.specs.Char.{is_ascii_digit};
 ghost use Rattle.std.specs.List.{list_all};
 ghost use Rattle.std.specs.Cmp.Lexicographic.{pointwise};
 ghost use Rattle.std.specs.Str.Parse.{digits_value};
 ghost use Rattle.ipp_coding.specs.Plain.{plain_attribute};
-ghost use Rattle.room_rules.specs.Limits.{last_next_job};
+ghost use Rattle.room_rules.specs.Limits.{last_next_job, longest_uri};
 ghost use Rattle.room_asks.specs.Targets.{job_numbered, lone_integer, job_id, with_job_id, job_target, target_in, uri_of, HasNumber, behind, queue_path, starts_above_zero, is_job_number, job_number, job_in_path, in_queue, in_job, reached};
-ghost use Rattle.room_asks.specs.Checks.{target_checks, target_of};
-ghost use Rattle.room_asks.specs.Limits.{longest_uri};
+ghost use Rattle.room_asks.specs.CheckOrder.{target_checks};
+ghost use Rattle.room_asks.specs.Checks.{target_of};
 ghost use Rattle.room_asks.specs.Refusals.{checked, told};
 ghost use Rattle.room_asks.specs.PlainParts.{plain_named, plain_target, plain_uri};
 
@@ -78,7 +80,7 @@ impl<'a> TargetUri<'a> {
 
 impl<'a> Target<'a> {
     /// Where the request leads, or the first check that its target fails.
-    #[tactic(auto, unfolding(crate::specs::Checks::target_checks, crate::specs::Checks::target_of))]
+    #[tactic(auto, unfolding(crate::specs::CheckOrder::target_checks, crate::specs::Checks::target_of))]
     pub(crate) fn read(
         operation: Operation,
         attributes: &[Attribute<'a>],

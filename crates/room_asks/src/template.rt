@@ -1,3 +1,5 @@
+//! The job template attributes of a request.
+
 ghost use Rattle.std.specs.Prelude.{◌≡◌, ◌≤◌, ◌||◌, not, IfOk, IfErr, IfSome, [], ◌∷◌, map, option_map, unwrap_or};
 ghost use Rattle.ipp_coding.specs.Plain.{plain_value, plain_attribute, plain_message};
 ghost use Rattle.room_rules.specs.Limits.{most_copies};

@@ -1,3 +1,5 @@
+//! A URI in its parts.
+
 ghost use Rattle.std.specs.Prelude.{◌≡◌, ◌==◌, ◌<◌, ◌≤◌, IfSome, length, option_map, position};
 ghost use Rattle.room_asks.specs.PlainParts.{plain_uri};
 ghost use Rattle.room_asks.specs.Targets.{behind_scheme, from_slash, from_path, ends_path, before_query, parts_of};

@@ -1,3 +1,5 @@
+//! Where the commands get their database.
+
 use room_store::OpenFault;
 
 /// Comes by the database that a command line names, and is handed it back at the end of the run.

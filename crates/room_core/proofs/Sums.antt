@@ -5,6 +5,7 @@ use Rattle.std.specs.Ordering.{nat_cmp}
 use Rattle.std.specs.FinMap.{FinMap, get, insert, entries, values}
 use Rattle.std.proofs.lemmas.List.Sums.{sum_by-cons}
 use Rattle.std.proofs.lemmas.Int.{ints}
+use Rattle.room_rules.specs.JobStates.{is_unfinished}
 use Rattle.room_answers.specs.Stations.{left_after}
 use Rattle.room_core.specs.Steps.{with_moved}
 use Rattle.room_rules.specs.declared.job.Job.{Job}
@@ -13,7 +14,6 @@ use Rattle.room_rules.specs.Months.{month_at}
 use Rattle.room_rules.specs.Quota.{left_of}
 use Rattle.room_state.proofs.FiniteMaps.{sum-insert_there}
 use Rattle.room_state.specs.Changes.{with_standing, with_ended}
-use Rattle.room_state.specs.RoomRules.{is_unfinished}
 use Rattle.room_state.specs.Rooms.{RoomValue}
 use Rattle.room_state.specs.Sums.{reserved_in, charged_in, granted_to, left_in, pages_by}
 

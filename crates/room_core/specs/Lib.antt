@@ -11,3 +11,4 @@ pub mod Queues
 pub mod Printers
 pub mod Machine
 pub mod DeviceEvents
+pub mod OperationLaws

@@ -1,11 +1,11 @@
 -- What an event comes to in an open account: a reply, and the room after it.
 use Rattle.std.specs.Prelude.{ℕ, if◌then◌else◌, None, Result, Ok, Err}
+use Rattle.room_rules.specs.JobStates.{is_unfinished}
 use Rattle.room_core.specs.declared.event.Reply.{Reply}
 use Rattle.room_core.specs.declared.event.Reply.TheVariants as reply
 use Rattle.room_rules.specs.declared.job.Standing.{Standing}
 use Rattle.room_rules.specs.declared.refusal.Word.{Word}
 use Rattle.room_state.specs.Changes.{with_standing, with_ended}
-use Rattle.room_state.specs.RoomRules.{is_unfinished}
 use Rattle.room_state.specs.Rooms.{RoomValue}
 use Rattle.room_texts.specs.declared.line.Success.{Success}
 use Rattle.room_texts.specs.Lines.{success_text}

@@ -1,11 +1,11 @@
 //! Look-ups in the list of devices, in which the first record of a name counts.
 
-ghost use Rattle.std.specs.Prelude.{◌≡◌, IfSome, option_copied};
+ghost use Rattle.std.specs.Prelude.{◌≡◌, IfSome};
 ghost use Rattle.std.specs.FinMap.{get};
 ghost use Rattle.room_core.specs.Rates.{HasRate, AreRated};
-ghost use Rattle.room_rules.specs.Devices.{device_map, is_of_name, is_on_in, is_some_on};
+ghost use Rattle.room_rules.specs.Devices.{device_map, is_on_in, is_some_on};
 
-use room_rules::{Device, Name};
+use room_rules::{Device, Name, find_device};
 
 /// The device with the name.
 pub(crate) fn device_at(devices: &[Device], name: Name) -> Option<Device>
@@ -13,19 +13,7 @@ pub(crate) fn device_at(devices: &[Device], name: Name) -> Option<Device>
     ensures device { result ≡ get (device_map devices.now) name }
     ensures rate { IfSome result HasRate }
 {
-    first_device(devices, name).copied()
-}
-
-fn first_device(devices: &[Device], name: Name) -> Option<&Device>
-    ensures { option_copied result ≡ get (device_map devices.now) name }
-{
-    devices.iter().find(|device| is_of_name(device, name))
-}
-
-fn is_of_name(device: &Device, name: Name) -> bool
-    ensures { result ≡ is_of_name name device.now }
-{
-    device.name.bytes() == name.bytes()
+    find_device(devices, name).copied()
 }
 
 /// Whether some device takes jobs.
@@ -38,7 +26,7 @@ pub(crate) fn is_device_on(devices: &[Device]) -> bool
 fn is_on_at(devices: &[Device], name: Name) -> bool
     ensures { result ≡ is_on_in (device_map devices.now) name }
 {
-    match first_device(devices, name) {
+    match find_device(devices, name) {
         None => false,
         Some(device) => device.on,
     }

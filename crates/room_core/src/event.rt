@@ -1,3 +1,5 @@
+//! Events, and the replies to them.
+
 use ipp_coding::List;
 use room_answers::Part;
 use room_rules::Name;

@@ -1,3 +1,5 @@
+//! Whether the numbers of an event lie within their limits.
+
 ghost use Rattle.std.specs.Prelude.{◌≡◌, ◌&&◌, nat_le};
 ghost use Rattle.room_rules.specs.Limits.{first_month, last_month, most_pages};
 ghost use Rattle.room_core.specs.Fits.{fits};

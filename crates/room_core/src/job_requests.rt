@@ -149,7 +149,11 @@ pub fn has_data(ask: &Ask<'_>) -> bool
 
 /// The data of the request as the job's next document, and none where there is no data. `Memory` is its
 /// only fault.
-pub fn sent_document(alloc: Global, ask: &Ask<'_>, job: &Job) -> Result<Option<Document>, CoreFault>
+pub(crate) fn sent_document(
+    alloc: Global,
+    ask: &Ask<'_>,
+    job: &Job,
+) -> Result<Option<Document>, CoreFault>
     requires { job.now.standing.documents ≤ 8 }
     ensures document { IfOk result (λ document. document ≡ sent_document (plain_ask ask.entry.now) job.now) }
     ensures memory { IfErr result (λ fault. fault ≡ CoreFault.Memory) }
@@ -167,7 +171,7 @@ pub fn sent_document(alloc: Global, ask: &Ask<'_>, job: &Job) -> Result<Option<D
 }
 
 /// A copy of the job with another standing. `Memory` is its only fault.
-pub fn restood(alloc: Global, job: &Job, standing: &Standing) -> Result<Job, CoreFault>
+pub(crate) fn restood(alloc: Global, job: &Job, standing: &Standing) -> Result<Job, CoreFault>
     ensures job { IfOk result (λ shown. shown ≡ record job.now { standing = standing.now }) }
     ensures memory { IfErr result (λ fault. fault ≡ CoreFault.Memory) }
 {

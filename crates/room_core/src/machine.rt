@@ -1,3 +1,5 @@
+//! What an account answers to an event, and what becomes of it.
+
 ghost use Rattle.std.specs.Prelude.{◌≡◌, ◌≢◌, ◌↔◌, ◌<◌, ◌≤◌, IsTrue, IfOk, IfErr, OnOk, OnErr, IsErrOf, None, length};
 ghost use Rattle.ipp_coding.specs.Reading.{header_in};
 ghost use Rattle.room_asks.specs.Asks.{IsAsk, ask_of, plain_ask};

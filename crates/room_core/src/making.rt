@@ -92,7 +92,7 @@ pub fn job_made(alloc: Global, number: u32, now: u64, ask: &Ask<'_>) -> Result<J
 
 /// The document that a Print-Job brings to the job under the number; another request brings none.
 /// `Memory` is its only fault.
-pub fn document_made(
+pub(crate) fn document_made(
     alloc: Global,
     number: u32,
     ask: &Ask<'_>,

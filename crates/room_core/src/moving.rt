@@ -9,11 +9,10 @@ ghost use Rattle.room_rules.specs.Limits.{most_impressions, most_rate, last_mome
 ghost use Rattle.room_rules.specs.Moves.{move};
 ghost use Rattle.room_rules.specs.Standings.{IsStanding};
 ghost use Rattle.room_rules.specs.StateLaws.{kept_to_quota};
-ghost use Rattle.room_state.specs.RoomRules.{is_unfinished};
 
 use room_rules::{
-    CoreFault, ENOUGH_LEFT, Job, JobState, Name, Refusal, Standing, Word, cancel, hold,
-    release_at_station, release_by_owner, settle, start,
+    CoreFault, ENOUGH_LEFT, Job, Name, Refusal, Standing, Word, cancel, hold, release_at_station,
+    release_by_owner, settle, start,
 };
 use room_state::Room;
 
@@ -24,21 +23,11 @@ pub(crate) fn stand(room: &mut Room, number: u32, standing: &Standing) -> Result
     ensures memory { IfErr result (λ fault. fault ≡ CoreFault.Memory) }
     ensures unchanged { OnErr result (room.new ≡ room.old) }
 {
-    if is_unfinished(standing.state) {
+    if standing.state.is_unfinished() {
         return room.restand(number, *standing, None);
     }
     room.finish(number, *standing);
     Ok(())
-}
-
-/// Whether a job in the state has not ended.
-pub fn is_unfinished(state: JobState) -> bool
-    ensures { result ≡ is_unfinished state }
-{
-    match state {
-        JobState::Held | JobState::Pending | JobState::Processing => true,
-        JobState::Canceled | JobState::Aborted | JobState::Completed => false,
-    }
 }
 
 /// What Cancel-Job makes of a job: `cancel`, and what it keeps of the job.
@@ -133,7 +122,7 @@ pub fn settled(
 }
 
 /// A station is told the word of a refusal alone.
-pub fn by_word(moved: Result<Standing, Refusal>) -> Result<Standing, Word>
+pub(crate) fn by_word(moved: Result<Standing, Refusal>) -> Result<Standing, Word>
     ensures { result ≡ by_word moved }
 {
     match moved {

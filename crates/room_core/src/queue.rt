@@ -5,17 +5,16 @@ ghost use Rattle.std.specs.Borrow.{Bor};
 ghost use Rattle.std.specs.FinMap.{values};
 ghost use Rattle.std.specs.List.{AllByRecursion};
 ghost use Rattle.std.specs.Ordering.{is_lt};
+ghost use Rattle.room_rules.specs.JobStates.{is_unfinished};
 ghost use Rattle.room_answers.specs.Responses.{done_text, job_groups};
 ghost use Rattle.room_asks.specs.Asks.{IsAsk, plain_ask};
 ghost use Rattle.room_core.specs.Queues.{chosen, asked_jobs, listed, listed_names};
 ghost use Rattle.room_rules.specs.declared.job.Job.{Job};
 ghost use Rattle.room_rules.specs.Limits.{last_moment, last_next_job};
 ghost use Rattle.room_state.specs.Queues.{is_later, not_completed, completed, at_most};
-ghost use Rattle.room_state.specs.RoomRules.{is_unfinished};
 ghost use Rattle.room_texts.specs.Limits.{IsPlace, IsShowable};
 ghost use Rattle.room_texts.specs.Places.{plain_place};
 
-use crate::moving::is_unfinished;
 use crate::respond::{asked_at, wanted_names};
 use ipp_coding::List;
 use room_answers::{AsJob, with_jobs};
@@ -124,7 +123,7 @@ fn not_completed<'r>(alloc: Global, jobs: &'r [Job]) -> Result<Vec<&'r Job>, Cor
 {
     let mut asked = Vec::new(alloc);
     for job in jobs {
-        if is_unfinished(job.standing.state) {
+        if job.standing.state.is_unfinished() {
             asked.push(job)?;
         }
     }
@@ -148,7 +147,7 @@ fn ended<'r>(alloc: Global, jobs: &'r [Job]) -> Result<Vec<&'r Job>, CoreFault>
 {
     let mut asked = Vec::new(alloc);
     for job in jobs {
-        if !is_unfinished(job.standing.state) {
+        if !job.standing.state.is_unfinished() {
             asked.push(job)?;
         }
     }
@@ -169,7 +168,7 @@ fn by_end(job: &Job, other: &Job) -> Ordering
 }
 
 /// Whether the job has ended later than the other, or with it and is the later made.
-pub fn is_later(job: &Job, other: &Job) -> bool
+pub(crate) fn is_later(job: &Job, other: &Job) -> bool
     ensures { result ≡ is_later job.now other.now }
 {
     let ended = job.standing.ended.unwrap_or(0);

@@ -4,10 +4,11 @@ use Rattle.std.specs.FinMap.{get}
 use Rattle.sqlite_value.specs.Order.{Row}
 use Rattle.sqlite.specs.Effect.{Database}
 use Rattle.std.proofs.lemmas.Bool.Decides.{nat_tests}
+use Rattle.room_rules.specs.JobStates.{is_unfinished}
 use Rattle.room_asks.specs.Asks.{PlainAsk}
 use Rattle.room_core.proofs.Orders.{all_showable}
 use Rattle.room_rules.specs.Limits.{last_next_job, may_be_job}
-use Rattle.room_state.specs.RoomRules.{IsJobAt, is_unfinished}
+use Rattle.room_state.specs.RoomRules.{IsJobAt}
 use Rattle.room_statements.specs.Queues.{IsNumbered}
 use Rattle.room_texts.specs.Limits.{IsShowable}
 use Rattle.room_core.specs.JobRequests.{cancel_of, has_password, hold_of, release_of}

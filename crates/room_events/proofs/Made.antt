@@ -1,12 +1,12 @@
 -- A job that an account takes is one that its room takes.
-use Rattle.std.proofs.Common.{◌≡◌, ℕ, ◌<◌, ◌≤◌, pos, Bool, true, false, if◌then◌else◌, is_some, List, [], ◌∷◌, length, Option, Some, None, Ok, option_map, refl, sym, ap, subst, ◌∙◌, inl, arith}
+use Rattle.std.proofs.Common.{◌≡◌, ℕ, ◌<◌, ◌≤◌, pos, Bool, true, false, if◌then◌else◌, is_some, List, [], ◌∷◌, length, Option, Some, None, Ok, option_map, refl, sym, ap, subst, ◌∙◌, arith}
 use Rattle.std.specs.FinMap.{get}
 use Rattle.std.proofs.lemmas.Bool.Decides.{nat_tests}
 use Rattle.sqlite.specs.Effect.{Database}
 use Rattle.room_answers.specs.Queues.{accepting_refusal}
 use Rattle.room_answers.specs.Responses.{done_text}
 use Rattle.room_asks.specs.Asks.{IsAsk, PlainAsk}
-use Rattle.room_asks.specs.Operations.{is_print_job}
+use Rattle.room_asks.specs.Operations.{hands_in_document, is_print_job}
 use Rattle.room_asks.specs.declared.operation.Operation.{Operation}
 use Rattle.room_asks.specs.declared.operation.Operation.TheVariants.{PrintJob, ValidateJob, CreateJob, SendDocument, CancelJob, GetJobAttributes, GetJobs, GetPrinterAttributes, HoldJob, ReleaseJob}
 use Rattle.room_changes.specs.Rows.{IsFree}
@@ -83,7 +83,7 @@ module _ (room : RoomValue) (account : Account) (same : account ≡ account_of r
         password_fits = is_ask.password_fits;
         in_range = in_range;
         stays_unfinished = refl;
-        documents = subst (λ n. GoesOn n 0 (new_job account.next_job ask now).standing.documents (new_document account.next_job ask)) next (goes_on ask.operation account.next_job ask.format ask.payload (λ is. is_ask.document_fits (inl is)));
+        documents = subst (λ n. GoesOn n 0 (new_job account.next_job ask now).standing.documents (new_document account.next_job ask)) next (goes_on ask.operation account.next_job ask.format ask.payload (λ is. is_ask.document_fits (ap hands_in_document is)));
       }
 
   -- and that is what the request comes to

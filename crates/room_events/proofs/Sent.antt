@@ -3,6 +3,7 @@ use Rattle.std.proofs.Common.{◌≡◌, ℕ, ◌+◌, ◌≤◌, pos, Bool, tru
 use Rattle.std.specs.FinMap.{get}
 use Rattle.std.proofs.lemmas.Bool.Decides.{nat_tests}
 use Rattle.sqlite.specs.Effect.{Database}
+use Rattle.room_rules.specs.JobStates.{is_unfinished}
 use Rattle.room_answers.specs.Responses.{done_text}
 use Rattle.room_asks.specs.Asks.{PlainAsk}
 use Rattle.room_changes.specs.Rows.{IsFree}
@@ -20,7 +21,7 @@ use Rattle.room_rules.specs.Moves.{move}
 use Rattle.room_rules.specs.Standings.{IsStanding}
 use Rattle.room_state.specs.Changes.{with_standing}
 use Rattle.room_state.specs.Conditions.{CanRestand, GoesOn}
-use Rattle.room_state.specs.RoomRules.{has_document, is_unfinished}
+use Rattle.room_state.specs.RoomRules.{has_document}
 use Rattle.room_state.specs.Rooms.{RoomValue}
 use Rattle.room_tables.specs.Accounts.{account_of, HoldsRoom}
 use Rattle.room_tables.specs.Cells.{document_cells}

@@ -2,6 +2,7 @@
 use Rattle.std.proofs.Common.{◌≡◌, ℕ, ℤ, Bool, true, false, if◌then◌else◌, List, Option, Some, None, option_map, Result, Ok, Err, IfOk, refl, sym, ap, subst, ◌∙◌}
 use Rattle.std.specs.FinMap.{get}
 use Rattle.sqlite.specs.Effect.{Database}
+use Rattle.room_rules.specs.JobStates.{is_released}
 use Rattle.room_answers.specs.Stations.{known_device, left_after, ready_device}
 use Rattle.room_core.specs.Stations.{by_word, job_or_word, release_of, released, settle_of, settled, start_of}
 use Rattle.room_core.proofs.Sums.{left_moved}
@@ -17,7 +18,7 @@ use Rattle.room_rules.specs.declared.refusal.Word.TheVariants.{NoDevice, Quota}
 use Rattle.room_rules.specs.Moves.{move}
 use Rattle.room_rules.specs.Effects.{refused}
 use Rattle.room_rules.specs.Quota.{exceeds}
-use Rattle.room_rules.specs.StateLaws.{is_released, kept_to_quota, within_quota}
+use Rattle.room_rules.specs.StateLaws.{kept_to_quota, within_quota}
 use Rattle.room_rules.specs.declared.job.JobState.{JobState}
 use Rattle.room_texts.specs.declared.line.Success.TheVariants.{Released, Settled}
 use Rattle.room_state.specs.Rooms.{RoomValue}

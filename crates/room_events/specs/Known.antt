@@ -1,6 +1,7 @@
 -- What earlier reads have shown of an account.
 use Rattle.std.specs.Prelude.{◌≡◌, ℕ, ◌+◌, pos, Bool, true, if◌then◌else◌, List, Option, Some, Result, Ok}
 use Rattle.sqlite.specs.Effect.{Database}
+use Rattle.room_rules.specs.JobStates.{is_unfinished}
 use Rattle.room_answers.specs.Stations.{ready_device}
 use Rattle.room_core.specs.Steps.{and_then}
 use Rattle.room_rules.specs.declared.account.Account.{Account}
@@ -8,7 +9,6 @@ use Rattle.room_rules.specs.declared.device.Device.{Device}
 use Rattle.room_rules.specs.declared.job.Job.{Job}
 use Rattle.room_rules.specs.declared.job.Standing.{Standing}
 use Rattle.room_rules.specs.declared.refusal.Word.{Word}
-use Rattle.room_state.specs.RoomRules.{is_unfinished}
 use Rattle.room_tables.specs.Accounts.{account_at, job_at}
 use Rattle.room_tables.specs.Cells.{account_cells, job_cells}
 

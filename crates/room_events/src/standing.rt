@@ -11,7 +11,7 @@ ghost use Rattle.room_changes.specs.Alone.{OnlyAccount};
 ghost use Rattle.room_events.specs.Known.{IsThere};
 
 use room_changes::{end_job, restand_job};
-use room_core::{Job, Name, Standing, is_unfinished};
+use room_core::{Job, Name, Standing};
 use room_tables::TableFault;
 use sqlite::{Alter, Connection};
 
@@ -31,7 +31,7 @@ pub(crate) fn stand<S: Alter>(
     ensures undamaged { OfStore S.Store connection.old connection.new (λ db. result ≡ Err TableFault.Damaged → ⊥) }
     ensures whole { IsWhole S.Store connection.old connection.new result }
 {
-    if is_unfinished(standing.state) {
+    if standing.state.is_unfinished() {
         return restand_job(connection, name, job.job, standing, None);
     }
     Ok(end_job(connection, name, job.job, standing)?)

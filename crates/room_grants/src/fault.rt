@@ -1,3 +1,5 @@
+//! Why a file of grants is not read.
+
 ghost use Rattle.std.specs.Prelude.{◌≡◌};
 ghost use Rattle.room_grants.specs.Faults.{grant_fault_of};
 ghost use Rattle.room_grants.specs.declared.fault.GrantFault.TheVariants.{Memory};

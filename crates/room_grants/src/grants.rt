@@ -1,3 +1,5 @@
+//! A file of grants as its records.
+
 ghost use Rattle.std.specs.Prelude.{◌≡◌, ◌+◌, ◌-◌, ◌^◌, ◌<◌, ◌≤◌, ℕ, List, All, IfOk, IfErr, IsErrOf, OnOk, length, true, false};
 ghost use Rattle.csv.specs.Reading.{error_kind, is_flexible};
 ghost use Rattle.room_streams.specs.Streams.{IsSpent, Yields};

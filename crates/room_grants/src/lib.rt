@@ -6,5 +6,5 @@ mod grants;
 mod line;
 
 pub use fault::GrantFault;
-pub use grants::{MOST_BYTES, MOST_RECORDS, read_grants};
+pub use grants::read_grants;
 pub use line::GrantLine;

@@ -1,3 +1,5 @@
+//! One record of a file of grants.
+
 ghost use Rattle.std.specs.Prelude.{◌≡◌, ◌≤◌, IfSome};
 ghost use Rattle.csv.specs.Records.{fields_of};
 ghost use Rattle.room_fields.specs.Fields.{month_said};

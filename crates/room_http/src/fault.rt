@@ -1,3 +1,5 @@
+//! How a connection breaks off.
+
 ghost use Rattle.std.specs.Prelude.{◌≡◌};
 ghost use Rattle.room_http.specs.declared.fault.WireFault.TheVariants.{Memory};
 

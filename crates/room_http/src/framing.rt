@@ -1,3 +1,5 @@
+//! Where the body of a message ends.
+
 ghost use Rattle.std.specs.Prelude.{◌≡◌, map};
 ghost use Rattle.room_http.specs.Fields.{plain_field};
 ghost use Rattle.room_http.specs.Framing.{framing_of};

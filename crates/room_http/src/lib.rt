@@ -17,11 +17,10 @@ mod send;
 mod trailers;
 mod words;
 
-pub use answer::{put_answer_head, refusal_text};
 pub use fault::WireFault;
 pub use fields::Field;
-pub use framing::{BODY_LIMIT, Framing};
-pub use judging::{Order, Request, account_of, is_ipp_type, is_post, judge};
+pub use framing::BODY_LIMIT;
+pub use judging::{Order, Request, account_of, is_ipp_type, is_post};
 pub use receiving::{Received, receive};
 pub use refusal::Refusal;
 pub use send::{send_answer, send_refusal};

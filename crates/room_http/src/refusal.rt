@@ -1,3 +1,5 @@
+//! The refusals of a message, and the status of each.
+
 ghost use Rattle.std.specs.Prelude.{◌≡◌, ◌≤◌, [], length, unwrap_or};
 ghost use Rattle.http.specs.StatusCode.{reason_phrase};
 ghost use Rattle.room_http.specs.Texts.{status_of};

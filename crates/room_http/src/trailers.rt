@@ -1,3 +1,5 @@
+//! What follows the last chunk of a body.
+
 ghost use Rattle.std.specs.Prelude.{◌≡◌, ◌+◌, ◌-◌, ◌^◌, ◌<◌, IfErr, IfOk};
 ghost use Rattle.room_http.specs.Exchange.{read_faults};
 ghost use Rattle.room_http.specs.Reading.{IsReading, TrailersAre};

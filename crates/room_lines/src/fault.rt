@@ -1,3 +1,5 @@
+//! Why an input is not read as lines.
+
 use thiserror::Error;
 
 /// Why an input is not read as lines.

@@ -1,3 +1,5 @@
+//! Two texts side by side.
+
 /// The first line that is another in the one text than in the other.
 pub fn difference<'a>(answered: &'a str, expected: &'a str) -> Option<(&'a str, &'a str)> {
     let mut expected = expected.lines();

@@ -1,3 +1,5 @@
+//! Why a conversation is none, or an answer is not told.
+
 use hex::FromHexError;
 use room_lines::LineFault;
 use std::alloc::{AllocError, AllocFailed};

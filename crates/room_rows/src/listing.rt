@@ -1,7 +1,7 @@
 //! The rows that stand for a room and for devices in the shared tables, each printed on a line: the table, and the
 //! columns in their order, bytes as digits.
 
-use room_core::{Device, FIRST_MONTH, Job, JobState, LAST_MONTH, Name, Room, Standing};
+use room_core::{Device, FIRST_MONTH, Job, LAST_MONTH, Name, Room, Standing};
 use std::io;
 use std::io::Write;
 
@@ -59,7 +59,7 @@ fn print_job(output: &mut Vec<u8>, name: Name, job: &Job) -> io::Result<()> {
 }
 
 fn print_standing(output: &mut Vec<u8>, standing: &Standing) -> io::Result<()> {
-    let state = state_number(standing.state);
+    let state = standing.state.number();
     let (open, stopping) = (standing.is_open as u8, standing.stopping as u8);
     write!(output, " {state} {open} {stopping}")?;
     write!(output, " {} {}", standing.copies, standing.impressions)?;
@@ -72,18 +72,6 @@ fn print_standing(output: &mut Vec<u8>, standing: &Standing) -> io::Result<()> {
     print_moment(output, standing.started)?;
     print_moment(output, standing.ended)?;
     output.write_all(b"\n")
-}
-
-/// The number of the state (RFC 8011 section 5.3.7).
-fn state_number(state: JobState) -> u8 {
-    match state {
-        JobState::Pending => 3,
-        JobState::Held => 4,
-        JobState::Processing => 5,
-        JobState::Canceled => 7,
-        JobState::Aborted => 8,
-        JobState::Completed => 9,
-    }
 }
 
 fn print_moment(output: &mut Vec<u8>, moment: Option<u64>) -> io::Result<()> {

@@ -1,5 +1,6 @@
 -- The media type of each document format (RFC 8011 section 5.4.22).
-use Rattle.std.specs.Prelude.{ℕ, List, [], ◌∷◌, codes}
+use Rattle.std.specs.Prelude.{◌≡◌, ℕ, Bool, List, [], ◌∷◌, Option, Some, codes, find}
+use Rattle.std.specs.Str.{str_eq_ignore_ascii_case}
 use Rattle.room_rules.specs.declared.format.Format.{Format}
 use Rattle.room_rules.specs.declared.format.Format.TheVariants.{OctetStream, Pdf, PostScript, Jpeg, PwgRaster, Urf, Plain}
 
@@ -15,3 +16,14 @@ media_type Plain = codes "text/plain"
 -- all of them, in the order in which a printer lists them
 abbrev pub formats : List Format
 formats = OctetStream ∷ Pdf ∷ PostScript ∷ Jpeg ∷ PwgRaster ∷ Urf ∷ Plain ∷ []
+
+-- letters without case
+abbrev pub is_named : List ℕ → Format → Bool
+is_named text format = str_eq_ignore_ascii_case text (media_type format)
+
+abbrev pub format_named : List ℕ → Option Format
+format_named text = find (is_named text) formats
+
+-- reading what was written gives the format
+abbrev pub MediaTypesAreRead : Type 0
+MediaTypesAreRead = (format : Format) → format_named (media_type format) ≡ Some format

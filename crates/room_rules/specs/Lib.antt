@@ -2,6 +2,7 @@ pub mod Formats
 pub mod Names
 pub mod NameCells
 pub mod Limits
+pub mod JobStates
 pub mod Standings
 pub mod Quota
 pub mod Acts

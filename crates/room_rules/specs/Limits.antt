@@ -1,12 +1,20 @@
--- The numbers that bound an account and its jobs (all this project's own).
-use Rattle.std.specs.Prelude.{ℕ, Bool, ◌&&◌, nat_le, nat_lt}
+-- The numbers that bound an account, its jobs and its requests (this project's own, where no section is named).
+use Rattle.std.specs.Prelude.{ℕ, ◌+◌, ◌≤◌, Bool, ◌&&◌, nat_le, nat_lt}
+
+-- of an integer in a message, which has 32 bits with the sign
+abbrev pub greatest_integer : ℕ
+greatest_integer = 2147483647
+
+-- bytes of a uri (RFC 8011 section 5.1.6)
+abbrev pub longest_uri : ℕ
+longest_uri = 1023
 
 abbrev pub most_copies : ℕ
 most_copies = 999
 
 -- of one copy
 abbrev pub most_impressions : ℕ
-most_impressions = 2147483647
+most_impressions = greatest_integer
 
 -- the units that an impression counts on a device
 abbrev pub most_rate : ℕ
@@ -19,6 +27,9 @@ most_documents = 8
 -- moments are whole seconds since 1970-01-01T00:00:00Z, up to the end of 2099
 abbrev pub last_moment : ℕ
 last_moment = 4102444799
+
+abbrev pub IsMoment : ℕ → Type 0
+IsMoment moment = moment ≤ last_moment
 
 -- the months of grants are numbered by the year times 12, and 0 for January to 11 for December:
 -- from January 1970
@@ -41,9 +52,13 @@ longest_password = 32
 abbrev pub longest_document : ℕ
 longest_document = 16777216
 
--- jobs are numbered 1 to 999999, so that the next number is at most this
+-- jobs are numbered from 1 to this
+abbrev pub last_job : ℕ
+last_job = 999999
+
+-- so that the next number is at most this
 abbrev pub last_next_job : ℕ
-last_next_job = 1000000
+last_next_job = last_job + 1
 
 -- 0 is the number of none
 abbrev pub may_be_job : ℕ → Bool

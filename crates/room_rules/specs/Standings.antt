@@ -5,11 +5,7 @@ use Rattle.room_rules.specs.declared.job.JobState.{JobState}
 use Rattle.room_rules.specs.declared.job.JobState.TheVariants.{Held, Pending, Processing, Canceled, Aborted, Completed}
 use Rattle.room_rules.specs.declared.job.Standing.{Standing}
 use Rattle.room_rules.specs.Names.{IsNameOrNone}
-use Rattle.room_rules.specs.Limits.{most_copies, most_impressions, most_rate, most_documents, last_moment}
-
--- a moment, where there is one, is in range
-abbrev pub IsMoment : Option ℕ → Type 0
-IsMoment at = IfSome at (λ moment. moment ≤ last_moment)
+use Rattle.room_rules.specs.Limits.{most_copies, most_impressions, most_rate, most_documents, IsMoment}
 
 -- nothing is charged before the job ends, and there is no moment of ending
 pub record IsUnfinished (s : Standing) : Type 0 where
@@ -60,9 +56,9 @@ pub record HasRanges (s : Standing) : Type 0 where
   pub documents_at_most : s.documents ≤ most_documents
   pub rate_from_one : 1 ≤ s.rate
   pub rate_at_most : s.rate ≤ most_rate
-  pub created_in_range : s.created ≤ last_moment
-  pub started_in_range : IsMoment s.started
-  pub ended_in_range : IsMoment s.ended
+  pub created_in_range : IsMoment s.created
+  pub started_in_range : IfSome s.started IsMoment
+  pub ended_in_range : IfSome s.ended IsMoment
 
 pub record IsStanding (s : Standing) : Type 0 where
   pub ranges : HasRanges s

@@ -1,25 +1,17 @@
 -- What the table of states comes to, in the words of a print room (this project's own).
 use Rattle.std.specs.Prelude.{◌≡◌, ◌⊎◌, ℕ, ◌*◌, ◌≤◌, ℤ, pos, ◌≤ℤ◌, Bool, true, false, if◌then◌else◌, List, [], Option, Some, None, IfSome, IsSome, Result, Ok, Err, IsErr}
 use Rattle.room_rules.specs.declared.job.JobState.{JobState}
-use Rattle.room_rules.specs.declared.job.JobState.TheVariants.{Held, Pending, Processing, Canceled, Aborted, Completed}
+use Rattle.room_rules.specs.declared.job.JobState.TheVariants.{Held, Pending, Processing}
 use Rattle.room_rules.specs.declared.job.Standing.{Standing}
 use Rattle.room_rules.specs.Acts.{Act, ReleaseJob, StationRelease, StationStart, StationSettle}
 use Rattle.room_rules.specs.declared.refusal.Refusal.{Refusal}
 use Rattle.room_rules.specs.declared.refusal.Word.TheVariants.{Quota}
 use Rattle.room_rules.specs.Effects.{refused}
+use Rattle.room_rules.specs.JobStates.{has_ended, is_released}
 use Rattle.room_rules.specs.Limits.{most_impressions, most_copies, most_rate}
 use Rattle.room_rules.specs.Moves.{move}
 use Rattle.room_rules.specs.Quota.{exceeds}
 use Rattle.room_rules.specs.Standings.{IsStanding}
-
--- canceled, aborted or completed (RFC 8011 section 5.3.7)
-abbrev pub has_ended : JobState → Bool
-has_ended Held = false
-has_ended Pending = false
-has_ended Processing = false
-has_ended Canceled = true
-has_ended Aborted = true
-has_ended Completed = true
 
 -- a job that has ended never changes again
 abbrev pub EndedJobsStay : Type 0
@@ -32,15 +24,6 @@ charged_after _ s = s.charged
 
 abbrev pub SettlingAloneCharges : Type 0
 SettlingAloneCharges = (act : Act) (s next : Standing) → move act s ≡ Ok next → next.charged ≡ charged_after act s
-
--- pending or processing
-abbrev pub is_released : JobState → Bool
-is_released Held = false
-is_released Pending = true
-is_released Processing = true
-is_released Canceled = false
-is_released Aborted = false
-is_released Completed = false
 
 -- the rate of a released job is the one that its release fixed, unless the job is held again
 abbrev pub ReleasesFixRates : Type 0

@@ -1,3 +1,5 @@
+//! An account's own row, and its grants.
+
 /// An account's own row.
 #[derive(Clone, Copy, Debug, PartialEq, Eq)]
 pub struct Account {

@@ -1,5 +1,7 @@
-ghost use Rattle.std.specs.Prelude.{◌≡◌, ◌≤◌, ◌+◌, false, if◌then◌else◌, position, vec_len, IsTrue, OnOk, OnErr, IsOkUnless};
-ghost use Rattle.std.specs.FinMap.{contains_key};
+//! The devices, of which the first record of a name counts.
+
+ghost use Rattle.std.specs.Prelude.{◌≡◌, ◌≤◌, ◌+◌, false, if◌then◌else◌, option_copied, position, vec_len, IsTrue, OnOk, OnErr, IsOkUnless};
+ghost use Rattle.std.specs.FinMap.{contains_key, get};
 ghost use Rattle.room_rules.specs.Limits.{most_rate};
 ghost use Rattle.room_rules.specs.Devices.{device_map, is_of_name, turned, rated};
 
@@ -52,6 +54,13 @@ pub fn set_rate(devices: &mut [Device], name: Name, units: u32) -> bool
         }
         None => false,
     }
+}
+
+/// The device with the name.
+pub fn find_device(devices: &[Device], name: Name) -> Option<&Device>
+    ensures { option_copied result ≡ get (device_map devices.now) name }
+{
+    devices.iter().find(|device| is_of_name(device, name))
 }
 
 /// Where the first record of the name stands.

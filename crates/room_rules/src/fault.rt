@@ -1,3 +1,5 @@
+//! Why a call of the rules is not answered.
+
 ghost use Rattle.std.specs.Prelude.{◌≡◌};
 ghost use Rattle.ipp_coding.specs.declared.fault.PutFault.TheVariants as put;
 ghost use Rattle.room_rules.specs.declared.fault.CoreFault.TheVariants.{Memory};

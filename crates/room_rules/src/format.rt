@@ -1,5 +1,7 @@
+//! Document formats and their media types.
+
 ghost use Rattle.std.specs.Prelude.{◌≡◌, ◌≢◌, IfSome, None, bytes_eq, find, option_copied};
-ghost use Rattle.room_rules.specs.Formats.{media_type, formats};
+ghost use Rattle.room_rules.specs.Formats.{format_named, formats, is_named, media_type};
 ghost use Rattle.room_rules.specs.declared.format.Format.{Format as FormatValue};
 
 /// A document format (RFC 8011 section 5.4.22).
@@ -41,22 +43,41 @@ impl Format {
         }
     }
 
+    /// The format of a media type, letters without case.
+    pub fn named(text: &[u8]) -> Option<Format>
+        ensures { result ≡ format_named text.now }
+    {
+        first_named(text).copied()
+    }
+
     /// The format whose media type is exactly these bytes.
     pub fn of_media_type(text: &[u8]) -> Option<Format>
         ensures some { IfSome result (λ format. text.now ≡ media_type format) }
         ensures none { result ≡ None → (format : FormatValue) → text.now ≢ media_type format }
     {
-        first_named(text).copied()
+        first_spelled(text).copied()
     }
 }
 
 fn first_named(text: &[u8]) -> Option<&'static Format>
-    ensures { option_copied result ≡ find (λ format. bytes_eq text.now (media_type format)) formats }
+    ensures { option_copied result ≡ format_named text.now }
 {
     FORMATS.iter().find(|format| is_named(format, text))
 }
 
 fn is_named(format: &Format, text: &[u8]) -> bool
+    ensures { result ≡ is_named text.now format.now }
+{
+    text.eq_ignore_ascii_case(format.media_type().as_bytes())
+}
+
+fn first_spelled(text: &[u8]) -> Option<&'static Format>
+    ensures { option_copied result ≡ find (λ format. bytes_eq text.now (media_type format)) formats }
+{
+    FORMATS.iter().find(|format| is_spelled(format, text))
+}
+
+fn is_spelled(format: &Format, text: &[u8]) -> bool
     ensures { result ≡ bytes_eq text.now (media_type format.now) }
 {
     text == format.media_type().as_bytes()

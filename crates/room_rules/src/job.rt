@@ -1,7 +1,10 @@
-ghost use Rattle.std.specs.Prelude.{◌≡◌};
+//! A job, its state and its documents.
+
+ghost use Rattle.std.specs.Prelude.{◌≡◌, ◌≢◌, ◌≤◌, IfSome, None};
+ghost use Rattle.room_rules.specs.JobStates.{is_processing, is_released, is_unfinished, state_number};
 ghost use Rattle.room_rules.specs.Standings.{IsStanding};
 ghost use Rattle.room_rules.specs.NewJobs.{fresh, CanMake};
-ghost use Rattle.room_rules.specs.StateLaws.{is_released};
+ghost use Rattle.room_rules.specs.declared.job.JobState.{JobState as JobStateValue};
 
 use crate::format::Format;
 use crate::name::Name;
@@ -21,6 +24,54 @@ pub enum JobState {
 }
 
 impl JobState {
+    /// The enum value of job-state.
+    pub fn number(self) -> u32
+        ensures number { result ≡ state_number self }
+        ensures integer { result ≤ 2147483647 }
+    {
+        match self {
+            JobState::Pending => 3,
+            JobState::Held => 4,
+            JobState::Processing => 5,
+            JobState::Canceled => 7,
+            JobState::Aborted => 8,
+            JobState::Completed => 9,
+        }
+    }
+
+    /// The state with the number.
+    pub fn of_number(number: u64) -> Option<JobState>
+        ensures some { IfSome result (λ state. number ≡ state_number state) }
+        ensures none { result ≡ None → (state : JobStateValue) → number ≢ state_number state }
+    {
+        match number {
+            3 => Some(JobState::Pending),
+            4 => Some(JobState::Held),
+            5 => Some(JobState::Processing),
+            7 => Some(JobState::Canceled),
+            8 => Some(JobState::Aborted),
+            9 => Some(JobState::Completed),
+            _ => None,
+        }
+    }
+
+    /// Whether a job in the state has not ended.
+    pub fn is_unfinished(self) -> bool
+        ensures { result ≡ is_unfinished self }
+    {
+        match self {
+            JobState::Held | JobState::Pending | JobState::Processing => true,
+            JobState::Canceled | JobState::Aborted | JobState::Completed => false,
+        }
+    }
+
+    /// Whether a device is printing a job in the state.
+    pub fn is_processing(self) -> bool
+        ensures { result ≡ is_processing self }
+    {
+        matches!(self, JobState::Processing)
+    }
+
     /// Whether a job in the state holds what a release took of the quota.
     pub fn is_released(self) -> bool
         ensures { result ≡ is_released self }

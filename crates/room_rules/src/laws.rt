@@ -1,5 +1,6 @@
 //! What the table of states promises, whoever moves a job.
 
+ghost use Rattle.room_rules.specs.Formats.{MediaTypesAreRead};
 ghost use Rattle.room_rules.specs.StateLaws.{EndedJobsStay, SettlingAloneCharges, ReleasesFixRates, ReleasesReserve, ReservationsAreGivenBack, ReservationsStay, PasswordsAreAsked, StartsAloneProcess, QuotaComesLast};
 
 /// A job that has ended never changes again.
@@ -50,4 +51,9 @@ pub fn starts_alone_process()
 #[tactic(auto, using(crate::proofs::QuotaLemmas::quota_is_last))]
 pub fn quota_comes_last()
     ensures { QuotaComesLast }
+{}
+
+/// Reading a media type that was written gives its format.
+pub fn media_types_are_read()
+    ensures { MediaTypesAreRead }
 {}

@@ -1,11 +1,19 @@
+//! The numbers that bound an account, its jobs and its requests.
+
 ghost use Rattle.std.specs.Prelude.{◌≡◌};
 ghost use Rattle.room_rules.specs.Limits.{may_be_job};
+
+/// The greatest integer that a message carries, which has 32 bits with the sign.
+pub const GREATEST_INTEGER: u32 = 2_147_483_647;
+
+/// Of a URI, in bytes (RFC 8011 section 5.1.6).
+pub const LONGEST_URI: usize = 1_023;
 
 /// Of a job.
 pub const MOST_COPIES: u32 = 999;
 
 /// Of one copy of a job.
-pub const MOST_IMPRESSIONS: u32 = 2_147_483_647;
+pub const MOST_IMPRESSIONS: u32 = GREATEST_INTEGER;
 
 /// The units that an impression counts on a device, at most.
 pub const MOST_RATE: u32 = 100;

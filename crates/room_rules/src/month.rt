@@ -1,3 +1,5 @@
+//! Months of moments.
+
 ghost use Rattle.std.specs.Prelude.{◌≡◌, ◌+◌, ◌*◌, ◌≤◌, pos, ◌+ℤ◌, ◌*ℤ◌, ◌≤ℤ◌, nat_le, Some, None, IfSome, if◌then◌else◌};
 ghost use Rattle.room_rules.specs.Limits.{last_moment};
 ghost use Rattle.room_rules.specs.Months.{IsMonthOf, month_at};

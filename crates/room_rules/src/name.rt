@@ -1,3 +1,5 @@
+//! Names of accounts and devices.
+
 ghost use Rattle.std.specs.Prelude.{◌≡◌, Some, None, IsTrue, if◌then◌else◌};
 ghost use Rattle.std.specs.List.{list_all};
 ghost use Rattle.room_rules.specs.Names.{is_letter, is_name_byte, is_name};

@@ -1,3 +1,5 @@
+//! What a release needs, and what is left of a quota.
+
 ghost use Rattle.std.specs.Prelude.{◌≡◌, ◌*◌, ◌%◌, ◌^◌, ◌≤◌, pos, ◌≤ℤ◌};
 ghost use Rattle.room_rules.specs.Limits.{most_impressions, most_copies, most_rate};
 ghost use Rattle.room_rules.specs.Quota.{need_of, left_of, exceeds};

@@ -1,7 +1,8 @@
 //! Whether a job keeps to its ranges.
 
 ghost use Rattle.std.specs.Prelude.{◌≡◌, ◌≤◌, ◌↔◌, IsTrue, IfSome};
-ghost use Rattle.room_rules.specs.Standings.{IsMoment, IsUnfinished, IsReleased, IsHeld, IsPending, IsProcessing, HasEnded, KeepsToState, HasRanges, IsStanding};
+ghost use Rattle.room_rules.specs.Limits.{IsMoment};
+ghost use Rattle.room_rules.specs.Standings.{IsUnfinished, IsReleased, IsHeld, IsPending, IsProcessing, HasEnded, KeepsToState, HasRanges, IsStanding};
 
 use crate::job::{JobState, Standing};
 use crate::limits::{LAST_MOMENT, MOST_COPIES, MOST_DOCUMENTS, MOST_IMPRESSIONS, MOST_RATE};
@@ -47,7 +48,7 @@ fn has_ranges(s: &Standing) -> bool
 }
 
 fn is_moment(at: Option<u64>) -> bool
-    ensures { IsTrue result ↔ IsMoment at }
+    ensures { IsTrue result ↔ IfSome at IsMoment }
 {
     match at {
         None => true,

@@ -1,3 +1,5 @@
+//! Refusals: a status and a word.
+
 ghost use Rattle.std.specs.Prelude.{◌≡◌};
 ghost use Rattle.room_rules.specs.declared.refusal.Word.TheVariants.{TooManyDocuments};
 

@@ -1,3 +1,5 @@
+//! Why a list of events is not run.
+
 use std::alloc::AllocError;
 use thiserror::Error;
 

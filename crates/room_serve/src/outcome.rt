@@ -1,3 +1,5 @@
+//! What an event of a list came to.
+
 ghost use Rattle.std.specs.Prelude.{◌≡◌};
 ghost use Rattle.room_serve.specs.Outcomes.{outcome_of};
 

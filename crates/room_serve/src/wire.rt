@@ -1,3 +1,5 @@
+//! A connection of HTTP, one message after another.
+
 ghost use Rattle.std.specs.Prelude.{◌≡◌, false};
 
 /// A connection: what messages are read from, and what answers are written to.

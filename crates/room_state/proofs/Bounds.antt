@@ -3,6 +3,7 @@ use Rattle.std.proofs.Common.{ℕ, ◌+◌, ◌≤◌, true, false, cond, nat_le
 use Rattle.std.specs.List.{AllByRecursion}
 use Rattle.std.proofs.lemmas.List.{length-map}
 use Rattle.std.specs.FinMap.{entries, values}
+use Rattle.room_rules.specs.JobStates.{is_unfinished}
 use Rattle.room_rules.specs.declared.job.Job.{Job}
 use Rattle.room_rules.specs.declared.job.JobState.{JobState}
 use Rattle.room_rules.specs.declared.job.JobState.TheVariants.{Held, Pending, Processing, Canceled, Aborted, Completed}
@@ -10,7 +11,7 @@ use Rattle.room_rules.specs.declared.job.Standing.{Standing}
 use Rattle.room_rules.specs.Standings.{KeepsToState}
 use Rattle.room_rules.specs.Limits.{last_next_job}
 use Rattle.room_state.specs.Rooms.{RoomValue}
-use Rattle.room_state.specs.RoomRules.{IsRoom, IsJobAt, is_unfinished}
+use Rattle.room_state.specs.RoomRules.{IsRoom, IsJobAt}
 use Rattle.room_state.specs.Sums.{reserved_in, charged_in, granted_to, pages_by}
 use Rattle.room_state.specs.Tallies.{most_units}
 use Rattle.room_state.proofs.FiniteMaps.{all_along, entries_here, entries_few, sum_at_most, sum_of_passing}

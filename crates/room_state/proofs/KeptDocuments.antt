@@ -6,10 +6,11 @@ use Rattle.std.specs.Ordering.{nat_cmp}
 use Rattle.std.specs.FinMap.{FinMap, get, insert, get-insert, get-retain_keys}
 use Rattle.std.proofs.lemmas.Bool.{eqb-true}
 use Rattle.std.proofs.lemmas.Bool.Decides.{nat_tests}
+use Rattle.room_rules.specs.JobStates.{is_unfinished}
 use Rattle.room_rules.specs.declared.job.Job.{Job}
 use Rattle.room_rules.specs.declared.job.Document.{Document}
 use Rattle.room_state.specs.Rooms.{place_cmp, document_map}
-use Rattle.room_state.specs.RoomRules.{IsDocumentAt, PlacesOnce, has_document, is_unfinished}
+use Rattle.room_state.specs.RoomRules.{IsDocumentAt, PlacesOnce, has_document}
 use Rattle.room_state.specs.Changes.{with_document, without_documents}
 use Rattle.room_state.specs.Conditions.{GoesOn}
 use Rattle.room_state.proofs.DocumentMaps.{place_cmp_total, exact_places, pair_tie, get_document, document_map-push}

@@ -7,10 +7,11 @@ use Rattle.std.specs.FinMap.{FinMap, get, insert, entries, values, get-insert, s
 use Rattle.std.proofs.lemmas.Bool.{eqb-true}
 use Rattle.std.proofs.lemmas.Bool.Decides.{nat_tests}
 use Rattle.std.proofs.lemmas.List.Sums.{sum_by-cons}
+use Rattle.room_rules.specs.JobStates.{is_unfinished}
 use Rattle.room_rules.specs.declared.job.Job.{Job}
 use Rattle.room_rules.specs.declared.job.Standing.{Standing}
 use Rattle.room_state.specs.Rooms.{RoomValue, job_map}
-use Rattle.room_state.specs.RoomRules.{IsRoom, IsJobAt, NumbersRise, is_unfinished}
+use Rattle.room_state.specs.RoomRules.{IsRoom, IsJobAt, NumbersRise}
 use Rattle.room_state.specs.Restanding.{restood_job}
 use Rattle.room_state.proofs.FiniteMaps.{sum-insert_new, sum-insert_there}
 use Rattle.room_state.proofs.JobMaps.{get_job}

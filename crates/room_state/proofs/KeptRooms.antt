@@ -4,11 +4,12 @@ use Rattle.std.specs.Option.{IsSome, IfSome, option_map_or}
 use Rattle.std.specs.Ordering.{nat_cmp}
 use Rattle.std.specs.FinMap.{FinMap, get, insert}
 use Rattle.std.proofs.lemmas.Bool.Decides.{nat_tests}
+use Rattle.room_rules.specs.JobStates.{is_unfinished}
 use Rattle.room_rules.specs.declared.job.Job.{Job}
 use Rattle.room_rules.specs.declared.job.Document.{Document}
 use Rattle.room_rules.specs.declared.job.Standing.{Standing}
 use Rattle.room_state.specs.Rooms.{RoomValue}
-use Rattle.room_state.specs.RoomRules.{IsRoom, IsJobAt, has_document, is_unfinished}
+use Rattle.room_state.specs.RoomRules.{IsRoom, IsJobAt, has_document}
 use Rattle.room_state.specs.Changes.{with_new_job, with_standing, with_ended, with_next, with_grant, with_document, restood, without_documents}
 use Rattle.room_state.specs.Conditions.{CanAddJob, CanRestand, CanFinish, CanSkipTo, CanAddGrant, GoesOn}
 use Rattle.room_state.proofs.KeptJobs.{jobs_with, below_more, none_next, one_more_unfinished, no_more_unfinished}

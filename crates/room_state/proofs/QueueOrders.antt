@@ -5,8 +5,9 @@ use Rattle.std.specs.List.Sorted.{IsPermutation}
 use Rattle.std.proofs.lemmas.Bool.{and_parts, or_cases, eqb-true}
 use Rattle.std.proofs.lemmas.Bool.Decides.{nat_tests}
 use Rattle.std.proofs.lemmas.List.Sorted.{IsPermutation-refl, IsPermutation-trans, IsPermutation-cons, IsPermutation-middle, IsPermutation-sym, IsPermutation-append}
+use Rattle.room_rules.specs.JobStates.{is_unfinished}
 use Rattle.room_rules.specs.declared.job.Job.{Job}
-use Rattle.room_state.specs.RoomRules.{NumbersRise, is_unfinished}
+use Rattle.room_state.specs.RoomRules.{NumbersRise}
 use Rattle.room_state.specs.Queues.{is_later, put_by_end, not_completed, completed, at_most}
 use Rattle.room_state.proofs.FiniteMaps.{all_along}
 

@@ -4,12 +4,13 @@ use Rattle.std.specs.List.{AllByRecursion}
 use Rattle.std.specs.Option.{IsSome, IfSome, option_to_list}
 use Rattle.std.specs.FinMap.{get, values}
 use Rattle.std.proofs.lemmas.Bool.Decides.{nat_tests}
+use Rattle.room_rules.specs.JobStates.{is_unfinished}
 use Rattle.room_rules.specs.declared.account.Grant.{Grant}
 use Rattle.room_rules.specs.declared.job.Job.{Job}
 use Rattle.room_rules.specs.declared.job.Document.{Document}
 use Rattle.room_rules.specs.declared.job.Standing.{Standing}
 use Rattle.room_state.specs.Rooms.{RoomValue, job_map, document_map, grant_map}
-use Rattle.room_state.specs.RoomRules.{IsRoom, NumbersRise, PlacesOnce, MonthsOnce, has_document, is_unfinished}
+use Rattle.room_state.specs.RoomRules.{IsRoom, NumbersRise, PlacesOnce, MonthsOnce, has_document}
 use Rattle.room_state.specs.Changes.{with_new_job, with_standing, with_ended, with_next, with_grant, with_document, restood}
 use Rattle.room_state.specs.Conditions.{CanAddJob, CanRestand, CanFinish, CanSkipTo, CanAddGrant, GoesOn}
 use Rattle.room_state.specs.Restanding.{restood_job}

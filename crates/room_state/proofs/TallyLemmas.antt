@@ -6,6 +6,7 @@ use Rattle.std.proofs.lemmas.List.{take_more}
 use Rattle.std.proofs.lemmas.List.Sums.{sum_by_push, sum_by-take-le}
 use Rattle.std.proofs.lemmas.List.Folds.{list_any-append}
 use Rattle.std.proofs.Math.Bool.{or-false}
+use Rattle.room_rules.specs.JobStates.{is_unfinished, is_processing}
 use Rattle.room_rules.specs.declared.job.Job.{Job}
 use Rattle.room_rules.specs.declared.job.JobState.{JobState}
 use Rattle.room_rules.specs.declared.job.Standing.{Standing}
@@ -13,8 +14,8 @@ use Rattle.room_state.specs.declared.tally.Tally.{Tally}
 use Rattle.std.specs.FinMap.{values}
 use Rattle.room_rules.specs.Limits.{most_unfinished}
 use Rattle.room_state.specs.Rooms.{RoomValue}
-use Rattle.room_state.specs.RoomRules.{IsRoom, is_unfinished, unfinished_count}
-use Rattle.room_state.specs.Sums.{is_processing, reserved_in, charged_in}
+use Rattle.room_state.specs.RoomRules.{IsRoom, unfinished_count}
+use Rattle.room_state.specs.Sums.{reserved_in, charged_in}
 use Rattle.room_state.proofs.Bounds.{reserved_bound, charged_bound}
 use Rattle.room_state.specs.Tallies.{tally_of, counted, counted_in_bounds, is_in_bounds, most_units}
 

@@ -1,13 +1,14 @@
 -- When a room takes a change and keeps its rules (all this project's own).
 use Rattle.std.specs.Prelude.{◌≡◌, ℕ, ◌+◌, ◌<◌, ◌≤◌, true, false, length, Option, Some, None, IsSome, IfSome}
 use Rattle.std.specs.FinMap.{get}
+use Rattle.room_rules.specs.JobStates.{is_unfinished}
 use Rattle.room_rules.specs.declared.job.Job.{Job}
 use Rattle.room_rules.specs.declared.job.Document.{Document}
 use Rattle.room_rules.specs.declared.job.Standing.{Standing}
 use Rattle.room_rules.specs.Limits.{last_next_job, most_unfinished, longest_job_name, longest_password}
 use Rattle.room_rules.specs.Standings.{IsStanding}
 use Rattle.room_state.specs.Rooms.{RoomValue}
-use Rattle.room_state.specs.RoomRules.{IsDocumentAt, IsGrant, is_unfinished, unfinished_count}
+use Rattle.room_state.specs.RoomRules.{IsDocumentAt, IsGrant, unfinished_count}
 
 -- a job's documents go on from those that it had before: none, or the next
 abbrev pub GoesOn : (job before after : ℕ) → Option Document → Type 0

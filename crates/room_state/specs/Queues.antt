@@ -1,7 +1,7 @@
 -- The two orders of Get-Jobs (RFC 8011 section 4.2.6.1), on the jobs of an account by rising number.
 use Rattle.std.specs.Prelude.{ℕ, Bool, ◌&&◌, ◌||◌, ◌==◌, not, nat_lt, if◌then◌else◌, List, [], ◌∷◌, filter, take, fold, Option, Some, None, unwrap_or}
+use Rattle.room_rules.specs.JobStates.{is_unfinished}
 use Rattle.room_rules.specs.declared.job.Job.{Job}
-use Rattle.room_state.specs.RoomRules.{is_unfinished}
 
 -- a job has ended later than another, or then and is the later made
 abbrev pub is_later : Job → Job → Bool

@@ -1,24 +1,14 @@
--- The rules that each room keeps (all this project's own, but the states of a job).
+-- The rules that each room keeps (all this project's own).
 use Rattle.std.specs.Prelude.{◌≡◌, ◌≢◌, ℕ, ◌<◌, ◌≤◌, Bool, true, false, ◌&&◌, nat_le, List, [], ◌∷◌, length, count_by, Option, Some, None, is_some}
 use Rattle.std.specs.List.{AllByRecursion}
 use Rattle.std.specs.FinMap.{get, values}
 use Rattle.room_rules.specs.declared.account.Grant.{Grant}
 use Rattle.room_rules.specs.declared.job.Job.{Job}
 use Rattle.room_rules.specs.declared.job.Document.{Document}
-use Rattle.room_rules.specs.declared.job.JobState.{JobState}
-use Rattle.room_rules.specs.declared.job.JobState.TheVariants.{Held, Pending, Processing, Canceled, Aborted, Completed}
+use Rattle.room_rules.specs.JobStates.{is_unfinished}
 use Rattle.room_rules.specs.Limits.{last_moment, first_month, last_month, last_next_job, most_unfinished, most_pages, longest_job_name, longest_password, longest_document}
 use Rattle.room_rules.specs.Standings.{IsStanding}
 use Rattle.room_state.specs.Rooms.{RoomValue}
-
--- a job that has not ended (RFC 8011 section 5.3.7)
-abbrev pub is_unfinished : JobState → Bool
-is_unfinished Held = true
-is_unfinished Pending = true
-is_unfinished Processing = true
-is_unfinished Canceled = false
-is_unfinished Aborted = false
-is_unfinished Completed = false
 
 abbrev pub unfinished_count : RoomValue → ℕ
 unfinished_count room = count_by (λ job. is_unfinished job.standing.state) (values room.jobs)

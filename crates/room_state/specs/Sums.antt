@@ -3,20 +3,10 @@
 use Rattle.std.specs.Prelude.{ℕ, ℤ, pos, Bool, true, false, nat_le, if◌then◌else◌}
 use Rattle.std.specs.List.{sum_by, list_any}
 use Rattle.std.specs.FinMap.{entries, values}
-use Rattle.room_rules.specs.declared.job.JobState.{JobState}
-use Rattle.room_rules.specs.declared.job.JobState.TheVariants.{Held, Pending, Processing, Canceled, Aborted, Completed}
+use Rattle.room_rules.specs.JobStates.{is_processing}
 use Rattle.room_rules.specs.Months.{month_at}
 use Rattle.room_rules.specs.Quota.{left_of}
 use Rattle.room_state.specs.Rooms.{RoomValue}
-
--- a job that a device is printing (RFC 8011 section 5.3.7)
-abbrev pub is_processing : JobState → Bool
-is_processing Held = false
-is_processing Pending = false
-is_processing Processing = true
-is_processing Canceled = false
-is_processing Aborted = false
-is_processing Completed = false
 
 abbrev pub has_processing : RoomValue → Bool
 has_processing room = list_any (λ job. is_processing job.standing.state) (values room.jobs)

@@ -1,12 +1,11 @@
 -- What is counted of jobs, one after another (all this project's own).
 use Rattle.std.specs.Prelude.{ℕ, ◌+◌, Bool, ◌&&◌, ◌||◌, nat_le, if◌then◌else◌, List, count_by, Option, Some, None}
 use Rattle.std.specs.List.{sum_by, list_any}
+use Rattle.room_rules.specs.JobStates.{is_unfinished, is_processing}
 use Rattle.room_rules.specs.Limits.{most_unfinished}
 use Rattle.room_rules.specs.declared.job.Job.{Job}
 use Rattle.room_rules.specs.declared.job.JobState.{JobState}
 use Rattle.room_state.specs.declared.tally.Tally.{Tally}
-use Rattle.room_state.specs.RoomRules.{is_unfinished}
-use Rattle.room_state.specs.Sums.{is_processing}
 
 -- of all the jobs of a list
 abbrev pub tally_of : List Job → Tally

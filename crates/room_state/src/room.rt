@@ -1,3 +1,5 @@
+//! One account whole, and how it changes.
+
 ghost use Rattle.std.specs.Prelude.{◌≡◌, ◌≤◌, pos, is_some, option_copied, IfSome, IsNone, IsOk, IsOkUnless, OnOk, OnErr};
 ghost use Rattle.std.specs.List.{AllByRecursion};
 ghost use Rattle.std.specs.FinMap.{get, values};

@@ -1,7 +1,8 @@
+//! What is counted of the jobs of an account.
+
 ghost use Rattle.std.specs.Prelude.{◌≡◌, ◌+◌, [], nat_le, IsTrue, if◌then◌else◌};
+ghost use Rattle.room_rules.specs.JobStates.{is_unfinished, is_processing};
 ghost use Rattle.room_rules.specs.Limits.{most_unfinished};
-ghost use Rattle.room_state.specs.RoomRules.{is_unfinished};
-ghost use Rattle.room_state.specs.Sums.{is_processing};
 ghost use Rattle.room_state.specs.Tallies.{tally_of, counted_in_bounds, is_in_bounds, most_units};
 
 use room_rules::{Job, JobState, MOST_UNFINISHED};
@@ -42,7 +43,7 @@ impl Tally {
     {
         Some(Tally {
             unfinished: count_of_unfinished(self.unfinished, state)?,
-            is_processing: self.is_processing || is_processing(state),
+            is_processing: self.is_processing || state.is_processing(),
             reserved: sum_of_units(self.reserved, reserved)?,
             charged: sum_of_units(self.charged, charged)?,
         })
@@ -68,7 +69,7 @@ fn count_of_unfinished(count: u32, state: JobState) -> Option<u32>
     ensures { result ≡ (if nat_le (count + (if is_unfinished state then 1 else 0)) most_unfinished then Some (count + (if is_unfinished state then 1 else 0)) else None) }
 {
     count
-        .checked_add(is_unfinished(state) as u32)
+        .checked_add(state.is_unfinished() as u32)
         .filter(|sum| *sum <= MOST_UNFINISHED)
 }
 
@@ -77,26 +78,4 @@ pub fn sum_of_units(units: u64, more: u64) -> Option<u64>
     ensures { result ≡ (if nat_le (units + more) most_units then Some (units + more) else None) }
 {
     units.checked_add(more).filter(|sum| *sum <= MOST_UNITS)
-}
-
-fn is_unfinished(state: JobState) -> bool
-    ensures { result ≡ is_unfinished state }
-{
-    match state {
-        JobState::Held | JobState::Pending | JobState::Processing => true,
-        JobState::Canceled | JobState::Aborted | JobState::Completed => false,
-    }
-}
-
-fn is_processing(state: JobState) -> bool
-    ensures { result ≡ is_processing state }
-{
-    match state {
-        JobState::Processing => true,
-        JobState::Held
-        | JobState::Pending
-        | JobState::Canceled
-        | JobState::Aborted
-        | JobState::Completed => false,
-    }
 }

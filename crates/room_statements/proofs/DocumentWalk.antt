@@ -15,11 +15,12 @@ use Rattle.sqlite_rules.proofs.ListLemmas.{has_filtered, has_kept, has_left, has
 use Rattle.sqlite_rules.proofs.ProbeLemmas.{has_mapped, mapped_has}
 use Rattle.sqlite.specs.Effect.{Database}
 use Rattle.sqlite.specs.Listing.{understood}
+use Rattle.room_rules.specs.JobStates.{is_unfinished}
 use Rattle.room_rules.specs.declared.job.Document.{Document}
 use Rattle.room_rules.specs.declared.job.Job.{Job}
 use Rattle.room_state.specs.Documents.{documents_of}
 use Rattle.room_state.specs.Rooms.{RoomValue}
-use Rattle.room_state.specs.RoomRules.{has_document, is_unfinished}
+use Rattle.room_state.specs.RoomRules.{has_document}
 use Rattle.room_tables.specs.Tables.{room_schema}
 use Rattle.room_tables.specs.Keyed.{HasSchema}
 use Rattle.room_tables.specs.Queries.{Means, Takes, of_table, is_given, shown_of}

@@ -17,12 +17,13 @@ use Rattle.sqlite_rules.specs.Lists.{Has}
 use Rattle.sqlite_rules.proofs.ListLemmas.{has_kept}
 use Rattle.sqlite_rules.proofs.ProbeLemmas.{mapped_has}
 use Rattle.sqlite.specs.Effect.{Database}
+use Rattle.room_rules.specs.JobStates.{is_unfinished}
 use Rattle.room_rules.specs.declared.job.Job.{Job}
 use Rattle.room_rules.specs.declared.job.JobState.{JobState}
 use Rattle.room_rules.specs.declared.job.JobState.TheVariants.{Held, Pending, Processing, Canceled, Aborted, Completed}
 use Rattle.room_rules.specs.Standings.{IsStanding, KeepsToState}
 use Rattle.room_state.specs.Rooms.{RoomValue}
-use Rattle.room_state.specs.RoomRules.{NumbersRise, is_unfinished}
+use Rattle.room_state.specs.RoomRules.{NumbersRise}
 use Rattle.room_state.specs.Queues.{not_completed, completed, at_most}
 use Rattle.room_state.proofs.JobMaps.{values_keep, values_rise}
 use Rattle.room_state.proofs.QueueOrders.{with_end, not_completed_rise, completed_permutes, completed_fall}

@@ -9,12 +9,11 @@ use Rattle.sqlite_value.specs.Order.{Row, column}
 use Rattle.sqlite_value.specs.Keys.{first_key}
 use Rattle.sqlite_trees.proofs.ListLemmas.{filter-map, filter_same, all_of}
 use Rattle.sqlite.specs.Effect.{Database}
+use Rattle.room_rules.specs.JobStates.{is_unfinished, is_processing}
 use Rattle.room_rules.specs.declared.job.Job.{Job}
 use Rattle.room_rules.specs.declared.job.JobState.{JobState}
 use Rattle.room_rules.specs.declared.job.JobState.TheVariants.{Held, Pending, Processing, Canceled, Aborted, Completed}
-use Rattle.room_state.specs.RoomRules.{is_unfinished}
 use Rattle.room_state.specs.Queues.{not_completed}
-use Rattle.room_state.specs.Sums.{is_processing}
 use Rattle.room_state.specs.Tallies.{tally_of, is_in_bounds}
 use Rattle.room_state.proofs.TallyLemmas.{three_lower, room_in_bounds}
 use Rattle.room_tables.specs.Keyed.{HasSchema}

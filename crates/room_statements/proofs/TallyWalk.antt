@@ -15,12 +15,11 @@ use Rattle.sqlite_sql.specs.Term.{Term, col}
 use Rattle.sqlite_rules.proofs.ProbeLemmas.{has_mapped}
 use Rattle.sqlite.specs.Effect.{Database}
 use Rattle.sqlite.specs.Listing.{understood}
+use Rattle.room_rules.specs.JobStates.{is_unfinished, is_processing}
 use Rattle.room_rules.specs.Limits.{most_unfinished}
 use Rattle.room_rules.specs.declared.job.Job.{Job}
 use Rattle.room_rules.specs.declared.job.JobState.{JobState}
 use Rattle.room_state.specs.declared.tally.Tally.{Tally}
-use Rattle.room_state.specs.RoomRules.{is_unfinished}
-use Rattle.room_state.specs.Sums.{is_processing}
 use Rattle.room_state.specs.Tallies.{tally_of, counted, is_in_bounds, most_units}
 use Rattle.room_state.proofs.TallyLemmas.{three_lower, counted_some, room_in_bounds}
 use Rattle.room_tables.specs.Tables.{room_schema, job}

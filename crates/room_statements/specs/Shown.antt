@@ -2,11 +2,12 @@
 use Rattle.std.specs.Prelude.{◌≡◌, ◌≤◌, [], ◌∷◌, length}
 use Rattle.sqlite_value.specs.declared.value.Value.TheVariants.{Blob}
 use Rattle.sqlite_value.specs.Order.{Row, column}
+use Rattle.room_rules.specs.JobStates.{state_number}
 use Rattle.room_rules.specs.Limits.{longest_job_name, longest_password}
 use Rattle.room_rules.specs.Standings.{IsStanding}
 use Rattle.room_rules.specs.declared.job.Standing.{Standing}
 use Rattle.room_rules.specs.declared.job.Job.{Job}
-use Rattle.room_tables.specs.Cells.{number, flag, state_number, moment, device_text}
+use Rattle.room_tables.specs.Cells.{number, flag, moment, device_text}
 
 -- the cells of a job behind its key
 abbrev pub behind_key : Row → Row

@@ -1,11 +1,12 @@
 -- What the rows of an account come to, one after another (all this project's own).
 use Rattle.std.specs.Prelude.{◌≡◌, ℕ, ◌+◌, ◌<◌, ◌≤◌, [], ◌∷◌, Some, None}
 use Rattle.sqlite_value.specs.Order.{Row, column}
+use Rattle.room_rules.specs.JobStates.{state_number}
 use Rattle.room_rules.specs.declared.job.JobState.{JobState}
 use Rattle.room_state.specs.declared.tally.Tally.{Tally}
 use Rattle.room_state.specs.Tallies.{counted_in_bounds, most_units}
 use Rattle.room_state.specs.Sums.{pages_by}
-use Rattle.room_tables.specs.Cells.{number, state_number}
+use Rattle.room_tables.specs.Cells.{number}
 
 -- ---- its jobs
 

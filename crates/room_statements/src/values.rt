@@ -1,13 +1,14 @@
 //! Values of rows: the parameters of a statement, and what is read back.
 
-ghost use Rattle.std.specs.Prelude.{Bool, ◌≡◌, ◌≢◌, ℕ, ◌<◌, ◌^◌, pos, List, Option, Err, IfOk, IfErr};
+ghost use Rattle.std.specs.Prelude.{Bool, ◌≡◌, ◌≢◌, ℕ, ◌<◌, ◌^◌, pos, List, Option, Err, IfOk, IfErr, IfSome};
 ghost use Rattle.sqlite_value.specs.Value.{owned};
 ghost use Rattle.sqlite_value.specs.declared.value.Value.TheVariants.{Blob, Int, Text};
 ghost use Rattle.sqlite_value.specs.Order.{column};
+ghost use Rattle.room_rules.specs.JobStates.{state_number};
 ghost use Rattle.room_rules.specs.Formats.{media_type};
-ghost use Rattle.room_tables.specs.Cells.{device_name, device_text, flag, moment, moment_number, number, state_number};
+ghost use Rattle.room_tables.specs.Cells.{device_name, device_text, flag, moment, moment_number, number};
 ghost use Rattle.room_statements.specs.Queues.{limit_number};
-ghost use Rattle.room_rules.specs.Standings.{IsMoment};
+ghost use Rattle.room_rules.specs.Limits.{IsMoment};
 ghost use Rattle.room_rules.specs.declared.format.Format.{Format as FormatValue};
 ghost use Rattle.room_rules.specs.declared.job.JobState.{JobState as JobStateValue};
 ghost use Rattle.room_rules.specs.Names.{IsNameOrNone};
@@ -85,19 +86,12 @@ pub(crate) fn flag_at(row: &Row, at: usize) -> Result<bool, TableFault>
 pub(crate) fn number_of_state<'a>(state: JobState) -> ValueRef<'a>
     ensures { owned result ≡ number (state_number state) }
 {
-    ValueRef::Int(match state {
-        JobState::Held => 4,
-        JobState::Pending => 3,
-        JobState::Processing => 5,
-        JobState::Canceled => 7,
-        JobState::Aborted => 8,
-        JobState::Completed => 9,
-    })
+    ValueRef::Int(state.number() as i64)
 }
 
 /// A moment, or that there is none, as a parameter.
 pub(crate) fn moment<'a>(at: Option<u64>) -> ValueRef<'a>
-    requires { IsMoment at }
+    requires { IfSome at IsMoment }
     ensures { owned result ≡ moment at }
 {
     match at {
@@ -143,15 +137,7 @@ pub(crate) fn state_at(row: &Row, at: usize) -> Result<JobState, TableFault>
     ensures read { IfOk result (λ found. column row.now at ≡ number (state_number found)) }
     ensures damaged { result ≡ Err TableFault.Damaged → (found : JobStateValue) → column row.now at ≢ number (state_number found) }
 {
-    match number_at(row, at)? {
-        3 => Ok(JobState::Pending),
-        4 => Ok(JobState::Held),
-        5 => Ok(JobState::Processing),
-        7 => Ok(JobState::Canceled),
-        8 => Ok(JobState::Aborted),
-        9 => Ok(JobState::Completed),
-        _ => Err(TableFault::Damaged),
-    }
+    JobState::of_number(number_at(row, at)?).ok_or(TableFault::Damaged)
 }
 
 /// The moment in a column, or that there is none. Anything else there is `Damaged`.

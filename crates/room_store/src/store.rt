@@ -1,3 +1,5 @@
+//! The store: the shared tables of all accounts.
+
 ghost use Rattle.std.specs.Prelude.{◌≡◌, ◌⊎◌, ◌↔◌, ◌<◌, ℕ, false, List, Option, Err, IfOk, IfErr, OnOk, OnErr, IsErrAnd, IsErrOf, IsTrue, MatchResult};
 ghost use Rattle.sqlite.specs.Held.{state};
 ghost use Rattle.sqlite.specs.State.{HasCleanDisk};

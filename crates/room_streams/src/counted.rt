@@ -1,3 +1,5 @@
+//! A reader or a writer of std as a source or a sink.
+
 ghost use Rattle.std.specs.Prelude.{◌≡◌, ◌+◌, ◌-◌, ◌^◌, ◌<◌, ◌≤◌, ℕ, List, [], false, IfOk, OnErr, length, take};
 ghost use Rattle.std.specs.Io.KnownBytes.{WriteAppends};
 

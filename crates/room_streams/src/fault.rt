@@ -1,3 +1,5 @@
+//! Why an input is not read whole.
+
 ghost use Rattle.std.specs.Prelude.{◌≡◌};
 ghost use Rattle.room_streams.specs.declared.fault.StreamFault.TheVariants.{Memory};
 

@@ -1,3 +1,5 @@
+//! What bytes are read from.
+
 ghost use Rattle.std.specs.Prelude.{◌≡◌, ◌+◌, ◌-◌, ◌^◌, ◌<◌, ◌≤◌, ℕ, List, [], IfOk, OnErr, length, take};
 ghost use Rattle.room_streams.specs.Streams.{IsSpent, Yields, failed_reads};
 

@@ -1,3 +1,5 @@
+//! An input read whole.
+
 ghost use Rattle.std.specs.Prelude.{◌≡◌, ◌+◌, ◌-◌, ◌^◌, ◌<◌, ◌≤◌, ℕ, List, IfOk, IsErrOf, OnOk, length};
 ghost use Rattle.room_streams.specs.Streams.{IsSpent, Yields, read_faults};
 

@@ -5,27 +5,18 @@ use Rattle.sqlite_value.specs.declared.value.Value.{Value}
 use Rattle.sqlite_value.specs.declared.value.Value.TheVariants.{Int, Text, Blob}
 use Rattle.sqlite_value.specs.Order.{Row}
 use Rattle.room_rules.specs.declared.account.Account.{Account}
-use Rattle.room_rules.specs.declared.job.JobState.{JobState}
-use Rattle.room_rules.specs.declared.job.JobState.TheVariants.{Held, Pending, Processing, Canceled, Aborted, Completed}
 use Rattle.room_rules.specs.declared.job.Standing.{Standing}
 use Rattle.room_rules.specs.declared.job.Job.{Job}
 use Rattle.room_rules.specs.declared.job.Document.{Document}
 use Rattle.room_rules.specs.declared.device.Device.{Device}
 use Rattle.room_rules.specs.Formats.{media_type}
+use Rattle.room_rules.specs.JobStates.{state_number}
 
 abbrev pub number : ℕ → Value
 number n = Int (pos n)
 
 abbrev pub flag : Bool → Value
 flag on = number (if on then 1 else 0)
-
-abbrev pub state_number : JobState → ℕ
-state_number Held = 4
-state_number Pending = 3
-state_number Processing = 5
-state_number Canceled = 7
-state_number Aborted = 8
-state_number Completed = 9
 
 abbrev pub moment_number : Option ℕ → ℤ
 moment_number None = negsuc 0

@@ -1,3 +1,5 @@
+//! Why a statement on the tables is not answered.
+
 ghost use Rattle.std.specs.Prelude.{◌≡◌};
 ghost use Rattle.room_tables.specs.declared.fault.TableFault.TheVariants as of_table;
 ghost use Rattle.room_tables.specs.Faults.{put_fault, statement_fault, opening_fault, value_fault};

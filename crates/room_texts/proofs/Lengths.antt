@@ -2,10 +2,11 @@
 use Rattle.std.proofs.Common.{◌++◌, ℕ, ◌≤◌, ◌<◌, ◌^◌, ℤ, length, FitsSigned, w64, arith, codes, length-append}
 use Rattle.std.specs.Fmt.{decimal, signed_decimal}
 use Rattle.std.proofs.lemmas.Fmt.{length-decimal-le, length_signed_le}
+use Rattle.room_rules.specs.Limits.{last_job}
 use Rattle.room_rules.specs.declared.refusal.Word.TheVariants.{Quota, Conflict}
 use Rattle.room_texts.specs.Words.{word_numbers}
 
-pub length-job_number : (job : ℕ) → job ≤ 999999 → length (decimal job) ≤ 6
+pub length-job_number : (job : ℕ) → job ≤ last_job → length (decimal job) ≤ 6
 length-job_number job most = length-decimal-le 6 job (omega arith) (omega arith) (omega arith)
 
 -- of 64 bits

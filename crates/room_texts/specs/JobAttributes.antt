@@ -4,6 +4,7 @@ use Rattle.std.specs.List.{flat_map}
 use Rattle.room_rules.specs.declared.job.Job.{Job}
 use Rattle.room_rules.specs.declared.job.JobState.{JobState}
 use Rattle.room_rules.specs.declared.job.JobState.TheVariants.{Held, Pending, Processing, Canceled, Aborted, Completed}
+use Rattle.room_rules.specs.JobStates.{state_number}
 use Rattle.ipp_coding.specs.Plain.{PlainValue, PlainGroup}
 use Rattle.ipp_coding.specs.Spelling.{attribute_spelling}
 use Rattle.room_texts.specs.declared.job.JobAttribute.{JobAttribute}
@@ -12,15 +13,6 @@ use Rattle.room_texts.specs.Attributes.{single, number, unknown}
 use Rattle.room_texts.specs.Places.{PlainPlace, printer_uri, job_uri}
 use Rattle.room_texts.specs.Times.{up, moment_values}
 use Rattle.room_texts.specs.Tables.{Row, is_wanted, shown, picked, row_attribute}
-
--- job-state as an enum (RFC 8011 section 5.3.7)
-abbrev pub state_number : JobState → ℕ
-state_number Pending = 3
-state_number Held = 4
-state_number Processing = 5
-state_number Canceled = 7
-state_number Aborted = 8
-state_number Completed = 9
 
 -- job-state-reasons (RFC 8011 section 5.3.8), of a job in the state, open or not, to be stopped or not
 abbrev pub state_reason : JobState → Bool → Bool → List ℕ

@@ -8,6 +8,7 @@ use Rattle.room_texts.specs.declared.printer.PrinterAttribute.{PrinterAttribute}
 use Rattle.room_texts.specs.declared.printer.PrinterAttribute.TheVariants as attribute
 use Rattle.room_texts.specs.Attributes.{value_with, single, number, boolean}
 use Rattle.room_rules.specs.Formats.{media_type, formats}
+use Rattle.room_rules.specs.Limits.{longest_password, most_copies}
 use Rattle.room_texts.specs.Places.{PlainPlace, printer_uri}
 use Rattle.room_texts.specs.Times.{up}
 use Rattle.room_texts.specs.Tables.{Row, shown}
@@ -46,10 +47,10 @@ printer_attributes =
     ∷ described (codes "printer-up-time") (λ at printer. single 0x21 (number (up at at.now)))
     ∷ described (codes "compression-supported") (λ at printer. single 0x44 (codes "none"))
     ∷ described (codes "multiple-document-jobs-supported") (λ at printer. single 0x22 (boolean true))
-    ∷ described (codes "job-password-supported") (λ at printer. single 0x21 (number 32))
+    ∷ described (codes "job-password-supported") (λ at printer. single 0x21 (number longest_password))
     ∷ described (codes "job-password-encryption-supported") (λ at printer. single 0x44 (codes "none"))
     ∷ templated (codes "copies-default") (λ at printer. single 0x21 (number 1))
-    ∷ templated (codes "copies-supported") (λ at printer. single 0x33 (number 1 ++ number 999))
+    ∷ templated (codes "copies-supported") (λ at printer. single 0x33 (number 1 ++ number most_copies))
     ∷ templated (codes "job-hold-until-default") (λ at printer. single 0x44 (codes "indefinite"))
     ∷ templated (codes "job-hold-until-supported") (λ at printer. single 0x44 (codes "indefinite"))
     ∷ []

@@ -1,7 +1,6 @@
 -- Tables of attributes, and which of them a requester is shown.
-use Rattle.std.specs.Prelude.{ℕ, Bool, true, ◌||◌, if◌then◌else◌, nat_eq, List, [], ◌∷◌, map, filter, Option, Some, None, codes}
+use Rattle.std.specs.Prelude.{ℕ, Bool, true, ◌||◌, if◌then◌else◌, List, [], ◌∷◌, map, filter, Option, Some, None, codes, bytes_eq}
 use Rattle.std.specs.Borrow.{Bor}
-use Rattle.std.specs.Cmp.Lexicographic.{pointwise}
 use Rattle.std.specs.List.{list_any}
 use Rattle.ipp_coding.specs.Plain.{PlainValue, PlainAttribute}
 use Rattle.ipp_coding.specs.Spelling.{attribute_spelling}
@@ -13,12 +12,9 @@ pub record Row (Thing : Type 0) : Type 0 where
   pub group : List ℕ
   pub values : PlainPlace → Thing → List PlainValue
 
-abbrev pub same_bytes : List ℕ → List ℕ → Bool
-same_bytes a b = pointwise nat_eq a b
-
 -- `requested-attributes` has the name, the name of its group, or `all` (RFC 8011 section 4.2.5.1)
 abbrev pub asks_for : List ℕ → List ℕ → List ℕ → Bool
-asks_for name group asked = same_bytes asked name || same_bytes asked group || same_bytes asked (codes "all")
+asks_for name group asked = bytes_eq asked name || bytes_eq asked group || bytes_eq asked (codes "all")
 
 -- without `requested-attributes` all are shown
 abbrev pub is_wanted : Option (List (List ℕ)) → List ℕ → List ℕ → Bool

@@ -5,6 +5,7 @@ ghost use Rattle.std.specs.List.{flat_map, AllByRecursion};
 ghost use Rattle.ipp_coding.specs.Plain.{plain_value, plain_attribute};
 ghost use Rattle.ipp_coding.specs.Spelling.{attribute_spelling, further_spelling, AreValues, Fits, IsAttribute, IsValue};
 ghost use Rattle.ipp_coding.specs.Writing.{group_refusal};
+ghost use Rattle.room_rules.specs.Limits.{greatest_integer};
 ghost use Rattle.room_texts.specs.Attributes.{attribute_with, boolean, number, IsAttributeName};
 ghost use Rattle.room_texts.specs.Limits.{IsPlace};
 ghost use Rattle.room_texts.specs.Places.{plain_place, printer_uri};
@@ -75,7 +76,7 @@ pub(crate) fn put_number(
 ) -> Result<(), CoreFault>
     requires name { IsAttributeName name.now }
     requires tag { 0x10 ≤ tag }
-    requires value { value ≤ 2147483647 }
+    requires value { value ≤ greatest_integer }
     ensures appended { OnOk result (out.new.items ≡ out.old.items ++ attribute_spelling (attribute_with name.now tag (number value))) }
     ensures memory { IfErr result (λ fault. fault ≡ CoreFault.Memory) }
     ensures unchanged { OnErr result (out.new.items ≡ out.old.items) }

@@ -2,8 +2,9 @@
 
 ghost use Rattle.std.specs.Prelude.{◌≡◌, ◌++◌, ◌≤◌, ◌*◌, ◌/◌, IfErr, OnOk, OnErr, map, take, length};
 ghost use Rattle.ipp_coding.specs.Spelling.{attribute_spelling, group_spelling, Fits};
+ghost use Rattle.room_rules.specs.Limits.{greatest_integer, last_job, most_impressions};
 ghost use Rattle.room_texts.specs.Attributes.{attribute_with, IsAttributeName};
-ghost use Rattle.room_texts.specs.JobAttributes.{job_group, selected_group, job_row, picked_text, impressions_values, state_number, state_reason};
+ghost use Rattle.room_texts.specs.JobAttributes.{job_group, selected_group, job_row, picked_text, impressions_values, state_reason};
 ghost use Rattle.room_texts.specs.Limits.{IsPlace, IsShowable};
 ghost use Rattle.room_texts.specs.Places.{plain_place, job_uri};
 ghost use Rattle.room_texts.specs.Tables.{asked_names, row_attribute, text_where};
@@ -215,7 +216,7 @@ fn put_job_attribute(
         JobAttribute::PrinterUri => put_printer_uri(out, name, at),
         JobAttribute::Name => put_single(out, NAME, name, job.name.as_slice()),
         JobAttribute::UserName => put_single(out, NAME, name, at.name.bytes()),
-        JobAttribute::State => put_number(out, ENUM, name, state_number(standing.state)),
+        JobAttribute::State => put_number(out, ENUM, name, standing.state.number()),
         JobAttribute::StateReasons => put_single(out, KEYWORD, name, state_reason(standing)),
         JobAttribute::Documents => put_number(out, INTEGER, name, standing.documents),
         JobAttribute::Impressions => put_impressions(out, name, standing.impressions),
@@ -233,21 +234,6 @@ fn put_job_attribute(
         JobAttribute::NaturalLanguage => put_single(out, LANGUAGE, name, b"en"),
         JobAttribute::Copies => put_number(out, INTEGER, name, standing.copies),
         JobAttribute::HoldUntil => put_single(out, KEYWORD, name, b"indefinite"),
-    }
-}
-
-/// The job-state as an enum (RFC 8011 section 5.3.7).
-fn state_number(state: JobState) -> u32
-    ensures number { result ≡ state_number state }
-    ensures integer { result ≤ 2147483647 }
-{
-    match state {
-        JobState::Pending => 3,
-        JobState::Held => 4,
-        JobState::Processing => 5,
-        JobState::Canceled => 7,
-        JobState::Aborted => 8,
-        JobState::Completed => 9,
     }
 }
 
@@ -270,16 +256,16 @@ fn state_reason(standing: &Standing) -> &'static [u8]
 /// The impressions that were charged, at so many units each.
 fn impressions_completed(standing: &Standing) -> u32
     requires rate { 1 ≤ standing.now.rate }
-    requires charged { standing.now.charged ≤ 2147483647 * standing.now.rate }
+    requires charged { standing.now.charged ≤ most_impressions * standing.now.rate }
     ensures quotient { result ≡ standing.now.charged / standing.now.rate }
-    ensures integer { result ≤ 2147483647 }
+    ensures integer { result ≤ greatest_integer }
 {
     (standing.charged / u64::from(standing.rate)) as u32
 }
 
 fn put_impressions(out: &mut Vec<u8>, name: &[u8], impressions: u32) -> Result<(), CoreFault>
     requires name { IsAttributeName name.now }
-    requires impressions { impressions ≤ 2147483647 }
+    requires impressions { impressions ≤ most_impressions }
     ensures appended { OnOk result (out.new.items ≡ out.old.items ++ attribute_spelling (record { name = name.now; values = impressions_values impressions })) }
     ensures memory { IfErr result (λ fault. fault ≡ CoreFault.Memory) }
     ensures unchanged { OnErr result (out.new.items ≡ out.old.items) }
@@ -293,7 +279,7 @@ fn put_impressions(out: &mut Vec<u8>, name: &[u8], impressions: u32) -> Result<(
 fn put_job_uri(out: &mut Vec<u8>, name: &[u8], at: &Place<'_>, job: u32) -> Result<(), CoreFault>
     requires name { IsAttributeName name.now }
     requires place { IsPlace (plain_place at.now) }
-    requires job { job ≤ 999999 }
+    requires job { job ≤ last_job }
     ensures appended { OnOk result (out.new.items ≡ out.old.items ++ attribute_spelling (attribute_with name.now 0x45 (job_uri (plain_place at.entry.now) job))) }
     ensures memory { IfErr result (λ fault. fault ≡ CoreFault.Memory) }
     ensures unchanged { OnErr result (out.new.items ≡ out.old.items) }

@@ -1,13 +1,13 @@
+//! Where and when a job or a printer is shown.
+
 ghost use Rattle.std.specs.Prelude.{◌≡◌, ◌≤◌, length, IfOk};
+ghost use Rattle.room_rules.specs.Limits.{greatest_integer, last_job};
 ghost use Rattle.room_texts.specs.Limits.{IsPlace};
 ghost use Rattle.room_texts.specs.Places.{plain_place, printer_uri, job_uri};
 ghost use Rattle.room_texts.specs.Times.{up};
 
-use room_rules::Name;
+use room_rules::{GREATEST_INTEGER, Name};
 use std::alloc::{AllocError, Global};
-
-/// The greatest integer that a message can carry.
-const GREATEST: u64 = 2147483647;
 
 /// Where and when a job or a printer is shown.
 #[derive(Clone, Copy, Debug)]
@@ -39,7 +39,7 @@ impl<'a> Place<'a> {
     /// The URI of a job in it.
     pub(crate) fn job_uri(&self, alloc: Global, job: u32) -> Result<Vec<u8>, AllocError>
         requires place { IsPlace (plain_place self.now) }
-        requires job { job ≤ 999999 }
+        requires job { job ≤ last_job }
         ensures uri { IfOk result (λ uri. uri.items ≡ job_uri (plain_place self.entry.now) job) }
         ensures short { IfOk result (λ uri. length uri.items ≤ 1073) }
     {
@@ -52,8 +52,11 @@ impl<'a> Place<'a> {
     /// A moment as the printer tells it: in seconds since the account was opened, counted from 1.
     pub(crate) fn up(&self, moment: u64) -> u32
         ensures up { result ≡ up (plain_place self.entry.now) moment }
-        ensures integer { result ≤ 2147483647 }
+        ensures integer { result ≤ greatest_integer }
     {
-        (moment.saturating_sub(self.opened).min(GREATEST - 1) + 1) as u32
+        (moment
+            .saturating_sub(self.opened)
+            .min(u64::from(GREATEST_INTEGER) - 1)
+            + 1) as u32
     }
 }

@@ -19,7 +19,7 @@ use crate::attribute::{
 use crate::place::Place;
 use crate::selection::is_wanted;
 use ipp_coding::Value;
-use room_rules::{CoreFault, Format};
+use room_rules::{CoreFault, Format, LONGEST_PASSWORD};
 
 /// What a printer is doing.
 #[derive(Clone, Copy, Debug, PartialEq, Eq)]
@@ -261,7 +261,7 @@ fn put_printer_attribute(
         PrinterAttribute::UpTime => put_number(out, INTEGER, name, at.up(at.now)),
         PrinterAttribute::Compression => put_single(out, KEYWORD, name, b"none"),
         PrinterAttribute::MultipleDocuments => put_boolean(out, name, true),
-        PrinterAttribute::Password => put_number(out, INTEGER, name, 32),
+        PrinterAttribute::Password => put_number(out, INTEGER, name, LONGEST_PASSWORD as u32),
         PrinterAttribute::PasswordEncryption => put_single(out, KEYWORD, name, b"none"),
         PrinterAttribute::CopiesDefault => put_number(out, INTEGER, name, 1),
         PrinterAttribute::CopiesSupported => put_single(

@@ -1,3 +1,5 @@
+//! Why nothing is timed.
+
 use ipp_coding::PutFault;
 use room_store::{OpenFault, StoreFault};
 use std::alloc::{AllocError, AllocFailed};

@@ -1,3 +1,5 @@
+//! Why rows are not held against the print room.
+
 use room_rows::RowFault;
 use room_serve::RunFault;
 use room_store::{OpenFault, StoreFault};

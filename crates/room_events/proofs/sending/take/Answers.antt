@@ -1,8 +1,9 @@
-use Rattle.std.proofs.Common.{◌≡◌, ℕ, pos, Some, Err, Result, IfOk, sym, ap, refl, subst, ◌∙◌, inr}
+use Rattle.std.proofs.Common.{◌≡◌, ℕ, pos, Some, Err, Result, IfOk, sym, ap, refl, subst, ◌∙◌}
 use Rattle.std.specs.FinMap.{get}
 use Rattle.std.proofs.lemmas.Result.{err_from_is_err_and}
 use Rattle.sqlite.specs.Held.{state}
 use Rattle.room_asks.specs.Asks.{plain_ask}
+use Rattle.room_asks.specs.Operations.{hands_in_document}
 use Rattle.room_changes.specs.NewDocuments.{first_of}
 use Rattle.room_core.specs.JobRequests.{has_data}
 use Rattle.room_rules.specs.declared.job.Standing.{Standing}
@@ -54,6 +55,6 @@ returns-clause-served g c known =
           let there : get of.0.jobs ask.job ≡ Some job = ap (get of.0.jobs) (sym c.requires.number) ∙ job_in_room _ name job (known clean has).0 c.requires.numbered.in_range.standing of.0 held.room in
           let own = account_in_room _ name c.args.account (known clean has).1 of.0 held.room in (
             c.in_ok-text.ensures.text ∙ told of.0 ask job there standing takes name c.args.now c.args.decided c.in-Ok.is c.args.account own (plain_place c.asked_at-at.result) c.asked_at-at.ensures.place _ c.made_names.ensures,
-            taken of.0 ask job there standing takes name c.args.now c.args.decided c.in-Ok.is (first_of ask.job c.next_document-document.result) (c.next_document-document.ensures job refl) in_range (c.requires.ask.document_fits (inr c.requires.operation)) (state g.S.Store new).now (after.1 of.0 held.room),
+            taken of.0 ask job there standing takes name c.args.now c.args.decided c.in-Ok.is (first_of ask.job c.next_document-document.result) (c.next_document-document.ensures job refl) in_range (c.requires.ask.document_fits (ap hands_in_document c.requires.operation)) (state g.S.Store new).now (after.1 of.0 held.room),
           ),
     ))
