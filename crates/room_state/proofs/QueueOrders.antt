@@ -8,7 +8,7 @@ use Rattle.std.proofs.lemmas.List.Sorted.{IsPermutation-refl, IsPermutation-tran
 use Rattle.room_rules.specs.JobStates.{is_unfinished}
 use Rattle.room_rules.specs.declared.job.Job.{Job}
 use Rattle.room_state.specs.RoomRules.{NumbersRise}
-use Rattle.room_state.specs.Queues.{is_later, put_by_end, not_completed, completed, at_most}
+use Rattle.room_state.specs.Queues.{is_later, put_by_end, not_completed, ended_jobs, completed, EndsLater, EndsFall, at_most}
 use Rattle.room_state.proofs.FiniteMaps.{all_along}
 
 all_filtered : {X : Type 0} (P : X → Type 0) (test : X → Bool) (xs : List X) → AllByRecursion P xs → AllByRecursion P (filter test xs)
@@ -28,12 +28,6 @@ not_completed_rise jobs rising = filtered_rise (λ (job : Job). is_unfinished jo
 
 -- ---- which of two has ended later
 
-abbrev pub moment_of : Job → ℕ
-moment_of job = unwrap_or job.standing.ended 0
-
-abbrev pub EndsLater : Job → Job → Type 0
-EndsLater job other = (moment_of other < moment_of job) ⊎ ((moment_of job ≡ moment_of other) × (other.job < job.job))
-
 is_below : (m n : ℕ) → nat_lt m n ≡ true → m < n
 is_below m n h = grind (arith, nat_tests)
 
@@ -50,16 +44,11 @@ later_told job other h = elim (or_cases _ _ h) [
 later_else : (job other : Job) → other.job ≢ job.job → is_later job other ≡ false → EndsLater other job
 later_else job other apart h = grind (arith, nat_tests)
 
-later_through : (a b c : Job) → EndsLater a b → EndsLater b c → EndsLater a c
+pub later_through : (a b c : Job) → EndsLater a b → EndsLater b c → EndsLater a c
 later_through a b c (inl h) (inl k) = inl (omega (arith, h, k))
 later_through a b c (inl h) (inr k) = inl (omega (arith, h, k.0))
 later_through a b c (inr h) (inl k) = inl (omega (arith, h.0, k))
 later_through a b c (inr h) (inr k) = inr (omega (arith, h.0, k.0), omega (arith, h.1, k.1))
-
--- each has ended later than those behind it
-abbrev pub EndsFall : List Job → Type 0
-EndsFall [] = Unit {0}
-EndsFall (job ∷ jobs) = AllByRecursion (EndsLater job) jobs × EndsFall jobs
 
 -- ---- a job is put among others
 
@@ -113,14 +102,11 @@ fold_falls put (job ∷ jobs) fall lower rising =
     fold_falls (put_by_end put job) jobs (put_falls put job (all_along (λ (other : Job) h. h.0) put lower) fall)
     (all_put (λ other. AllByRecursion (λ later. other.job < later.job) jobs) put job (all_along (λ (other : Job) h. h.1) put lower) rising.0) rising.1
 
-abbrev pub with_end : List Job → List Job
-with_end jobs = filter (λ (job : Job). not (is_unfinished job.standing.state)) jobs
-
-pub completed_permutes : (jobs : List Job) → IsPermutation (with_end jobs) (completed jobs)
-completed_permutes jobs = fold_permutes [] (with_end jobs)
+pub completed_permutes : (jobs : List Job) → IsPermutation (ended_jobs jobs) (completed jobs)
+completed_permutes jobs = fold_permutes [] (ended_jobs jobs)
 
 pub completed_fall : (jobs : List Job) → NumbersRise jobs → EndsFall (completed jobs)
-completed_fall jobs rising = fold_falls [] (with_end jobs) tt tt (filtered_rise (λ (job : Job). not (is_unfinished job.standing.state)) jobs rising)
+completed_fall jobs rising = fold_falls [] (ended_jobs jobs) tt tt (filtered_rise (λ (job : Job). not (is_unfinished job.standing.state)) jobs rising)
 
 -- ---- what holds of each job holds of those that are listed
 
@@ -128,7 +114,7 @@ pub all_not_completed : (P : Job → Type 0) (jobs : List Job) → AllByRecursio
 all_not_completed P jobs all = all_filtered P (λ (job : Job). is_unfinished job.standing.state) jobs all
 
 pub all_completed : (P : Job → Type 0) (jobs : List Job) → AllByRecursion P jobs → AllByRecursion P (completed jobs)
-all_completed P jobs all = all_folded P put_by_end (all_put P) [] (with_end jobs) tt (all_filtered P (λ (job : Job). not (is_unfinished job.standing.state)) jobs all)
+all_completed P jobs all = all_folded P put_by_end (all_put P) [] (ended_jobs jobs) tt (all_filtered P (λ (job : Job). not (is_unfinished job.standing.state)) jobs all)
 
 pub all_at_most : (P : Job → Type 0) (limit : Option ℕ) (jobs : List Job) → AllByRecursion P jobs → AllByRecursion P (at_most limit jobs)
 all_at_most P None jobs all = all

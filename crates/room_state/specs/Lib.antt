@@ -6,4 +6,6 @@ pub mod Tallies
 pub mod Changes
 pub mod Conditions
 pub mod Restanding
+pub mod QueueFolds
 pub mod Queues
+pub mod QueueLaws

@@ -1,26 +1,38 @@
 -- The two orders of Get-Jobs (RFC 8011 section 4.2.6.1), on the jobs of an account by rising number.
-use Rattle.std.specs.Prelude.{ℕ, Bool, ◌&&◌, ◌||◌, ◌==◌, not, nat_lt, if◌then◌else◌, List, [], ◌∷◌, filter, take, fold, Option, Some, None, unwrap_or}
+-- What is not completed is a filter; what is completed is the one list that IsCompletedQueue describes.
+use Rattle.std.specs.Prelude.{◌≡◌, ◌⊎◌, ℕ, ◌<◌, not, List, [], ◌∷◌, filter, take, Option, Some, None, unwrap_or}
+use Rattle.std.specs.List.{AllByRecursion}
+use Rattle.std.specs.List.Sorted.{IsPermutation}
 use Rattle.room_rules.specs.JobStates.{is_unfinished}
 use Rattle.room_rules.specs.declared.job.Job.{Job}
-
--- a job has ended later than another, or then and is the later made
-abbrev pub is_later : Job → Job → Bool
-is_later job other =
-    nat_lt (unwrap_or other.standing.ended 0) (unwrap_or job.standing.ended 0)
-    || (unwrap_or job.standing.ended 0 == unwrap_or other.standing.ended 0 && nat_lt other.job job.job)
-
--- the job among others, before the first that it is later than
-abbrev pub put_by_end : List Job → Job → List Job
-put_by_end [] job = job ∷ []
-put_by_end (other ∷ others) job = if is_later job other then job ∷ other ∷ others else other ∷ put_by_end others job
+pub use Rattle.room_state.specs.QueueFolds.{is_later, put_by_end, completed}
 
 -- those that have not ended, in the order that they stand in
 abbrev pub not_completed : List Job → List Job
 not_completed jobs = filter (λ (job : Job). is_unfinished job.standing.state) jobs
 
--- those that have, by falling moment of ending, and where that is the same by falling number
-abbrev pub completed : List Job → List Job
-completed jobs = fold put_by_end [] (filter (λ (job : Job). not (is_unfinished job.standing.state)) jobs)
+-- those that have ended, in the order that they stand in
+abbrev pub ended_jobs : List Job → List Job
+ended_jobs jobs = filter (λ (job : Job). not (is_unfinished job.standing.state)) jobs
+
+-- the moment at which a job ended
+abbrev pub ended_at : Job → ℕ
+ended_at job = unwrap_or job.standing.ended 0
+
+-- a job ended later than another, or at the same moment and has the higher number
+abbrev pub EndsLater : (job other : Job) → Type 0
+EndsLater job other =
+    (ended_at other < ended_at job) ⊎ ((ended_at job ≡ ended_at other) × (other.job < job.job))
+
+-- each ended later than all behind it
+abbrev pub EndsFall : List Job → Type 0
+EndsFall [] = Unit {0}
+EndsFall (job ∷ jobs) = AllByRecursion (EndsLater job) jobs × EndsFall jobs
+
+-- the queue of the completed jobs: those that have ended, the latest first
+pub record IsCompletedQueue (jobs queue : List Job) : Type 0 where
+  pub all_ended : IsPermutation (ended_jobs jobs) queue
+  pub latest_first : EndsFall queue
 
 -- the first so many
 abbrev pub at_most : Option ℕ → List Job → List Job
