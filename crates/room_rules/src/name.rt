@@ -20,19 +20,24 @@ impl Model for Name {
     ghost use Rattle.std.specs.Prelude.{◌≡◌, ℕ, ◌≤◌, List, length, take, IsTrue};
     ghost use Rattle.std.proofs.Common.{sym};
     ghost use Rattle.room_rules.specs.Names.{is_name};
-    ghost use Rattle.room_rules.specs.NameCells.{cells_of, length-name};
+    ghost use Rattle.room_rules.specs.NameCells.{cells_of};
 
     ghost Value = { List ℕ };
 
     ghost view = { λ n. take n.size n.cells };
 
-    ghost invariant = { λ n. (n.size ≤ 32) × (n.cells ≡ cells_of (take n.size n.cells)) × IsTrue (is_name (take n.size n.cells)) };
+    ghost invariant = { λ n.
+      (n.size ≤ 32)
+      × (length (take n.size n.cells) ≡ n.size)
+      × (n.cells ≡ cells_of (take n.size n.cells))
+      × IsTrue (is_name (take n.size n.cells))
+    };
 
     ghost inverse = { λ bytes. record { size = length bytes; cells = cells_of bytes } };
 
     ghost inverse_ok = { λ n h i. record {
-      size = length-name n.size n.cells h.0 h.1 i;
-      cells = sym h.1 i;
+      size = h.1 i;
+      cells = sym h.2 i;
     } };
 }
 
