@@ -1,4 +1,5 @@
 pub mod Digits
+pub mod FirstNames
 pub mod Keys
 pub mod Lookups
 pub mod Marks

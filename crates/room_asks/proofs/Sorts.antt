@@ -18,8 +18,7 @@ use Rattle.ipp_coding.specs.declared.message.Attribute.{Attribute}
 use Rattle.ipp_coding.specs.Plain.{plain_attribute}
 use Rattle.room_asks.specs.declared.firsts.Key.{Key}
 use Rattle.room_asks.specs.Requests.{is_named}
-use Rattle.room_asks.specs.Templates.{is_repeated}
-use Rattle.room_asks.specs.Names.{IsKeyOf, AreKeys}
+use Rattle.room_asks.specs.Names.{is_repeated, IsKeyOf, AreKeys}
 use Rattle.room_asks.proofs.Keys.{key_cmp, key_order, is_same, tied_from_same, same_from_tied, tied_between, same_of_name, name_told}
 
 -- a key with the place of its attribute

@@ -1,13 +1,13 @@
 -- What is answered of a request can be spelled, since the request was.
-use Rattle.std.proofs.Common.{Bool, true, false, cond, ◌==◌, ◌||◌, if◌then◌else◌, List, [], ◌∷◌, ◌++◌, Option, Some, unwrap_or, lit≤}
+use Rattle.std.proofs.Common.{Bool, true, false, cond, not, ◌==◌, if◌then◌else◌, List, [], ◌∷◌, map, filter, Option, Some, unwrap_or, lit≤}
 use Rattle.std.specs.Option.{option_map}
 use Rattle.std.specs.List.{AllByRecursion, find}
 use Rattle.ipp_coding.specs.Plain.{PlainAttribute, PlainGroup, PlainMessage}
 use Rattle.ipp_coding.specs.Spelling.{IsAttribute, IsGroup, IsValue}
 use Rattle.room_asks.specs.declared.operation.Operation.{Operation}
 use Rattle.room_asks.specs.Operations.{makes_job}
-use Rattle.room_asks.specs.Requests.{job_group}
-use Rattle.room_asks.specs.Templates.{template_attributes, is_known, unknown, returned, is_repeated, is_supported, unsupported_behind, unsupported}
+use Rattle.room_asks.specs.Requests.{is_named, job_group}
+use Rattle.room_asks.specs.Templates.{template_attributes, is_known, unknown, returned, is_supported, firsts, unsupported}
 
 abbrev pub AreSpelled : List PlainAttribute → Type 0
 AreSpelled attributes = AllByRecursion IsAttribute attributes
@@ -44,17 +44,24 @@ known_or_unknown false attribute spelled = record { named = spelled.named; name 
 returned_spelled : (attribute : PlainAttribute) → IsAttribute attribute → IsAttribute (returned attribute)
 returned_spelled attribute spelled = known_or_unknown (is_known attribute) attribute spelled
 
-one_or_none : (none : Bool) (attribute : PlainAttribute) (later : List PlainAttribute) → IsAttribute attribute → AreSpelled later →
-    AreSpelled ((if none then [] else attribute ∷ []) ++ later)
-one_or_none true attribute later here all = all
-one_or_none false attribute later here all = (here, all)
+-- those that a test keeps
+kept_spelled : (test : PlainAttribute → Bool) (attributes : List PlainAttribute) → AreSpelled attributes → AreSpelled (filter test attributes)
+kept_spelled test [] all = tt
+kept_spelled test (attribute ∷ later) all =
+    let rest = kept_spelled test later all.1 in
+    elim (test attribute) as (λ b. AreSpelled (cond b (attribute ∷ filter test later) (filter test later))) [ true ↦ (all.0, rest) | false ↦ rest ]
 
-unsupported_behind_spelled : (before attributes : List PlainAttribute) → AreSpelled attributes → AreSpelled (unsupported_behind before attributes)
-unsupported_behind_spelled before [] all = tt
-unsupported_behind_spelled before (attribute ∷ later) all =
-    one_or_none (is_repeated before attribute || is_supported attribute) (returned attribute) (unsupported_behind (before ++ attribute ∷ []) later)
-    (returned_spelled attribute all.0) (unsupported_behind_spelled (before ++ attribute ∷ []) later all.1)
+firsts_spelled : (attributes : List PlainAttribute) → AreSpelled attributes → AreSpelled (firsts attributes)
+firsts_spelled [] all = tt
+firsts_spelled (attribute ∷ later) all = (all.0, kept_spelled (λ other. not (is_named attribute.name other)) (firsts later) (firsts_spelled later all.1))
+
+all_returned_spelled : (attributes : List PlainAttribute) → AreSpelled attributes → AreSpelled (map returned attributes)
+all_returned_spelled [] all = tt
+all_returned_spelled (attribute ∷ later) all = (returned_spelled attribute all.0, all_returned_spelled later all.1)
 
 pub unsupported_spelled : (operation : Operation) (m : PlainMessage) → AllByRecursion IsGroup m.groups → AreSpelled (unsupported (template_attributes operation m))
 unfolding unsupported
-unsupported_spelled operation m all = unsupported_behind_spelled [] (template_attributes operation m) (templates_spelled operation m all)
+unsupported_spelled operation m all =
+    let attributes = template_attributes operation m in
+    all_returned_spelled (filter (λ attribute. not (is_supported attribute)) (firsts attributes))
+    (kept_spelled (λ attribute. not (is_supported attribute)) (firsts attributes) (firsts_spelled attributes (templates_spelled operation m all)))

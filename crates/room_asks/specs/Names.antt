@@ -1,10 +1,15 @@
--- Names in an order in which each stands beside those that are the same.
-use Rattle.std.specs.Prelude.{◌≡◌, ◌<◌, ℕ, Bool, false, not, List, [], ◌∷◌, length, map, take, drop, slice_index_or}
+-- For the proof of the code alone: which attributes are the first of their names, and the names in an
+-- order in which each stands beside those that are the same.
+use Rattle.std.specs.Prelude.{◌≡◌, ◌<◌, ℕ, Bool, false, not, List, [], ◌∷◌, length, map, take, drop, is_some, slice_index_or}
 use Rattle.std.specs.Int.{from_be_bytes, to_be_bytes, w64}
 use Rattle.ipp_coding.specs.declared.message.Attribute.{Attribute}
-use Rattle.ipp_coding.specs.Plain.{plain_attribute}
+use Rattle.ipp_coding.specs.Plain.{PlainAttribute, plain_attribute}
 use Rattle.room_asks.specs.declared.firsts.Key.{Key}
-use Rattle.room_asks.specs.Templates.{is_repeated}
+use Rattle.room_asks.specs.Requests.{named}
+
+-- one of those before an attribute has its name
+abbrev pub is_repeated : List PlainAttribute → PlainAttribute → Bool
+is_repeated before attribute = is_some (named attribute.name before)
 
 abbrev pub byte_at : List ℕ → ℕ → ℕ
 byte_at name place = slice_index_or name place 0

@@ -1,6 +1,6 @@
 -- The job template attributes: copies, job-hold-until, and all others, which are not supported (RFC 8011
 -- sections 4.1.7 and 5.2).
-use Rattle.std.specs.Prelude.{ℕ, Bool, false, ◌||◌, ◌&&◌, ◌==◌, nat_le, if◌then◌else◌, List, [], ◌∷◌, ◌++◌, Option, Some, None, codes, is_some, option_and_then, unwrap_or, bytes_eq}
+use Rattle.std.specs.Prelude.{ℕ, Bool, false, not, ◌||◌, ◌&&◌, ◌==◌, nat_le, if◌then◌else◌, List, [], ◌∷◌, map, filter, Option, Some, None, codes, is_some, option_and_then, unwrap_or, bytes_eq}
 use Rattle.ipp_coding.specs.Plain.{PlainValue, PlainAttribute, PlainMessage}
 use Rattle.room_rules.specs.Limits.{most_copies}
 use Rattle.room_asks.specs.declared.operation.Operation.{Operation}
@@ -51,18 +51,14 @@ returned attribute =
     then attribute
     else record { name = attribute.name; values = unknown }
 
--- one of those before has its name, and it is the first that counts (this project's rule)
-abbrev pub is_repeated : List PlainAttribute → PlainAttribute → Bool
-is_repeated before attribute = is_some (named attribute.name before)
+-- the first attribute of each name, in the order of the request: of several with one name the first
+-- counts (this project's rule)
+abbrev pub firsts : List PlainAttribute → List PlainAttribute
+firsts [] = []
+firsts (attribute ∷ later) =
+    attribute ∷ filter (λ other. not (is_named attribute.name other)) (firsts later)
 
-abbrev pub returned_behind : List PlainAttribute → PlainAttribute → List PlainAttribute
-returned_behind before attribute = if is_repeated before attribute || is_supported attribute then [] else returned attribute ∷ []
-
--- in the order of the request, each name once
-abbrev pub unsupported_behind : List PlainAttribute → List PlainAttribute → List PlainAttribute
-unsupported_behind before [] = []
-unsupported_behind before (attribute ∷ later) =
-    returned_behind before attribute ++ unsupported_behind (before ++ attribute ∷ []) later
-
+-- those of them that are not supported, as they are answered
 unfoldable pub unsupported : List PlainAttribute → List PlainAttribute
-unsupported attributes = unsupported_behind [] attributes
+unsupported attributes =
+    map returned (filter (λ attribute. not (is_supported attribute)) (firsts attributes))
