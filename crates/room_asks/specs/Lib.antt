@@ -3,6 +3,8 @@ pub mod Operations
 pub mod Requests
 pub mod Syntaxes
 pub mod Fields
+pub mod Uris
+pub mod UriLaws
 pub mod Targets
 pub mod Templates
 pub mod Refusals

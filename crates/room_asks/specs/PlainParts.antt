@@ -7,7 +7,8 @@ use Rattle.room_asks.specs.declared.target.TargetUri.TheVariants as uris
 use Rattle.room_asks.specs.declared.target.Target.{Target}
 use Rattle.room_asks.specs.declared.fields.Fields.{Fields}
 use Rattle.room_asks.specs.Fields.{PlainFields}
-use Rattle.room_asks.specs.Targets.{UriParts, NamedTarget, PrinterUri, JobUri, PlainTarget}
+use Rattle.room_asks.specs.Targets.{NamedTarget, PrinterUri, JobUri, PlainTarget}
+use Rattle.room_asks.specs.Uris.{UriParts}
 
 abbrev pub plain_uri : Uri → UriParts
 plain_uri uri = record { base = uri.base.now; path = uri.path.now }

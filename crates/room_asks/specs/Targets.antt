@@ -1,6 +1,6 @@
 -- What a request is for: a queue, or a job of it (RFC 8011 section 4.1.5). Scheme and authority of a URI
 -- are not looked at, and nothing is percent-decoded (this project's rules).
-use Rattle.std.specs.Prelude.{ℕ, ◌-◌, ◌<◌, ℤ, pos, negsuc, Bool, false, not, ◌||◌, ◌&&◌, ◌==◌, if◌then◌else◌, nat_eq, nat_lt, nat_le, List, [], ◌∷◌, ◌++◌, length, take, drop, Option, Some, None, is_some, codes, option_map, option_and_then, position, bytes_eq}
+use Rattle.std.specs.Prelude.{ℕ, ◌<◌, ℤ, pos, negsuc, Bool, false, not, ◌&&◌, ◌==◌, if◌then◌else◌, nat_eq, nat_lt, nat_le, List, [], ◌∷◌, ◌++◌, length, drop, Option, Some, None, is_some, codes, option_map, option_and_then, bytes_eq}
 use Rattle.std.specs.Char.{is_ascii_digit}
 use Rattle.std.specs.List.{starts_with, list_all}
 use Rattle.std.specs.Str.Parse.{digits_value}
@@ -8,8 +8,9 @@ use Rattle.ipp_coding.specs.Plain.{PlainAttribute}
 use Rattle.room_rules.specs.Limits.{last_next_job}
 use Rattle.room_asks.specs.declared.operation.Operation.{Operation}
 use Rattle.room_asks.specs.Operations.{is_for_job}
-use Rattle.room_asks.specs.Requests.{up_to, named, lone_value, single_named}
+use Rattle.room_asks.specs.Requests.{named, lone_value, single_named}
 use Rattle.room_asks.specs.Syntaxes.{integer_said}
+use Rattle.room_asks.specs.Uris.{UriParts, parts_of}
 
 -- ---- which attributes name it
 
@@ -59,39 +60,6 @@ job_target attributes =
 unfoldable pub target_in : Operation → List PlainAttribute → Option NamedTarget
 target_in operation attributes =
     if is_for_job operation then job_target attributes else option_map (λ uri. PrinterUri uri 0) (printer_uri attributes)
-
--- ---- a URI in parts
-
--- what stands behind the first "://"
-abbrev pub behind_scheme : List ℕ → Option (List ℕ)
-behind_scheme [] = None
-behind_scheme (c ∷ rest) = if starts_with nat_eq (c ∷ rest) (codes "://") then Some (drop 3 (c ∷ rest)) else behind_scheme rest
-
--- from the first "/" on
-abbrev pub from_slash : List ℕ → Option (List ℕ)
-from_slash bytes = option_map (λ place. drop place bytes) (position (λ c. c == 47) bytes)
-
--- from the path of the URI on: the first "/" behind the first "://"
-abbrev pub from_path : List ℕ → Option (List ℕ)
-from_path uri = option_and_then from_slash (behind_scheme uri)
-
--- a "?" or a "#" ends the path
-abbrev pub ends_path : ℕ → Bool
-ends_path c = c == 63 || c == 35
-
-abbrev pub before_query : List ℕ → List ℕ
-before_query bytes = up_to (position ends_path bytes) bytes
-
--- what stands before the path, and the path
-pub record UriParts : Type 0 where
-  pub base : List ℕ
-  pub path : List ℕ
-
-abbrev pub parts_around : List ℕ → List ℕ → UriParts
-parts_around uri rest = record { base = take (length uri - length rest) uri; path = before_query rest }
-
-abbrev pub parts_of : List ℕ → Option UriParts
-parts_of uri = option_map (parts_around uri) (from_path uri)
 
 -- ---- the paths of a queue and of its jobs (this project's own)
 

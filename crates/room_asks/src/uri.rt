@@ -1,8 +1,8 @@
 //! A URI in its parts.
 
-ghost use Rattle.std.specs.Prelude.{◌≡◌, ◌==◌, ◌<◌, ◌≤◌, IfSome, length, option_map, position};
+ghost use Rattle.std.specs.Prelude.{◌≡◌, ◌<◌, ◌≤◌, IfSome, length, option_map, position};
 ghost use Rattle.room_asks.specs.PlainParts.{plain_uri};
-ghost use Rattle.room_asks.specs.Targets.{behind_scheme, from_slash, from_path, ends_path, before_query, parts_of};
+ghost use Rattle.room_asks.specs.Uris.{behind_scheme, is_slash, from_slash, from_path, ends_path, before_query, parts_of};
 
 /// A URI in two: what stands before its path, and its path. A query or a fragment is left out.
 #[derive(Clone, Copy, Debug)]
@@ -12,6 +12,7 @@ pub(crate) struct Uri<'a> {
 }
 
 /// The URI's parts, and None where it has no path.
+#[tactic(auto, using(crate::proofs::UriCuts::base_taken))]
 pub(crate) fn parts_of(uri: &[u8]) -> Option<Uri<'_>>
     ensures value { option_map plain_uri result ≡ parts_of uri.now }
     ensures within { IfSome result (λ parts. length parts.base.now ≤ length uri.now) }
@@ -64,7 +65,7 @@ fn from_slash(bytes: &[u8]) -> Option<&[u8]>
 }
 
 fn first_slash(bytes: &[u8]) -> Option<usize>
-    ensures place { result ≡ position (λ c. c == 47) bytes.now }
+    ensures place { result ≡ position is_slash bytes.now }
     ensures within { IfSome result (λ start. start < length bytes.now) }
 {
     bytes.iter().position(|byte| *byte == b'/')
