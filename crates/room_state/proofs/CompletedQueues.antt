@@ -41,9 +41,9 @@ same_first a b xs ys fall falls there back =
     elim (first_or_behind b ys a a_at.0 a_at.1 a_at.2) [
       | inl is ↦ sym is
       | inr a_behind ↦ elim (first_or_behind a xs b b_at.0 b_at.1 b_at.2) [
-          | inl is ↦ is
-          | inr b_behind ↦ absurd (never_later a (later_through a b a (later_than a xs b fall.0 b_behind) (later_than b ys a falls.0 a_behind)))
-        ]
+        | inl is ↦ is
+        | inr b_behind ↦ absurd (never_later a (later_through a b a (later_than a xs b fall.0 b_behind) (later_than b ys a falls.0 a_behind)))
+      ]
     ]
 
 among_rest : (first : Job) (xs ys : List Job) → AllByRecursion (EndsLater first) xs → AreAmong (first ∷ xs) (first ∷ ys) → AreAmong xs ys

@@ -8,7 +8,8 @@ use Rattle.std.specs.FinMap.{get, insert, IsAntisymmetric, get-retain_keys, same
 use Rattle.std.proofs.lemmas.Map.Lookups.{exact_pairs, exact_unsigned}
 use Rattle.std.proofs.lemmas.Bool.Decides.{nat_tests}
 use Rattle.room_rules.specs.declared.job.Document.{Document}
-use Rattle.room_state.specs.Rooms.{place_cmp, document_map}
+use Rattle.room_state.specs.Rooms.{place_cmp}
+use Rattle.room_state.specs.RoomLists.{document_map}
 use Rattle.room_state.specs.Changes.{without_documents}
 use Rattle.room_state.proofs.FiniteMaps.{get_keyed, push_keyed, same_option}
 

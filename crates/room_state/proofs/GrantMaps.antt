@@ -8,9 +8,9 @@ use Rattle.std.proofs.lemmas.List.{nil_from_length}
 use Rattle.std.proofs.lemmas.List.Sums.{sum_by-cons}
 use Rattle.std.proofs.lemmas.Bool.Decides.{nat_tests}
 use Rattle.room_rules.specs.declared.account.Grant.{Grant}
-use Rattle.room_state.specs.Rooms.{RoomValue, grant_map, by_month}
+use Rattle.room_state.specs.Rooms.{RoomValue}
+use Rattle.room_state.specs.RoomLists.{grant_map, by_month, MonthsOnce}
 use Rattle.room_state.specs.Sums.{granted_to, pages_by}
-use Rattle.room_state.specs.RoomRules.{MonthsOnce}
 use Rattle.room_state.proofs.FiniteMaps.{number_tie, get_keyed, push_keyed, sum-insert_new}
 
 pub get_pages : (grants : List Grant) (month : ℕ) → get (grant_map grants) month ≡ option_map (λ grant. grant.pages) (first (λ grant. grant.month == month) grants)

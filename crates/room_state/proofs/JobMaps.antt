@@ -8,7 +8,8 @@ use Rattle.std.specs.FinMap.Entries.{below_all}
 use Rattle.std.proofs.lemmas.Bool.Decides.{nat_tests}
 use Rattle.std.proofs.lemmas.Float.{T_from_true}
 use Rattle.room_rules.specs.declared.job.Job.{Job}
-use Rattle.room_state.specs.Rooms.{RoomValue, job_map, by_number}
+use Rattle.room_state.specs.Rooms.{RoomValue}
+use Rattle.room_state.specs.RoomLists.{job_map, by_number}
 use Rattle.room_state.specs.RoomRules.{NumbersRise}
 use Rattle.room_state.proofs.FiniteMaps.{same_option, number_tie, get_keyed, push_keyed, all_along, entries_here, all_above, T_first, T_second}
 

@@ -9,8 +9,9 @@ use Rattle.std.proofs.lemmas.Bool.Decides.{nat_tests}
 use Rattle.room_rules.specs.JobStates.{is_unfinished}
 use Rattle.room_rules.specs.declared.job.Job.{Job}
 use Rattle.room_rules.specs.declared.job.Document.{Document}
-use Rattle.room_state.specs.Rooms.{place_cmp, document_map}
-use Rattle.room_state.specs.RoomRules.{IsDocumentAt, PlacesOnce, has_document}
+use Rattle.room_state.specs.Rooms.{place_cmp}
+use Rattle.room_state.specs.RoomLists.{document_map, PlacesOnce}
+use Rattle.room_state.specs.RoomRules.{IsDocumentAt, has_document}
 use Rattle.room_state.specs.Changes.{with_document, without_documents}
 use Rattle.room_state.specs.Conditions.{GoesOn}
 use Rattle.room_state.proofs.DocumentMaps.{place_cmp_total, exact_places, pair_tie, get_document, document_map-push}

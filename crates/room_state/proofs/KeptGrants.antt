@@ -7,8 +7,8 @@ use Rattle.std.specs.FinMap.{FinMap, get, insert, get-insert}
 use Rattle.std.proofs.lemmas.Bool.{eqb-true}
 use Rattle.std.proofs.lemmas.Bool.Decides.{nat_tests}
 use Rattle.room_rules.specs.declared.account.Grant.{Grant}
-use Rattle.room_state.specs.Rooms.{grant_map}
-use Rattle.room_state.specs.RoomRules.{IsGrant, MonthsOnce}
+use Rattle.room_state.specs.RoomLists.{grant_map, MonthsOnce}
+use Rattle.room_state.specs.RoomRules.{IsGrant}
 use Rattle.room_state.proofs.GrantMaps.{get_pages}
 
 pub grants_with : (grants : FinMap nat_cmp ℕ) (month pages : ℕ) → ((m p : ℕ) → get grants m ≡ Some p → IsGrant m p) → IsGrant month pages → (m p : ℕ) → get (insert grants month pages) m ≡ Some p → IsGrant m p

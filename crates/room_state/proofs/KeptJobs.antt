@@ -10,12 +10,12 @@ use Rattle.std.proofs.lemmas.List.Sums.{sum_by-cons}
 use Rattle.room_rules.specs.JobStates.{is_unfinished}
 use Rattle.room_rules.specs.declared.job.Job.{Job}
 use Rattle.room_rules.specs.declared.job.Standing.{Standing}
-use Rattle.room_state.specs.Rooms.{RoomValue, job_map}
+use Rattle.room_state.specs.Rooms.{RoomValue}
+use Rattle.room_state.specs.RoomLists.{job_map}
 use Rattle.room_state.specs.RoomRules.{IsRoom, IsJobAt, NumbersRise}
 use Rattle.room_state.specs.Restanding.{restood_job}
-use Rattle.room_state.proofs.FiniteMaps.{sum-insert_new, sum-insert_there}
+use Rattle.room_state.proofs.FiniteMaps.{sum-insert_new, sum-insert_there, same_option}
 use Rattle.room_state.proofs.JobMaps.{get_job}
-use Rattle.room_state.proofs.FiniteMaps.{same_option}
 
 -- ---- one job of the map is new, or another
 pub job_inserted : (jobs : FinMap nat_cmp Job) (number : ℕ) (job : Job) (q : ℕ) → get (insert jobs number job) q ≡ cond (q == number) (Some job) (get jobs q)

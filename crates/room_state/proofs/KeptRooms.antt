@@ -10,8 +10,9 @@ use Rattle.room_rules.specs.declared.job.Document.{Document}
 use Rattle.room_rules.specs.declared.job.Standing.{Standing}
 use Rattle.room_state.specs.Rooms.{RoomValue}
 use Rattle.room_state.specs.RoomRules.{IsRoom, IsJobAt, has_document}
-use Rattle.room_state.specs.Changes.{with_new_job, with_standing, with_ended, with_next, with_grant, with_document, restood, without_documents}
-use Rattle.room_state.specs.Conditions.{CanAddJob, CanRestand, CanFinish, CanSkipTo, CanAddGrant, GoesOn}
+use Rattle.room_state.specs.Changes.{with_new_job, with_standing, with_ended, with_grant, with_document, restood, without_documents}
+use Rattle.room_state.specs.Skips.{with_next, CanSkipTo}
+use Rattle.room_state.specs.Conditions.{CanAddJob, CanRestand, CanFinish, CanAddGrant, GoesOn}
 use Rattle.room_state.proofs.KeptJobs.{jobs_with, below_more, none_next, one_more_unfinished, no_more_unfinished}
 use Rattle.room_state.proofs.KeptDocuments.{documents_with, all_documents_with, documents_left, all_documents_left}
 use Rattle.room_state.proofs.KeptGrants.{grants_with}

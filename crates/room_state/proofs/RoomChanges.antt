@@ -9,10 +9,12 @@ use Rattle.room_rules.specs.declared.account.Grant.{Grant}
 use Rattle.room_rules.specs.declared.job.Job.{Job}
 use Rattle.room_rules.specs.declared.job.Document.{Document}
 use Rattle.room_rules.specs.declared.job.Standing.{Standing}
-use Rattle.room_state.specs.Rooms.{RoomValue, job_map, document_map, grant_map}
-use Rattle.room_state.specs.RoomRules.{IsRoom, NumbersRise, PlacesOnce, MonthsOnce, has_document}
-use Rattle.room_state.specs.Changes.{with_new_job, with_standing, with_ended, with_next, with_grant, with_document, restood}
-use Rattle.room_state.specs.Conditions.{CanAddJob, CanRestand, CanFinish, CanSkipTo, CanAddGrant, GoesOn}
+use Rattle.room_state.specs.Rooms.{RoomValue}
+use Rattle.room_state.specs.RoomLists.{job_map, document_map, grant_map, PlacesOnce, MonthsOnce}
+use Rattle.room_state.specs.RoomRules.{IsRoom, NumbersRise, has_document}
+use Rattle.room_state.specs.Changes.{with_new_job, with_standing, with_ended, with_grant, with_document, restood}
+use Rattle.room_state.specs.Skips.{with_next, CanSkipTo}
+use Rattle.room_state.specs.Conditions.{CanAddJob, CanRestand, CanFinish, CanAddGrant, GoesOn}
 use Rattle.room_state.specs.Restanding.{restood_job}
 use Rattle.room_state.proofs.KeptRooms.{add_job_keeps, restand_keeps, finish_keeps, skip_keeps, add_grant_keeps, job_there, restood_there}
 use Rattle.room_state.proofs.FiniteMaps.{all_along}

@@ -5,7 +5,8 @@ use Rattle.std.specs.FinMap.{get, entries, get-empty, len-empty, len-entries}
 use Rattle.std.proofs.lemmas.List.{nil_from_length}
 use Rattle.room_rules.specs.Limits.{last_moment}
 use Rattle.room_rules.specs.declared.job.Job.{Job}
-use Rattle.room_state.specs.Rooms.{job_map, document_map, grant_map, place_cmp}
+use Rattle.room_state.specs.Rooms.{place_cmp}
+use Rattle.room_state.specs.RoomLists.{job_map, document_map, grant_map}
 use Rattle.room_state.specs.RoomRules.{IsRoom}
 
 pub empty_room_keeps : (now : ℕ) → now ≤ last_moment → IsRoom (record { opened = now; next = 1; jobs = job_map []; documents = document_map []; grants = grant_map [] })

@@ -15,13 +15,18 @@ with_document documents (Some document) = insert documents (document.job, docume
 
 -- the job with the number, if it is there, has that standing
 abbrev pub restood : FinMap nat_cmp Job → ℕ → Standing → FinMap nat_cmp Job
-restood jobs number standing = option_map_or (λ job. insert jobs number (record job { standing = standing })) (get jobs number) jobs
+restood jobs number standing =
+    option_map_or
+    (λ job. insert jobs number (record job { standing = standing }))
+    (get jobs number)
+    jobs
 
 -- the documents of the job are gone
 abbrev pub without_documents : FinMap place_cmp Document → ℕ → FinMap place_cmp Document
 without_documents documents number = retain_keys documents (λ place. not (place.0 == number))
 
--- the job is there under its number, with its document if it has one; the next has the number after it
+-- the job is there under its number, with its document if it has one; the next has the number after
+-- it
 abbrev pub with_new_job : RoomValue → Job → Option Document → RoomValue
 with_new_job room job document = record room {
   next = room.next + 1;
@@ -30,7 +35,8 @@ with_new_job room job document = record room {
 }
 
 -- the job stands so, with one document more if there is one
-abbrev pub with_standing : RoomValue → ℕ → Standing → Option Document → RoomValue
+abbrev pub with_standing : (room : RoomValue) (number : ℕ) (standing : Standing)
+    (document : Option Document) → RoomValue
 with_standing room number standing document = record room {
   jobs = restood room.jobs number standing;
   documents = with_document room.documents document;
@@ -43,9 +49,5 @@ with_ended room number standing = record room {
   documents = without_documents room.documents number;
 }
 
--- the next job has a later number
-abbrev pub with_next : RoomValue → ℕ → RoomValue
-with_next room next = record room { next = next }
-
-abbrev pub with_grant : RoomValue → ℕ → ℕ → RoomValue
+abbrev pub with_grant : RoomValue → (month pages : ℕ) → RoomValue
 with_grant room month pages = record room { grants = insert room.grants month pages }

@@ -1,4 +1,5 @@
--- When a room takes a change and keeps its rules (all this project's own).
+-- For the proof of the code alone: when a room takes a change and keeps its rules (all this project's
+-- own).
 use Rattle.std.specs.Prelude.{◌≡◌, ℕ, ◌+◌, ◌<◌, ◌≤◌, true, false, length, Option, Some, None, IsSome, IfSome}
 use Rattle.std.specs.FinMap.{get}
 use Rattle.room_rules.specs.JobStates.{is_unfinished}
@@ -11,9 +12,10 @@ use Rattle.room_state.specs.Rooms.{RoomValue}
 use Rattle.room_state.specs.RoomRules.{IsDocumentAt, IsGrant, unfinished_count}
 
 -- a job's documents go on from those that it had before: none, or the next
-abbrev pub GoesOn : (job before after : ℕ) → Option Document → Type 0
+abbrev pub GoesOn : (job before after : ℕ) (document : Option Document) → Type 0
 GoesOn job before after None = after ≡ before
-GoesOn job before after (Some document) = (after ≡ before + 1) × IsDocumentAt (job, before + 1) document
+GoesOn job before after (Some document) =
+    (after ≡ before + 1) × IsDocumentAt (job, before + 1) document
 
 -- a new job with the next number, with its first document or with none
 pub record CanAddJob (room : RoomValue) (job : Job) (document : Option Document) : Type 0 where
@@ -27,23 +29,21 @@ pub record CanAddJob (room : RoomValue) (job : Job) (document : Option Document)
   pub documents : GoesOn room.next 0 job.standing.documents document
 
 -- an unfinished job that stays unfinished, with its next document or with none
-pub record CanRestand (room : RoomValue) (number : ℕ) (standing : Standing) (document : Option Document) : Type 0 where
+pub record CanRestand (room : RoomValue) (number : ℕ) (standing : Standing)
+    (document : Option Document) : Type 0 where
   pub is_there : IsSome (get room.jobs number)
-  pub was_unfinished : IfSome (get room.jobs number) (λ job. is_unfinished job.standing.state ≡ true)
+  pub was_unfinished : IfSome (get room.jobs number)
+      (λ job. is_unfinished job.standing.state ≡ true)
   pub in_range : IsStanding standing
   pub stays_unfinished : is_unfinished standing.state ≡ true
-  pub documents : IfSome (get room.jobs number) (λ job. GoesOn number job.standing.documents standing.documents document)
+  pub documents : IfSome (get room.jobs number)
+      (λ job. GoesOn number job.standing.documents standing.documents document)
 
 -- a job that has ended from now on
 pub record CanFinish (room : RoomValue) (number : ℕ) (standing : Standing) : Type 0 where
   pub is_there : IsSome (get room.jobs number)
   pub in_range : IsStanding standing
   pub has_ended : is_unfinished standing.state ≡ false
-
--- a number for the next job that is not below the one that it has
-pub record CanSkipTo (room : RoomValue) (next : ℕ) : Type 0 where
-  pub goes_up : room.next ≤ next
-  pub in_range : next ≤ last_next_job
 
 -- a month that nothing was granted for
 pub record CanAddGrant (room : RoomValue) (month pages : ℕ) : Type 0 where

@@ -12,4 +12,7 @@ document_numbers = 1 ∷ 2 ∷ 3 ∷ 4 ∷ 5 ∷ 6 ∷ 7 ∷ 8 ∷ []
 
 -- the documents of a job, by rising number
 abbrev pub documents_of : RoomValue → ℕ → List Document
-documents_of room number = flat_map (λ document. option_to_list (get room.documents (number, document))) document_numbers
+documents_of room number =
+    flat_map
+    (λ document. option_to_list (get room.documents (number, document)))
+    document_numbers

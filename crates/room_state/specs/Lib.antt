@@ -1,10 +1,12 @@
 pub mod Rooms
 pub mod RoomRules
+pub mod RoomLists
 pub mod Documents
 pub mod Sums
 pub mod Tallies
 pub mod Changes
 pub mod Conditions
+pub mod Skips
 pub mod Restanding
 pub mod QueueFolds
 pub mod Queues

@@ -9,7 +9,7 @@ abbrev pub is_later : (job other : Job) → Bool
 is_later job other =
     nat_lt (unwrap_or other.standing.ended 0) (unwrap_or job.standing.ended 0)
     || (unwrap_or job.standing.ended 0 == unwrap_or other.standing.ended 0
-      && nat_lt other.job job.job)
+    && nat_lt other.job job.job)
 
 -- the job among others, before the first that it is later than
 abbrev pub put_by_end : List Job → Job → List Job

@@ -1,8 +1,7 @@
 -- The rules that each room keeps (all this project's own).
-use Rattle.std.specs.Prelude.{◌≡◌, ◌≢◌, ℕ, ◌<◌, ◌≤◌, Bool, true, false, ◌&&◌, nat_le, List, [], ◌∷◌, length, count_by, Option, Some, None, is_some}
+use Rattle.std.specs.Prelude.{◌≡◌, ℕ, ◌<◌, ◌≤◌, Bool, true, false, ◌&&◌, nat_le, List, [], ◌∷◌, length, count_by, Option, Some, None, is_some}
 use Rattle.std.specs.List.{AllByRecursion}
 use Rattle.std.specs.FinMap.{get, values}
-use Rattle.room_rules.specs.declared.account.Grant.{Grant}
 use Rattle.room_rules.specs.declared.job.Job.{Job}
 use Rattle.room_rules.specs.declared.job.Document.{Document}
 use Rattle.room_rules.specs.JobStates.{is_unfinished}
@@ -28,10 +27,12 @@ pub record IsDocumentAt (place : ℕ × ℕ) (document : Document) : Type 0 wher
   pub numbered : document.number ≡ place.1
   pub fits : length document.bytes ≤ longest_document
 
--- an unfinished job has its documents 1 to n, n being how many it was given, and no other job has any
+-- an unfinished job has its documents 1 to n, n being how many it was given, and no other job has
+-- any
 abbrev pub has_document : Option Job → ℕ → Bool
 has_document None number = false
-has_document (Some job) number = is_unfinished job.standing.state && nat_le 1 number && nat_le number job.standing.documents
+has_document (Some job) number =
+    is_unfinished job.standing.state && nat_le 1 number && nat_le number job.standing.documents
 
 pub record IsGrant (month pages : ℕ) : Type 0 where
   pub from_first : first_month ≤ month
@@ -42,23 +43,16 @@ pub record IsRoom (room : RoomValue) : Type 0 where
   pub opened_in_range : room.opened ≤ last_moment
   pub next_from_one : 1 ≤ room.next
   pub next_in_range : room.next ≤ last_next_job
-  pub jobs : (number : ℕ) (job : Job) → get room.jobs number ≡ Some job → IsJobAt room.next number job
+  pub jobs : (number : ℕ) (job : Job) →
+      get room.jobs number ≡ Some job → IsJobAt room.next number job
   pub few_unfinished : unfinished_count room ≤ most_unfinished
-  pub documents : (place : ℕ × ℕ) (document : Document) → get room.documents place ≡ Some document → IsDocumentAt place document
-  pub all_documents : (job number : ℕ) → is_some (get room.documents (job, number)) ≡ has_document (get room.jobs job) number
+  pub documents : (place : ℕ × ℕ) (document : Document) →
+      get room.documents place ≡ Some document → IsDocumentAt place document
+  pub all_documents : (job number : ℕ) →
+      is_some (get room.documents (job, number)) ≡ has_document (get room.jobs job) number
   pub grants : (month pages : ℕ) → get room.grants month ≡ Some pages → IsGrant month pages
-
--- ---- each key stands once in the lists
 
 -- jobs in the order of their numbers
 abbrev pub NumbersRise : List Job → Type 0
 NumbersRise [] = Unit {0}
 NumbersRise (job ∷ jobs) = AllByRecursion (λ later. job.job < later.job) jobs × NumbersRise jobs
-
-abbrev pub PlacesOnce : List Document → Type 0
-PlacesOnce [] = Unit {0}
-PlacesOnce (document ∷ documents) = AllByRecursion (λ other. other.job ≡ document.job → other.number ≢ document.number) documents × PlacesOnce documents
-
-abbrev pub MonthsOnce : List Grant → Type 0
-MonthsOnce [] = Unit {0}
-MonthsOnce (grant ∷ grants) = AllByRecursion (λ other. other.month ≢ grant.month) grants × MonthsOnce grants

@@ -18,7 +18,7 @@ abbrev pub charged_in : RoomValue → ℕ
 charged_in room = sum_by (λ job. job.standing.charged) (values room.jobs)
 
 -- the pages of a month (of an entry: the month, its pages) count from that month on
-abbrev pub pages_by : ℕ → ℕ × ℕ → ℕ
+abbrev pub pages_by : (month : ℕ) (grant : ℕ × ℕ) → ℕ
 pages_by month grant = if nat_le grant.0 month then grant.1 else 0
 
 -- what was granted for the months up to the given one
@@ -27,4 +27,8 @@ granted_to room month = sum_by (pages_by month) (entries room.grants)
 
 -- what is left of the quota at a moment
 abbrev pub left_in : RoomValue → ℕ → ℤ
-left_in room now = left_of (pos (granted_to room (month_at now))) (pos (reserved_in room)) (pos (charged_in room))
+left_in room now =
+    left_of
+    (pos (granted_to room (month_at now)))
+    (pos (reserved_in room))
+    (pos (charged_in room))

@@ -1,4 +1,5 @@
--- What is counted of jobs, one after another (all this project's own).
+-- For the proof of the code alone: what is counted of jobs, one after another, and within what bounds
+-- (all this project's own). What the sums of a room are stands in Sums.
 use Rattle.std.specs.Prelude.{ℕ, ◌+◌, Bool, ◌&&◌, ◌||◌, nat_le, if◌then◌else◌, List, count_by, Option, Some, None}
 use Rattle.std.specs.List.{sum_by, list_any}
 use Rattle.room_rules.specs.JobStates.{is_unfinished, is_processing}
@@ -17,7 +18,7 @@ tally_of jobs = record {
 }
 
 -- one job more, of which its state is counted, and the units that it reserves and was charged
-abbrev pub counted : Tally → JobState → (reserved charged : ℕ) → Tally
+abbrev pub counted : (tally : Tally) (state : JobState) (reserved charged : ℕ) → Tally
 counted tally state reserved charged = record {
   unfinished = tally.unfinished + (if is_unfinished state then 1 else 0);
   is_processing = tally.is_processing || is_processing state;
@@ -30,9 +31,15 @@ abbrev pub most_units : ℕ
 most_units = 1000000000000000000
 
 abbrev pub is_in_bounds : Tally → Bool
-is_in_bounds tally = nat_le tally.unfinished most_unfinished && nat_le tally.reserved most_units && nat_le tally.charged most_units
+is_in_bounds tally =
+    nat_le tally.unfinished most_unfinished
+    && nat_le tally.reserved most_units
+    && nat_le tally.charged most_units
 
 -- one job more, unless the count or a sum would pass its bound
-abbrev pub counted_in_bounds : Tally → JobState → (reserved charged : ℕ) → Option Tally
+abbrev pub counted_in_bounds : (tally : Tally) (state : JobState)
+    (reserved charged : ℕ) → Option Tally
 counted_in_bounds tally state reserved charged =
-    if is_in_bounds (counted tally state reserved charged) then Some (counted tally state reserved charged) else None
+    if is_in_bounds (counted tally state reserved charged)
+    then Some (counted tally state reserved charged)
+    else None

@@ -8,7 +8,8 @@ use room_rules::{CoreFault, Document};
 
 /// The document of the job with its number there.
 pub(crate) fn find_document(documents: &[Document], job: u32, number: u32) -> Option<&Document>
-    ensures { option_copied result ≡ find (λ document. (document.job == job) && (document.number == number)) documents.now }
+    ensures { option_copied result
+        ≡ find (λ document. (document.job == job) && (document.number == number)) documents.now }
 {
     documents.iter().find(|document| document.job == job && document.number == number)
 }
@@ -37,7 +38,8 @@ pub(crate) fn drop_documents(documents: &mut List<Document>, job: u32)
 }
 
 fn retain_others(documents: &mut Vec<Document>, job: u32)
-    ensures { documents.new.items ≡ filter (λ document. not (document.job == job)) documents.old.items }
+    ensures { documents.new.items
+        ≡ filter (λ document. not (document.job == job)) documents.old.items }
 {
     documents.retain(move |document| !is_of(document, job));
 }

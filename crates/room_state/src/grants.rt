@@ -3,7 +3,7 @@
 ghost use Rattle.std.specs.Prelude.{◌≡◌, ◌≤◌, ◌++◌, ◌∷◌, [], ◌==◌, pos, find, IsOkUnless, OnOk, OnErr};
 ghost use Rattle.std.specs.Option.{option_map};
 ghost use Rattle.std.specs.List.{sum_by};
-ghost use Rattle.room_state.specs.Rooms.{by_month};
+ghost use Rattle.room_state.specs.RoomLists.{by_month};
 ghost use Rattle.room_state.specs.Sums.{pages_by};
 ghost use Rattle.room_state.specs.Tallies.{most_units};
 
@@ -12,7 +12,8 @@ use room_rules::{CoreFault, Grant};
 
 /// What was granted for the month.
 pub(crate) fn find_pages(grants: &[Grant], month: u32) -> Option<u32>
-    ensures { result ≡ option_map (λ grant. grant.pages) (find (λ grant. grant.month == month) grants.now) }
+    ensures { result
+        ≡ option_map (λ grant. grant.pages) (find (λ grant. grant.month == month) grants.now) }
 {
     grants
         .iter()

@@ -8,8 +8,9 @@ ghost use Rattle.room_state.specs.Rooms.{empty_room};
 ghost use Rattle.room_state.specs.RoomRules.{IsJobAt, IsDocumentAt, IsGrant, NumbersRise, has_document, unfinished_count};
 ghost use Rattle.room_state.specs.Sums.{has_processing, reserved_in, charged_in, granted_to};
 ghost use Rattle.room_state.specs.Tallies.{most_units};
-ghost use Rattle.room_state.specs.Changes.{with_new_job, with_standing, with_ended, with_next, with_grant};
-ghost use Rattle.room_state.specs.Conditions.{CanAddJob, CanRestand, CanFinish, CanSkipTo, CanAddGrant};
+ghost use Rattle.room_state.specs.Changes.{with_new_job, with_standing, with_ended, with_grant};
+ghost use Rattle.room_state.specs.Skips.{with_next, CanSkipTo};
+ghost use Rattle.room_state.specs.Conditions.{CanAddJob, CanRestand, CanFinish, CanAddGrant};
 
 use crate::tally::Tally;
 use crate::{documents, grants, jobs, tally};
@@ -33,8 +34,9 @@ impl Model for Room {
     ghost use Rattle.std.specs.FinMap as finite;
     ghost use Rattle.room_rules.specs.contracts.job.Job as job_type;
     ghost use Rattle.room_rules.specs.contracts.job.Document as document_type;
-    ghost use Rattle.room_state.specs.Rooms.{RoomValue, job_map, document_map, grant_map};
-    ghost use Rattle.room_state.specs.RoomRules.{IsRoom, NumbersRise, PlacesOnce, MonthsOnce};
+    ghost use Rattle.room_state.specs.Rooms.{RoomValue};
+    ghost use Rattle.room_state.specs.RoomLists.{job_map, document_map, grant_map, PlacesOnce, MonthsOnce};
+    ghost use Rattle.room_state.specs.RoomRules.{IsRoom, NumbersRise};
 
     ghost Value = { RoomValue };
 
@@ -93,7 +95,8 @@ impl Room {
     pub fn jobs(&self) -> &[Job]
         ensures jobs { result.now ≡ values self.now.jobs }
         ensures rising { NumbersRise result.now }
-        ensures by_the_rules { AllByRecursion (λ job. IsJobAt self.now.next job.job job) result.now }
+        ensures by_the_rules { AllByRecursion
+            (λ job. IsJobAt self.now.next job.job job) result.now }
     {
         self.jobs.as_slice()
     }

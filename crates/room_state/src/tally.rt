@@ -66,7 +66,10 @@ pub(crate) fn tally_of(jobs: &[Job]) -> Tally
 }
 
 fn count_of_unfinished(count: u32, state: JobState) -> Option<u32>
-    ensures { result ≡ (if nat_le (count + (if is_unfinished state then 1 else 0)) most_unfinished then Some (count + (if is_unfinished state then 1 else 0)) else None) }
+    ensures { result
+        ≡ (if nat_le (count + (if is_unfinished state then 1 else 0)) most_unfinished
+        then Some (count + (if is_unfinished state then 1 else 0))
+        else None) }
 {
     count
         .checked_add(state.is_unfinished() as u32)
