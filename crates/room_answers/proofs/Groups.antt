@@ -2,7 +2,8 @@
 use Rattle.std.proofs.Common.{◌≡◌, ℕ, Bool, List, [], ◌∷◌, Option, refl, ap, ◌∙◌}
 use Rattle.ipp_coding.specs.Plain.{PlainGroup}
 use Rattle.room_rules.specs.declared.job.Job.{Job}
-use Rattle.room_texts.specs.JobAttributes.{job_group, wanted_rows}
+use Rattle.room_texts.specs.JobAttributes.{job_group}
+use Rattle.room_texts.specs.JobPlaces.{wanted_rows}
 use Rattle.room_texts.specs.Places.{PlainPlace}
 use Rattle.room_texts.proofs.Picks.{selected_as_wanted}
 use Rattle.room_answers.specs.Responses.{job_groups, selected_groups}

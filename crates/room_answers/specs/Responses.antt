@@ -8,7 +8,8 @@ use Rattle.ipp_coding.specs.Spelling.{group_spelling}
 use Rattle.room_rules.specs.declared.job.Job.{Job}
 use Rattle.room_rules.specs.declared.refusal.Refusal.{Refusal}
 use Rattle.room_texts.specs.Places.{PlainPlace}
-use Rattle.room_texts.specs.JobAttributes.{job_group, selected_group}
+use Rattle.room_texts.specs.JobAttributes.{job_group}
+use Rattle.room_texts.specs.JobPlaces.{selected_group}
 use Rattle.room_texts.specs.Replies.{reply_text}
 use Rattle.room_texts.specs.Words.{word_text}
 

@@ -2,7 +2,8 @@
 use Rattle.std.proofs.Common.{◌≡◌, ◌≢◌, ℕ, Option, List, [], ◌∷◌, map, refl, codes}
 use Rattle.room_texts.specs.declared.job.JobAttribute.{JobAttribute}
 use Rattle.room_texts.specs.declared.job.JobAttribute.TheVariants as attribute
-use Rattle.room_texts.specs.JobAttributes.{job_attributes, job_row, wanted_rows}
+use Rattle.room_texts.specs.JobAttributes.{job_attributes}
+use Rattle.room_texts.specs.JobPlaces.{job_row, wanted_rows}
 use Rattle.room_texts.specs.Tables.{is_wanted}
 
 -- all but two are in the group of names `job-description`

@@ -5,9 +5,11 @@ use Rattle.std.proofs.lemmas.Grind.{flat_map-append}
 use Rattle.ipp_coding.specs.Spelling.{attribute_spelling, group_spelling}
 use Rattle.room_rules.specs.declared.job.Job.{Job}
 use Rattle.room_texts.specs.declared.job.JobAttribute.{JobAttribute}
-use Rattle.room_texts.specs.JobAttributes.{job_attributes, job_row, job_group, selected_group, wanted_rows, picked_text}
+use Rattle.room_texts.specs.JobAttributes.{job_attributes, job_group}
+use Rattle.room_texts.specs.JobPlaces.{job_row, selected_group, wanted_rows, picked_text}
 use Rattle.room_texts.specs.Places.{PlainPlace}
-use Rattle.room_texts.specs.Tables.{Row, is_wanted, picked, row_attribute, text_where}
+use Rattle.room_texts.specs.Tables.{Row, is_wanted, row_attribute}
+use Rattle.room_texts.specs.RowTexts.{picked, text_where}
 
 -- flags that a test gives pick what passes it
 picked_passing : {A : Type 0} (test : A → Bool) (xs : List A) → picked (map test xs) xs ≡ filter test xs

@@ -2,7 +2,8 @@
 use Rattle.std.proofs.Common.{◌≡◌, ◌≢◌, [], ◌∷◌, map, refl, codes}
 use Rattle.room_texts.specs.declared.printer.PrinterAttribute.{PrinterAttribute}
 use Rattle.room_texts.specs.declared.printer.PrinterAttribute.TheVariants as attribute
-use Rattle.room_texts.specs.PrinterAttributes.{printer_attributes, printer_row}
+use Rattle.room_texts.specs.PrinterAttributes.{printer_attributes}
+use Rattle.room_texts.specs.PrinterPlaces.{printer_row}
 
 -- all but four are in the group of names `printer-description`
 pub printer_described : (a : PrinterAttribute) → a ≢ attribute.CopiesDefault → a ≢ attribute.CopiesSupported → a ≢ attribute.HoldUntilDefault → a ≢ attribute.HoldUntil → (printer_row a).group ≡ codes "printer-description"

@@ -2,7 +2,8 @@
 use Rattle.std.proofs.Common.{◌≡◌, Bool, true, false, cond, ◌||◌, List, [], ◌∷◌, ◌++◌, map, filter, Option, ℕ, append_assoc, refl, sym, ap, ◌∙◌, Bor}
 use Rattle.std.specs.List.{flat_map, list_any}
 use Rattle.ipp_coding.specs.Spelling.{attribute_spelling}
-use Rattle.room_texts.specs.Tables.{Row, asks_for, is_wanted, row_attribute, row_text, shown}
+use Rattle.room_texts.specs.Tables.{Row, asks_for, is_wanted, row_attribute, shown}
+use Rattle.room_texts.specs.RowTexts.{row_text}
 use Rattle.room_texts.specs.Places.{PlainPlace}
 
 one_row : {Thing : Type 0} (at : PlainPlace) (thing : Thing) (row : Row Thing) (rows : List (Row Thing)) (test : Bool) →

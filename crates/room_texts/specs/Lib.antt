@@ -3,8 +3,13 @@ pub mod Lines
 pub mod Attributes
 pub mod Replies
 pub mod Places
-pub mod Limits
 pub mod Times
+pub mod AskedNames
 pub mod Tables
 pub mod JobAttributes
 pub mod PrinterAttributes
+pub mod Limits
+pub mod Appends
+pub mod RowTexts
+pub mod JobPlaces
+pub mod PrinterPlaces

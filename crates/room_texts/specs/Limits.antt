@@ -1,9 +1,16 @@
--- Which places, jobs and printers can be shown (limits of this project's own).
-use Rattle.std.specs.Prelude.{ℕ, ◌*◌, ◌≤◌, length, IfSome}
+-- For the proof of the code alone: which attributes, places, jobs and printers can be shown (limits
+-- of this project's own, but for a name's).
+use Rattle.std.specs.Prelude.{ℕ, ◌*◌, ◌<◌, ◌≤◌, List, length, IfSome}
+use Rattle.ipp_coding.specs.Spelling.{Fits}
 use Rattle.room_rules.specs.declared.job.Job.{Job}
 use Rattle.room_rules.specs.Limits.{IsMoment, last_job, longest_job_name, longest_uri, most_copies, most_documents, most_impressions, most_unfinished}
 use Rattle.room_texts.specs.declared.printer.PrinterNow.{PrinterNow}
 use Rattle.room_texts.specs.Places.{PlainPlace}
+
+-- an attribute has a name, no longer than a name may be (RFC 8010 section 3.1.4)
+pub record IsAttributeName (name : List ℕ) : Type 0 where
+  pub named : 0 < length name
+  pub fits : Fits name
 
 -- the part of a target before its path is no longer than a target may be
 pub record IsPlace (at : PlainPlace) : Type 0 where

@@ -8,7 +8,13 @@ use Rattle.room_texts.specs.declared.line.Success.TheVariants as success
 
 abbrev pub success_text : Success → List ℕ
 success_text success.Ok = codes "ok"
-success_text (Released reserved left) = codes "ok reserved " ++ (decimal reserved ++ (codes " left " ++ signed_decimal left))
-success_text (Settled charged left) = codes "ok charged " ++ (decimal charged ++ (codes " left " ++ signed_decimal left))
+success_text (Released reserved left) =
+    codes "ok reserved " ++ (decimal reserved ++ (codes " left " ++ signed_decimal left))
+success_text (Settled charged left) =
+    codes "ok charged " ++ (decimal charged ++ (codes " left " ++ signed_decimal left))
 success_text (Started job copies format size) =
-    codes "document " ++ (decimal job ++ (codes " " ++ (decimal copies ++ (codes " " ++ (media_type format ++ (codes " " ++ decimal size))))))
+    codes "document "
+    ++ (decimal job
+    ++ (codes " "
+    ++ (decimal copies
+    ++ (codes " " ++ (media_type format ++ (codes " " ++ decimal size))))))

@@ -3,8 +3,8 @@ use Rattle.std.specs.Prelude.{ℕ, List, ◌++◌, codes}
 use Rattle.std.specs.Fmt.{decimal}
 use Rattle.room_texts.specs.declared.place.Place.{Place}
 
--- where and when something is shown: to a target with the base, which is its part before its path; in
--- the account with the name, opened at that moment; now
+-- where and when something is shown: to a target with the base, which is its part before its path;
+-- in the account with the name, opened at that moment; now
 pub record PlainPlace : Type 0 where
   pub base : List ℕ
   pub name : List ℕ
@@ -14,7 +14,8 @@ pub record PlainPlace : Type 0 where
 abbrev pub plain_place : Place → PlainPlace
 plain_place at = record { base = at.base.now; name = at.name; opened = at.opened; now = at.now }
 
--- printer-uri: the part of the target before its path, and the path of the account's queue (RFC 8011 section 5.4.1; the path is this project's own)
+-- printer-uri: the part of the target before its path, and the path of the account's queue (RFC
+-- 8011 section 5.4.1; the path is this project's own)
 abbrev pub printer_uri : PlainPlace → List ℕ
 printer_uri at = at.base ++ (codes "/ipp/print/" ++ at.name)
 

@@ -6,7 +6,8 @@ use Rattle.ipp_coding.specs.Plain.{PlainAttribute, PlainGroup}
 use Rattle.ipp_coding.specs.Spelling.{header_spelling, group_spelling}
 use Rattle.room_texts.specs.Attributes.{attribute_with}
 
--- of the versions 1.1 and 2.0 the one nearest to the request's, by its major number (RFC 8011 section 4.1.8)
+-- of the versions 1.1 and 2.0 the one nearest to the request's, by its major number (RFC 8011
+-- section 4.1.8)
 abbrev pub reply_header : Header → ℕ → Header
 reply_header request status =
     if request.major == 0 || request.major == 1
@@ -22,7 +23,10 @@ status_message (Some text) = attribute_with (codes "status-message") 0x41 text �
 abbrev pub operation_group : Option (List ℕ) → PlainGroup
 operation_group text = record {
   tag = 0x01;
-  attributes = attribute_with (codes "attributes-charset") 0x47 (codes "utf-8") ∷ attribute_with (codes "attributes-natural-language") 0x48 (codes "en") ∷ status_message text;
+  attributes =
+      attribute_with (codes "attributes-charset") 0x47 (codes "utf-8")
+      ∷ attribute_with (codes "attributes-natural-language") 0x48 (codes "en")
+      ∷ status_message text;
 }
 
 -- the attributes that are not supported, where there are any (RFC 8011 section 4.1.7)
@@ -31,9 +35,11 @@ unsupported_groups [] = []
 unsupported_groups (first ∷ further) = record { tag = 0x05; attributes = first ∷ further } ∷ []
 
 -- the bytes that spell them behind the header
-abbrev pub reply_text : Header → ℕ → Option (List ℕ) → List PlainAttribute → List ℕ
+abbrev pub reply_text : (request : Header) (status : ℕ) (text : Option (List ℕ))
+    (unsupported : List PlainAttribute) → List ℕ
 reply_text request status text unsupported =
-    header_spelling (reply_header request status) ++ flat_map group_spelling (operation_group text ∷ unsupported_groups unsupported)
+    header_spelling (reply_header request status)
+    ++ flat_map group_spelling (operation_group text ∷ unsupported_groups unsupported)
 
 -- server-error-internal-error, whole (RFC 8011 section B.1.5.1); its word is this project's own
 abbrev pub internal_error_text : Header → List ℕ

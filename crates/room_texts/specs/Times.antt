@@ -2,7 +2,7 @@
 use Rattle.std.specs.Prelude.{ℕ, ◌+◌, ◌-◌, min, max, Option, Some, None, List}
 use Rattle.ipp_coding.specs.Plain.{PlainValue}
 use Rattle.room_rules.specs.Limits.{greatest_integer}
-use Rattle.room_texts.specs.Attributes.{single, number, no_value}
+use Rattle.room_texts.specs.Attributes.{integer, no_value}
 use Rattle.room_texts.specs.Places.{PlainPlace}
 
 -- printer-up-time at the moment t: the seconds since the account was opened, counted from 1, within
@@ -13,4 +13,4 @@ up at t = max 1 (min (t - at.opened + 1) greatest_integer)
 -- no-value before the moment has come (RFC 8011 section 5.3.14)
 abbrev pub moment_values : PlainPlace → Option ℕ → List PlainValue
 moment_values at None = no_value
-moment_values at (Some t) = single 0x21 (number (up at t))
+moment_values at (Some t) = integer (up at t)

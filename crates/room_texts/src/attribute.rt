@@ -6,8 +6,9 @@ ghost use Rattle.ipp_coding.specs.Plain.{plain_value, plain_attribute};
 ghost use Rattle.ipp_coding.specs.Spelling.{attribute_spelling, further_spelling, AreValues, Fits, IsAttribute, IsValue};
 ghost use Rattle.ipp_coding.specs.Writing.{group_refusal};
 ghost use Rattle.room_rules.specs.Limits.{greatest_integer};
-ghost use Rattle.room_texts.specs.Attributes.{attribute_with, boolean, number, IsAttributeName};
-ghost use Rattle.room_texts.specs.Limits.{IsPlace};
+ghost use Rattle.room_texts.specs.Appends.{Appends};
+ghost use Rattle.room_texts.specs.Attributes.{attribute_of, attribute_with, boolean, number};
+ghost use Rattle.room_texts.specs.Limits.{IsAttributeName, IsPlace};
 ghost use Rattle.room_texts.specs.Places.{plain_place, printer_uri};
 ghost use Rattle.room_texts.specs.Times.{moment_values};
 
@@ -43,7 +44,7 @@ pub(crate) const MEDIA_TYPE: u8 = 0x49;
 /// Appends the tag that begins a group.
 pub(crate) fn begin_group(out: &mut Vec<u8>, tag: u8) -> Result<(), CoreFault>
     requires { group_refusal tag ≡ None }
-    ensures appended { OnOk result (out.new.items ≡ out.old.items ++ tag ∷ []) }
+    ensures appended { Appends result out.old.items out.new.items (tag ∷ []) }
     ensures memory { IfErr result (λ fault. fault ≡ CoreFault.Memory) }
     ensures unchanged { OnErr result (out.new.items ≡ out.old.items) }
 {
@@ -60,7 +61,8 @@ pub(crate) fn put_single(
     requires name { IsAttributeName name.now }
     requires tag { 0x10 ≤ tag }
     requires value { Fits value.now }
-    ensures appended { OnOk result (out.new.items ≡ out.old.items ++ attribute_spelling (attribute_with name.now tag value.now)) }
+    ensures appended { Appends result out.old.items out.new.items
+        (attribute_spelling (attribute_with name.now tag value.now)) }
     ensures memory { IfErr result (λ fault. fault ≡ CoreFault.Memory) }
     ensures unchanged { OnErr result (out.new.items ≡ out.old.items) }
 {
@@ -77,7 +79,8 @@ pub(crate) fn put_number(
     requires name { IsAttributeName name.now }
     requires tag { 0x10 ≤ tag }
     requires value { value ≤ greatest_integer }
-    ensures appended { OnOk result (out.new.items ≡ out.old.items ++ attribute_spelling (attribute_with name.now tag (number value))) }
+    ensures appended { Appends result out.old.items out.new.items
+        (attribute_spelling (attribute_with name.now tag (number value))) }
     ensures memory { IfErr result (λ fault. fault ≡ CoreFault.Memory) }
     ensures unchanged { OnErr result (out.new.items ≡ out.old.items) }
 {
@@ -87,7 +90,8 @@ pub(crate) fn put_number(
 /// Appends an attribute of one boolean.
 pub(crate) fn put_boolean(out: &mut Vec<u8>, name: &[u8], value: bool) -> Result<(), CoreFault>
     requires { IsAttributeName name.now }
-    ensures appended { OnOk result (out.new.items ≡ out.old.items ++ attribute_spelling (attribute_with name.now 0x22 (boolean value))) }
+    ensures appended { Appends result out.old.items out.new.items
+        (attribute_spelling (attribute_with name.now 0x22 (boolean value))) }
     ensures memory { IfErr result (λ fault. fault ≡ CoreFault.Memory) }
     ensures unchanged { OnErr result (out.new.items ≡ out.old.items) }
 {
@@ -105,7 +109,9 @@ pub(crate) fn put_moment(
     moment: Option<u64>,
 ) -> Result<(), CoreFault>
     requires { IsAttributeName name.now }
-    ensures appended { OnOk result (out.new.items ≡ out.old.items ++ attribute_spelling (record { name = name.now; values = moment_values (plain_place at.entry.now) moment })) }
+    ensures appended { Appends result out.old.items out.new.items
+        (attribute_spelling
+        (attribute_of name.now (moment_values (plain_place at.entry.now) moment))) }
     ensures memory { IfErr result (λ fault. fault ≡ CoreFault.Memory) }
     ensures unchanged { OnErr result (out.new.items ≡ out.old.items) }
 {
@@ -123,7 +129,9 @@ pub(crate) fn put_printer_uri(
 ) -> Result<(), CoreFault>
     requires name { IsAttributeName name.now }
     requires place { IsPlace (plain_place at.now) }
-    ensures appended { OnOk result (out.new.items ≡ out.old.items ++ attribute_spelling (attribute_with name.now 0x45 (printer_uri (plain_place at.entry.now)))) }
+    ensures appended { Appends result out.old.items out.new.items
+        (attribute_spelling
+        (attribute_with name.now 0x45 (printer_uri (plain_place at.entry.now)))) }
     ensures memory { IfErr result (λ fault. fault ≡ CoreFault.Memory) }
     ensures unchanged { OnErr result (out.new.items ≡ out.old.items) }
 {
@@ -137,7 +145,8 @@ pub(crate) fn put_attributes(
     attributes: &[Attribute<'_>],
 ) -> Result<(), CoreFault>
     requires { AllByRecursion IsAttribute (map plain_attribute attributes.now) }
-    ensures appended { OnOk result (out.new.items ≡ out.old.items ++ flat_map attribute_spelling (map plain_attribute attributes.now)) }
+    ensures appended { Appends result out.old.items out.new.items
+        (flat_map attribute_spelling (map plain_attribute attributes.now)) }
     ensures memory { IfErr result (λ fault. fault ≡ CoreFault.Memory) }
     ensures front { take (length out.old.items) out.new.items ≡ out.old.items }
 {
@@ -155,7 +164,8 @@ pub(crate) fn put_values(
 ) -> Result<(), CoreFault>
     requires name { IsAttributeName name.now }
     requires values { AreValues (map plain_value values.now) }
-    ensures appended { OnOk result (out.new.items ≡ out.old.items ++ attribute_spelling (record { name = name.now; values = map plain_value values.now })) }
+    ensures appended { Appends result out.old.items out.new.items
+        (attribute_spelling (attribute_of name.now (map plain_value values.now))) }
     ensures memory { IfErr result (λ fault. fault ≡ CoreFault.Memory) }
     ensures front { take (length out.old.items) out.new.items ≡ out.old.items }
 {
@@ -168,7 +178,8 @@ pub(crate) fn put_values(
 #[tactic(auto, using(crate::proofs::Values::each_is_value))]
 fn put_further(out: &mut Vec<u8>, values: &[Value<'_>]) -> Result<(), CoreFault>
     requires { AllByRecursion IsValue (map plain_value values.now) }
-    ensures appended { OnOk result (out.new.items ≡ out.old.items ++ flat_map further_spelling (map plain_value values.now)) }
+    ensures appended { Appends result out.old.items out.new.items
+        (flat_map further_spelling (map plain_value values.now)) }
     ensures memory { IfErr result (λ fault. fault ≡ CoreFault.Memory) }
     ensures front { take (length out.old.items) out.new.items ≡ out.old.items }
 {
@@ -180,7 +191,8 @@ fn put_further(out: &mut Vec<u8>, values: &[Value<'_>]) -> Result<(), CoreFault>
 
 fn put_value(out: &mut Vec<u8>, value: Value<'_>) -> Result<(), CoreFault>
     requires { IsValue (plain_value value) }
-    ensures appended { OnOk result (out.new.items ≡ out.old.items ++ further_spelling (plain_value value.entry)) }
+    ensures appended { Appends result out.old.items out.new.items
+        (further_spelling (plain_value value.entry)) }
     ensures memory { IfErr result (λ fault. fault ≡ CoreFault.Memory) }
     ensures unchanged { OnErr result (out.new.items ≡ out.old.items) }
 {

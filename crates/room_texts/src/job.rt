@@ -3,11 +3,14 @@
 ghost use Rattle.std.specs.Prelude.{◌≡◌, ◌++◌, ◌≤◌, ◌*◌, ◌/◌, IfErr, OnOk, OnErr, map, take, length};
 ghost use Rattle.ipp_coding.specs.Spelling.{attribute_spelling, group_spelling, Fits};
 ghost use Rattle.room_rules.specs.Limits.{greatest_integer, last_job, most_impressions};
-ghost use Rattle.room_texts.specs.Attributes.{attribute_with, IsAttributeName};
-ghost use Rattle.room_texts.specs.JobAttributes.{job_group, selected_group, job_row, picked_text, impressions_values, state_reason};
-ghost use Rattle.room_texts.specs.Limits.{IsPlace, IsShowable};
+ghost use Rattle.room_texts.specs.Appends.{Appends};
+ghost use Rattle.room_texts.specs.Attributes.{attribute_of, attribute_with};
+ghost use Rattle.room_texts.specs.Limits.{IsAttributeName, IsPlace, IsShowable};
+ghost use Rattle.room_texts.specs.JobAttributes.{job_group, impressions_values, state_reason};
+ghost use Rattle.room_texts.specs.JobPlaces.{selected_group, job_row, picked_text};
 ghost use Rattle.room_texts.specs.Places.{plain_place, job_uri};
-ghost use Rattle.room_texts.specs.Tables.{asked_names, row_attribute, text_where};
+ghost use Rattle.room_texts.specs.Tables.{asked_names, row_attribute};
+ghost use Rattle.room_texts.specs.RowTexts.{text_where};
 
 use crate::attribute::{
     CHARSET, ENUM, INTEGER, KEYWORD, LANGUAGE, NAME, UNKNOWN, URI, begin_group, put_moment,
@@ -111,7 +114,8 @@ pub fn put_job(
 ) -> Result<(), CoreFault>
     requires place { IsPlace (plain_place at.now) }
     requires job { IsShowable job.now }
-    ensures appended { OnOk result (out.new.items ≡ out.old.items ++ group_spelling (job_group (plain_place at.entry.now) job.now (asked_names wanted.entry))) }
+    ensures appended { Appends result out.old.items out.new.items
+        (group_spelling (job_group (plain_place at.entry.now) job.now (asked_names wanted.entry))) }
     ensures memory { IfErr result (λ fault. fault ≡ CoreFault.Memory) }
     ensures unchanged { OnErr result (out.new.items ≡ out.old.items) }
 {
@@ -127,7 +131,8 @@ pub fn put_selected_job(
 ) -> Result<(), CoreFault>
     requires place { IsPlace (plain_place at.now) }
     requires job { IsShowable job.now }
-    ensures appended { OnOk result (out.new.items ≡ out.old.items ++ group_spelling (selected_group (plain_place at.entry.now) job.now selection.now)) }
+    ensures appended { Appends result out.old.items out.new.items
+        (group_spelling (selected_group (plain_place at.entry.now) job.now selection.now)) }
     ensures memory { IfErr result (λ fault. fault ≡ CoreFault.Memory) }
     ensures unchanged { OnErr result (out.new.items ≡ out.old.items) }
 {
@@ -147,7 +152,8 @@ fn append_job(
 ) -> Result<(), CoreFault>
     requires place { IsPlace (plain_place at.now) }
     requires job { IsShowable job.now }
-    ensures appended { OnOk result (out.new.items ≡ out.old.items ++ group_spelling (selected_group (plain_place at.entry.now) job.now selection.now)) }
+    ensures appended { Appends result out.old.items out.new.items
+        (group_spelling (selected_group (plain_place at.entry.now) job.now selection.now)) }
     ensures memory { IfErr result (λ fault. fault ≡ CoreFault.Memory) }
     ensures front { take (length out.old.items) out.new.items ≡ out.old.items }
 {
@@ -166,7 +172,8 @@ fn put_job_attributes(
 ) -> Result<(), CoreFault>
     requires place { IsPlace (plain_place at.now) }
     requires job { IsShowable job.now }
-    ensures appended { OnOk result (out.new.items ≡ out.old.items ++ picked_text (plain_place at.entry.now) job.now flags.now attributes.now) }
+    ensures appended { Appends result out.old.items out.new.items
+        (picked_text (plain_place at.entry.now) job.now flags.now attributes.now) }
     ensures memory { IfErr result (λ fault. fault ≡ CoreFault.Memory) }
     ensures front { take (length out.old.items) out.new.items ≡ out.old.items }
 {
@@ -185,7 +192,8 @@ fn put_where_set(
 ) -> Result<(), CoreFault>
     requires place { IsPlace (plain_place at.now) }
     requires job { IsShowable job.now }
-    ensures appended { OnOk result (out.new.items ≡ out.old.items ++ text_where flag (plain_place at.entry.now) job.now (job_row attribute)) }
+    ensures appended { Appends result out.old.items out.new.items
+        (text_where flag (plain_place at.entry.now) job.now (job_row attribute)) }
     ensures memory { IfErr result (λ fault. fault ≡ CoreFault.Memory) }
     ensures unchanged { OnErr result (out.new.items ≡ out.old.items) }
 {
@@ -204,7 +212,9 @@ fn put_job_attribute(
 ) -> Result<(), CoreFault>
     requires place { IsPlace (plain_place at.now) }
     requires job { IsShowable job.now }
-    ensures appended { OnOk result (out.new.items ≡ out.old.items ++ attribute_spelling (row_attribute (plain_place at.entry.now) job.now (job_row attribute))) }
+    ensures appended { Appends result out.old.items out.new.items
+        (attribute_spelling
+        (row_attribute (plain_place at.entry.now) job.now (job_row attribute))) }
     ensures memory { IfErr result (λ fault. fault ≡ CoreFault.Memory) }
     ensures unchanged { OnErr result (out.new.items ≡ out.old.items) }
 {
@@ -238,7 +248,8 @@ fn put_job_attribute(
 }
 
 fn state_reason(standing: &Standing) -> &'static [u8]
-    ensures reason { result.now ≡ state_reason standing.now.state standing.now.is_open standing.now.stopping }
+    ensures reason { result.now
+        ≡ state_reason standing.now.state standing.now.is_open standing.now.stopping }
     ensures fits { Fits result.now }
 {
     match standing.state {
@@ -266,7 +277,8 @@ fn impressions_completed(standing: &Standing) -> u32
 fn put_impressions(out: &mut Vec<u8>, name: &[u8], impressions: u32) -> Result<(), CoreFault>
     requires name { IsAttributeName name.now }
     requires impressions { impressions ≤ most_impressions }
-    ensures appended { OnOk result (out.new.items ≡ out.old.items ++ attribute_spelling (record { name = name.now; values = impressions_values impressions })) }
+    ensures appended { Appends result out.old.items out.new.items
+        (attribute_spelling (attribute_of name.now (impressions_values impressions))) }
     ensures memory { IfErr result (λ fault. fault ≡ CoreFault.Memory) }
     ensures unchanged { OnErr result (out.new.items ≡ out.old.items) }
 {
@@ -280,7 +292,9 @@ fn put_job_uri(out: &mut Vec<u8>, name: &[u8], at: &Place<'_>, job: u32) -> Resu
     requires name { IsAttributeName name.now }
     requires place { IsPlace (plain_place at.now) }
     requires job { job ≤ last_job }
-    ensures appended { OnOk result (out.new.items ≡ out.old.items ++ attribute_spelling (attribute_with name.now 0x45 (job_uri (plain_place at.entry.now) job))) }
+    ensures appended { Appends result out.old.items out.new.items
+        (attribute_spelling
+        (attribute_with name.now 0x45 (job_uri (plain_place at.entry.now) job))) }
     ensures memory { IfErr result (λ fault. fault ≡ CoreFault.Memory) }
     ensures unchanged { OnErr result (out.new.items ≡ out.old.items) }
 {

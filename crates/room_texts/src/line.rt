@@ -2,6 +2,7 @@
 
 ghost use Rattle.std.specs.Prelude.{◌≡◌, ◌++◌, ◌≤◌, length, IfOk, IfErr, OnOk, OnErr, string_bytes};
 ghost use Rattle.ipp_coding.specs.Spelling.{Fits};
+ghost use Rattle.room_texts.specs.Appends.{Appends};
 ghost use Rattle.room_texts.specs.Lines.{success_text};
 ghost use Rattle.room_texts.specs.Words.{word_numbers, word_text};
 
@@ -34,7 +35,7 @@ pub enum Success {
 
 /// Appends the text of a word, which is short enough for a value.
 pub fn put_line(out: &mut Vec<u8>, word: Word) -> Result<(), CoreFault>
-    ensures appended { OnOk result (out.new.items ≡ out.old.items ++ word_text word) }
+    ensures appended { Appends result out.old.items out.new.items (word_text word) }
     ensures fits { Fits (word_text word) }
     ensures memory { IfErr result (λ fault. fault ≡ CoreFault.Memory) }
     ensures unchanged { OnErr result (out.new.items ≡ out.old.items) }
@@ -61,7 +62,8 @@ fn word_numbers(alloc: Global, word: Word) -> Result<String, AllocError>
 }
 
 fn quota_numbers(alloc: Global, need: u64, left: i64) -> Result<String, AllocError>
-    ensures numbers { IfOk result (λ text. string_bytes text ≡ word_numbers (Word.Quota need left)) }
+    ensures numbers { IfOk result
+        (λ text. string_bytes text ≡ word_numbers (Word.Quota need left)) }
     ensures short { length (word_numbers (Word.Quota need left)) ≤ 42 }
 {
     format!(in alloc; " {need} {left}")
@@ -76,7 +78,7 @@ fn conflict_number(alloc: Global, held: u32) -> Result<String, AllocError>
 
 /// Appends the line that tells a success.
 pub fn put_success(out: &mut Vec<u8>, s: Success) -> Result<(), CoreFault>
-    ensures appended { OnOk result (out.new.items ≡ out.old.items ++ success_text s) }
+    ensures appended { Appends result out.old.items out.new.items (success_text s) }
     ensures memory { IfErr result (λ fault. fault ≡ CoreFault.Memory) }
     ensures unchanged { OnErr result (out.new.items ≡ out.old.items) }
 {

@@ -1,16 +1,18 @@
 //! The group of the printer.
 
-ghost use Rattle.std.specs.Prelude.{◌≡◌, ◌++◌, [], ◌∷◌, ◌==◌, if◌then◌else◌, codes, IfErr, OnOk, OnErr, map, take, length};
+ghost use Rattle.std.specs.Prelude.{◌≡◌, IfErr, OnErr, map, take, length};
 ghost use Rattle.std.specs.List.{flat_map};
 ghost use Rattle.ipp_coding.specs.Plain.{plain_value};
 ghost use Rattle.ipp_coding.specs.Spelling.{attribute_spelling, group_spelling, Fits, IsValue};
-ghost use Rattle.room_rules.specs.declared.format.Format.{Format};
-ghost use Rattle.room_texts.specs.Attributes.{number, value_with, IsAttributeName};
-ghost use Rattle.room_rules.specs.Formats.{media_type, formats};
-ghost use Rattle.room_texts.specs.Limits.{IsPlace, IsPrinter};
+ghost use Rattle.room_texts.specs.Appends.{Appends};
+ghost use Rattle.room_texts.specs.Attributes.{attribute_of, value_with};
+ghost use Rattle.room_texts.specs.Limits.{IsAttributeName, IsPlace, IsPrinter};
+ghost use Rattle.room_rules.specs.Formats.{media_type};
 ghost use Rattle.room_texts.specs.Places.{plain_place};
-ghost use Rattle.room_texts.specs.PrinterAttributes.{operations, printer_group, printer_row};
-ghost use Rattle.room_texts.specs.Tables.{asked_names, row_attribute, row_text};
+ghost use Rattle.room_texts.specs.PrinterAttributes.{operation_values, version_values, format_values, state_reason, printer_group};
+ghost use Rattle.room_texts.specs.PrinterPlaces.{printer_row};
+ghost use Rattle.room_texts.specs.Tables.{asked_names, row_attribute};
+ghost use Rattle.room_texts.specs.RowTexts.{row_text};
 
 use crate::attribute::{
     CHARSET, ENUM, INTEGER, KEYWORD, LANGUAGE, MEDIA_TYPE, NAME, RANGE, begin_group, put_boolean,
@@ -153,7 +155,8 @@ pub fn put_printer(
 ) -> Result<(), CoreFault>
     requires place { IsPlace (plain_place at.now) }
     requires printer { IsPrinter now }
-    ensures appended { OnOk result (out.new.items ≡ out.old.items ++ group_spelling (printer_group (plain_place at.entry.now) now (asked_names wanted.entry))) }
+    ensures appended { Appends result out.old.items out.new.items
+        (group_spelling (printer_group (plain_place at.entry.now) now (asked_names wanted.entry))) }
     ensures memory { IfErr result (λ fault. fault ≡ CoreFault.Memory) }
     ensures unchanged { OnErr result (out.new.items ≡ out.old.items) }
 {
@@ -173,7 +176,8 @@ fn append_printer(
 ) -> Result<(), CoreFault>
     requires place { IsPlace (plain_place at.now) }
     requires printer { IsPrinter now }
-    ensures appended { OnOk result (out.new.items ≡ out.old.items ++ group_spelling (printer_group (plain_place at.entry.now) now (asked_names wanted.entry))) }
+    ensures appended { Appends result out.old.items out.new.items
+        (group_spelling (printer_group (plain_place at.entry.now) now (asked_names wanted.entry))) }
     ensures memory { IfErr result (λ fault. fault ≡ CoreFault.Memory) }
     ensures front { take (length out.old.items) out.new.items ≡ out.old.items }
 {
@@ -192,7 +196,10 @@ fn put_printer_attributes(
 ) -> Result<(), CoreFault>
     requires place { IsPlace (plain_place at.now) }
     requires printer { IsPrinter now }
-    ensures appended { OnOk result (out.new.items ≡ out.old.items ++ flat_map (row_text (asked_names wanted.entry) (plain_place at.entry.now) now) (map printer_row attributes.now)) }
+    ensures appended { Appends result out.old.items out.new.items
+        (flat_map
+        (row_text (asked_names wanted.entry) (plain_place at.entry.now) now)
+        (map printer_row attributes.now)) }
     ensures memory { IfErr result (λ fault. fault ≡ CoreFault.Memory) }
     ensures front { take (length out.old.items) out.new.items ≡ out.old.items }
 {
@@ -211,7 +218,12 @@ fn put_where_wanted(
 ) -> Result<(), CoreFault>
     requires place { IsPlace (plain_place at.now) }
     requires printer { IsPrinter now }
-    ensures appended { OnOk result (out.new.items ≡ out.old.items ++ row_text (asked_names wanted.entry) (plain_place at.entry.now) now (printer_row attribute)) }
+    ensures appended { Appends result out.old.items out.new.items
+        (row_text
+        (asked_names wanted.entry)
+        (plain_place at.entry.now)
+        now
+        (printer_row attribute)) }
     ensures memory { IfErr result (λ fault. fault ≡ CoreFault.Memory) }
     ensures front { take (length out.old.items) out.new.items ≡ out.old.items }
 {
@@ -230,7 +242,9 @@ fn put_printer_attribute(
 ) -> Result<(), CoreFault>
     requires place { IsPlace (plain_place at.now) }
     requires printer { IsPrinter now }
-    ensures appended { OnOk result (out.new.items ≡ out.old.items ++ attribute_spelling (row_attribute (plain_place at.entry.now) now (printer_row attribute))) }
+    ensures appended { Appends result out.old.items out.new.items
+        (attribute_spelling
+        (row_attribute (plain_place at.entry.now) now (printer_row attribute))) }
     ensures memory { IfErr result (λ fault. fault ≡ CoreFault.Memory) }
     ensures front { take (length out.old.items) out.new.items ≡ out.old.items }
 {
@@ -276,7 +290,7 @@ fn put_printer_attribute(
 }
 
 fn state_reason(state: u32) -> &'static [u8]
-    ensures reason { result.now ≡ (if state == 5 then codes "other" else codes "none") }
+    ensures reason { result.now ≡ state_reason state }
     ensures fits { Fits result.now }
 {
     if state == 5 { b"other" } else { b"none" }
@@ -284,7 +298,8 @@ fn state_reason(state: u32) -> &'static [u8]
 
 fn put_versions(out: &mut Vec<u8>, name: &[u8]) -> Result<(), CoreFault>
     requires { IsAttributeName name.now }
-    ensures appended { OnOk result (out.new.items ≡ out.old.items ++ attribute_spelling (record { name = name.now; values = value_with 0x44 (codes "1.1") ∷ value_with 0x44 (codes "2.0") ∷ [] })) }
+    ensures appended { Appends result out.old.items out.new.items
+        (attribute_spelling (attribute_of name.now version_values)) }
     ensures memory { IfErr result (λ fault. fault ≡ CoreFault.Memory) }
     ensures front { take (length out.old.items) out.new.items ≡ out.old.items }
 {
@@ -301,7 +316,8 @@ fn put_versions(out: &mut Vec<u8>, name: &[u8]) -> Result<(), CoreFault>
 
 fn put_operations(out: &mut Vec<u8>, name: &[u8]) -> Result<(), CoreFault>
     requires { IsAttributeName name.now }
-    ensures appended { OnOk result (out.new.items ≡ out.old.items ++ attribute_spelling (record { name = name.now; values = map (λ operation. value_with 0x23 (number operation)) operations })) }
+    ensures appended { Appends result out.old.items out.new.items
+        (attribute_spelling (attribute_of name.now operation_values)) }
     ensures memory { IfErr result (λ fault. fault ≡ CoreFault.Memory) }
     ensures front { take (length out.old.items) out.new.items ≡ out.old.items }
 {
@@ -352,7 +368,8 @@ fn put_operations(out: &mut Vec<u8>, name: &[u8]) -> Result<(), CoreFault>
 
 fn put_formats(out: &mut Vec<u8>, name: &[u8]) -> Result<(), CoreFault>
     requires { IsAttributeName name.now }
-    ensures appended { OnOk result (out.new.items ≡ out.old.items ++ attribute_spelling (record { name = name.now; values = map (λ (format : Format). value_with 0x49 (media_type format)) formats })) }
+    ensures appended { Appends result out.old.items out.new.items
+        (attribute_spelling (attribute_of name.now format_values)) }
     ensures memory { IfErr result (λ fault. fault ≡ CoreFault.Memory) }
     ensures front { take (length out.old.items) out.new.items ≡ out.old.items }
 {

@@ -4,6 +4,7 @@ ghost use Rattle.std.specs.Prelude.{◌≡◌, ◌++◌, ◌∷◌, [], Some, If
 ghost use Rattle.std.specs.List.{flat_map, AllByRecursion};
 ghost use Rattle.ipp_coding.specs.Plain.{plain_attribute};
 ghost use Rattle.ipp_coding.specs.Spelling.{attribute_spelling, group_spelling, header_spelling, IsAttribute};
+ghost use Rattle.room_texts.specs.Appends.{Appends};
 ghost use Rattle.room_texts.specs.Replies.{reply_header, reply_text, status_message, operation_group, unsupported_groups, internal_error_text};
 ghost use Rattle.room_texts.specs.Words.{word_text};
 
@@ -22,7 +23,8 @@ pub fn put_reply(
     unsupported: &[Attribute<'_>],
 ) -> Result<(), CoreFault>
     requires { AllByRecursion IsAttribute (map plain_attribute unsupported.now) }
-    ensures appended { OnOk result (out.new.items ≡ out.old.items ++ reply_text h status (option_map word_text word) (map plain_attribute unsupported.now)) }
+    ensures appended { Appends result out.old.items out.new.items
+        (reply_text h status (option_map word_text word) (map plain_attribute unsupported.now)) }
     ensures memory { IfErr result (λ fault. fault ≡ CoreFault.Memory) }
     ensures unchanged { OnErr result (out.new.items ≡ out.old.items) }
 {
@@ -42,7 +44,8 @@ fn append_reply(
     unsupported: &[Attribute<'_>],
 ) -> Result<(), CoreFault>
     requires { AllByRecursion IsAttribute (map plain_attribute unsupported.now) }
-    ensures appended { OnOk result (out.new.items ≡ out.old.items ++ reply_text h status (option_map word_text word) (map plain_attribute unsupported.now)) }
+    ensures appended { Appends result out.old.items out.new.items
+        (reply_text h status (option_map word_text word) (map plain_attribute unsupported.now)) }
     ensures memory { IfErr result (λ fault. fault ≡ CoreFault.Memory) }
     ensures front { take (length out.old.items) out.new.items ≡ out.old.items }
 {
@@ -52,7 +55,8 @@ fn append_reply(
 }
 
 fn put_reply_header(out: &mut Vec<u8>, request: Header, status: u16) -> Result<(), CoreFault>
-    ensures appended { OnOk result (out.new.items ≡ out.old.items ++ header_spelling (reply_header request status)) }
+    ensures appended { Appends result out.old.items out.new.items
+        (header_spelling (reply_header request status)) }
     ensures memory { IfErr result (λ fault. fault ≡ CoreFault.Memory) }
     ensures unchanged { OnErr result (out.new.items ≡ out.old.items) }
 {
@@ -78,7 +82,8 @@ fn reply_header(request: Header, status: u16) -> Header
 }
 
 fn put_operation_group(out: &mut Vec<u8>, word: Option<Word>) -> Result<(), CoreFault>
-    ensures appended { OnOk result (out.new.items ≡ out.old.items ++ group_spelling (operation_group (option_map word_text word))) }
+    ensures appended { Appends result out.old.items out.new.items
+        (group_spelling (operation_group (option_map word_text word))) }
     ensures memory { IfErr result (λ fault. fault ≡ CoreFault.Memory) }
     ensures front { take (length out.old.items) out.new.items ≡ out.old.items }
 {
@@ -91,7 +96,8 @@ fn put_operation_group(out: &mut Vec<u8>, word: Option<Word>) -> Result<(), Core
 
 /// For a refusal the word that tells why.
 fn put_status_message(out: &mut Vec<u8>, word: Option<Word>) -> Result<(), CoreFault>
-    ensures appended { OnOk result (out.new.items ≡ out.old.items ++ flat_map attribute_spelling (status_message (option_map word_text word))) }
+    ensures appended { Appends result out.old.items out.new.items
+        (flat_map attribute_spelling (status_message (option_map word_text word))) }
     ensures memory { IfErr result (λ fault. fault ≡ CoreFault.Memory) }
     ensures unchanged { OnErr result (out.new.items ≡ out.old.items) }
 {
@@ -106,7 +112,8 @@ fn put_status_message(out: &mut Vec<u8>, word: Option<Word>) -> Result<(), CoreF
 /// The attributes that are not supported, where there are any.
 fn put_unsupported(out: &mut Vec<u8>, unsupported: &[Attribute<'_>]) -> Result<(), CoreFault>
     requires { AllByRecursion IsAttribute (map plain_attribute unsupported.now) }
-    ensures appended { OnOk result (out.new.items ≡ out.old.items ++ flat_map group_spelling (unsupported_groups (map plain_attribute unsupported.now))) }
+    ensures appended { Appends result out.old.items out.new.items
+        (flat_map group_spelling (unsupported_groups (map plain_attribute unsupported.now))) }
     ensures memory { IfErr result (λ fault. fault ≡ CoreFault.Memory) }
     ensures front { take (length out.old.items) out.new.items ≡ out.old.items }
 {

@@ -4,14 +4,14 @@ ghost use Rattle.std.specs.Prelude.{◌≡◌, ℕ, Bool, List, map};
 ghost use Rattle.std.specs.Borrow.{Bor};
 ghost use Rattle.std.specs.List.{list_any};
 ghost use Rattle.room_texts.specs.declared.job.JobAttribute.{JobAttribute};
-ghost use Rattle.room_texts.specs.JobAttributes.{job_row, wanted_rows};
+ghost use Rattle.room_texts.specs.JobPlaces.{job_row, wanted_rows};
 ghost use Rattle.room_texts.specs.Tables.{asks_for, asked_names, is_wanted};
 
 use crate::job::{JOB_ATTRIBUTES, JobAttribute};
 use std::marker::Model;
 
-/// Which attributes of a job a requester wants: the names that are asked for, held against the attributes
-/// once. Contracts see a flag for each attribute, in their order.
+/// Which attributes of a job a requester wants: the names that are asked for, held against the
+/// attributes once. Contracts see a flag for each attribute, in their order.
 #[derive(Debug, Drop)]
 pub struct Selection {
     flags: [bool; 18],
@@ -43,7 +43,11 @@ impl Selection {
 /// Whether each of the attributes is wanted. One that is wanted is held against the names no further
 /// than to the first that asks for it.
 fn is_each_wanted(wanted: Option<&[&[u8]]>, attributes: &[JobAttribute; 18]) -> [bool; 18]
-    ensures { result ≡ map (λ (a : JobAttribute). is_wanted (asked_names wanted.entry) (job_row a).name (job_row a).group) attributes.now }
+    ensures { result
+        ≡ map
+        (λ (a : JobAttribute).
+        is_wanted (asked_names wanted.entry) (job_row a).name (job_row a).group)
+        attributes.now }
 {
     let mut selected = [false; 18];
     for index in 0..18 {
@@ -64,7 +68,10 @@ pub(crate) fn is_wanted(wanted: Option<&[&[u8]]>, name: &[u8], group: &[u8]) -> 
 }
 
 fn is_asked_for(names: &[&[u8]], name: &[u8], group: &[u8]) -> bool
-    ensures { result ≡ list_any (λ (asked : Bor (List ℕ)). asks_for name.now group.now asked.now) names.entry.now }
+    ensures { result
+        ≡ list_any
+        (λ (asked : Bor (List ℕ)). asks_for name.now group.now asked.now)
+        names.entry.now }
 {
     names.iter().any(|asked| asks_for(asked, name, group))
 }

@@ -1,6 +1,7 @@
 use Rattle.std.proofs.Common.{◌≡◌, ◌∙◌, ap, codes}
 use Rattle.room_texts.specs.declared.job.JobAttribute.{JobAttribute}
-use Rattle.room_texts.specs.JobAttributes.{job_attributes, job_row}
+use Rattle.room_texts.specs.JobAttributes.{job_attributes}
+use Rattle.room_texts.specs.JobPlaces.{job_row}
 use Rattle.room_texts.proofs.job.put_job_attribute.Goals as goal
 
 pub returns-in-PrinterUri-clause-appended : goal.returns-in-PrinterUri-clause-appended

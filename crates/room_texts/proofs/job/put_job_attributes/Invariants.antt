@@ -1,5 +1,5 @@
 use Rattle.std.proofs.Common.{◌≡◌, ◌++◌, take}
-use Rattle.room_texts.specs.JobAttributes.{picked_text}
+use Rattle.room_texts.specs.JobPlaces.{picked_text}
 use Rattle.room_texts.specs.Places.{plain_place}
 use Rattle.room_texts.proofs.job.put_job_attributes.Given as goal
 

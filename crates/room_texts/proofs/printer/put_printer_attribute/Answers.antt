@@ -1,6 +1,7 @@
 use Rattle.std.proofs.Common.{◌≡◌, ◌∙◌, ap, codes}
 use Rattle.room_texts.specs.declared.printer.PrinterAttribute.{PrinterAttribute}
-use Rattle.room_texts.specs.PrinterAttributes.{printer_attributes, printer_row}
+use Rattle.room_texts.specs.PrinterAttributes.{printer_attributes}
+use Rattle.room_texts.specs.PrinterPlaces.{printer_row}
 use Rattle.room_texts.proofs.printer.put_printer_attribute.Goals as goal
 
 pub returns-in-Security-clause-appended : goal.returns-in-Security-clause-appended

@@ -1,8 +1,9 @@
 use Rattle.std.proofs.Common.{◌≡◌, ◌++◌, map, take}
 use Rattle.std.specs.List.{flat_map}
-use Rattle.room_texts.specs.PrinterAttributes.{printer_row}
+use Rattle.room_texts.specs.PrinterPlaces.{printer_row}
 use Rattle.room_texts.specs.Places.{plain_place}
-use Rattle.room_texts.specs.Tables.{asked_names, row_text}
+use Rattle.room_texts.specs.Tables.{asked_names}
+use Rattle.room_texts.specs.RowTexts.{row_text}
 use Rattle.room_texts.proofs.printer.put_printer_attributes.Given as goal
 
 abbrev pub invariant-loop-attribute : goal.invariant-loop-attribute

@@ -1,6 +1,6 @@
 use Rattle.std.proofs.Common.{◌≡◌, length, map, take}
 use Rattle.room_texts.specs.declared.job.JobAttribute.{JobAttribute}
-use Rattle.room_texts.specs.JobAttributes.{job_row}
+use Rattle.room_texts.specs.JobPlaces.{job_row}
 use Rattle.room_texts.specs.Tables.{asked_names, is_wanted}
 use Rattle.room_texts.proofs.selection.is_each_wanted.Given as goal
 
