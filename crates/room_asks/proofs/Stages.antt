@@ -2,7 +2,7 @@
 use Rattle.std.proofs.Common.{◌≡◌, ℕ, List, Ok, Err, refl, sym, ap, ◌∙◌, ◌++◌}
 use Rattle.ipp_coding.specs.Plain.{PlainAttribute}
 use Rattle.room_asks.specs.declared.operation.Operation.{Operation}
-use Rattle.room_asks.specs.Asks.{AskParts, ask_parts}
+use Rattle.room_asks.specs.AskParts.{AskParts, ask_parts}
 use Rattle.room_asks.specs.CheckOrder.{attribute_checks, opening_checks, target_checks, field_checks}
 use Rattle.room_asks.specs.Checks.{target_of}
 use Rattle.room_asks.specs.Fields.{PlainFields, fields_of}

@@ -7,7 +7,7 @@ use Rattle.std.proofs.lemmas.Bool.{eqb-true}
 use Rattle.std.proofs.lemmas.List.{take-append-drop, take_at}
 use Rattle.std.proofs.lemmas.Slice.Eq.{starts_is}
 use Rattle.room_asks.specs.Requests.{up_to}
-use Rattle.room_asks.specs.Uris.{UriParts, through_scheme, behind_scheme, is_slash, before_slash, from_slash, before_path, from_path, ends_path, before_query, parts_of}
+use Rattle.room_asks.specs.Uris.{UriParts, through_scheme, behind_scheme, is_slash, before_slash, from_slash, before_path, from_path, ends_path, before_query}
 use Rattle.room_asks.specs.UriLaws.{IsTail, IsMadeOf, UrisAreMadeOfParts}
 
 -- ---- the base

@@ -8,12 +8,14 @@ use Rattle.room_asks.specs.declared.operation.Operation.{Operation}
 use Rattle.room_asks.specs.declared.ask.Ask.{Ask}
 use Rattle.room_asks.specs.declared.ask.AskFault.{AskFault}
 use Rattle.room_asks.specs.declared.ask.AskFault.TheVariants.{Refused, Memory}
-use Rattle.room_asks.specs.Asks.{PlainAsk, AskParts, ask_parts, asked, assembled, ask_of, AsksAs, IsAsk, IsBare, CanBeSpelled, plain_ask}
+use Rattle.room_asks.specs.Asks.{PlainAsk, asked, assembled, ask_of, AsksAs, IsAsk, CanBeSpelled, plain_ask}
+use Rattle.room_asks.specs.AskParts.{AskParts, ask_parts, IsBare}
 use Rattle.room_asks.specs.CheckOrder.{attribute_checks, document_checks, message_checks, header_checks, message_or_nothing}
 use Rattle.room_asks.specs.Checks.{malformed_check}
 use Rattle.room_asks.specs.Fields.{fields_of, fidelity, wanted}
 use Rattle.room_asks.specs.Operations.{operation_of}
-use Rattle.room_asks.specs.Refusals.{PlainRefusal, refusal_of, bare, checked}
+use Rattle.room_asks.specs.Refusals.{PlainRefusal, refusal_of, checked}
+use Rattle.room_asks.specs.Telling.{bare}
 use Rattle.room_asks.specs.Requests.{operation_attributes}
 use Rattle.room_asks.specs.Templates.{template_attributes, copies, unsupported}
 use Rattle.room_asks.proofs.Sections.{failed_first, passed_first, passed_value, passed_alone, fails_with}

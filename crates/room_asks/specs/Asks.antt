@@ -1,5 +1,5 @@
 -- What a request asks, or why it is refused.
-use Rattle.std.specs.Prelude.{◌≡◌, ℕ, ◌<◌, ◌≤◌, Bool, true, List, [], length, map, Option, option_map, Result, Ok, Err, IfSome}
+use Rattle.std.specs.Prelude.{◌≡◌, ℕ, ◌<◌, ◌≤◌, Bool, true, List, length, map, Option, option_map, Result, Ok, Err, IfSome}
 use Rattle.std.specs.List.{AllByRecursion}
 use Rattle.ipp_coding.specs.declared.message.Header.{Header}
 use Rattle.ipp_coding.specs.Plain.{PlainAttribute, PlainMessage, plain_attribute}
@@ -7,18 +7,15 @@ use Rattle.ipp_coding.specs.Spelling.{IsAttribute}
 use Rattle.ipp_coding.specs.Reading.{header_in, message_of}
 use Rattle.room_rules.specs.Limits.{most_copies, most_impressions, longest_job_name, longest_password, longest_document, last_next_job, longest_uri}
 use Rattle.room_rules.specs.declared.format.Format.{Format}
-use Rattle.room_rules.specs.declared.refusal.Refusal.{Refusal}
 use Rattle.room_asks.specs.declared.operation.Operation.{Operation}
 use Rattle.room_asks.specs.declared.ask.Ask.{Ask}
 use Rattle.room_asks.specs.declared.ask.AskFault.{AskFault}
 use Rattle.room_asks.specs.declared.ask.AskFault.TheVariants.{Refused, Memory}
-use Rattle.room_asks.specs.declared.parts.Parts.{Parts}
 use Rattle.room_asks.specs.declared.ask.Which.{Which}
 use Rattle.room_asks.specs.CheckOrder.{checks, message_or_nothing}
 use Rattle.room_asks.specs.Checks.{target_of}
 use Rattle.room_asks.specs.Fields.{PlainFields, fields_of, wanted}
 use Rattle.room_asks.specs.Operations.{hands_in_document, operation_of}
-use Rattle.room_asks.specs.PlainParts.{plain_target, plain_fields}
 pub use Rattle.room_asks.specs.PlainParts.{plain_names}
 use Rattle.room_asks.specs.Refusals.{checked}
 pub use Rattle.room_asks.specs.Refusals.{PlainRefusal}
@@ -65,24 +62,10 @@ plain_ask ask = record {
 
 -- ---- what a request asks that passes the checks
 
--- where it leads, and what its operation attributes say
-pub record AskParts : Type 0 where
-  pub attributes : List PlainAttribute
-  pub target : PlainTarget
-  pub fields : PlainFields
-
-unfoldable pub ask_parts : List ℕ → Operation → List PlainAttribute → AskParts
-ask_parts account operation attributes = record {
-  attributes = attributes;
-  target = target_of account operation attributes;
-  fields = fields_of operation attributes;
-}
-
-abbrev pub plain_parts : Parts → AskParts
-plain_parts parts = record { attributes = map plain_attribute parts.attributes.now; target = plain_target parts.target; fields = plain_fields parts.fields }
-
 -- put together of its parts
-abbrev pub assembled : Header → Operation → PlainTarget → PlainFields → Option (List (List ℕ)) → ℕ → List PlainAttribute → List ℕ → PlainAsk
+abbrev pub assembled : (header : Header) (operation : Operation) (target : PlainTarget)
+    (fields : PlainFields) (wanted : Option (List (List ℕ))) (copies : ℕ)
+    (unsupported : List PlainAttribute) (payload : List ℕ) → PlainAsk
 assembled header operation target fields wanted copies unsupported payload = record {
   header = header;
   operation = operation;
@@ -101,7 +84,8 @@ assembled header operation target fields wanted copies unsupported payload = rec
   payload = payload;
 }
 
-unfoldable pub asked : List ℕ → Header → Operation → PlainMessage → PlainAsk
+unfoldable pub asked : (account : List ℕ) (header : Header) (operation : Operation)
+    (m : PlainMessage) → PlainAsk
 asked account header operation m =
     assembled header operation
     (target_of account operation (operation_attributes m))
@@ -113,33 +97,22 @@ asked account header operation m =
 
 abbrev pub read_as : List ℕ → Header → Option PlainMessage → Result PlainAsk PlainRefusal
 read_as account header message =
-    checked (checks account header message) (asked account header (operation_of header) (message_or_nothing header message))
+    checked
+    (checks account header message)
+    (asked account header (operation_of header) (message_or_nothing header message))
 
 -- what the body asks of the account, or its first refusal
-unfoldable pub ask_of : List ℕ → List ℕ → Result PlainAsk PlainRefusal
+unfoldable pub ask_of : (account body : List ℕ) → Result PlainAsk PlainRefusal
 ask_of account body = read_as account (header_in body) (message_of body)
 
 -- a call answered so, unless memory ran out
 abbrev pub AsksAs : Result Ask AskFault → Result PlainAsk PlainRefusal → Type 0
 AsksAs (Ok ask) asked = asked ≡ Ok (plain_ask ask)
-AsksAs (Err (Refused refusal unsupported)) asked = asked ≡ Err (record { refusal = refusal; unsupported = map plain_attribute unsupported })
+AsksAs (Err (Refused refusal unsupported)) asked =
+    asked ≡ Err (record { refusal = refusal; unsupported = map plain_attribute unsupported })
 AsksAs (Err Memory) asked = Unit {0}
 
--- a refusal with which no attributes go
-abbrev pub IsBare : AskFault → Refusal → Type 0
-IsBare (Refused refusal unsupported) given = (refusal ≡ given) × (unsupported ≡ [])
-IsBare Memory given = ⊥
-
 -- ---- what holds of every answer
-
--- the parts of a request lie within their limits
-pub record IsParts (parts : AskParts) : Type 0 where
-  pub base_fits : length parts.target.base ≤ longest_uri
-  pub job_in_range : parts.target.job < last_next_job
-  pub name_fits : length parts.fields.name ≤ longest_job_name
-  pub password_fits : length parts.fields.password ≤ longest_password
-  pub impressions_at_most : parts.fields.impressions ≤ most_impressions
-  pub limit_from_one : IfSome parts.fields.limit (λ limit. 1 ≤ limit)
 
 -- each field lies within its limits
 pub record IsAsk (ask : PlainAsk) : Type 0 where
@@ -156,5 +129,6 @@ pub record IsAsk (ask : PlainAsk) : Type 0 where
 
 -- the attributes that go with a refusal
 abbrev pub CanBeSpelled : AskFault → Type 0
-CanBeSpelled (Refused refusal unsupported) = AllByRecursion IsAttribute (map plain_attribute unsupported)
+CanBeSpelled (Refused refusal unsupported) =
+    AllByRecursion IsAttribute (map plain_attribute unsupported)
 CanBeSpelled Memory = Unit {0}

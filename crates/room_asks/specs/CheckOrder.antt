@@ -41,27 +41,35 @@ field_checks operation attributes =
     ∷ []
 
 -- 17 and 18, of its job template attributes and its document
-unfoldable pub document_checks : Operation → Bool → List PlainAttribute → List ℕ → List Check
+unfoldable pub document_checks : (operation : Operation) (insists : Bool)
+    (unsupported : List PlainAttribute) (payload : List ℕ) → List Check
 document_checks operation insists unsupported payload =
     template_check insists unsupported ∷ document_check operation unsupported payload ∷ []
 
 -- 4 to 16, of the operation attributes
 unfoldable pub attribute_checks : List ℕ → Operation → List PlainAttribute → List Check
 attribute_checks account operation attributes =
-    opening_checks attributes ++ (target_checks account operation attributes ++ field_checks operation attributes)
+    opening_checks attributes
+    ++ (target_checks account operation attributes ++ field_checks operation attributes)
 
 -- 4 to 18, of a message
 unfoldable pub message_checks : List ℕ → Operation → PlainMessage → List Check
 message_checks account operation m =
     attribute_checks account operation (operation_attributes m)
-    ++ document_checks operation (fidelity operation (operation_attributes m)) (unsupported (template_attributes operation m)) m.payload
+    ++ document_checks
+    operation
+    (fidelity operation (operation_attributes m))
+    (unsupported (template_attributes operation m))
+    m.payload
 
 -- where no message spells the body, one with nothing in it
 abbrev pub message_or_nothing : Header → Option PlainMessage → PlainMessage
-message_or_nothing header message = unwrap_or message (record { header = header; groups = []; payload = [] })
+message_or_nothing header message =
+    unwrap_or message (record { header = header; groups = []; payload = [] })
 
 -- all eighteen
 abbrev pub checks : List ℕ → Header → Option PlainMessage → List Check
 checks account header message =
     header_checks header
-    ++ (malformed_check message ∷ message_checks account (operation_of header) (message_or_nothing header message))
+    ++ (malformed_check message
+    ∷ message_checks account (operation_of header) (message_or_nothing header message))

@@ -57,7 +57,9 @@ is_well field (Some attribute) = are_values_of (row_of field).syntax attribute.v
 
 -- the operation reads it, and it is not as it has to be
 unfoldable pub is_wrong : Operation → List PlainAttribute → Field → Bool
-is_wrong operation attributes field = (row_of field).is_read_by operation && not (is_well field (named (row_of field).name attributes))
+is_wrong operation attributes field =
+    (row_of field).is_read_by operation
+    && not (is_well field (named (row_of field).name attributes))
 
 unfoldable pub any_is_wrong : Operation → List PlainAttribute → Bool
 any_is_wrong operation attributes = list_any (is_wrong operation attributes) all_fields
@@ -71,33 +73,44 @@ values_of field operation attributes =
     else None
 
 unfoldable pub value_of : Field → Operation → List PlainAttribute → Option PlainValue
-value_of field operation attributes = option_and_then lone_value (values_of field operation attributes)
+value_of field operation attributes =
+    option_and_then lone_value (values_of field operation attributes)
 
 abbrev pub bytes_of : Field → Operation → List PlainAttribute → Option (List ℕ)
-bytes_of field operation attributes = option_map (λ value. value.bytes) (value_of field operation attributes)
+bytes_of field operation attributes =
+    option_map (λ value. value.bytes) (value_of field operation attributes)
 
 abbrev pub unless_empty : List ℕ → Option (List ℕ)
 unless_empty [] = None
 unless_empty (c ∷ rest) = Some (c ∷ rest)
 
+abbrev pub given_name : Operation → List PlainAttribute → Option (List ℕ)
+given_name operation attributes =
+    option_and_then
+    unless_empty
+    (option_and_then name_said (value_of JobName operation attributes))
+
 -- a job without a name, or with an empty one, is untitled (this project's rule)
 unfoldable pub job_name : Operation → List PlainAttribute → List ℕ
 job_name operation attributes =
-    unwrap_or (option_and_then unless_empty (option_and_then name_said (value_of JobName operation attributes))) (codes "untitled")
+    unwrap_or (given_name operation attributes) (codes "untitled")
 
 unfoldable pub fidelity : Operation → List PlainAttribute → Bool
-fidelity operation attributes = unwrap_or (option_and_then bool_said (value_of Fidelity operation attributes)) false
+fidelity operation attributes =
+    unwrap_or (option_and_then bool_said (value_of Fidelity operation attributes)) false
 
 -- 0 where unknown
 unfoldable pub impressions : Operation → List PlainAttribute → ℕ
-impressions operation attributes = unwrap_or (option_and_then count_said (value_of Impressions operation attributes)) 0
+impressions operation attributes =
+    unwrap_or (option_and_then count_said (value_of Impressions operation attributes)) 0
 
 -- empty for none
 unfoldable pub password : Operation → List PlainAttribute → List ℕ
 password operation attributes = unwrap_or (bytes_of Password operation attributes) []
 
 unfoldable pub last_document : Operation → List PlainAttribute → Bool
-last_document operation attributes = unwrap_or (option_and_then bool_said (value_of LastDocument operation attributes)) false
+last_document operation attributes =
+    unwrap_or (option_and_then bool_said (value_of LastDocument operation attributes)) false
 
 -- None for all
 unfoldable pub limit : Operation → List PlainAttribute → Option ℕ
@@ -108,7 +121,8 @@ names_of values = map (λ (value : PlainValue). value.bytes) values
 
 -- None for what the operation shows by default
 unfoldable pub wanted : Operation → List PlainAttribute → Option (List (List ℕ))
-wanted operation attributes = option_map names_of (values_of RequestedAttributes operation attributes)
+wanted operation attributes =
+    option_map names_of (values_of RequestedAttributes operation attributes)
 
 -- ---- keywords and media types
 
@@ -128,7 +142,8 @@ format_said (Some text) = format_named (without_parameters text)
 unfoldable pub document_format : Operation → List PlainAttribute → Option format.Format
 document_format operation attributes = format_said (bytes_of DocumentFormat operation attributes)
 
--- the jobs that Get-Jobs may ask for, by default those that have not ended (RFC 8011 section 4.2.6.1)
+-- the jobs that Get-Jobs may ask for, by default those that have not ended (RFC 8011 section
+-- 4.2.6.1)
 abbrev pub which_named : Option (List ℕ) → Option which.Which
 which_named None = Some whiches.NotCompleted
 which_named (Some keyword) =

@@ -8,7 +8,9 @@ pub mod UriLaws
 pub mod Targets
 pub mod Templates
 pub mod Refusals
+pub mod Telling
 pub mod Checks
 pub mod CheckOrder
 pub mod PlainParts
 pub mod Asks
+pub mod AskParts

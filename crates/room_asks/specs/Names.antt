@@ -1,5 +1,5 @@
--- For the proof of the code alone: which attributes are the first of their names, and the names in an
--- order in which each stands beside those that are the same.
+-- For the proof of the code alone: which attributes are the first of their names, and the names in
+-- an order in which each stands beside those that are the same.
 use Rattle.std.specs.Prelude.{◌≡◌, ◌<◌, ℕ, Bool, false, not, List, [], ◌∷◌, length, map, take, drop, is_some, slice_index_or}
 use Rattle.std.specs.Int.{from_be_bytes, to_be_bytes, w64}
 use Rattle.ipp_coding.specs.declared.message.Attribute.{Attribute}
@@ -17,7 +17,15 @@ byte_at name place = slice_index_or name place 0
 -- the first eight bytes, where fewer are there as if 0 followed
 abbrev pub first_eight : List ℕ → List ℕ
 first_eight name =
-    byte_at name 0 ∷ byte_at name 1 ∷ byte_at name 2 ∷ byte_at name 3 ∷ byte_at name 4 ∷ byte_at name 5 ∷ byte_at name 6 ∷ byte_at name 7 ∷ []
+    byte_at name 0
+    ∷ byte_at name 1
+    ∷ byte_at name 2
+    ∷ byte_at name 3
+    ∷ byte_at name 4
+    ∷ byte_at name 5
+    ∷ byte_at name 6
+    ∷ byte_at name 7
+    ∷ []
 
 -- and as a number
 unfoldable pub first_bytes : List ℕ → ℕ
@@ -34,9 +42,14 @@ pub record IsKeyOf (name : List ℕ) (key : Key) : Type 0 where
 pub record AreKeys (keys : List (Key × ℕ)) (attributes : List Attribute) : Type 0 where
   pub all : length keys ≡ length attributes
   pub places : (k : ℕ) (key : Key × ℕ) → k < length attributes → (slice_index_or keys k key).1 ≡ k
-  pub each : (k : ℕ) (key : Key × ℕ) (attribute : Attribute) → k < length attributes → IsKeyOf (slice_index_or attributes k attribute).name.now (slice_index_or keys k key).0
+  pub each : (k : ℕ) (key : Key × ℕ) (attribute : Attribute) → k < length attributes →
+      IsKeyOf (slice_index_or attributes k attribute).name.now (slice_index_or keys k key).0
 
 -- of each attribute whether it is the first of its name
 abbrev pub AreFirsts : List Bool → List Attribute → Type 0
 AreFirsts firsts attributes =
-    (k : ℕ) (attribute : Attribute) → k < length attributes → slice_index_or firsts k false ≡ not (is_repeated (map plain_attribute (take k attributes)) (plain_attribute (slice_index_or attributes k attribute)))
+    (k : ℕ) (attribute : Attribute) → k < length attributes →
+    slice_index_or firsts k false
+    ≡ not (is_repeated
+    (map plain_attribute (take k attributes))
+    (plain_attribute (slice_index_or attributes k attribute)))

@@ -1,6 +1,5 @@
 -- Checks, of which the first that fails is the answer.
 use Rattle.std.specs.Prelude.{ℕ, Result, Ok, Err, Bool, if◌then◌else◌, List, [], ◌∷◌, Option, Some, None}
-use Rattle.std.specs.Result.{result_map_both}
 use Rattle.ipp_coding.specs.Plain.{PlainAttribute}
 use Rattle.room_rules.specs.declared.refusal.Refusal.{Refusal}
 use Rattle.room_rules.specs.declared.refusal.Word.{Word}
@@ -16,19 +15,29 @@ pub record Check : Type 0 where
   pub word : Word
   pub unsupported : List PlainAttribute
 
-abbrev pub refused_where : Bool → ℕ → Word → Check
-refused_where refused status word = record { refused = refused; status = status; word = word; unsupported = [] }
-
 -- once the job template attributes are known, those that are not supported go with a refusal
-abbrev pub refused_with : List PlainAttribute → Bool → ℕ → Word → Check
-refused_with unsupported refused status word = record { refused = refused; status = status; word = word; unsupported = unsupported }
+abbrev pub refused_with : (unsupported : List PlainAttribute) (refused : Bool) (status : ℕ)
+    (word : Word) → Check
+refused_with unsupported refused status word = record {
+  refused = refused;
+  status = status;
+  word = word;
+  unsupported = unsupported;
+}
+
+abbrev pub refused_where : Bool → ℕ → Word → Check
+refused_where refused status word = refused_with [] refused status word
 
 abbrev pub refusal_of : Check → PlainRefusal
-refusal_of check = record { refusal = record { status = check.status; word = check.word }; unsupported = check.unsupported }
+refusal_of check = record {
+  refusal = record { status = check.status; word = check.word };
+  unsupported = check.unsupported;
+}
 
 abbrev pub first_refusal : List Check → Option PlainRefusal
 first_refusal [] = None
-first_refusal (check ∷ later) = if check.refused then Some (refusal_of check) else first_refusal later
+first_refusal (check ∷ later) =
+    if check.refused then Some (refusal_of check) else first_refusal later
 
 abbrev pub unless_refused : {A : Type 0} → Option PlainRefusal → A → Result A PlainRefusal
 unless_refused None x = Ok x
@@ -37,15 +46,3 @@ unless_refused (Some refusal) x = Err refusal
 -- what passes the checks, or the first refusal
 abbrev pub checked : {A : Type 0} → List Check → A → Result A PlainRefusal
 checked checks x = unless_refused (first_refusal checks) x
-
--- a refusal with which nothing goes
-abbrev pub bare : Refusal → PlainRefusal
-bare refusal = record { refusal = refusal; unsupported = [] }
-
--- what a call gives, as it is seen, or its refusal
-abbrev pub told : {A B : Type 0} → (A → B) → Result A Refusal → Result B PlainRefusal
-told view result = result_map_both view bare result
-
--- the same, where attributes go with it
-abbrev pub told_with : {A : Type 0} → List PlainAttribute → Result A Refusal → Result A PlainRefusal
-told_with unsupported result = result_map_both (λ x. x) (λ refusal. record { refusal = refusal; unsupported = unsupported }) result

@@ -43,7 +43,8 @@ single_if_named name tag a = if is_named name a then single_under tag a else Non
 
 -- ---- the groups of a message
 
--- the attributes of the first group, where it is an operation attributes group 0x01 (RFC 8011 section 4.1.1)
+-- the attributes of the first group, where it is an operation attributes group 0x01 (RFC 8011
+-- section 4.1.1)
 abbrev pub if_operation_group : PlainGroup → Option (List PlainAttribute)
 if_operation_group group = if group.tag == 1 then Some group.attributes else None
 
@@ -62,8 +63,14 @@ job_group groups = option_map (λ group. group.attributes) (find (λ group. grou
 
 -- attributes-charset, the first attribute, of one value 0x47 (RFC 8011 section 4.1.4)
 abbrev pub charset_first : List PlainAttribute → Option (List ℕ)
-charset_first attributes = option_and_then (single_if_named (codes "attributes-charset") 0x47) (slice_get attributes 0)
+charset_first attributes =
+    option_and_then
+    (single_if_named (codes "attributes-charset") 0x47)
+    (slice_get attributes 0)
 
 -- attributes-natural-language, the second, of one value 0x48 (RFC 8011 section 4.1.4)
 abbrev pub language_second : List PlainAttribute → Option (List ℕ)
-language_second attributes = option_and_then (single_if_named (codes "attributes-natural-language") 0x48) (slice_get attributes 1)
+language_second attributes =
+    option_and_then
+    (single_if_named (codes "attributes-natural-language") 0x48)
+    (slice_get attributes 1)

@@ -1,6 +1,6 @@
--- What a request is for: a queue, or a job of it (RFC 8011 section 4.1.5). Scheme and authority of a URI
--- are not looked at, and nothing is percent-decoded (this project's rules).
-use Rattle.std.specs.Prelude.{ℕ, ◌<◌, ℤ, pos, negsuc, Bool, false, not, ◌&&◌, ◌==◌, if◌then◌else◌, nat_eq, nat_lt, nat_le, List, [], ◌∷◌, ◌++◌, length, drop, Option, Some, None, is_some, codes, option_map, option_and_then, bytes_eq}
+-- What a request is for: a queue, or a job of it (RFC 8011 section 4.1.5). Scheme and authority of
+-- a URI are not looked at, and nothing is percent-decoded (this project's rules).
+use Rattle.std.specs.Prelude.{ℕ, ℤ, pos, negsuc, Bool, false, not, ◌&&◌, ◌==◌, if◌then◌else◌, nat_eq, nat_lt, nat_le, List, [], ◌∷◌, ◌++◌, length, drop, Option, Some, None, is_some, codes, option_map, option_and_then, bytes_eq}
 use Rattle.std.specs.Char.{is_ascii_digit}
 use Rattle.std.specs.List.{starts_with, list_all}
 use Rattle.std.specs.Str.Parse.{digits_value}
@@ -23,11 +23,6 @@ abbrev pub uri_of : NamedTarget → List ℕ
 uri_of (PrinterUri uri job) = uri
 uri_of (JobUri uri) = uri
 
--- the number is one that a job may have, or 0
-abbrev pub HasNumber : NamedTarget → Type 0
-HasNumber (PrinterUri uri job) = job < last_next_job
-HasNumber (JobUri uri) = Unit {0}
-
 -- one value 0x45
 abbrev pub printer_uri : List PlainAttribute → Option (List ℕ)
 printer_uri attributes = single_named (codes "printer-uri") 0x45 attributes
@@ -45,7 +40,8 @@ abbrev pub lone_integer : PlainAttribute → Option ℤ
 lone_integer attribute = option_and_then integer_said (lone_value attribute.values)
 
 abbrev pub job_id : List PlainAttribute → Option ℕ
-job_id attributes = option_map job_numbered (option_and_then lone_integer (named (codes "job-id") attributes))
+job_id attributes =
+    option_map job_numbered (option_and_then lone_integer (named (codes "job-id") attributes))
 
 abbrev pub with_job_id : List PlainAttribute → List ℕ → Option NamedTarget
 with_job_id attributes uri = option_map (λ job. PrinterUri uri job) (job_id attributes)
@@ -59,7 +55,9 @@ job_target attributes =
 
 unfoldable pub target_in : Operation → List PlainAttribute → Option NamedTarget
 target_in operation attributes =
-    if is_for_job operation then job_target attributes else option_map (λ uri. PrinterUri uri 0) (printer_uri attributes)
+    if is_for_job operation
+    then job_target attributes
+    else option_map (λ uri. PrinterUri uri 0) (printer_uri attributes)
 
 -- ---- the paths of a queue and of its jobs (this project's own)
 
@@ -73,18 +71,25 @@ starts_above_zero [] = false
 starts_above_zero (c ∷ rest) = not (c == 48)
 
 abbrev pub is_job_number : List ℕ → Bool
-is_job_number digits = starts_above_zero digits && list_all is_ascii_digit digits && nat_le (length digits) 6
+is_job_number digits =
+    starts_above_zero digits && list_all is_ascii_digit digits && nat_le (length digits) 6
 
 abbrev pub job_number : List ℕ → Option ℕ
 job_number digits = if is_job_number digits then Some (digits_value 10 digits) else None
 
-abbrev pub behind : List ℕ → List ℕ → Option (List ℕ)
-behind front bytes = if starts_with nat_eq bytes front then Some (drop (length front) bytes) else None
+-- what stands behind the front, if the bytes begin with it
+abbrev pub behind : (front bytes : List ℕ) → Option (List ℕ)
+behind front bytes =
+    if starts_with nat_eq bytes front then Some (drop (length front) bytes) else None
 
 -- the path of the account's queue, a "/" and the number of the job
-abbrev pub job_in_path : List ℕ → List ℕ → Option ℕ
+abbrev pub job_in_path : (account path : List ℕ) → Option ℕ
 job_in_path account path =
-    option_and_then job_number (option_and_then (behind (codes "/")) (option_and_then (behind account) (behind (codes "/ipp/print/") path)))
+    option_and_then
+    job_number
+    (option_and_then
+    (behind (codes "/"))
+    (option_and_then (behind account) (behind (codes "/ipp/print/") path)))
 
 -- ---- where the target leads
 
@@ -93,11 +98,12 @@ pub record PlainTarget : Type 0 where
   pub base : List ℕ
   pub job : ℕ
 
-abbrev pub in_queue : List ℕ → ℕ → UriParts → Option PlainTarget
-in_queue account job parts = if bytes_eq parts.path (queue_path account) then Some (record { base = parts.base; job = job }) else None
-
 abbrev pub at_job : List ℕ → ℕ → PlainTarget
 at_job base job = record { base = base; job = job }
+
+abbrev pub in_queue : List ℕ → ℕ → UriParts → Option PlainTarget
+in_queue account job parts =
+    if bytes_eq parts.path (queue_path account) then Some (at_job parts.base job) else None
 
 abbrev pub in_job : List ℕ → UriParts → Option PlainTarget
 in_job account parts = option_map (at_job parts.base) (job_in_path account parts.path)

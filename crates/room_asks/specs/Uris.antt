@@ -1,5 +1,5 @@
--- A URI in parts: a base up to the path, the path, and a tail behind the path, which is left out. By
--- UriLaws the three make up the URI.
+-- A URI in parts: a base up to the path, the path, and a tail behind the path, which is left out.
+-- By UriLaws the three make up the URI.
 use Rattle.std.specs.Prelude.{ℕ, Bool, ◌||◌, ◌==◌, if◌then◌else◌, nat_eq, List, [], ◌∷◌, ◌++◌, drop, Option, Some, None, codes, option_map, option_and_then, position, unwrap_or}
 use Rattle.std.specs.List.{starts_with}
 use Rattle.room_asks.specs.Requests.{up_to}

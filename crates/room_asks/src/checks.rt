@@ -1,7 +1,7 @@
 //! The checks of a request in their order, one function each. A check that passes hands on what it
 //! looked at, for those that follow.
 
-ghost use Rattle.std.specs.Prelude.{◌≡◌, ◌<◌, ◌≤◌, ◌∷◌, ◌&&◌, [], true, IfOk, Ok, Err, Some, None, if◌then◌else◌, length, map, nat_lt, option_map, unwrap_or};
+ghost use Rattle.std.specs.Prelude.{◌≡◌, ◌<◌, ◌≤◌, ◌&&◌, [], true, IfOk, Ok, Err, Some, None, if◌then◌else◌, length, map, nat_lt, option_map, unwrap_or};
 ghost use Rattle.ipp_coding.specs.Plain.{plain_attribute, plain_message};
 ghost use Rattle.room_rules.specs.Limits.{longest_job_name, longest_password, longest_document, last_next_job, longest_uri};
 ghost use Rattle.room_rules.specs.declared.refusal.Word.TheVariants.{Template, DocumentTooLarge};
@@ -12,9 +12,11 @@ ghost use Rattle.room_asks.specs.Checks as checks;
 ghost use Rattle.room_asks.specs.Fields.{document_format, which_jobs, password, job_name};
 ghost use Rattle.room_asks.specs.Operations.{operation_of, hands_in_document};
 ghost use Rattle.room_asks.specs.PlainParts.{plain_named, plain_target};
-ghost use Rattle.room_asks.specs.Refusals.{checked, refusal_of, told, told_with};
+ghost use Rattle.room_asks.specs.Refusals.{checked, refusal_of};
+ghost use Rattle.room_asks.specs.Telling.{told_with, HandsOn, MakesCheck};
 ghost use Rattle.room_asks.specs.Requests.{operation_attributes};
-ghost use Rattle.room_asks.specs.Targets.{HasNumber, target_in, uri_of, reached};
+ghost use Rattle.room_asks.specs.Targets.{target_in, uri_of, at_job, reached};
+ghost use Rattle.room_asks.specs.PlainParts.{HasNumber};
 
 use crate::ask::Which;
 use crate::field::{Field, any_is_wrong};
@@ -28,7 +30,7 @@ use room_rules::{
 
 /// 1: the major version is 1 or 2.
 pub(crate) fn version(header: Header) -> Result<(), Refusal>
-    ensures { told (λ x. x) result ≡ checked (checks.version_check header ∷ []) tt }
+    ensures { MakesCheck result (checks.version_check header) }
 {
     if header.major == 1 || header.major == 2 {
         Ok(())
@@ -42,7 +44,7 @@ pub(crate) fn version(header: Header) -> Result<(), Refusal>
 
 /// 2: the operation is one of the profile.
 pub(crate) fn operation(header: Header) -> Result<Operation, Refusal>
-    ensures { told (λ x. x) result ≡ checked (checks.operation_check header ∷ []) (operation_of header) }
+    ensures { HandsOn result (λ x. x) (checks.operation_check header) (operation_of header) }
 {
     Operation::with_id(header.code).ok_or(Refusal {
         status: 0x0501,
@@ -52,7 +54,8 @@ pub(crate) fn operation(header: Header) -> Result<Operation, Refusal>
 
 /// 3: why a body is refused that no message spells.
 pub(crate) fn malformed() -> Refusal
-    ensures { record { refusal = result; unsupported = [] } ≡ refusal_of (checks.malformed_check None) }
+    ensures { record { refusal = result; unsupported = [] }
+        ≡ refusal_of (checks.malformed_check None) }
 {
     Refusal {
         status: 0x0400,
@@ -65,7 +68,9 @@ pub(crate) fn malformed() -> Refusal
 pub(crate) fn charset_and_language<'m, 'a>(
     message: &'m Message<'a>,
 ) -> Result<&'m [Attribute<'a>], Refusal>
-    ensures { told (λ attributes. map plain_attribute attributes.now) result ≡ checked (checks.charset_and_language_check (operation_attributes (plain_message message.now)) ∷ []) (operation_attributes (plain_message message.now)) }
+    ensures { HandsOn result (λ attributes. map plain_attribute attributes.now)
+        (checks.charset_and_language_check (operation_attributes (plain_message message.now)))
+        (operation_attributes (plain_message message.now)) }
 {
     match opened(message) {
         Some(attributes) => Ok(attributes),
@@ -78,7 +83,7 @@ pub(crate) fn charset_and_language<'m, 'a>(
 
 /// 5: the charset is `utf-8`, letters without case.
 pub(crate) fn charset(attributes: &[Attribute<'_>]) -> Result<(), Refusal>
-    ensures { told (λ x. x) result ≡ checked (checks.charset_check (map plain_attribute attributes.now) ∷ []) tt }
+    ensures { MakesCheck result (checks.charset_check (map plain_attribute attributes.now)) }
 {
     match request::charset_first(attributes) {
         Some(charset) if charset.eq_ignore_ascii_case(b"utf-8") => Ok(()),
@@ -94,7 +99,9 @@ pub(crate) fn target<'a>(
     operation: Operation,
     attributes: &[Attribute<'a>],
 ) -> Result<TargetUri<'a>, Refusal>
-    ensures told { told plain_named result ≡ checked (checks.target_check (target_in operation (map plain_attribute attributes.now)) ∷ []) (checks.named_target operation (map plain_attribute attributes.now)) }
+    ensures told { HandsOn result plain_named
+        (checks.target_check (target_in operation (map plain_attribute attributes.now)))
+        (checks.named_target operation (map plain_attribute attributes.now)) }
     ensures number { IfOk result (λ target. HasNumber (plain_named target)) }
 {
     match TargetUri::read(operation, attributes) {
@@ -108,7 +115,7 @@ pub(crate) fn target<'a>(
 
 /// 7: the target's URI is no longer than a URI may be.
 pub(crate) fn target_length(target: TargetUri<'_>) -> Result<(), Refusal>
-    ensures told { told (λ x. x) result ≡ checked (checks.target_length_check (plain_named target.entry) ∷ []) tt }
+    ensures told { MakesCheck result (checks.target_length_check (plain_named target.entry)) }
     ensures length { IfOk result (λ x. length (uri_of (plain_named target.entry)) ≤ longest_uri) }
 {
     if target.uri().len() > LONGEST_URI {
@@ -123,8 +130,11 @@ pub(crate) fn target_length(target: TargetUri<'_>) -> Result<(), Refusal>
 /// 8: the target leads to the account's queue. Hands on where.
 pub(crate) fn queue<'a>(target: TargetUri<'a>, account: Name) -> Result<Target<'a>, Refusal>
     requires { HasNumber (plain_named target) }
-    ensures told { told plain_target result ≡ checked (checks.queue_check (reached account (plain_named target.entry)) ∷ []) (unwrap_or (reached account (plain_named target.entry)) (record { base = []; job = 0 })) }
-    ensures base { IfOk result (λ reached. length reached.base.now ≤ length (uri_of (plain_named target.entry))) }
+    ensures told { HandsOn result plain_target
+        (checks.queue_check (reached account (plain_named target.entry)))
+        (unwrap_or (reached account (plain_named target.entry)) (at_job [] 0)) }
+    ensures base { IfOk result
+        (λ reached. length reached.base.now ≤ length (uri_of (plain_named target.entry))) }
     ensures job { IfOk result (λ reached. reached.job < last_next_job) }
 {
     match target.reach(account) {
@@ -138,7 +148,8 @@ pub(crate) fn queue<'a>(target: TargetUri<'a>, account: Name) -> Result<Target<'
 
 /// 9: each attribute that the operation reads is of its syntax.
 pub(crate) fn syntax(operation: Operation, attributes: &[Attribute<'_>]) -> Result<(), Refusal>
-    ensures { told (λ x. x) result ≡ checked (checks.syntax_check operation (map plain_attribute attributes.now) ∷ []) tt }
+    ensures { MakesCheck result
+        (checks.syntax_check operation (map plain_attribute attributes.now)) }
 {
     if any_is_wrong(operation, attributes) {
         return Err(Refusal {
@@ -151,7 +162,8 @@ pub(crate) fn syntax(operation: Operation, attributes: &[Attribute<'_>]) -> Resu
 
 /// 10: nothing is compressed.
 pub(crate) fn compression(operation: Operation, attributes: &[Attribute<'_>]) -> Result<(), Refusal>
-    ensures { told (λ x. x) result ≡ checked (checks.compression_check operation (map plain_attribute attributes.now) ∷ []) tt }
+    ensures { MakesCheck result
+        (checks.compression_check operation (map plain_attribute attributes.now)) }
 {
     if fields::is_none_if_said(Field::Compression.bytes(operation, attributes)) {
         Ok(())
@@ -168,7 +180,9 @@ pub(crate) fn document_format(
     operation: Operation,
     attributes: &[Attribute<'_>],
 ) -> Result<Format, Refusal>
-    ensures { told (λ x. x) result ≡ checked (checks.document_format_check operation (map plain_attribute attributes.now) ∷ []) (unwrap_or (document_format operation (map plain_attribute attributes.now)) OctetStream) }
+    ensures { HandsOn result (λ x. x)
+        (checks.document_format_check operation (map plain_attribute attributes.now))
+        (unwrap_or (document_format operation (map plain_attribute attributes.now)) OctetStream) }
 {
     fields::document_format(operation, attributes).ok_or(Refusal {
         status: 0x040a,
@@ -181,7 +195,9 @@ pub(crate) fn which_jobs(
     operation: Operation,
     attributes: &[Attribute<'_>],
 ) -> Result<Which, Refusal>
-    ensures { told (λ x. x) result ≡ checked (checks.which_jobs_check operation (map plain_attribute attributes.now) ∷ []) (unwrap_or (which_jobs operation (map plain_attribute attributes.now)) NotCompleted) }
+    ensures { HandsOn result (λ x. x)
+        (checks.which_jobs_check operation (map plain_attribute attributes.now))
+        (unwrap_or (which_jobs operation (map plain_attribute attributes.now)) NotCompleted) }
 {
     fields::which_jobs(operation, attributes).ok_or(Refusal {
         status: 0x040b,
@@ -194,7 +210,8 @@ pub(crate) fn password_encryption_missing(
     operation: Operation,
     attributes: &[Attribute<'_>],
 ) -> Result<(), Refusal>
-    ensures { told (λ x. x) result ≡ checked (checks.password_encryption_missing_check operation (map plain_attribute attributes.now) ∷ []) tt }
+    ensures { MakesCheck result
+        (checks.password_encryption_missing_check operation (map plain_attribute attributes.now)) }
 {
     let encryption = Field::PasswordEncryption.bytes(operation, attributes);
     if !fields::password(operation, attributes).is_empty() && encryption.is_none() {
@@ -211,7 +228,8 @@ pub(crate) fn password_encryption(
     operation: Operation,
     attributes: &[Attribute<'_>],
 ) -> Result<(), Refusal>
-    ensures { told (λ x. x) result ≡ checked (checks.password_encryption_check operation (map plain_attribute attributes.now) ∷ []) tt }
+    ensures { MakesCheck result
+        (checks.password_encryption_check operation (map plain_attribute attributes.now)) }
 {
     if fields::is_none_if_said(Field::PasswordEncryption.bytes(operation, attributes)) {
         Ok(())
@@ -228,7 +246,9 @@ pub(crate) fn password_length<'a>(
     operation: Operation,
     attributes: &[Attribute<'a>],
 ) -> Result<&'a [u8], Refusal>
-    ensures told { told (λ password. password.now) result ≡ checked (checks.password_length_check operation (map plain_attribute attributes.now) ∷ []) (password operation (map plain_attribute attributes.now)) }
+    ensures told { HandsOn result (λ password. password.now)
+        (checks.password_length_check operation (map plain_attribute attributes.now))
+        (password operation (map plain_attribute attributes.now)) }
     ensures length { IfOk result (λ password. length password.now ≤ longest_password) }
 {
     let password = fields::password(operation, attributes);
@@ -246,7 +266,9 @@ pub(crate) fn job_name_length<'a>(
     operation: Operation,
     attributes: &[Attribute<'a>],
 ) -> Result<&'a [u8], Refusal>
-    ensures told { told (λ name. name.now) result ≡ checked (checks.job_name_length_check operation (map plain_attribute attributes.now) ∷ []) (job_name operation (map plain_attribute attributes.now)) }
+    ensures told { HandsOn result (λ name. name.now)
+        (checks.job_name_length_check operation (map plain_attribute attributes.now))
+        (job_name operation (map plain_attribute attributes.now)) }
     ensures length { IfOk result (λ name. length name.now ≤ longest_job_name) }
 {
     let name = fields::job_name(operation, attributes);
@@ -261,7 +283,10 @@ pub(crate) fn job_name_length<'a>(
 
 /// 17: the requester does not insist on what is not supported.
 fn template(insists: bool, unsupported: &[Attribute<'_>]) -> Result<(), Refusal>
-    ensures { result ≡ (if insists && checks.some_attribute (map plain_attribute unsupported.now) then Err (record { status = 0x040B; word = Template }) else Ok tt) }
+    ensures { result
+        ≡ (if insists && checks.some_attribute (map plain_attribute unsupported.now)
+        then Err (record { status = 0x040B; word = Template })
+        else Ok tt) }
 {
     if insists && !unsupported.is_empty() {
         return Err(Refusal {
@@ -274,8 +299,12 @@ fn template(insists: bool, unsupported: &[Attribute<'_>]) -> Result<(), Refusal>
 
 /// 18: the document is short enough.
 fn document_length(operation: Operation, payload: &[u8]) -> Result<(), Refusal>
-    ensures fits { IfOk result (λ x. hands_in_document operation ≡ true → length payload.now ≤ longest_document) }
-    ensures told { result ≡ (if hands_in_document operation && nat_lt longest_document (length payload.now) then Err (record { status = 0x0408; word = DocumentTooLarge }) else Ok tt) }
+    ensures fits { IfOk result
+        (λ x. hands_in_document operation ≡ true → length payload.now ≤ longest_document) }
+    ensures told { result
+        ≡ (if hands_in_document operation && nat_lt longest_document (length payload.now)
+        then Err (record { status = 0x0408; word = DocumentTooLarge })
+        else Ok tt) }
 {
     if operation.hands_in_document() && payload.len() > LONGEST_DOCUMENT {
         return Err(Refusal {
@@ -294,8 +323,12 @@ pub(crate) fn template_and_document(
     unsupported: &[Attribute<'_>],
     payload: &[u8],
 ) -> Result<(), Refusal>
-    ensures told { told_with (map plain_attribute unsupported.now) result ≡ checked (document_checks operation insists (map plain_attribute unsupported.now) payload.now) tt }
-    ensures fits { IfOk result (λ x. hands_in_document operation ≡ true → length payload.now ≤ longest_document) }
+    ensures told { told_with (map plain_attribute unsupported.now) result
+        ≡ checked
+        (document_checks operation insists (map plain_attribute unsupported.now) payload.now)
+        tt }
+    ensures fits { IfOk result
+        (λ x. hands_in_document operation ≡ true → length payload.now ≤ longest_document) }
 {
     template(insists, unsupported)?;
     document_length(operation, payload)
@@ -303,7 +336,10 @@ pub(crate) fn template_and_document(
 
 /// The attributes of the operation group, where it begins with a charset and a natural language.
 fn opened<'m, 'a>(message: &'m Message<'a>) -> Option<&'m [Attribute<'a>]>
-    ensures { option_map (λ attributes. map plain_attribute attributes.now) result ≡ (if checks.begins_well (operation_attributes (plain_message message.now)) then Some (operation_attributes (plain_message message.now)) else None) }
+    ensures { option_map (λ attributes. map plain_attribute attributes.now) result
+        ≡ (if checks.begins_well (operation_attributes (plain_message message.now))
+        then Some (operation_attributes (plain_message message.now))
+        else None) }
 {
     let attributes = request::operation_group(message.groups.as_slice())?;
     request::charset_first(attributes)?;

@@ -60,7 +60,8 @@ impl Field {
         operation: Operation,
         attributes: &'m [Attribute<'a>],
     ) -> Option<&'m [Value<'a>]>
-        ensures { option_map (λ values. map plain_value values.now) result ≡ values_of self operation (map plain_attribute attributes.now) }
+        ensures { option_map (λ values. map plain_value values.now) result
+            ≡ values_of self operation (map plain_attribute attributes.now) }
     {
         if self.is_read_by(operation) {
             let attribute = named(attributes, self.name())?;
@@ -77,7 +78,8 @@ impl Field {
         operation: Operation,
         attributes: &[Attribute<'a>],
     ) -> Option<Value<'a>>
-        ensures { option_map plain_value result ≡ value_of self operation (map plain_attribute attributes.now) }
+        ensures { option_map plain_value result
+            ≡ value_of self operation (map plain_attribute attributes.now) }
     {
         lone_value(self.values(operation, attributes)?)
     }
@@ -88,7 +90,8 @@ impl Field {
         operation: Operation,
         attributes: &[Attribute<'a>],
     ) -> Option<&'a [u8]>
-        ensures { option_map (λ bytes. bytes.now) result ≡ bytes_of self operation (map plain_attribute attributes.now) }
+        ensures { option_map (λ bytes. bytes.now) result
+            ≡ bytes_of self operation (map plain_attribute attributes.now) }
     {
         Some(self.value(operation, attributes)?.bytes)
     }
@@ -101,7 +104,8 @@ impl Field {
     }
 
     fn is_well(self, attributes: &[Attribute<'_>]) -> bool
-        ensures { result ≡ is_well self (named (row_of self).name (map plain_attribute attributes.now)) }
+        ensures { result
+            ≡ is_well self (named (row_of self).name (map plain_attribute attributes.now)) }
     {
         match named(attributes, self.name()) {
             Some(attribute) => self.syntax().fits(attribute.values.as_slice()),

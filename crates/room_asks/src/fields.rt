@@ -1,15 +1,14 @@
 //! What the operation attributes of a request say.
 
-ghost use Rattle.std.specs.Prelude.{◌≡◌, ◌==◌, ◌<◌, ◌≤◌, IfOk, IfErr, IfSome, Some, length, map, option_map, option_and_then, position};
+ghost use Rattle.std.specs.Prelude.{◌≡◌, ◌==◌, ◌<◌, ◌≤◌, IfOk, IfErr, IfSome, Some, length, map, option_map, position};
 ghost use Rattle.ipp_coding.specs.Plain.{plain_value, plain_attribute};
 ghost use Rattle.room_rules.specs.Limits.{longest_job_name, longest_password, most_impressions};
 ghost use Rattle.room_asks.specs.declared.ask.AskFault.TheVariants.{Memory};
 ghost use Rattle.room_asks.specs.CheckOrder.{field_checks};
 ghost use Rattle.room_asks.specs.Fields as said;
 ghost use Rattle.room_asks.specs.PlainParts.{plain_fields, plain_names};
-ghost use Rattle.room_asks.specs.Syntaxes.{name_said};
-ghost use Rattle.room_asks.specs.declared.field.Field.TheVariants.{JobName};
-ghost use Rattle.room_asks.specs.Refusals.{checked, told};
+ghost use Rattle.room_asks.specs.Refusals.{checked};
+ghost use Rattle.room_asks.specs.Telling.{told};
 
 use crate::ask::{AskFault, Which};
 use crate::checks;
@@ -41,7 +40,10 @@ impl<'a> Fields<'a> {
         operation: Operation,
         attributes: &[Attribute<'a>],
     ) -> Result<Fields<'a>, Refusal>
-        ensures told { told plain_fields result ≡ checked (field_checks operation (map plain_attribute attributes.now)) (said.fields_of operation (map plain_attribute attributes.now)) }
+        ensures told { told plain_fields result
+            ≡ checked
+            (field_checks operation (map plain_attribute attributes.now))
+            (said.fields_of operation (map plain_attribute attributes.now)) }
         ensures name { IfOk result (λ fields. length fields.name.now ≤ longest_job_name) }
         ensures password { IfOk result (λ fields. length fields.password.now ≤ longest_password) }
         ensures impressions { IfOk result (λ fields. fields.impressions ≤ most_impressions) }
@@ -77,7 +79,8 @@ pub(crate) fn job_name<'a>(operation: Operation, attributes: &[Attribute<'a>]) -
 }
 
 fn given_name<'a>(operation: Operation, attributes: &[Attribute<'a>]) -> Option<&'a [u8]>
-    ensures { option_map (λ name. name.now) result ≡ option_and_then said.unless_empty (option_and_then name_said (said.value_of JobName operation (map plain_attribute attributes.now))) }
+    ensures { option_map (λ name. name.now) result
+        ≡ said.given_name operation (map plain_attribute attributes.now) }
 {
     let value = Field::JobName.value(operation, attributes)?;
     unless_empty(name_of(value)?)
@@ -208,7 +211,9 @@ pub(crate) fn wanted<'a>(
     operation: Operation,
     attributes: &[Attribute<'a>],
 ) -> Result<Option<List<&'a [u8]>>, AskFault<'a>>
-    ensures wanted { IfOk result (λ wanted. option_map plain_names wanted ≡ said.wanted operation (map plain_attribute attributes.now)) }
+    ensures wanted { IfOk result
+        (λ wanted. option_map plain_names wanted
+        ≡ said.wanted operation (map plain_attribute attributes.now)) }
     ensures memory { IfErr result (λ fault. fault ≡ Memory) }
 {
     match Field::RequestedAttributes.values(operation, attributes) {

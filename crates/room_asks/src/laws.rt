@@ -2,7 +2,8 @@
 
 ghost use Rattle.room_asks.specs.UriLaws.{UrisAreMadeOfParts};
 
-/// The base of a URI, its path and a query or a fragment behind it, one behind the other, are the URI.
+/// The base of a URI, its path, and a query or a fragment behind it are the URI, one behind the
+/// other.
 #[tactic(auto, using(crate::proofs::UriCuts::uris_are_made_of_parts))]
 pub fn uris_are_made_of_parts()
     ensures { UrisAreMadeOfParts }

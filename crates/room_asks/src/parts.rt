@@ -3,9 +3,10 @@
 ghost use Rattle.std.specs.Prelude.{◌≡◌, ◌<◌, ◌≤◌, IfOk, IfSome, length, map};
 ghost use Rattle.ipp_coding.specs.Plain.{plain_attribute, plain_message};
 ghost use Rattle.room_rules.specs.Limits.{longest_job_name, longest_password, most_impressions, last_next_job, longest_uri};
-ghost use Rattle.room_asks.specs.Asks.{ask_parts, plain_parts, IsParts};
+ghost use Rattle.room_asks.specs.AskParts.{ask_parts, plain_parts, IsParts};
 ghost use Rattle.room_asks.specs.CheckOrder.{attribute_checks, opening_checks};
-ghost use Rattle.room_asks.specs.Refusals.{checked, told};
+ghost use Rattle.room_asks.specs.Refusals.{checked};
+ghost use Rattle.room_asks.specs.Telling.{told};
 ghost use Rattle.room_asks.specs.Requests.{operation_attributes};
 
 use crate::checks;
@@ -30,7 +31,10 @@ impl<'m, 'a> Parts<'m, 'a> {
         message: &'m Message<'a>,
         account: Name,
     ) -> Result<Parts<'m, 'a>, Refusal>
-        ensures told { told plain_parts result ≡ checked (attribute_checks account operation (operation_attributes (plain_message message.now))) (ask_parts account operation (operation_attributes (plain_message message.now))) }
+        ensures told { told plain_parts result
+            ≡ checked
+            (attribute_checks account operation (operation_attributes (plain_message message.now)))
+            (ask_parts account operation (operation_attributes (plain_message message.now))) }
         ensures within { IfOk result (λ parts. IsParts (plain_parts parts)) }
     {
         let attributes = opened(message)?;
@@ -47,7 +51,10 @@ impl<'m, 'a> Parts<'m, 'a> {
 /// The operation attributes, which begin with a charset that is known and a language.
 #[tactic(auto, unfolding(crate::specs::CheckOrder::opening_checks))]
 fn opened<'m, 'a>(message: &'m Message<'a>) -> Result<&'m [Attribute<'a>], Refusal>
-    ensures { told (λ attributes. map plain_attribute attributes.now) result ≡ checked (opening_checks (operation_attributes (plain_message message.now))) (operation_attributes (plain_message message.now)) }
+    ensures { told (λ attributes. map plain_attribute attributes.now) result
+        ≡ checked
+        (opening_checks (operation_attributes (plain_message message.now)))
+        (operation_attributes (plain_message message.now)) }
 {
     let attributes = checks::charset_and_language(message)?;
     checks::charset(attributes)?;

@@ -8,10 +8,12 @@ ghost use Rattle.ipp_coding.specs.Spelling.{IsGroup};
 ghost use Rattle.room_asks.specs.declared.ask.AskFault.TheVariants.{Memory};
 ghost use Rattle.room_asks.specs.Fields.{wanted};
 ghost use Rattle.room_asks.specs.PlainParts.{plain_target, plain_fields};
-ghost use Rattle.room_asks.specs.Asks.{ask_of, asked, assembled, IsBare, plain_ask, AsksAs, IsAsk, CanBeSpelled};
+ghost use Rattle.room_asks.specs.Asks.{ask_of, asked, assembled, plain_ask, AsksAs, IsAsk, CanBeSpelled};
+ghost use Rattle.room_asks.specs.AskParts.{IsBare};
 ghost use Rattle.room_asks.specs.CheckOrder.{header_checks, message_checks};
 ghost use Rattle.room_asks.specs.Operations.{operation_of};
-ghost use Rattle.room_asks.specs.Refusals.{checked, told};
+ghost use Rattle.room_asks.specs.Refusals.{checked};
+ghost use Rattle.room_asks.specs.Telling.{told};
 
 use crate::ask::{Ask, AskFault};
 use crate::operation::Operation;
@@ -64,7 +66,10 @@ fn ask_in<'a>(
     account: Name,
 ) -> Result<Ask<'a>, AskFault<'a>>
     requires { AllByRecursion IsGroup (map plain_group message.now.groups) }
-    ensures asked { AsksAs result (checked (message_checks account operation (plain_message message.now)) (asked account header operation (plain_message message.now))) }
+    ensures asked { AsksAs result
+        (checked
+        (message_checks account operation (plain_message message.now))
+        (asked account header operation (plain_message message.now))) }
     ensures fields { IfOk result (λ ask. IsAsk (plain_ask ask)) }
     ensures spelled { IfErr result CanBeSpelled }
 {
@@ -97,7 +102,17 @@ fn ask_with<'a>(
     parts: Parts<'_, 'a>,
     templates: Templates<'a>,
 ) -> Result<Ask<'a>, AskFault<'a>>
-    ensures asked { IfOk result (λ ask. plain_ask ask ≡ assembled header operation (plain_target parts.entry.target) (plain_fields parts.entry.fields) (wanted operation (map plain_attribute parts.entry.attributes.now)) templates.entry.copies (map plain_attribute templates.entry.unsupported) message.now.payload.now) }
+    ensures asked { IfOk result
+        (λ ask. plain_ask ask
+        ≡ assembled
+        header
+        operation
+        (plain_target parts.entry.target)
+        (plain_fields parts.entry.fields)
+        (wanted operation (map plain_attribute parts.entry.attributes.now))
+        templates.entry.copies
+        (map plain_attribute templates.entry.unsupported)
+        message.now.payload.now) }
     ensures memory { IfErr result (λ fault. fault ≡ Memory) }
 {
     Ok(Ask {

@@ -10,7 +10,8 @@ use ipp_coding::{Attribute, Group, Value};
 
 /// The attributes of the first group, where it is an operation group.
 pub(crate) fn operation_group<'m, 'a>(groups: &'m [Group<'a>]) -> Option<&'m [Attribute<'a>]>
-    ensures { option_map (λ attributes. map plain_attribute attributes.now) result ≡ operation_group (map plain_group groups.now) }
+    ensures { option_map (λ attributes. map plain_attribute attributes.now) result
+        ≡ operation_group (map plain_group groups.now) }
 {
     let group = groups.first()?;
     if group.tag == 0x01 {
@@ -22,7 +23,8 @@ pub(crate) fn operation_group<'m, 'a>(groups: &'m [Group<'a>]) -> Option<&'m [At
 
 /// The attributes of the first job group.
 pub(crate) fn job_group<'m, 'a>(groups: &'m [Group<'a>]) -> Option<&'m [Attribute<'a>]>
-    ensures { option_map (λ attributes. map plain_attribute attributes.now) result ≡ job_group (map plain_group groups.now) }
+    ensures { option_map (λ attributes. map plain_attribute attributes.now) result
+        ≡ job_group (map plain_group groups.now) }
 {
     let group = first_job_group(groups)?;
     Some(group.attributes.as_slice())
@@ -36,7 +38,8 @@ fn first_job_group<'m, 'a>(groups: &'m [Group<'a>]) -> Option<&'m Group<'a>>
 
 /// The value of attributes-charset, where it is the first attribute and all is well with it.
 pub(crate) fn charset_first<'a>(attributes: &[Attribute<'a>]) -> Option<&'a [u8]>
-    ensures { option_map (λ charset. charset.now) result ≡ charset_first (map plain_attribute attributes.now) }
+    ensures { option_map (λ charset. charset.now) result
+        ≡ charset_first (map plain_attribute attributes.now) }
 {
     let charset = attributes.first()?;
     single_if_named(charset, b"attributes-charset", 0x47)
@@ -44,7 +47,8 @@ pub(crate) fn charset_first<'a>(attributes: &[Attribute<'a>]) -> Option<&'a [u8]
 
 /// The same of attributes-natural-language, the second attribute.
 pub(crate) fn language_second<'a>(attributes: &[Attribute<'a>]) -> Option<&'a [u8]>
-    ensures { option_map (λ language. language.now) result ≡ language_second (map plain_attribute attributes.now) }
+    ensures { option_map (λ language. language.now) result
+        ≡ language_second (map plain_attribute attributes.now) }
 {
     let language = attributes.get(1)?;
     single_if_named(language, b"attributes-natural-language", 0x48)
@@ -56,7 +60,8 @@ pub(crate) fn single_named<'a>(
     name: &[u8],
     tag: u8,
 ) -> Option<&'a [u8]>
-    ensures { option_map (λ bytes. bytes.now) result ≡ single_named name.now tag (map plain_attribute attributes.now) }
+    ensures { option_map (λ bytes. bytes.now) result
+        ≡ single_named name.now tag (map plain_attribute attributes.now) }
 {
     let attribute = named(attributes, name)?;
     single_under(attribute, tag)
@@ -67,13 +72,15 @@ pub(crate) fn named<'m, 'a>(
     attributes: &'m [Attribute<'a>],
     name: &[u8],
 ) -> Option<&'m Attribute<'a>>
-    ensures { option_map (λ attribute. plain_attribute attribute.now) result ≡ named name.now (map plain_attribute attributes.now) }
+    ensures { option_map (λ attribute. plain_attribute attribute.now) result
+        ≡ named name.now (map plain_attribute attributes.now) }
 {
     first_named(attributes, name)
 }
 
 fn first_named<'m, 'a>(attributes: &'m [Attribute<'a>], name: &[u8]) -> Option<&'m Attribute<'a>>
-    ensures { option_copied result ≡ find (λ a. is_named name.now (plain_attribute a)) attributes.now }
+    ensures { option_copied result
+        ≡ find (λ a. is_named name.now (plain_attribute a)) attributes.now }
 {
     attributes
         .iter()
@@ -88,7 +95,8 @@ pub(crate) fn is_named(attribute: &Attribute<'_>, name: &[u8]) -> bool
 }
 
 fn single_if_named<'a>(attribute: &Attribute<'a>, name: &[u8], tag: u8) -> Option<&'a [u8]>
-    ensures { option_map (λ bytes. bytes.now) result ≡ single_if_named name.now tag (plain_attribute attribute.now) }
+    ensures { option_map (λ bytes. bytes.now) result
+        ≡ single_if_named name.now tag (plain_attribute attribute.now) }
 {
     if is_named(attribute, name) {
         single_under(attribute, tag)
@@ -99,7 +107,8 @@ fn single_if_named<'a>(attribute: &Attribute<'a>, name: &[u8], tag: u8) -> Optio
 
 /// The bytes of the attribute's one value, where it has just one, under the tag.
 fn single_under<'a>(attribute: &Attribute<'a>, tag: u8) -> Option<&'a [u8]>
-    ensures { option_map (λ bytes. bytes.now) result ≡ single_under tag (plain_attribute attribute.now) }
+    ensures { option_map (λ bytes. bytes.now) result
+        ≡ single_under tag (plain_attribute attribute.now) }
 {
     let value = lone_value(attribute.values.as_slice())?;
     bytes_under(value, tag)

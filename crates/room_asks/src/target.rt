@@ -7,10 +7,12 @@ ghost use Rattle.std.specs.Cmp.Lexicographic.{pointwise};
 ghost use Rattle.std.specs.Str.Parse.{digits_value};
 ghost use Rattle.ipp_coding.specs.Plain.{plain_attribute};
 ghost use Rattle.room_rules.specs.Limits.{last_next_job, longest_uri};
-ghost use Rattle.room_asks.specs.Targets.{job_numbered, lone_integer, job_id, with_job_id, job_target, target_in, uri_of, HasNumber, behind, queue_path, starts_above_zero, is_job_number, job_number, job_in_path, in_queue, in_job, reached};
+ghost use Rattle.room_asks.specs.Targets.{job_numbered, lone_integer, job_id, with_job_id, job_target, target_in, uri_of, behind, queue_path, starts_above_zero, is_job_number, job_number, job_in_path, in_queue, in_job, reached};
+ghost use Rattle.room_asks.specs.PlainParts.{HasNumber};
 ghost use Rattle.room_asks.specs.CheckOrder.{target_checks};
 ghost use Rattle.room_asks.specs.Checks.{target_of};
-ghost use Rattle.room_asks.specs.Refusals.{checked, told};
+ghost use Rattle.room_asks.specs.Refusals.{checked};
+ghost use Rattle.room_asks.specs.Telling.{told};
 ghost use Rattle.room_asks.specs.PlainParts.{plain_named, plain_target, plain_uri};
 
 use crate::checks;
@@ -44,7 +46,8 @@ impl<'a> TargetUri<'a> {
     /// What the operation attributes name, as the operation wants it.
     #[tactic(auto, unfolding(crate::specs::Targets::target_in))]
     pub(crate) fn read(operation: Operation, attributes: &[Attribute<'a>]) -> Option<TargetUri<'a>>
-        ensures named { option_map plain_named result ≡ target_in operation (map plain_attribute attributes.now) }
+        ensures named { option_map plain_named result
+            ≡ target_in operation (map plain_attribute attributes.now) }
         ensures number { IfSome result (λ target. HasNumber (plain_named target)) }
     {
         if operation.is_for_job() {
@@ -67,8 +70,10 @@ impl<'a> TargetUri<'a> {
     #[tactic(auto, unfolding(crate::specs::Targets::reached))]
     pub(crate) fn reach(self, account: Name) -> Option<Target<'a>>
         requires { HasNumber (plain_named self) }
-        ensures reached { option_map plain_target result ≡ reached account (plain_named self.entry) }
-        ensures base { IfSome result (λ target. length target.base.now ≤ length (uri_of (plain_named self.entry))) }
+        ensures reached { option_map plain_target result
+            ≡ reached account (plain_named self.entry) }
+        ensures base { IfSome result
+            (λ target. length target.base.now ≤ length (uri_of (plain_named self.entry))) }
         ensures job { IfSome result (λ target. target.job < last_next_job) }
     {
         match self {
@@ -86,7 +91,10 @@ impl<'a> Target<'a> {
         attributes: &[Attribute<'a>],
         account: Name,
     ) -> Result<Target<'a>, Refusal>
-        ensures told { told plain_target result ≡ checked (target_checks account operation (map plain_attribute attributes.now)) (target_of account operation (map plain_attribute attributes.now)) }
+        ensures told { told plain_target result
+            ≡ checked
+            (target_checks account operation (map plain_attribute attributes.now))
+            (target_of account operation (map plain_attribute attributes.now)) }
         ensures base { IfOk result (λ target. length target.base.now ≤ longest_uri) }
         ensures job { IfOk result (λ target. target.job < last_next_job) }
     {
@@ -97,7 +105,8 @@ impl<'a> Target<'a> {
 }
 
 fn job_target<'a>(attributes: &[Attribute<'a>]) -> Option<TargetUri<'a>>
-    ensures named { option_map plain_named result ≡ job_target (map plain_attribute attributes.now) }
+    ensures named { option_map plain_named result
+        ≡ job_target (map plain_attribute attributes.now) }
     ensures number { IfSome result (λ target. HasNumber (plain_named target)) }
 {
     if named(attributes, b"printer-uri").is_some() {

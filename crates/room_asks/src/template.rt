@@ -32,9 +32,12 @@ impl<'a> Templates<'a> {
         operation: Operation,
         message: &Message<'a>,
     ) -> Result<Templates<'a>, AskFault<'a>>
-        ensures copies { IfOk result (λ t. t.copies ≡ copies (template_attributes operation (plain_message message.now))) }
+        ensures copies { IfOk result
+            (λ t. t.copies ≡ copies (template_attributes operation (plain_message message.now))) }
         ensures within { IfOk result (λ t. (1 ≤ t.copies) × (t.copies ≤ most_copies)) }
-        ensures unsupported { IfOk result (λ t. map plain_attribute t.unsupported ≡ unsupported (template_attributes operation (plain_message message.now))) }
+        ensures unsupported { IfOk result
+            (λ t. map plain_attribute t.unsupported
+            ≡ unsupported (template_attributes operation (plain_message message.now))) }
         ensures memory { IfErr result (λ fault. fault ≡ Memory) }
     {
         match template_attributes(operation, message) {
@@ -49,7 +52,9 @@ impl<'a> Templates<'a> {
     fn of(alloc: Global, attributes: &[Attribute<'a>]) -> Result<Templates<'a>, AskFault<'a>>
         ensures copies { IfOk result (λ t. t.copies ≡ copies (map plain_attribute attributes.now)) }
         ensures within { IfOk result (λ t. (1 ≤ t.copies) × (t.copies ≤ most_copies)) }
-        ensures unsupported { IfOk result (λ t. map plain_attribute t.unsupported ≡ unsupported (map plain_attribute attributes.now)) }
+        ensures unsupported { IfOk result
+            (λ t. map plain_attribute t.unsupported
+            ≡ unsupported (map plain_attribute attributes.now)) }
         ensures memory { IfErr result (λ fault. fault ≡ Memory) }
     {
         Ok(Templates {
@@ -72,7 +77,8 @@ fn template_attributes<'m, 'a>(
     operation: Operation,
     message: &'m Message<'a>,
 ) -> Option<&'m [Attribute<'a>]>
-    ensures { unwrap_or (option_map (λ attributes. map plain_attribute attributes.now) result) [] ≡ template_attributes operation (plain_message message.now) }
+    ensures { unwrap_or (option_map (λ attributes. map plain_attribute attributes.now) result) []
+        ≡ template_attributes operation (plain_message message.now) }
 {
     if operation.makes_job() {
         job_group(message.groups.as_slice())
@@ -115,7 +121,8 @@ fn unsupported_in<'a>(
     alloc: Global,
     attributes: &[Attribute<'a>],
 ) -> Result<List<Attribute<'a>>, AskFault<'a>>
-    ensures unsupported { IfOk result (λ list. map plain_attribute list ≡ unsupported (map plain_attribute attributes.now)) }
+    ensures unsupported { IfOk result
+        (λ list. map plain_attribute list ≡ unsupported (map plain_attribute attributes.now)) }
     ensures memory { IfErr result (λ fault. fault ≡ Memory) }
 {
     let firsts = firsts_in(alloc, attributes)?;
@@ -158,7 +165,8 @@ fn is_indefinite(value: Value<'_>) -> bool
 
 /// How an attribute that is not supported is answered.
 fn returned<'a>(alloc: Global, attribute: &Attribute<'a>) -> Result<Attribute<'a>, AskFault<'a>>
-    ensures returned { IfOk result (λ a. plain_attribute a ≡ returned (plain_attribute attribute.now)) }
+    ensures returned { IfOk result
+        (λ a. plain_attribute a ≡ returned (plain_attribute attribute.now)) }
     ensures memory { IfErr result (λ fault. fault ≡ Memory) }
 {
     let mut items = Vec::with_capacity(alloc, 1)?;

@@ -1,6 +1,6 @@
 use Rattle.ipp_coding.specs.Plain.{plain_message, plain_attribute}
 use Rattle.std.proofs.Common.{map}
-use Rattle.room_asks.specs.Asks.{plain_parts}
+use Rattle.room_asks.specs.AskParts.{plain_parts}
 use Rattle.room_asks.proofs.Spelled.{unsupported_spelled}
 use Rattle.room_asks.proofs.Wholes.{asks_bare, parts_refused, document_refused, all_passed, asks_whole, good_whole}
 use Rattle.room_asks.proofs.read.ask_in.Goals as goal
