@@ -1,6 +1,6 @@
 //! Attributes of a group.
 
-ghost use Rattle.std.specs.Prelude.{◌≡◌, [], ◌∷◌, ◌++◌, ◌≤◌, None, IfErr, OnOk, OnErr, map, take, length};
+ghost use Rattle.std.specs.Prelude.{◌≡◌, [], ◌∷◌, ◌≤◌, None, IfErr, OnErr, map, take, length};
 ghost use Rattle.std.specs.List.{flat_map, AllByRecursion};
 ghost use Rattle.ipp_coding.specs.Plain.{plain_value, plain_attribute};
 ghost use Rattle.ipp_coding.specs.Spelling.{attribute_spelling, further_spelling, AreValues, Fits, IsAttribute, IsValue};

@@ -1,6 +1,6 @@
 //! The group of a job.
 
-ghost use Rattle.std.specs.Prelude.{◌≡◌, ◌++◌, ◌≤◌, ◌*◌, ◌/◌, IfErr, OnOk, OnErr, map, take, length};
+ghost use Rattle.std.specs.Prelude.{◌≡◌, ◌≤◌, ◌*◌, ◌/◌, IfErr, OnErr, take, length};
 ghost use Rattle.ipp_coding.specs.Spelling.{attribute_spelling, group_spelling, Fits};
 ghost use Rattle.room_rules.specs.Limits.{greatest_integer, last_job, most_impressions};
 ghost use Rattle.room_texts.specs.Appends.{Appends};

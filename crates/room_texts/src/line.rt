@@ -1,6 +1,6 @@
 //! The lines that a station is told.
 
-ghost use Rattle.std.specs.Prelude.{◌≡◌, ◌++◌, ◌≤◌, length, IfOk, IfErr, OnOk, OnErr, string_bytes};
+ghost use Rattle.std.specs.Prelude.{◌≡◌, ◌≤◌, length, IfOk, IfErr, OnErr, string_bytes};
 ghost use Rattle.ipp_coding.specs.Spelling.{Fits};
 ghost use Rattle.room_texts.specs.Appends.{Appends};
 ghost use Rattle.room_texts.specs.Lines.{success_text};

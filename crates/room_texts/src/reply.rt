@@ -1,6 +1,6 @@
 //! The reply to a request.
 
-ghost use Rattle.std.specs.Prelude.{◌≡◌, ◌++◌, ◌∷◌, [], Some, IfErr, OnOk, OnErr, map, option_map, take, length};
+ghost use Rattle.std.specs.Prelude.{◌≡◌, Some, IfErr, OnErr, map, option_map, take, length};
 ghost use Rattle.std.specs.List.{flat_map, AllByRecursion};
 ghost use Rattle.ipp_coding.specs.Plain.{plain_attribute};
 ghost use Rattle.ipp_coding.specs.Spelling.{attribute_spelling, group_spelling, header_spelling, IsAttribute};
