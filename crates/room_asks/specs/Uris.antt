@@ -1,16 +1,14 @@
--- A URI in parts: a base up to the path, the path, and a tail behind the path, which is left out.
--- By UriLaws the three make up the URI.
+-- A URI in parts: a base, which is its scheme, "://" and its authority, the path, and a tail behind
+-- the path, which is left out. UriLaws says what the parts are.
 use Rattle.std.specs.Prelude.{ℕ, Bool, ◌||◌, ◌==◌, if◌then◌else◌, nat_eq, List, [], ◌∷◌, ◌++◌, drop, Option, Some, None, codes, option_map, option_and_then, position, unwrap_or}
 use Rattle.std.specs.List.{starts_with}
 use Rattle.room_asks.specs.Requests.{up_to}
 
--- up to the first "://", and with it
-abbrev pub through_scheme : List ℕ → List ℕ
-through_scheme [] = []
-through_scheme (c ∷ rest) =
-    if starts_with nat_eq (c ∷ rest) (codes "://")
-    then codes "://"
-    else c ∷ through_scheme rest
+-- up to the first "://"
+abbrev pub scheme_of : List ℕ → List ℕ
+scheme_of [] = []
+scheme_of (c ∷ rest) =
+    if starts_with nat_eq (c ∷ rest) (codes "://") then [] else c ∷ scheme_of rest
 
 -- behind the first "://"
 abbrev pub behind_scheme : List ℕ → Option (List ℕ)
@@ -33,7 +31,8 @@ from_slash bytes = option_map (λ place. drop place bytes) (position is_slash by
 
 -- the path begins with the first "/" behind the first "://"; what stands before it, and from it on
 abbrev pub before_path : List ℕ → List ℕ
-before_path uri = through_scheme uri ++ before_slash (unwrap_or (behind_scheme uri) [])
+before_path uri =
+    scheme_of uri ++ (codes "://" ++ before_slash (unwrap_or (behind_scheme uri) []))
 
 abbrev pub from_path : List ℕ → Option (List ℕ)
 from_path uri = option_and_then from_slash (behind_scheme uri)
