@@ -3,7 +3,8 @@
 ghost use Rattle.room_asks.specs.UriLaws.{UrisAreMadeOfParts};
 
 /// The base of a URI, its path, and a query or a fragment behind it are the URI, one behind the
-/// other.
+/// other. The base is what stands before the first `/` behind the first `://`, and the path goes on
+/// to the first `?` or `#`. A URI has no other parts.
 #[tactic(auto, using(crate::proofs::UriCuts::uris_are_made_of_parts))]
 pub fn uris_are_made_of_parts()
     ensures { UrisAreMadeOfParts }

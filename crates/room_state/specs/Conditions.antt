@@ -1,5 +1,5 @@
--- For the proof of the code alone: when a room takes a change and keeps its rules (all this project's
--- own).
+-- For the proof of the code alone: when a room takes a change and keeps its rules (all this
+-- project's own).
 use Rattle.std.specs.Prelude.{◌≡◌, ℕ, ◌+◌, ◌<◌, ◌≤◌, true, false, length, Option, Some, None, IsSome, IfSome}
 use Rattle.std.specs.FinMap.{get}
 use Rattle.room_rules.specs.JobStates.{is_unfinished}
