@@ -27,11 +27,10 @@ impl Model for Name {
     ghost view = { λ n. take n.size n.cells };
 
     ghost invariant = { λ n.
-      (n.size ≤ 32)
-      × (length (take n.size n.cells) ≡ n.size)
-      × (n.cells ≡ cells_of (take n.size n.cells))
-      × IsTrue (is_name (take n.size n.cells))
-    };
+        (n.size ≤ 32)
+        × (length (take n.size n.cells) ≡ n.size)
+        × (n.cells ≡ cells_of (take n.size n.cells))
+        × IsTrue (is_name (take n.size n.cells)) };
 
     ghost inverse = { λ bytes. record { size = length bytes; cells = cells_of bytes } };
 
