@@ -1,9 +1,9 @@
 -- The requests about one job (RFC 8011 section 4.3). Whether it is there is asked first, then the table
 -- of states (Moves of room_rules).
-use Rattle.std.specs.Prelude.{ℕ, ◌+◌, Bool, not, ◌==◌, if◌then◌else◌, List, [], ◌∷◌, length, Option, Some, None, Result, Ok, Err}
+use Rattle.std.specs.Prelude.{ℕ, ◌+◌, Bool, not, ◌==◌, if◌then◌else◌, List, [], ◌∷◌, length, Option, Some, None, Result}
 use Rattle.room_asks.specs.Asks.{PlainAsk}
 use Rattle.room_core.specs.Steps.{and_then, with_moved}
-use Rattle.room_core.specs.Requests.{Response, refusing_ask, doing_ask, asked_at, asked_job}
+use Rattle.room_core.specs.Requests.{Response, refusing_ask_or, doing_ask, asked_at, asked_job}
 use Rattle.room_core.specs.NewJobs.{made_names}
 use Rattle.room_rules.specs.Acts.{SendDocument, CancelJob, HoldJob, ReleaseJob}
 use Rattle.room_rules.specs.declared.job.Document.{Document}
@@ -18,9 +18,9 @@ use Rattle.room_texts.specs.JobAttributes.{job_group}
 
 -- ---- Get-Job-Attributes (RFC 8011 section 4.3.4)
 
-abbrev pub described : RoomValue → List ℕ → ℕ → PlainAsk → Result Job Refusal → Response
-described room account now ask (Err refusal) = refusing_ask room ask refusal
-described room account now ask (Ok job) = doing_ask room ask (job_group (asked_at room.opened account now ask) job ask.wanted ∷ [])
+abbrev pub described : RoomValue → List ℕ → ℕ → PlainAsk → Response
+described room account now ask = refusing_ask_or room ask (asked_job room ask) (λ (job : Job).
+    doing_ask room ask (job_group (asked_at room.opened account now ask) job ask.wanted ∷ []))
 
 -- ---- Cancel-Job, Hold-Job, Release-Job (RFC 8011 sections 4.3.3, 4.3.5 and 4.3.6)
 
@@ -37,8 +37,7 @@ abbrev pub release_of : RoomValue → ℕ → PlainAsk → Result Standing Refus
 release_of room now ask = and_then (asked_job room ask) (λ (job : Job). move (ReleaseJob (has_password job) (left_in room now)) job.standing)
 
 abbrev pub acted : RoomValue → PlainAsk → Result Standing Refusal → Response
-acted room ask (Err refusal) = refusing_ask room ask refusal
-acted room ask (Ok standing) = doing_ask (with_moved room ask.job standing) ask []
+acted room ask decided = refusing_ask_or room ask decided (λ (standing : Standing). doing_ask (with_moved room ask.job standing) ask [])
 
 -- ---- Send-Document (RFC 8011 section 4.3.1)
 
@@ -50,14 +49,12 @@ abbrev pub sent_document : PlainAsk → Job → Option Document
 sent_document ask job =
     if has_data ask then Some (record { job = ask.job; number = job.standing.documents + 1; format = ask.format; bytes = ask.payload }) else None
 
-abbrev pub sent_as : RoomValue → List ℕ → ℕ → PlainAsk → Job → Result Standing Refusal → Response
-sent_as room account now ask job (Err refusal) = refusing_ask room ask refusal
-sent_as room account now ask job (Ok standing) =
+-- the job stands so, and has the document
+abbrev pub document_taken : RoomValue → List ℕ → ℕ → PlainAsk → Job → Standing → Response
+document_taken room account now ask job standing =
     doing_ask (with_standing room ask.job standing (sent_document ask job)) ask (job_group (asked_at room.opened account now ask) (record job { standing = standing }) made_names ∷ [])
 
-abbrev pub sent_to : RoomValue → List ℕ → ℕ → PlainAsk → Result Job Refusal → Response
-sent_to room account now ask (Err refusal) = refusing_ask room ask refusal
-sent_to room account now ask (Ok job) = sent_as room account now ask job (move (SendDocument ask.last (has_data ask)) job.standing)
-
 abbrev pub sent : RoomValue → List ℕ → ℕ → PlainAsk → Response
-sent room account now ask = sent_to room account now ask (asked_job room ask)
+sent room account now ask =
+    refusing_ask_or room ask (asked_job room ask) (λ (job : Job).
+    refusing_ask_or room ask (move (SendDocument ask.last (has_data ask)) job.standing) (document_taken room account now ask job))

@@ -15,7 +15,7 @@ use Rattle.room_core.specs.JobRequests.{described, cancel_of, hold_of, release_o
 use Rattle.room_core.specs.NewJobs.{made, validated}
 use Rattle.room_core.specs.Printers.{shown}
 use Rattle.room_core.specs.Queues.{listed}
-use Rattle.room_core.specs.Requests.{Response, asked_job}
+use Rattle.room_core.specs.Requests.{Response}
 use Rattle.room_core.specs.Stations as station
 use Rattle.room_core.specs.Steps.{Step, refusing}
 use Rattle.room_rules.specs.declared.refusal.Word.TheVariants.{NoAccount, Exists}
@@ -31,7 +31,7 @@ responded room devices account now ask ValidateJob = validated room ask
 responded room devices account now ask CreateJob = made room account now ask
 responded room devices account now ask SendDocument = sent room account now ask
 responded room devices account now ask CancelJob = acted room ask (cancel_of room now ask)
-responded room devices account now ask GetJobAttributes = described room account now ask (asked_job room ask)
+responded room devices account now ask GetJobAttributes = described room account now ask
 responded room devices account now ask GetJobs = listed room account now ask
 responded room devices account now ask GetPrinterAttributes = shown room devices account now ask
 responded room devices account now ask HoldJob = acted room ask (hold_of room ask)

@@ -1,9 +1,9 @@
 -- Print-Job and Create-Job, and Validate-Job, which makes no job (RFC 8011 sections 4.2.1, 4.2.4 and 4.2.3).
-use Rattle.std.specs.Prelude.{ℕ, if◌then◌else◌, List, [], ◌∷◌, Option, Some, None, Result, Ok, Err, codes}
+use Rattle.std.specs.Prelude.{ℕ, if◌then◌else◌, List, [], ◌∷◌, Option, Some, None, Result, codes}
 use Rattle.room_answers.specs.Queues.{accepting_refusal}
 use Rattle.room_asks.specs.Asks.{PlainAsk}
 use Rattle.room_asks.specs.Operations.{is_print_job}
-use Rattle.room_core.specs.Requests.{Response, refusing_ask, doing_ask, asked_at}
+use Rattle.room_core.specs.Requests.{Response, refusing_ask_or, doing_ask, asked_at}
 use Rattle.room_rules.specs.declared.job.Document.{Document}
 use Rattle.room_rules.specs.declared.job.Job.{Job}
 use Rattle.room_rules.specs.declared.refusal.Refusal.{Refusal}
@@ -36,17 +36,10 @@ abbrev pub accepts : RoomValue → Result (Unit {0}) Refusal
 accepts room = accepting_refusal (unfinished_count room) room.next
 
 -- the job has the account's next number
-abbrev pub made_if : RoomValue → List ℕ → ℕ → PlainAsk → Result (Unit {0}) Refusal → Response
-made_if room account now ask (Err refusal) = refusing_ask room ask refusal
-made_if room account now ask (Ok _) =
-    doing_ask (with_new_job room (new_job room.next ask now) (new_document room.next ask)) ask (job_group (asked_at room.opened account now ask) (new_job room.next ask now) made_names ∷ [])
-
 abbrev pub made : RoomValue → List ℕ → ℕ → PlainAsk → Response
-made room account now ask = made_if room account now ask (accepts room)
-
-abbrev pub validated_if : RoomValue → PlainAsk → Result (Unit {0}) Refusal → Response
-validated_if room ask (Err refusal) = refusing_ask room ask refusal
-validated_if room ask (Ok _) = doing_ask room ask []
+made room account now ask = refusing_ask_or room ask (accepts room) (λ _.
+    let job = new_job room.next ask now in
+    doing_ask (with_new_job room job (new_document room.next ask)) ask (job_group (asked_at room.opened account now ask) job made_names ∷ []))
 
 abbrev pub validated : RoomValue → PlainAsk → Response
-validated room ask = validated_if room ask (accepts room)
+validated room ask = refusing_ask_or room ask (accepts room) (λ _. doing_ask room ask [])

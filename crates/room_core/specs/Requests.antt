@@ -22,6 +22,11 @@ refusing_ask room ask refusal = record { text = refused_text ask.header refusal 
 abbrev pub doing_ask : RoomValue → PlainAsk → List PlainGroup → Response
 doing_ask room ask groups = record { text = done_text ask.header ask.unsupported groups; room = room }
 
+-- the refusal, or what comes of a request that is not refused
+abbrev pub refusing_ask_or : {A : Type 0} → RoomValue → PlainAsk → Result A Refusal → (A → Response) → Response
+refusing_ask_or room ask (Err refusal) next = refusing_ask room ask refusal
+refusing_ask_or room ask (Ok x) next = next x
+
 -- where and when the request is answered
 abbrev pub asked_at : ℕ → List ℕ → ℕ → PlainAsk → PlainPlace
 asked_at opened account now ask = record { base = ask.base; name = account; opened = opened; now = now }

@@ -5,7 +5,7 @@ use Rattle.std.specs.FinMap.{get}
 use Rattle.room_answers.specs.Parts.{part_of}
 use Rattle.room_answers.specs.Stations.{known_device, ready_device}
 use Rattle.room_core.specs.declared.event.Reply.TheVariants as reply
-use Rattle.room_core.specs.Steps.{Step, refusing, telling, and_then, with_moved}
+use Rattle.room_core.specs.Steps.{Step, refusing_or, telling, and_then, with_moved}
 use Rattle.room_rules.specs.Acts.{StationRelease, StationStart, StationSettle}
 use Rattle.room_rules.specs.declared.device.Device.{Device}
 use Rattle.room_rules.specs.declared.job.Job.{Job}
@@ -43,9 +43,9 @@ release_of room devices now device number password impressions =
 
 -- what the job reserves, and what is left then
 abbrev pub released : RoomValue → ℕ → ℕ → Result Standing Word → Step
-released room now number (Err word) = refusing room word
-released room now number (Ok standing) =
-    telling (with_moved room number standing) (Released standing.reserved (left_in (with_moved room number standing) now))
+released room now number decided = refusing_or room decided (λ (standing : Standing).
+    let after = with_moved room number standing in
+    telling after (Released standing.reserved (left_in after now)))
 
 -- ---- start
 
@@ -57,11 +57,10 @@ start_of room devices now device number =
 
 -- each document of the job, as it is handed to the device
 abbrev pub started : RoomValue → ℕ → Result Standing Word → Step
-started room number (Err word) = refusing room word
-started room number (Ok standing) = record {
+started room number decided = refusing_or room decided (λ (standing : Standing). record {
   reply = reply.Documents (map (part_of standing.copies) (documents_of room number));
   room = with_moved room number standing;
-}
+})
 
 -- ---- settle
 
@@ -73,6 +72,6 @@ settle_of room devices now device number impressions failed =
 
 -- what the job was charged, and what is left then
 abbrev pub settled : RoomValue → ℕ → ℕ → Result Standing Word → Step
-settled room now number (Err word) = refusing room word
-settled room now number (Ok standing) =
-    telling (with_moved room number standing) (Settled standing.charged (left_in (with_moved room number standing) now))
+settled room now number decided = refusing_or room decided (λ (standing : Standing).
+    let after = with_moved room number standing in
+    telling after (Settled standing.charged (left_in after now)))

@@ -23,6 +23,11 @@ refusing room word = record { reply = reply.Line (word_text word); room = room }
 abbrev pub telling : RoomValue → Success → Step
 telling room success = record { reply = reply.Line (success_text success); room = room }
 
+-- the line that tells why, or what comes of an event that is not refused
+abbrev pub refusing_or : {A : Type 0} → RoomValue → Result A Word → (A → Step) → Step
+refusing_or room (Err word) next = refusing room word
+refusing_or room (Ok x) next = next x
+
 -- one check after another: the first that fails is the answer
 abbrev pub and_then : {A B E : Type 0} → Result A E → (A → Result B E) → Result B E
 and_then (Err e) next = Err e

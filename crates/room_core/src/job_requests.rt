@@ -4,7 +4,6 @@ ghost use Rattle.std.specs.Prelude.{◌≡◌, ◌≤◌, IfOk, IfErr, OnOk, OnE
 ghost use Rattle.room_asks.specs.Asks.{IsAsk, plain_ask};
 ghost use Rattle.room_core.specs.JobRequests.{described, cancel_of, hold_of, release_of, acted, has_data, sent, sent_document};
 ghost use Rattle.room_core.specs.Moving.{CanMove};
-ghost use Rattle.room_core.specs.Requests.{asked_job};
 ghost use Rattle.room_rules.specs.Limits.{last_moment};
 ghost use Rattle.room_state.specs.Changes.{with_standing};
 ghost use Rattle.room_state.specs.Conditions.{CanRestand};
@@ -29,7 +28,7 @@ pub(crate) fn describe(
 ) -> Result<List<u8>, CoreFault>
     requires ask { IsAsk (plain_ask ask.now) }
     requires moment { now ≤ last_moment }
-    ensures text { IfOk result (λ text. text ≡ (described room.now account now (plain_ask ask.entry.now) (asked_job room.now (plain_ask ask.entry.now))).text) }
+    ensures text { IfOk result (λ text. text ≡ (described room.now account now (plain_ask ask.entry.now)).text) }
     ensures memory { IfErr result (λ fault. fault ≡ CoreFault.Memory) }
 {
     let unsupported = ask.unsupported.as_slice();

@@ -1,5 +1,5 @@
 -- A job that an account takes is one that its room takes.
-use Rattle.std.proofs.Common.{◌≡◌, ℕ, ◌<◌, ◌≤◌, pos, Bool, true, false, if◌then◌else◌, is_some, List, [], ◌∷◌, length, Option, Some, None, Ok, option_map, refl, sym, ap, subst, ◌∙◌, arith}
+use Rattle.std.proofs.Common.{◌≡◌, ℕ, ◌<◌, ◌≤◌, pos, Bool, true, false, if◌then◌else◌, is_some, List, [], ◌∷◌, length, Option, Some, None, Result, Ok, option_map, refl, sym, ap, subst, ◌∙◌, arith}
 use Rattle.std.specs.FinMap.{get}
 use Rattle.std.proofs.lemmas.Bool.Decides.{nat_tests}
 use Rattle.sqlite.specs.Effect.{Database}
@@ -10,12 +10,13 @@ use Rattle.room_asks.specs.Operations.{hands_in_document, is_print_job}
 use Rattle.room_asks.specs.declared.operation.Operation.{Operation}
 use Rattle.room_asks.specs.declared.operation.Operation.TheVariants.{PrintJob, ValidateJob, CreateJob, SendDocument, CancelJob, GetJobAttributes, GetJobs, GetPrinterAttributes, HoldJob, ReleaseJob}
 use Rattle.room_changes.specs.Rows.{IsFree}
-use Rattle.room_core.specs.NewJobs.{made, made_if, made_names, new_document, new_job}
-use Rattle.room_core.specs.Requests.{Response, asked_at, doing_ask}
+use Rattle.room_core.specs.NewJobs.{made, made_names, new_document, new_job}
+use Rattle.room_core.specs.Requests.{Response, asked_at, doing_ask, refusing_ask_or}
 use Rattle.room_rules.specs.declared.account.Account.{Account}
 use Rattle.room_rules.specs.declared.format.Format.{Format}
 use Rattle.room_rules.specs.declared.job.Document.{Document}
 use Rattle.room_rules.specs.declared.job.Job.{Job}
+use Rattle.room_rules.specs.declared.refusal.Refusal.{Refusal}
 use Rattle.room_rules.specs.Limits.{last_moment, last_next_job, longest_document, most_documents, most_unfinished}
 use Rattle.room_rules.specs.NewJobs.{fresh}
 use Rattle.room_rules.specs.Standings.{IsStanding}
@@ -87,11 +88,13 @@ module _ (room : RoomValue) (account : Account) (same : account ≡ account_of r
       }
 
   -- and that is what the request comes to
-  made_so : (name : List ℕ) → made room name now ask
-      ≡ doing_ask (with_new_job room (new_job account.next_job ask now) (new_document account.next_job ask)) ask (job_group (asked_at account.opened name now ask) (new_job account.next_job ask now) made_names ∷ [])
+  abbrev made_as : List ℕ → ℕ → ℕ → Response
+  made_as name number opened = doing_ask (with_new_job room (new_job number ask now) (new_document number ask)) ask (job_group (asked_at opened name now ask) (new_job number ask now) made_names ∷ [])
+
+  made_so : (name : List ℕ) → made room name now ask ≡ made_as name account.next_job account.opened
   made_so name =
-      ap (made_if room name now ask) (ap (λ (n : ℕ). accepting_refusal n room.next) (sym counted) ∙ ap (λ (a : Account). accepting_refusal unfinished a.next_job) (sym same) ∙ takes)
-      ∙ ap (λ (a : Account). doing_ask (with_new_job room (new_job a.next_job ask now) (new_document a.next_job ask)) ask (job_group (asked_at a.opened name now ask) (new_job a.next_job ask now) made_names ∷ [])) (sym same)
+      ap (λ (r : Result (Unit {0}) Refusal). refusing_ask_or room ask r (λ _. made_as name room.next room.opened)) (ap (λ (n : ℕ). accepting_refusal n room.next) (sym counted) ∙ ap (λ (a : Account). accepting_refusal unfinished a.next_job) (sym same) ∙ takes)
+      ∙ ap (λ (a : Account). made_as name a.next_job a.opened) (sym same)
 
   module _ (job : Job) (first : Option Document) (is_job : job ≡ new_job account.next_job ask now) (is_first : first ≡ new_document account.next_job ask) where
     -- the room is that with the job

@@ -7,9 +7,9 @@ use Rattle.room_rules.specs.JobStates.{is_unfinished}
 use Rattle.room_answers.specs.Responses.{done_text}
 use Rattle.room_asks.specs.Asks.{PlainAsk}
 use Rattle.room_changes.specs.Rows.{IsFree}
-use Rattle.room_core.specs.JobRequests.{has_data, sent, sent_as, sent_document, sent_to}
+use Rattle.room_core.specs.JobRequests.{document_taken, has_data, sent, sent_document}
 use Rattle.room_core.specs.NewJobs.{made_names}
-use Rattle.room_core.specs.Requests.{asked_at, job_or_refusal}
+use Rattle.room_core.specs.Requests.{Response, asked_at, job_or_refusal, refusing_ask_or}
 use Rattle.room_rules.specs.declared.account.Account.{Account}
 use Rattle.room_rules.specs.declared.job.Document.{Document}
 use Rattle.room_rules.specs.declared.job.Job.{Job}
@@ -65,21 +65,26 @@ module _ (room : RoomValue) (ask : PlainAsk) (job : Job) (there : get room.jobs 
       free false = tt
 
   module _ (name : List ℕ) (now : ℕ) (decided : Result Standing Refusal) (is : decided ≡ Ok standing) where
+    abbrev response : Result Standing Refusal → Response
+    response d = refusing_ask_or room ask d (document_taken room name now ask job)
+
     -- the room is that with the document
     pub taken : (first : Option Document) → first ≡ sent_document ask job → IsStanding standing → length ask.payload ≤ longest_document → (after : Database)
-        → (CanRestand room ask.job standing first → HoldsRoom after name (with_standing room ask.job standing first)) → HoldsRoom after name (sent_as room name now ask job decided).room
+        → (CanRestand room ask.job standing first → HoldsRoom after name (with_standing room ask.job standing first)) → HoldsRoom after name (response decided).room
     taken first same in_range fits after holds =
-        subst (λ (d : Result Standing Refusal). HoldsRoom after name (sent_as room name now ask job d).room) (sym is)
+        subst (λ (d : Result Standing Refusal). HoldsRoom after name (response d).room) (sym is)
         (subst (λ (d : Option Document). HoldsRoom after name (with_standing room ask.job standing d)) same (holds (subst (λ (d : Option Document). CanRestand room ask.job standing d) (sym same) (can_take in_range fits))))
 
     pub told : (account : Account) → account ≡ account_of room → (at : PlainPlace) → at ≡ asked_at account.opened name now ask → (names : Option (List (List ℕ))) → names ≡ made_names
-        → done_text ask.header ask.unsupported (job_group at (record job { standing = standing }) names ∷ []) ≡ (sent_as room name now ask job decided).text
+        → done_text ask.header ask.unsupported (job_group at (record job { standing = standing }) names ∷ []) ≡ (response decided).text
     told account own at place names same =
         ap (λ (p : PlainPlace). done_text ask.header ask.unsupported (job_group p (record job { standing = standing }) names ∷ [])) (place ∙ ap (λ (a : Account). asked_at a.opened name now ask) own)
         ∙ ap (λ (n : Option (List (List ℕ))). done_text ask.header ask.unsupported (job_group (asked_at room.opened name now ask) (record job { standing = standing }) n ∷ [])) same
-        ∙ ap (λ (d : Result Standing Refusal). (sent_as room name now ask job d).text) (sym is)
+        ∙ ap (λ (d : Result Standing Refusal). (response d).text) (sym is)
 
 -- what is decided of the job that was found is what is decided of the room
 pub sent_found : (room : RoomValue) (name : List ℕ) (now : ℕ) (ask : PlainAsk) (job : Job) → get room.jobs ask.job ≡ Some job → (decided : Result Standing Refusal) → decided ≡ move (SendDocument ask.last (has_data ask)) job.standing
-    → sent_as room name now ask job decided ≡ sent room name now ask
-sent_found room name now ask job there decided moved = ap (sent_as room name now ask job) moved ∙ ap (λ (o : Option Job). sent_to room name now ask (job_or_refusal o)) (sym there)
+    → refusing_ask_or room ask decided (document_taken room name now ask job) ≡ sent room name now ask
+sent_found room name now ask job there decided moved =
+    ap (λ (d : Result Standing Refusal). refusing_ask_or room ask d (document_taken room name now ask job)) moved
+    ∙ ap (λ (o : Option Job). refusing_ask_or room ask (job_or_refusal o) (λ (job : Job). refusing_ask_or room ask (move (SendDocument ask.last (has_data ask)) job.standing) (document_taken room name now ask job))) (sym there)

@@ -3,7 +3,8 @@
 ghost use Rattle.std.specs.Prelude.{◌≡◌, ◌≤◌, false, IfOk};
 ghost use Rattle.room_asks.specs.Asks.{IsAsk, plain_ask};
 ghost use Rattle.room_changes.specs.NewDocuments.{first_of};
-ghost use Rattle.room_core.specs.JobRequests.{has_data, sent, sent_as, sent_document};
+ghost use Rattle.room_core.specs.JobRequests.{document_taken, has_data, sent, sent_document};
+ghost use Rattle.room_core.specs.Requests.{refusing_ask_or};
 ghost use Rattle.room_rules.specs.Acts.{SendDocument};
 ghost use Rattle.room_rules.specs.Limits.{last_moment};
 ghost use Rattle.room_rules.specs.Moves.{move};
@@ -82,7 +83,7 @@ fn take<S: Alter>(
     requires in_range { IfOk decided IsStanding }
     requires takes { IfOk decided (TakesDocument (has_data (plain_ask ask.now)) job.standing) }
     ensures going { GoesFrom S.Store connection.old connection.new result }
-    ensures served { OfStore S.Store connection.old connection.new (λ db. IsThere name job db × IsOpen name account db) → Serves S.Store connection.old connection.new name (λ room devices. (sent_as room name now (plain_ask ask.entry.now) job decided).text) (λ room devices. (sent_as room name now (plain_ask ask.entry.now) job decided).room) result }
+    ensures served { OfStore S.Store connection.old connection.new (λ db. IsThere name job db × IsOpen name account db) → Serves S.Store connection.old connection.new name (λ room devices. (refusing_ask_or room (plain_ask ask.entry.now) decided (document_taken room name now (plain_ask ask.entry.now) job)).text) (λ room devices. (refusing_ask_or room (plain_ask ask.entry.now) decided (document_taken room name now (plain_ask ask.entry.now) job)).room) result }
 {
     let standing = match decided {
         Ok(standing) => standing,

@@ -4,7 +4,8 @@ use Rattle.sqlite.specs.Effect.{Database}
 use Rattle.sqlite.specs.State.{HasCleanDisk}
 use Rattle.sqlite.specs.Held.{state}
 use Rattle.room_asks.specs.Asks.{plain_ask}
-use Rattle.room_core.specs.JobRequests.{sent, sent_as}
+use Rattle.room_core.specs.JobRequests.{document_taken, sent}
+use Rattle.room_core.specs.Requests.{refusing_ask_or}
 use Rattle.room_rules.specs.declared.job.Job.{Job}
 use Rattle.room_events.specs.Known.{IsOpen, IsThere}
 use Rattle.room_events.proofs.Found.{there_still}
@@ -24,7 +25,7 @@ returns-clause-served g c opened =
     let decided = c.added-decided.result in
     let looked = c.in_ok-job.ensures in
     let passed = look_passed g.S.Store old mid _ looked.looks in
-    responds_as g.S.Store old new name (λ room devices. sent_as room name c.args.now ask job decided) (λ room devices. sent room name c.args.now ask) c.take.result
+    responds_as g.S.Store old new name (λ room devices. refusing_ask_or room ask decided (document_taken room name c.args.now ask job)) (λ room devices. sent room name c.args.now ask) c.take.result
     (λ clean has of held.
     let was_clean : HasCleanDisk (state g.S.Store mid) = omega (arith, c.take.ensures.going.goes.clean, clean) in
     let there : get of.0.jobs ask.job ≡ Some job = sym (looked.found was_clean has of.0 held.room) ∙ c.in-Some.is in
