@@ -18,8 +18,8 @@ use Rattle.room_texts.specs.JobAttributes.{job_group}
 
 -- ---- Get-Job-Attributes (RFC 8011 section 4.3.4)
 
-abbrev pub described : RoomValue → List ℕ → ℕ → PlainAsk → Response
-described room account now ask = refusing_ask_or room ask (asked_job room ask) (λ (job : Job).
+abbrev pub job_shown : RoomValue → List ℕ → ℕ → PlainAsk → Response
+job_shown room account now ask = refusing_ask_or room ask (asked_job room ask) (λ (job : Job).
     doing_ask room ask (job_group (asked_at room.opened account now ask) job ask.wanted ∷ []))
 
 -- ---- Cancel-Job, Hold-Job, Release-Job (RFC 8011 sections 4.3.3, 4.3.5 and 4.3.6)

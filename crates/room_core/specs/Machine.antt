@@ -11,12 +11,12 @@ use Rattle.room_core.specs.declared.event.Event.TheVariants as event
 use Rattle.room_core.specs.declared.event.Reply.{Reply}
 use Rattle.room_core.specs.declared.event.Reply.TheVariants as reply
 use Rattle.room_core.specs.Grants.{granted}
-use Rattle.room_core.specs.JobRequests.{described, cancel_of, hold_of, release_of, acted, sent}
+use Rattle.room_core.specs.JobRequests.{job_shown, cancel_of, hold_of, release_of, acted, sent}
 use Rattle.room_core.specs.NewJobs.{made, validated}
-use Rattle.room_core.specs.Printers.{shown}
+use Rattle.room_core.specs.Printers.{printer_shown}
 use Rattle.room_core.specs.Queues.{listed}
 use Rattle.room_core.specs.Requests.{Response}
-use Rattle.room_core.specs.Stations as station
+use Rattle.room_core.specs.Stations.{station_release, released, station_start, started, station_settle, settled}
 use Rattle.room_core.specs.Steps.{Step, refusing}
 use Rattle.room_rules.specs.declared.refusal.Word.TheVariants.{NoAccount, Exists}
 use Rattle.room_rules.specs.Devices.{Devices}
@@ -31,9 +31,9 @@ responded room devices account now ask ValidateJob = validated room ask
 responded room devices account now ask CreateJob = made room account now ask
 responded room devices account now ask SendDocument = sent room account now ask
 responded room devices account now ask CancelJob = acted room ask (cancel_of room now ask)
-responded room devices account now ask GetJobAttributes = described room account now ask
+responded room devices account now ask GetJobAttributes = job_shown room account now ask
 responded room devices account now ask GetJobs = listed room account now ask
-responded room devices account now ask GetPrinterAttributes = shown room devices account now ask
+responded room devices account now ask GetPrinterAttributes = printer_shown room devices account now ask
 responded room devices account now ask HoldJob = acted room ask (hold_of room ask)
 responded room devices account now ask ReleaseJob = acted room ask (release_of room now ask)
 
@@ -53,10 +53,10 @@ abbrev pub answered_open : RoomValue → Devices → ℕ → Event → Step
 answered_open room devices now (event.Open account) = refusing room Exists
 answered_open room devices now (event.Ipp account body) = requested room devices now account body.now
 answered_open room devices now (event.Release device account job password impressions) =
-    station.released room now job (station.release_of room devices now device job password.now impressions)
-answered_open room devices now (event.Start device account job) = station.started room job (station.start_of room devices now device job)
+    released room now job (station_release room devices now device job password.now impressions)
+answered_open room devices now (event.Start device account job) = started room job (station_start room devices now device job)
 answered_open room devices now (event.Settle device account job impressions failed) =
-    station.settled room now job (station.settle_of room devices now device job impressions failed)
+    settled room now job (station_settle room devices now device job impressions failed)
 answered_open room devices now (event.Grant account month pages) = granted room month pages
 answered_open room devices now (event.Device name on) = record { reply = reply.NoAccount; room = room }
 answered_open room devices now (event.Rate name units) = record { reply = reply.NoAccount; room = room }

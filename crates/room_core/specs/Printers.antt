@@ -14,5 +14,5 @@ use Rattle.room_texts.specs.PrinterAttributes.{printer_group}
 abbrev pub printer_of : RoomValue → Devices → PrinterNow
 printer_of room devices = printer_now (unfinished_count room) room.next (has_processing room) (is_some_on devices)
 
-abbrev pub shown : RoomValue → Devices → List ℕ → ℕ → PlainAsk → Response
-shown room devices account now ask = doing_ask room ask (printer_group (asked_at room.opened account now ask) (printer_of room devices) ask.wanted ∷ [])
+abbrev pub printer_shown : RoomValue → Devices → List ℕ → ℕ → PlainAsk → Response
+printer_shown room devices account now ask = doing_ask room ask (printer_group (asked_at room.opened account now ask) (printer_of room devices) ask.wanted ∷ [])

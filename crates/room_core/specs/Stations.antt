@@ -35,8 +35,8 @@ by_word (Err refusal) = Err refusal.word
 
 -- ---- release
 
-abbrev pub release_of : RoomValue → Devices → ℕ → List ℕ → ℕ → List ℕ → ℕ → Result Standing Word
-release_of room devices now device number password impressions =
+abbrev pub station_release : RoomValue → Devices → ℕ → List ℕ → ℕ → List ℕ → ℕ → Result Standing Word
+station_release room devices now device number password impressions =
     and_then (ready_device (get devices device)) (λ (ready : Device).
     and_then (named_job room number) (λ (job : Job).
     by_word (move (StationRelease job.password device password impressions ready.rate (left_in room now)) job.standing)))
@@ -49,8 +49,8 @@ released room now number decided = refusing_or room decided (λ (standing : Stan
 
 -- ---- start
 
-abbrev pub start_of : RoomValue → Devices → ℕ → List ℕ → ℕ → Result Standing Word
-start_of room devices now device number =
+abbrev pub station_start : RoomValue → Devices → ℕ → List ℕ → ℕ → Result Standing Word
+station_start room devices now device number =
     and_then (ready_device (get devices device)) (λ (ready : Device).
     and_then (named_job room number) (λ (job : Job).
     by_word (move (StationStart device ready.rate now) job.standing)))
@@ -64,8 +64,8 @@ started room number decided = refusing_or room decided (λ (standing : Standing)
 
 -- ---- settle
 
-abbrev pub settle_of : RoomValue → Devices → ℕ → List ℕ → ℕ → ℕ → Bool → Result Standing Word
-settle_of room devices now device number impressions failed =
+abbrev pub station_settle : RoomValue → Devices → ℕ → List ℕ → ℕ → ℕ → Bool → Result Standing Word
+station_settle room devices now device number impressions failed =
     and_then (known_device (get devices device)) (λ (known : Device).
     and_then (named_job room number) (λ (job : Job).
     by_word (move (StationSettle device impressions failed now) job.standing)))

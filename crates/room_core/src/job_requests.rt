@@ -2,7 +2,7 @@
 
 ghost use Rattle.std.specs.Prelude.{◌≡◌, ◌≤◌, IfOk, IfErr, OnOk, OnErr};
 ghost use Rattle.room_asks.specs.Asks.{IsAsk, plain_ask};
-ghost use Rattle.room_core.specs.JobRequests.{described, cancel_of, hold_of, release_of, acted, has_data, sent, sent_document};
+ghost use Rattle.room_core.specs.JobRequests.{job_shown, cancel_of, hold_of, release_of, acted, has_data, sent, sent_document};
 ghost use Rattle.room_core.specs.Moving.{CanMove};
 ghost use Rattle.room_rules.specs.Limits.{last_moment};
 ghost use Rattle.room_state.specs.Changes.{with_standing};
@@ -28,7 +28,7 @@ pub(crate) fn describe(
 ) -> Result<List<u8>, CoreFault>
     requires ask { IsAsk (plain_ask ask.now) }
     requires moment { now ≤ last_moment }
-    ensures text { IfOk result (λ text. text ≡ (described room.now account now (plain_ask ask.entry.now)).text) }
+    ensures text { IfOk result (λ text. text ≡ (job_shown room.now account now (plain_ask ask.entry.now)).text) }
     ensures memory { IfErr result (λ fault. fault ≡ CoreFault.Memory) }
 {
     let unsupported = ask.unsupported.as_slice();

@@ -2,7 +2,7 @@
 
 ghost use Rattle.std.specs.Prelude.{◌≡◌, ◌≤◌, IfOk, IfErr};
 ghost use Rattle.room_asks.specs.Asks.{IsAsk, plain_ask};
-ghost use Rattle.room_core.specs.Printers.{shown};
+ghost use Rattle.room_core.specs.Printers.{printer_shown};
 ghost use Rattle.room_rules.specs.Devices.{device_map};
 ghost use Rattle.room_rules.specs.Limits.{last_moment};
 
@@ -26,7 +26,7 @@ pub(crate) fn show(
 ) -> Result<List<u8>, CoreFault>
     requires ask { IsAsk (plain_ask ask.now) }
     requires moment { now ≤ last_moment }
-    ensures text { IfOk result (λ text. text ≡ (shown room.now (device_map devices.now) account now (plain_ask ask.entry.now)).text) }
+    ensures text { IfOk result (λ text. text ≡ (printer_shown room.now (device_map devices.now) account now (plain_ask ask.entry.now)).text) }
     ensures memory { IfErr result (λ fault. fault ≡ CoreFault.Memory) }
 {
     let at = asked_at(room.account().opened, account, now, ask);

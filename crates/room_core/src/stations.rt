@@ -7,7 +7,7 @@ ghost use Rattle.std.specs.FinMap.{get};
 ghost use Rattle.room_answers.specs.Parts.{part_of};
 ghost use Rattle.room_core.specs.Moving.{CanMove};
 ghost use Rattle.room_core.specs.Rates.{AreRated};
-ghost use Rattle.room_core.specs.Stations.{release_of, released, start_of, started, settle_of, settled};
+ghost use Rattle.room_core.specs.Stations.{station_release, released, station_start, started, station_settle, settled};
 ghost use Rattle.room_rules.specs.Devices.{device_map};
 ghost use Rattle.room_rules.specs.Limits.{most_impressions, last_moment};
 ghost use Rattle.room_state.specs.Documents.{documents_of};
@@ -58,12 +58,12 @@ pub(crate) fn release(
     requires moment { at.now.now ≤ last_moment }
     requires rates { AreRated (device_map at.now.devices.now) }
     requires impressions { impressions ≤ most_impressions }
-    ensures reply { IfOk result (λ reply. reply ≡ (released room.old at.entry.now.now number (release_of room.old (device_map at.entry.now.devices.now) at.entry.now.now at.entry.now.device number password.now impressions)).reply) }
-    ensures room { OnOk result (room.new ≡ (released room.old at.entry.now.now number (release_of room.old (device_map at.entry.now.devices.now) at.entry.now.now at.entry.now.device number password.now impressions)).room) }
+    ensures reply { IfOk result (λ reply. reply ≡ (released room.old at.entry.now.now number (station_release room.old (device_map at.entry.now.devices.now) at.entry.now.now at.entry.now.device number password.now impressions)).reply) }
+    ensures room { OnOk result (room.new ≡ (released room.old at.entry.now.now number (station_release room.old (device_map at.entry.now.devices.now) at.entry.now.now at.entry.now.device number password.now impressions)).room) }
     ensures memory { IfErr result (λ fault. fault ≡ CoreFault.Memory) }
     ensures unchanged { OnErr result (room.new ≡ room.old) }
 {
-    let decided = release_of(room, at, number, password, impressions);
+    let decided = station_release(room, at, number, password, impressions);
     tell_released(alloc, room, at.now, number, decided)
 }
 
@@ -76,12 +76,12 @@ pub(crate) fn start(
 ) -> Result<Reply, CoreFault>
     requires moment { at.now.now ≤ last_moment }
     requires rates { AreRated (device_map at.now.devices.now) }
-    ensures reply { IfOk result (λ reply. reply ≡ (started room.old number (start_of room.old (device_map at.entry.now.devices.now) at.entry.now.now at.entry.now.device number)).reply) }
-    ensures room { OnOk result (room.new ≡ (started room.old number (start_of room.old (device_map at.entry.now.devices.now) at.entry.now.now at.entry.now.device number)).room) }
+    ensures reply { IfOk result (λ reply. reply ≡ (started room.old number (station_start room.old (device_map at.entry.now.devices.now) at.entry.now.now at.entry.now.device number)).reply) }
+    ensures room { OnOk result (room.new ≡ (started room.old number (station_start room.old (device_map at.entry.now.devices.now) at.entry.now.now at.entry.now.device number)).room) }
     ensures memory { IfErr result (λ fault. fault ≡ CoreFault.Memory) }
     ensures unchanged { OnErr result (room.new ≡ room.old) }
 {
-    let decided = start_of(room, at, number);
+    let decided = station_start(room, at, number);
     hand_over(alloc, room, number, decided)
 }
 
@@ -98,17 +98,17 @@ pub(crate) fn settle(
     requires moment { at.now.now ≤ last_moment }
     requires rates { AreRated (device_map at.now.devices.now) }
     requires impressions { impressions ≤ most_impressions }
-    ensures reply { IfOk result (λ reply. reply ≡ (settled room.old at.entry.now.now number (settle_of room.old (device_map at.entry.now.devices.now) at.entry.now.now at.entry.now.device number impressions failed)).reply) }
-    ensures room { OnOk result (room.new ≡ (settled room.old at.entry.now.now number (settle_of room.old (device_map at.entry.now.devices.now) at.entry.now.now at.entry.now.device number impressions failed)).room) }
+    ensures reply { IfOk result (λ reply. reply ≡ (settled room.old at.entry.now.now number (station_settle room.old (device_map at.entry.now.devices.now) at.entry.now.now at.entry.now.device number impressions failed)).reply) }
+    ensures room { OnOk result (room.new ≡ (settled room.old at.entry.now.now number (station_settle room.old (device_map at.entry.now.devices.now) at.entry.now.now at.entry.now.device number impressions failed)).room) }
     ensures memory { IfErr result (λ fault. fault ≡ CoreFault.Memory) }
     ensures unchanged { OnErr result (room.new ≡ room.old) }
 {
-    let decided = settle_of(room, at, number, impressions, failed);
+    let decided = station_settle(room, at, number, impressions, failed);
     tell_settled(alloc, room, at.now, number, decided)
 }
 
 /// What becomes of the job as the station releases it, with the password and the impressions that are handed in there.
-fn release_of(
+fn station_release(
     room: &Room,
     at: &Station<'_>,
     number: u32,
@@ -118,7 +118,7 @@ fn release_of(
     requires moment { at.now.now ≤ last_moment }
     requires rates { AreRated (device_map at.now.devices.now) }
     requires impressions { impressions ≤ most_impressions }
-    ensures standing { result ≡ release_of room.now (device_map at.entry.now.devices.now) at.entry.now.now at.entry.now.device number password.now impressions }
+    ensures standing { result ≡ station_release room.now (device_map at.entry.now.devices.now) at.entry.now.now at.entry.now.device number password.now impressions }
     ensures can_move { IfOk result (CanMove room.now number) }
 {
     let ready = ready_device(device_at(at.devices, at.device))?;
@@ -158,10 +158,10 @@ fn tell_released(
 }
 
 /// What becomes of the job as the device of the station takes it.
-fn start_of(room: &Room, at: &Station<'_>, number: u32) -> Result<Standing, Word>
+fn station_start(room: &Room, at: &Station<'_>, number: u32) -> Result<Standing, Word>
     requires moment { at.now.now ≤ last_moment }
     requires rates { AreRated (device_map at.now.devices.now) }
-    ensures standing { result ≡ start_of room.now (device_map at.entry.now.devices.now) at.entry.now.now at.entry.now.device number }
+    ensures standing { result ≡ station_start room.now (device_map at.entry.now.devices.now) at.entry.now.now at.entry.now.device number }
     ensures can_move { IfOk result (CanMove room.now number) }
 {
     let ready = ready_device(device_at(at.devices, at.device))?;
@@ -236,7 +236,7 @@ fn copy_handed(alloc: Global, copies: u32, document: &Document) -> Result<Part, 
 }
 
 /// What becomes of the job as the device of the station is done with it.
-fn settle_of(
+fn station_settle(
     room: &Room,
     at: &Station<'_>,
     number: u32,
@@ -246,7 +246,7 @@ fn settle_of(
     requires moment { at.now.now ≤ last_moment }
     requires rates { AreRated (device_map at.now.devices.now) }
     requires impressions { impressions ≤ most_impressions }
-    ensures standing { result ≡ settle_of room.now (device_map at.entry.now.devices.now) at.entry.now.now at.entry.now.device number impressions failed }
+    ensures standing { result ≡ station_settle room.now (device_map at.entry.now.devices.now) at.entry.now.now at.entry.now.device number impressions failed }
     ensures can_move { IfOk result (CanMove room.now number) }
 {
     known_device(device_at(at.devices, at.device))?;

@@ -3,7 +3,7 @@ use Rattle.std.proofs.Common.{◌≡◌, ℕ, Bool, List, [], ◌∷◌, ap, ◌
 use Rattle.room_answers.specs.Queues.{printer_now}
 use Rattle.room_answers.specs.Responses.{done_text, job_groups}
 use Rattle.room_asks.specs.Asks.{PlainAsk}
-use Rattle.room_core.specs.Printers.{shown}
+use Rattle.room_core.specs.Printers.{printer_shown}
 use Rattle.room_core.specs.Queues.{asked_jobs, listed, listed_names}
 use Rattle.room_core.specs.Requests.{asked_at}
 use Rattle.room_rules.specs.Devices.{Devices, is_some_on}
@@ -29,7 +29,7 @@ module _ (room : RoomValue) (name : List ℕ) (now : ℕ) (ask : PlainAsk) (acco
 
   pub shown_so : (devices : Devices) (printer : PrinterNow) (unfinished : ℕ) (processing on : Bool) → printer ≡ printer_now unfinished account.next_job processing on
       → (unfinished ≡ unfinished_count room) × (processing ≡ has_processing room) → on ≡ is_some_on devices
-      → done_text ask.header ask.unsupported (printer_group at printer ask.wanted ∷ []) ≡ (shown room devices name now ask).text
+      → done_text ask.header ask.unsupported (printer_group at printer ask.wanted ∷ []) ≡ (printer_shown room devices name now ask).text
   shown_so devices printer unfinished processing on is queue some =
       ap (λ (p : PlainPlace). done_text ask.header ask.unsupported (printer_group p printer ask.wanted ∷ [])) at_room
       ∙ ap (λ (p : PrinterNow). done_text ask.header ask.unsupported (printer_group (asked_at room.opened name now ask) p ask.wanted ∷ []))

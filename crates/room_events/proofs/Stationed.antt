@@ -4,7 +4,7 @@ use Rattle.std.specs.FinMap.{get}
 use Rattle.sqlite.specs.Effect.{Database}
 use Rattle.room_rules.specs.JobStates.{is_released}
 use Rattle.room_answers.specs.Stations.{known_device, left_after, ready_device}
-use Rattle.room_core.specs.Stations.{by_word, job_or_word, release_of, released, settle_of, settled, start_of}
+use Rattle.room_core.specs.Stations.{by_word, job_or_word, station_release, released, station_settle, settled, station_start}
 use Rattle.room_core.proofs.Sums.{left_moved}
 use Rattle.room_core.specs.Steps.{and_then, telling, with_moved}
 use Rattle.room_rules.specs.Acts.{StationRelease, StationSettle, StationStart}
@@ -66,12 +66,12 @@ module _ (room : RoomValue) (devices : Devices) (now : ℕ) (device : List ℕ) 
 
     pub release_found : (rate : ℕ) (job : Job) → ready_rate (get devices device) ≡ Ok rate → get room.jobs number ≡ Some job → (asked : Result Standing Refusal)
         → ((left : ℤ) → move (StationRelease job.password device password impressions rate left) job.standing ≡ kept_to_quota job.standing.state left asked)
-        → by_word (kept_to_quota job.standing.state (left_in room now) asked) ≡ release_of room devices now device number password impressions
+        → by_word (kept_to_quota job.standing.state (left_in room now) asked) ≡ station_release room devices now device number password impressions
     unfolding release_by
     release_found rate job ready there asked moved =
         ap by_word (sym (moved (left_in room now))) ∙ sym (by_rate (ready_device (get devices device)) release_by (get room.jobs number) rate job ready there)
 
-    pub release_refused : (word : Word) → ready_rate (get devices device) ≡ Err word → release_of room devices now device number password impressions ≡ Err word
+    pub release_refused : (word : Word) → ready_rate (get devices device) ≡ Err word → station_release room devices now device number password impressions ≡ Err word
     unfolding release_by
     release_refused word ready = by_device (ready_device (get devices device)) release_by (get room.jobs number) word ready
 
@@ -79,11 +79,11 @@ module _ (room : RoomValue) (devices : Devices) (now : ℕ) (device : List ℕ) 
   start_by rate job = by_word (move (StationStart device rate now) job.standing)
 
   pub start_found : (rate : ℕ) (job : Job) → ready_rate (get devices device) ≡ Ok rate → get room.jobs number ≡ Some job → (decided : Result Standing Word) → decided ≡ by_word (move (StationStart device rate now) job.standing)
-      → decided ≡ start_of room devices now device number
+      → decided ≡ station_start room devices now device number
   unfolding start_by
   start_found rate job ready there decided moved = moved ∙ sym (by_rate (ready_device (get devices device)) start_by (get room.jobs number) rate job ready there)
 
-  pub start_refused : (word : Word) → ready_rate (get devices device) ≡ Err word → start_of room devices now device number ≡ Err word
+  pub start_refused : (word : Word) → ready_rate (get devices device) ≡ Err word → station_start room devices now device number ≡ Err word
   unfolding start_by
   start_refused word ready = by_device (ready_device (get devices device)) start_by (get room.jobs number) word ready
 
@@ -102,16 +102,16 @@ module _ (room : RoomValue) (devices : Devices) (now : ℕ) (device : List ℕ) 
   rows : option_map (on_cells device) found ≡ option_map device_cells (get devices device)
   rows = sym at ∙ held.device_rows device
 
-  pub settle_refused : (word : Word) → known_device found ≡ Err word → settle_of room devices now device number impressions failed ≡ Err word
+  pub settle_refused : (word : Word) → known_device found ≡ Err word → station_settle room devices now device number impressions failed ≡ Err word
   settle_refused word known = ap (λ (r : Result Device Word). and_then r (λ (it : Device). and_then (job_or_word (get room.jobs number)) (λ (job : Job). by_word (move (StationSettle device impressions failed now) job.standing)))) (unknown_as device found (get devices device) rows word known)
 
-  with_known : (on : Bool) → known_device found ≡ Ok on → (o : Option Job) → get room.jobs number ≡ o → settle_of room devices now device number impressions failed ≡ and_then (job_or_word o) (λ (job : Job). by_word (move (StationSettle device impressions failed now) job.standing))
+  with_known : (on : Bool) → known_device found ≡ Ok on → (o : Option Job) → get room.jobs number ≡ o → station_settle room devices now device number impressions failed ≡ and_then (job_or_word o) (λ (job : Job). by_word (move (StationSettle device impressions failed now) job.standing))
   with_known on known o there =
       ap (λ (r : Result Device Word). and_then r (λ (it : Device). and_then (job_or_word (get room.jobs number)) (λ (job : Job). by_word (move (StationSettle device impressions failed now) job.standing)))) (known_as device found (get devices device) rows on known).1
       ∙ ap (λ (p : Option Job). and_then (job_or_word p) (λ (job : Job). by_word (move (StationSettle device impressions failed now) job.standing))) there
 
   pub settle_found : (on : Bool) → known_device found ≡ Ok on → (job : Job) → get room.jobs number ≡ Some job → (decided : Result Standing Word) → decided ≡ by_word (move (StationSettle device impressions failed now) job.standing)
-      → decided ≡ settle_of room devices now device number impressions failed
+      → decided ≡ station_settle room devices now device number impressions failed
   settle_found on known job there decided moved = moved ∙ sym (with_known on known (Some job) there)
 
 -- ---- what is told of the quota

@@ -2,7 +2,7 @@
 
 ghost use Rattle.std.specs.Prelude.{◌≡◌, ◌≤◌, false, IfOk};
 ghost use Rattle.room_asks.specs.Asks.{IsAsk, plain_ask};
-ghost use Rattle.room_core.specs.JobRequests.{acted, cancel_of, described, hold_of, release_of};
+ghost use Rattle.room_core.specs.JobRequests.{acted, cancel_of, job_shown, hold_of, release_of};
 ghost use Rattle.room_core.specs.Moving.{Keeps};
 ghost use Rattle.room_rules.specs.Limits.{last_moment};
 ghost use Rattle.room_rules.specs.Standings.{IsStanding};
@@ -37,7 +37,7 @@ pub fn describe<S: Alter>(
     requires account { IsAccount account }
     requires moment { now ≤ last_moment }
     ensures going { GoesFrom S.Store connection.old connection.new result }
-    ensures served { OfStore S.Store connection.old connection.new (IsOpen name account) → Serves S.Store connection.old connection.new name (λ room devices. (described room name now (plain_ask ask.entry.now)).text) (λ room devices. room) result }
+    ensures served { OfStore S.Store connection.old connection.new (IsOpen name account) → Serves S.Store connection.old connection.new name (λ room devices. (job_shown room name now (plain_ask ask.entry.now)).text) (λ room devices. room) result }
 {
     let Some(job) = look_up(connection, name, ask.job)? else {
         return refused_as(alloc, ask, no_job());

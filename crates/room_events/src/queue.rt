@@ -3,7 +3,7 @@
 ghost use Rattle.std.specs.Prelude.{◌≤◌};
 ghost use Rattle.room_asks.specs.Asks.{IsAsk, plain_ask};
 ghost use Rattle.room_core.specs.NewJobs.{validated};
-ghost use Rattle.room_core.specs.Printers.{shown};
+ghost use Rattle.room_core.specs.Printers.{printer_shown};
 ghost use Rattle.room_rules.specs.Limits.{last_moment};
 ghost use Rattle.room_tables.specs.Accounts.{IsAccount};
 ghost use Rattle.room_tables.specs.Calls.{OfStore};
@@ -50,7 +50,7 @@ pub fn show<S: Alter>(
     requires account { IsAccount account }
     requires moment { now ≤ last_moment }
     ensures going { GoesFrom S.Store connection.old connection.new result }
-    ensures served { OfStore S.Store connection.old connection.new (IsOpen name account) → Serves S.Store connection.old connection.new name (λ room devices. (shown room devices name now (plain_ask ask.entry.now)).text) (λ room devices. room) result }
+    ensures served { OfStore S.Store connection.old connection.new (IsOpen name account) → Serves S.Store connection.old connection.new name (λ room devices. (printer_shown room devices name now (plain_ask ask.entry.now)).text) (λ room devices. room) result }
 {
     let tally = tally_unfinished(connection, name)?;
     let on = is_device_on(connection)?;
