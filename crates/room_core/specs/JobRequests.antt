@@ -2,8 +2,9 @@
 -- of states (Moves of room_rules).
 use Rattle.std.specs.Prelude.{ℕ, ◌+◌, Bool, not, ◌==◌, if◌then◌else◌, List, [], ◌∷◌, length, Option, Some, None, Result}
 use Rattle.room_asks.specs.Asks.{PlainAsk}
-use Rattle.room_core.specs.Steps.{and_then, with_moved}
-use Rattle.room_core.specs.Requests.{Response, refusing_ask_or, doing_ask, asked_at, asked_job}
+use Rattle.room_core.specs.JobActs.{job_in, act_on}
+use Rattle.room_core.specs.Steps.{with_moved}
+use Rattle.room_core.specs.Requests.{Response, refusing_ask_or, doing_ask, asked_at}
 use Rattle.room_core.specs.NewJobs.{made_names}
 use Rattle.room_rules.specs.Acts.{SendDocument, CancelJob, HoldJob, ReleaseJob}
 use Rattle.room_rules.specs.declared.job.Document.{Document}
@@ -19,22 +20,22 @@ use Rattle.room_texts.specs.JobAttributes.{job_group}
 -- ---- Get-Job-Attributes (RFC 8011 section 4.3.4)
 
 abbrev pub job_shown : RoomValue → List ℕ → ℕ → PlainAsk → Response
-job_shown room account now ask = refusing_ask_or room ask (asked_job room ask) (λ (job : Job).
+job_shown room account now ask = refusing_ask_or room ask (job_in room ask.job) (λ (job : Job).
     doing_ask room ask (job_group (asked_at room.opened account now ask) job ask.wanted ∷ []))
 
 -- ---- Cancel-Job, Hold-Job, Release-Job (RFC 8011 sections 4.3.3, 4.3.5 and 4.3.6)
 
 abbrev pub cancel_of : RoomValue → ℕ → PlainAsk → Result Standing Refusal
-cancel_of room now ask = and_then (asked_job room ask) (λ (job : Job). move (CancelJob now) job.standing)
+cancel_of room now ask = act_on room ask.job (λ _. CancelJob now)
 
 abbrev pub hold_of : RoomValue → PlainAsk → Result Standing Refusal
-hold_of room ask = and_then (asked_job room ask) (λ (job : Job). move HoldJob job.standing)
+hold_of room ask = act_on room ask.job (λ _. HoldJob)
 
 abbrev pub has_password : Job → Bool
 has_password job = not (length job.password == 0)
 
 abbrev pub release_of : RoomValue → ℕ → PlainAsk → Result Standing Refusal
-release_of room now ask = and_then (asked_job room ask) (λ (job : Job). move (ReleaseJob (has_password job) (left_in room now)) job.standing)
+release_of room now ask = act_on room ask.job (λ (job : Job). ReleaseJob (has_password job) (left_in room now))
 
 abbrev pub acted : RoomValue → PlainAsk → Result Standing Refusal → Response
 acted room ask decided = refusing_ask_or room ask decided (λ (standing : Standing). doing_ask (with_moved room ask.job standing) ask [])
@@ -56,5 +57,5 @@ document_taken room account now ask job standing =
 
 abbrev pub sent : RoomValue → List ℕ → ℕ → PlainAsk → Response
 sent room account now ask =
-    refusing_ask_or room ask (asked_job room ask) (λ (job : Job).
+    refusing_ask_or room ask (job_in room ask.job) (λ (job : Job).
     refusing_ask_or room ask (move (SendDocument ask.last (has_data ask)) job.standing) (document_taken room account now ask job))

@@ -2,6 +2,7 @@ pub mod Fits
 pub mod Rates
 pub mod Steps
 pub mod Moving
+pub mod JobActs
 pub mod Stations
 pub mod Grants
 pub mod Requests

@@ -1,12 +1,9 @@
 -- What every request shares: a response, and the room after it.
-use Rattle.std.specs.Prelude.{ℕ, List, Option, Some, None, Result, Ok, Err}
-use Rattle.std.specs.FinMap.{get}
+use Rattle.std.specs.Prelude.{ℕ, List, Result, Ok, Err}
 use Rattle.ipp_coding.specs.Plain.{PlainGroup}
 use Rattle.room_answers.specs.Responses.{refused_text, done_text}
 use Rattle.room_asks.specs.Asks.{PlainAsk}
-use Rattle.room_rules.specs.declared.job.Job.{Job}
 use Rattle.room_rules.specs.declared.refusal.Refusal.{Refusal}
-use Rattle.room_rules.specs.declared.refusal.Word.TheVariants.{NoJob}
 use Rattle.room_state.specs.Rooms.{RoomValue}
 use Rattle.room_texts.specs.Places.{PlainPlace}
 
@@ -30,11 +27,3 @@ refusing_ask_or room ask (Ok x) next = next x
 -- where and when the request is answered
 abbrev pub asked_at : ℕ → List ℕ → ℕ → PlainAsk → PlainPlace
 asked_at opened account now ask = record { base = ask.base; name = account; opened = opened; now = now }
-
--- client-error-not-found (RFC 8011 section B.1.4.7) where the account has no such job
-abbrev pub job_or_refusal : Option Job → Result Job Refusal
-job_or_refusal None = Err (record { status = 0x0406; word = NoJob })
-job_or_refusal (Some job) = Ok job
-
-abbrev pub asked_job : RoomValue → PlainAsk → Result Job Refusal
-asked_job room ask = job_or_refusal (get room.jobs ask.job)

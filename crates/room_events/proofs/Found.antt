@@ -11,9 +11,9 @@ use Rattle.room_rules.specs.Limits.{last_next_job, may_be_job}
 use Rattle.room_state.specs.RoomRules.{IsJobAt}
 use Rattle.room_statements.specs.Queues.{IsNumbered}
 use Rattle.room_texts.specs.Limits.{IsShowable}
+use Rattle.room_core.specs.JobActs.{job_or_refusal}
 use Rattle.room_core.specs.JobRequests.{cancel_of, has_password, hold_of, release_of}
 use Rattle.room_core.specs.Moving.{Keeps}
-use Rattle.room_core.specs.Requests.{job_or_refusal}
 use Rattle.room_core.specs.Steps.{and_then}
 use Rattle.room_rules.specs.Acts.{CancelJob, HoldJob, ReleaseJob}
 use Rattle.room_rules.specs.Moves.{move}

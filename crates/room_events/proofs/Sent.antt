@@ -7,9 +7,10 @@ use Rattle.room_rules.specs.JobStates.{is_unfinished}
 use Rattle.room_answers.specs.Responses.{done_text}
 use Rattle.room_asks.specs.Asks.{PlainAsk}
 use Rattle.room_changes.specs.Rows.{IsFree}
+use Rattle.room_core.specs.JobActs.{job_or_refusal}
 use Rattle.room_core.specs.JobRequests.{document_taken, has_data, sent, sent_document}
 use Rattle.room_core.specs.NewJobs.{made_names}
-use Rattle.room_core.specs.Requests.{Response, asked_at, job_or_refusal, refusing_ask_or}
+use Rattle.room_core.specs.Requests.{Response, asked_at, refusing_ask_or}
 use Rattle.room_rules.specs.declared.account.Account.{Account}
 use Rattle.room_rules.specs.declared.job.Document.{Document}
 use Rattle.room_rules.specs.declared.job.Job.{Job}

@@ -4,10 +4,11 @@ use Rattle.std.specs.FinMap.{get}
 use Rattle.sqlite.specs.Effect.{Database}
 use Rattle.room_rules.specs.JobStates.{is_released}
 use Rattle.room_answers.specs.Stations.{known_device, left_after, ready_device}
-use Rattle.room_core.specs.Stations.{by_word, job_or_word, station_release, released, station_settle, settled, station_start}
+use Rattle.room_core.specs.JobActs.{job_or_refusal}
+use Rattle.room_core.specs.Stations.{by_word, station_release, released, station_settle, settled, station_start}
 use Rattle.room_core.proofs.Sums.{left_moved}
 use Rattle.room_core.specs.Steps.{and_then, telling, with_moved}
-use Rattle.room_rules.specs.Acts.{StationRelease, StationSettle, StationStart}
+use Rattle.room_rules.specs.Acts.{Act, StationRelease, StationSettle, StationStart}
 use Rattle.room_rules.specs.Devices.{Devices}
 use Rattle.room_rules.specs.declared.device.Device.{Device}
 use Rattle.room_rules.specs.declared.job.Job.{Job}
@@ -45,15 +46,15 @@ kept_is before left standing kept =
 
 -- ---- one check after another
 
-module _ (of_device : Result Device Word) (next : ℕ → Job → Result Standing Word) (o : Option Job) where
+module _ (of_device : Result Device Word) (next : ℕ → Job → Act) (o : Option Job) where
   abbrev decide : Result Standing Word
-  decide = and_then of_device (λ (ready : Device). and_then (job_or_word o) (λ (job : Job). next ready.rate job))
+  decide = and_then of_device (λ (ready : Device). by_word (and_then (job_or_refusal o) (λ (job : Job). move (next ready.rate job) job.standing)))
 
-by_rate : (r : Result Device Word) (next : ℕ → Job → Result Standing Word) (o : Option Job) (rate : ℕ) (job : Job) → and_then r (λ (ready : Device). Ok ready.rate) ≡ Ok rate → o ≡ Some job → decide r next o ≡ next rate job
-by_rate (Ok device) next o rate job is there = rw there (let same : device.rate ≡ rate = cc in ap (λ (n : ℕ). next n job) same)
+by_rate : (r : Result Device Word) (next : ℕ → Job → Act) (o : Option Job) (rate : ℕ) (job : Job) → and_then r (λ (ready : Device). Ok ready.rate) ≡ Ok rate → o ≡ Some job → decide r next o ≡ by_word (move (next rate job) job.standing)
+by_rate (Ok device) next o rate job is there = rw there (let same : device.rate ≡ rate = cc in ap (λ (n : ℕ). by_word (move (next n job) job.standing)) same)
 by_rate (Err word) next o rate job is there = let no : ⊥ = cc in absurd no
 
-by_device : (r : Result Device Word) (next : ℕ → Job → Result Standing Word) (o : Option Job) (word : Word) → and_then r (λ (ready : Device). Ok ready.rate) ≡ Err word → decide r next o ≡ Err word
+by_device : (r : Result Device Word) (next : ℕ → Job → Act) (o : Option Job) (word : Word) → and_then r (λ (ready : Device). Ok ready.rate) ≡ Err word → decide r next o ≡ Err word
 by_device (Ok device) next o word is = let no : ⊥ = cc in absurd no
 by_device (Err other) next o word is = let same : other ≡ word = cc in ap (λ (w : Word). Err w) same
 
@@ -61,8 +62,8 @@ by_device (Err other) next o word is = let same : other ≡ word = cc in ap (λ 
 
 module _ (room : RoomValue) (devices : Devices) (now : ℕ) (device : List ℕ) (number : ℕ) where
   module _ (password : List ℕ) (impressions : ℕ) where
-    release_by : ℕ → Job → Result Standing Word
-    release_by rate job = by_word (move (StationRelease job.password device password impressions rate (left_in room now)) job.standing)
+    release_by : ℕ → Job → Act
+    release_by rate job = StationRelease job.password device password impressions rate (left_in room now)
 
     pub release_found : (rate : ℕ) (job : Job) → ready_rate (get devices device) ≡ Ok rate → get room.jobs number ≡ Some job → (asked : Result Standing Refusal)
         → ((left : ℤ) → move (StationRelease job.password device password impressions rate left) job.standing ≡ kept_to_quota job.standing.state left asked)
@@ -75,8 +76,8 @@ module _ (room : RoomValue) (devices : Devices) (now : ℕ) (device : List ℕ) 
     unfolding release_by
     release_refused word ready = by_device (ready_device (get devices device)) release_by (get room.jobs number) word ready
 
-  start_by : ℕ → Job → Result Standing Word
-  start_by rate job = by_word (move (StationStart device rate now) job.standing)
+  start_by : ℕ → Job → Act
+  start_by rate job = StationStart device rate now
 
   pub start_found : (rate : ℕ) (job : Job) → ready_rate (get devices device) ≡ Ok rate → get room.jobs number ≡ Some job → (decided : Result Standing Word) → decided ≡ by_word (move (StationStart device rate now) job.standing)
       → decided ≡ station_start room devices now device number
@@ -103,12 +104,12 @@ module _ (room : RoomValue) (devices : Devices) (now : ℕ) (device : List ℕ) 
   rows = sym at ∙ held.device_rows device
 
   pub settle_refused : (word : Word) → known_device found ≡ Err word → station_settle room devices now device number impressions failed ≡ Err word
-  settle_refused word known = ap (λ (r : Result Device Word). and_then r (λ (it : Device). and_then (job_or_word (get room.jobs number)) (λ (job : Job). by_word (move (StationSettle device impressions failed now) job.standing)))) (unknown_as device found (get devices device) rows word known)
+  settle_refused word known = ap (λ (r : Result Device Word). and_then r (λ (it : Device). by_word (and_then (job_or_refusal (get room.jobs number)) (λ (job : Job). move (StationSettle device impressions failed now) job.standing)))) (unknown_as device found (get devices device) rows word known)
 
-  with_known : (on : Bool) → known_device found ≡ Ok on → (o : Option Job) → get room.jobs number ≡ o → station_settle room devices now device number impressions failed ≡ and_then (job_or_word o) (λ (job : Job). by_word (move (StationSettle device impressions failed now) job.standing))
+  with_known : (on : Bool) → known_device found ≡ Ok on → (o : Option Job) → get room.jobs number ≡ o → station_settle room devices now device number impressions failed ≡ by_word (and_then (job_or_refusal o) (λ (job : Job). move (StationSettle device impressions failed now) job.standing))
   with_known on known o there =
-      ap (λ (r : Result Device Word). and_then r (λ (it : Device). and_then (job_or_word (get room.jobs number)) (λ (job : Job). by_word (move (StationSettle device impressions failed now) job.standing)))) (known_as device found (get devices device) rows on known).1
-      ∙ ap (λ (p : Option Job). and_then (job_or_word p) (λ (job : Job). by_word (move (StationSettle device impressions failed now) job.standing))) there
+      ap (λ (r : Result Device Word). and_then r (λ (it : Device). by_word (and_then (job_or_refusal (get room.jobs number)) (λ (job : Job). move (StationSettle device impressions failed now) job.standing)))) (known_as device found (get devices device) rows on known).1
+      ∙ ap (λ (p : Option Job). by_word (and_then (job_or_refusal p) (λ (job : Job). move (StationSettle device impressions failed now) job.standing))) there
 
   pub settle_found : (on : Bool) → known_device found ≡ Ok on → (job : Job) → get room.jobs number ≡ Some job → (decided : Result Standing Word) → decided ≡ by_word (move (StationSettle device impressions failed now) job.standing)
       → decided ≡ station_settle room devices now device number impressions failed
