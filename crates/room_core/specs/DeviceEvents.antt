@@ -17,17 +17,23 @@ pub record DeviceAnswer : Type 0 where
   pub devices : Devices
 
 -- a device that is turned on or off is known from then on
-abbrev pub turned_answer : Devices → List ℕ → Bool → DeviceAnswer
-turned_answer devices name on = record { reply = reply.Line (success_text success.Ok); devices = turned devices name on }
+abbrev pub turned_answer : (devices : Devices) (name : List ℕ) (on : Bool) → DeviceAnswer
+turned_answer devices name on = record {
+  reply = reply.Line (success_text success.Ok);
+  devices = turned devices name on;
+}
 
 -- only a device that is known gets a rate
-abbrev pub rated_answer : Devices → List ℕ → ℕ → DeviceAnswer
+abbrev pub rated_answer : (devices : Devices) (name : List ℕ) (units : ℕ) → DeviceAnswer
 rated_answer devices name units =
-    if contains_key devices name then record { reply = reply.Line (success_text success.Ok); devices = rated devices name units }
+    if contains_key devices name then record {
+      reply = reply.Line (success_text success.Ok);
+      devices = rated devices name units;
+    }
     else record { reply = reply.Line (word_text NoDevice); devices = devices }
 
 -- an event of an account is of no device
-abbrev pub device_answered : Devices → Event → DeviceAnswer
+abbrev pub device_answered : (devices : Devices) (e : Event) → DeviceAnswer
 device_answered devices (event.Device name on) = turned_answer devices name on
 device_answered devices (event.Rate name units) = rated_answer devices name units
 device_answered devices _ = record { reply = reply.NoAccount; devices = devices }

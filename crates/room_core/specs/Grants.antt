@@ -8,6 +8,7 @@ use Rattle.room_state.specs.Rooms.{RoomValue}
 use Rattle.room_texts.specs.declared.line.Success.TheVariants as success
 
 -- the month has its pages for good, unless it had some
-abbrev pub granted : RoomValue → ℕ → ℕ → Step
+abbrev pub granted : (room : RoomValue) (month pages : ℕ) → Step
 granted room month pages =
-    refusing_or room (grant_refusal (get room.grants month) pages) (λ _. telling (with_grant room month pages) success.Ok)
+    refusing_or room (grant_refusal (get room.grants month) pages) (λ _.
+    telling (with_grant room month pages) success.Ok)

@@ -16,7 +16,7 @@ use Rattle.room_core.specs.NewJobs.{made, validated}
 use Rattle.room_core.specs.Printers.{printer_shown}
 use Rattle.room_core.specs.Queues.{listed}
 use Rattle.room_core.specs.Requests.{Response}
-use Rattle.room_core.specs.Stations.{station_release, released, station_start, started, station_settle, settled}
+use Rattle.room_core.specs.Stations.{station, station_release, released, station_start, started, station_settle, settled}
 use Rattle.room_core.specs.Steps.{Step, refusing}
 use Rattle.room_rules.specs.declared.refusal.Word.TheVariants.{NoAccount, Exists}
 use Rattle.room_rules.specs.Devices.{Devices}
@@ -25,7 +25,9 @@ use Rattle.room_texts.specs.Words.{word_text}
 
 -- ---- an IPP request
 
-abbrev pub responded : RoomValue → Devices → List ℕ → ℕ → PlainAsk → Operation → Response
+abbrev pub responded :
+    (room : RoomValue) (devices : Devices) (account : List ℕ) (now : ℕ) (ask : PlainAsk) →
+    Operation → Response
 responded room devices account now ask PrintJob = made room account now ask
 responded room devices account now ask ValidateJob = validated room ask
 responded room devices account now ask CreateJob = made room account now ask
@@ -38,32 +40,41 @@ responded room devices account now ask HoldJob = acted room ask (hold_of room as
 responded room devices account now ask ReleaseJob = acted room ask (release_of room now ask)
 
 -- the checks that need no room come first
-abbrev pub responded_to : RoomValue → Devices → List ℕ → ℕ → Header → Result PlainAsk PlainRefusal → Response
-responded_to room devices account now header (Err refused) = record { text = refused_text header refused.refusal refused.unsupported; room = room }
-responded_to room devices account now header (Ok ask) = responded room devices account now ask ask.operation
+abbrev pub responded_to :
+    (room : RoomValue) (devices : Devices) (account : List ℕ) (now : ℕ) (header : Header) →
+    Result PlainAsk PlainRefusal → Response
+responded_to room devices account now header (Err refused) = record {
+  text = refused_text header refused.refusal refused.unsupported;
+  room = room;
+}
+responded_to room devices account now header (Ok ask) =
+    responded room devices account now ask ask.operation
 
-abbrev pub requested : RoomValue → Devices → ℕ → List ℕ → List ℕ → Step
+abbrev pub requested : (room : RoomValue) (devices : Devices) (now : ℕ) (account body : List ℕ) → Step
 requested room devices now account body =
     if nat_lt (length body) 8 then record { reply = reply.Short; room = room }
-    else (let response = responded_to room devices account now (header_in body) (ask_of account body) in record { reply = reply.Ipp response.text; room = response.room })
+    else (let response = responded_to room devices account now (header_in body) (ask_of account body) in
+    record { reply = reply.Ipp response.text; room = response.room })
 
 -- ---- an account that is open. A device's own event is of no account
 
-abbrev pub answered_open : RoomValue → Devices → ℕ → Event → Step
+abbrev pub answered_open : (room : RoomValue) (devices : Devices) (now : ℕ) (e : Event) → Step
 answered_open room devices now (event.Open account) = refusing room Exists
 answered_open room devices now (event.Ipp account body) = requested room devices now account body.now
 answered_open room devices now (event.Release device account job password impressions) =
-    released room now job (station_release room devices now device job password.now impressions)
-answered_open room devices now (event.Start device account job) = started room job (station_start room devices now device job)
+    released room now job
+    (station_release room (station devices device now) job password.now impressions)
+answered_open room devices now (event.Start device account job) =
+    started room job (station_start room (station devices device now) job)
 answered_open room devices now (event.Settle device account job impressions failed) =
-    settled room now job (station_settle room devices now device job impressions failed)
+    settled room now job (station_settle room (station devices device now) job impressions failed)
 answered_open room devices now (event.Grant account month pages) = granted room month pages
 answered_open room devices now (event.Device name on) = record { reply = reply.NoAccount; room = room }
 answered_open room devices now (event.Rate name units) = record { reply = reply.NoAccount; room = room }
 
 -- ---- an account that is not
 
-abbrev pub reply_unopened : Event → Reply
+abbrev pub reply_unopened : (e : Event) → Reply
 reply_unopened (event.Open account) = reply.Line (codes "ok")
 reply_unopened (event.Ipp account body) = if nat_lt (length body.now) 8 then reply.Short else reply.NoAccount
 reply_unopened (event.Release device account job password impressions) = reply.Line (word_text NoAccount)
@@ -73,7 +84,7 @@ reply_unopened (event.Grant account month pages) = reply.Line (word_text NoAccou
 reply_unopened (event.Device name on) = reply.NoAccount
 reply_unopened (event.Rate name units) = reply.NoAccount
 
-abbrev pub room_unopened : ℕ → Event → Option RoomValue
+abbrev pub room_unopened : (now : ℕ) (e : Event) → Option RoomValue
 room_unopened now (event.Open account) = Some (empty_room now)
 room_unopened now _ = None
 
@@ -84,6 +95,6 @@ pub record Answer : Type 0 where
   pub reply : Reply
   pub room : Option RoomValue
 
-abbrev pub answered : Option RoomValue → Devices → ℕ → Event → Answer
+abbrev pub answered : (room : Option RoomValue) (devices : Devices) (now : ℕ) (e : Event) → Answer
 answered None devices now e = record { reply = reply_unopened e; room = room_unopened now e }
 answered (Some room) devices now e = record { reply = (answered_open room devices now e).reply; room = Some (answered_open room devices now e).room }

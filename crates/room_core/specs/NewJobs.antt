@@ -14,7 +14,7 @@ use Rattle.room_state.specs.Rooms.{RoomValue}
 use Rattle.room_texts.specs.JobAttributes.{job_group}
 
 -- the job under its number
-abbrev pub new_job : ℕ → PlainAsk → ℕ → Job
+abbrev pub new_job : (number : ℕ) (ask : PlainAsk) (now : ℕ) → Job
 new_job number ask now = record {
   job = number;
   name = ask.name;
@@ -23,23 +23,28 @@ new_job number ask now = record {
 }
 
 -- a Print-Job brings its one document, also an empty one
-abbrev pub new_document : ℕ → PlainAsk → Option Document
+abbrev pub new_document : (number : ℕ) (ask : PlainAsk) → Option Document
 new_document number ask =
-    if is_print_job ask.operation then Some (record { job = number; number = 1; format = ask.format; bytes = ask.payload }) else None
+    if is_print_job ask.operation
+    then Some (record { job = number; number = 1; format = ask.format; bytes = ask.payload })
+    else None
 
 -- what is told of a job that was made (RFC 8011 section 4.2.1.2)
 abbrev pub made_names : Option (List (List ℕ))
-made_names = Some (codes "job-uri" ∷ codes "job-id" ∷ codes "job-state" ∷ codes "job-state-reasons" ∷ [])
+made_names =
+    Some (codes "job-uri" ∷ codes "job-id" ∷ codes "job-state" ∷ codes "job-state-reasons" ∷ [])
 
 -- whether the account takes a job now
-abbrev pub accepts : RoomValue → Result (Unit {0}) Refusal
+abbrev pub accepts : (room : RoomValue) → Result (Unit {0}) Refusal
 accepts room = accepting_refusal (unfinished_count room) room.next
 
 -- the job has the account's next number
-abbrev pub made : RoomValue → List ℕ → ℕ → PlainAsk → Response
-made room account now ask = refusing_ask_or room ask (accepts room) (λ _.
+abbrev pub made : (room : RoomValue) (account : List ℕ) (now : ℕ) (ask : PlainAsk) → Response
+made room account now ask =
+    refusing_ask_or room ask (accepts room) (λ _.
     let job = new_job room.next ask now in
-    doing_ask (with_new_job room job (new_document room.next ask)) ask (job_group (asked_at room.opened account now ask) job made_names ∷ []))
+    doing_ask (with_new_job room job (new_document room.next ask)) ask
+    (job_group (asked_at room.opened account now ask) job made_names ∷ []))
 
-abbrev pub validated : RoomValue → PlainAsk → Response
+abbrev pub validated : (room : RoomValue) (ask : PlainAsk) → Response
 validated room ask = refusing_ask_or room ask (accepts room) (λ _. doing_ask room ask [])

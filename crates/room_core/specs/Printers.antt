@@ -10,9 +10,15 @@ use Rattle.room_state.specs.Sums.{has_processing}
 use Rattle.room_texts.specs.declared.printer.PrinterNow.{PrinterNow}
 use Rattle.room_texts.specs.PrinterAttributes.{printer_group}
 
--- a printer with no job in hand is idle while some device takes jobs, of whatever account, and else stopped
-abbrev pub printer_of : RoomValue → Devices → PrinterNow
-printer_of room devices = printer_now (unfinished_count room) room.next (has_processing room) (is_some_on devices)
+-- a printer with no job in hand is idle while some device takes jobs, of whatever account, and else
+-- stopped
+abbrev pub printer_of : (room : RoomValue) (devices : Devices) → PrinterNow
+printer_of room devices =
+    printer_now (unfinished_count room) room.next (has_processing room) (is_some_on devices)
 
-abbrev pub printer_shown : RoomValue → Devices → List ℕ → ℕ → PlainAsk → Response
-printer_shown room devices account now ask = doing_ask room ask (printer_group (asked_at room.opened account now ask) (printer_of room devices) ask.wanted ∷ [])
+abbrev pub printer_shown :
+    (room : RoomValue) (devices : Devices) (account : List ℕ) (now : ℕ) (ask : PlainAsk) →
+    Response
+printer_shown room devices account now ask =
+    let printer = printer_of room devices in
+    doing_ask room ask (printer_group (asked_at room.opened account now ask) printer ask.wanted ∷ [])

@@ -11,17 +11,19 @@ use Rattle.room_state.specs.Queues.{not_completed, completed, at_most}
 use Rattle.room_state.specs.Rooms.{RoomValue}
 
 -- which-jobs (RFC 8011 section 4.2.6.1)
-abbrev pub chosen : Which → List Job → List Job
+abbrev pub chosen : (which : Which) (jobs : List Job) → List Job
 chosen NotCompleted jobs = not_completed jobs
 chosen Completed jobs = completed jobs
 
-abbrev pub asked_jobs : PlainAsk → List Job → List Job
+abbrev pub asked_jobs : (ask : PlainAsk) (jobs : List Job) → List Job
 asked_jobs ask jobs = at_most ask.limit (chosen ask.which jobs)
 
 -- without names job-uri and job-id are shown
-abbrev pub listed_names : Option (List (List ℕ)) → Option (List (List ℕ))
+abbrev pub listed_names : (wanted : Option (List (List ℕ))) → Option (List (List ℕ))
 listed_names None = Some (codes "job-uri" ∷ codes "job-id" ∷ [])
 listed_names (Some names) = Some names
 
-abbrev pub listed : RoomValue → List ℕ → ℕ → PlainAsk → Response
-listed room account now ask = doing_ask room ask (job_groups (asked_at room.opened account now ask) (asked_jobs ask (values room.jobs)) (listed_names ask.wanted))
+abbrev pub listed : (room : RoomValue) (account : List ℕ) (now : ℕ) (ask : PlainAsk) → Response
+listed room account now ask =
+    let jobs = asked_jobs ask (values room.jobs) in
+    doing_ask room ask (job_groups (asked_at room.opened account now ask) jobs (listed_names ask.wanted))

@@ -12,18 +12,31 @@ pub record Response : Type 0 where
   pub room : RoomValue
 
 -- the request is refused, and nothing changes
-abbrev pub refusing_ask : RoomValue → PlainAsk → Refusal → Response
-refusing_ask room ask refusal = record { text = refused_text ask.header refusal ask.unsupported; room = room }
+abbrev pub refusing_ask : (room : RoomValue) (ask : PlainAsk) (refusal : Refusal) → Response
+refusing_ask room ask refusal = record {
+  text = refused_text ask.header refusal ask.unsupported;
+  room = room;
+}
 
 -- the request is done, with these groups
-abbrev pub doing_ask : RoomValue → PlainAsk → List PlainGroup → Response
-doing_ask room ask groups = record { text = done_text ask.header ask.unsupported groups; room = room }
+abbrev pub doing_ask : (room : RoomValue) (ask : PlainAsk) (groups : List PlainGroup) → Response
+doing_ask room ask groups = record {
+  text = done_text ask.header ask.unsupported groups;
+  room = room;
+}
 
 -- the refusal, or what comes of a request that is not refused
-abbrev pub refusing_ask_or : {A : Type 0} → RoomValue → PlainAsk → Result A Refusal → (A → Response) → Response
+abbrev pub refusing_ask_or :
+    {A : Type 0} (room : RoomValue) (ask : PlainAsk) (decided : Result A Refusal) (next : A → Response) →
+    Response
 refusing_ask_or room ask (Err refusal) next = refusing_ask room ask refusal
 refusing_ask_or room ask (Ok x) next = next x
 
 -- where and when the request is answered
-abbrev pub asked_at : ℕ → List ℕ → ℕ → PlainAsk → PlainPlace
-asked_at opened account now ask = record { base = ask.base; name = account; opened = opened; now = now }
+abbrev pub asked_at : (opened : ℕ) (account : List ℕ) (now : ℕ) (ask : PlainAsk) → PlainPlace
+asked_at opened account now ask = record {
+  base = ask.base;
+  name = account;
+  opened = opened;
+  now = now;
+}

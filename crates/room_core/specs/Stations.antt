@@ -5,6 +5,7 @@ use Rattle.std.specs.FinMap.{get}
 use Rattle.room_answers.specs.Parts.{part_of}
 use Rattle.room_answers.specs.Stations.{known_device, ready_device}
 use Rattle.room_core.specs.declared.event.Reply.TheVariants as reply
+use Rattle.room_core.specs.declared.stations.Station.{Station}
 use Rattle.room_core.specs.JobActs.{act_on}
 use Rattle.room_core.specs.Steps.{Step, refusing_or, telling, and_then, with_moved}
 use Rattle.room_rules.specs.Acts.{StationRelease, StationStart, StationSettle}
@@ -13,40 +14,55 @@ use Rattle.room_rules.specs.declared.job.Job.{Job}
 use Rattle.room_rules.specs.declared.job.Standing.{Standing}
 use Rattle.room_rules.specs.declared.refusal.Refusal.{Refusal}
 use Rattle.room_rules.specs.declared.refusal.Word.{Word}
-use Rattle.room_rules.specs.Devices.{Devices}
+use Rattle.room_rules.specs.Devices.{Devices, device_map}
 use Rattle.room_state.specs.Documents.{documents_of}
 use Rattle.room_state.specs.Rooms.{RoomValue}
 use Rattle.room_state.specs.Sums.{left_in}
 use Rattle.room_texts.specs.declared.line.Success.TheVariants.{Released, Settled}
 
+-- a station: the name of its device, among all devices, at a moment
+pub record PlainStation : Type 0 where
+  pub devices : Devices
+  pub device : List ℕ
+  pub now : ℕ
+
+abbrev pub station : (devices : Devices) (device : List ℕ) (now : ℕ) → PlainStation
+station devices device now = record { devices = devices; device = device; now = now }
+
+abbrev pub plain_station : (at : Station) → PlainStation
+plain_station at = station (device_map at.devices.now) at.device at.now
+
 -- a station is told the word of a refusal alone
-abbrev pub by_word : Result Standing Refusal → Result Standing Word
+abbrev pub by_word : (moved : Result Standing Refusal) → Result Standing Word
 by_word (Ok standing) = Ok standing
 by_word (Err refusal) = Err refusal.word
 
 -- ---- release
 
-abbrev pub station_release : RoomValue → Devices → ℕ → List ℕ → ℕ → List ℕ → ℕ → Result Standing Word
-station_release room devices now device number password impressions =
-    and_then (ready_device (get devices device)) (λ (ready : Device).
+-- of the job with the number, by the password and the impressions that are handed in
+abbrev pub station_release :
+    (room : RoomValue) (at : PlainStation) (number : ℕ) (password : List ℕ) (impressions : ℕ) →
+    Result Standing Word
+station_release room at number password impressions =
+    and_then (ready_device (get at.devices at.device)) (λ (ready : Device).
     by_word (act_on room number (λ (job : Job).
-    StationRelease job.password device password impressions ready.rate (left_in room now))))
+    StationRelease job.password at.device password impressions ready.rate (left_in room at.now))))
 
 -- what the job reserves, and what is left then
-abbrev pub released : RoomValue → ℕ → ℕ → Result Standing Word → Step
+abbrev pub released : (room : RoomValue) (now number : ℕ) (decided : Result Standing Word) → Step
 released room now number decided = refusing_or room decided (λ (standing : Standing).
     let after = with_moved room number standing in
     telling after (Released standing.reserved (left_in after now)))
 
 -- ---- start
 
-abbrev pub station_start : RoomValue → Devices → ℕ → List ℕ → ℕ → Result Standing Word
-station_start room devices now device number =
-    and_then (ready_device (get devices device)) (λ (ready : Device).
-    by_word (act_on room number (λ _. StationStart device ready.rate now)))
+abbrev pub station_start : (room : RoomValue) (at : PlainStation) (number : ℕ) → Result Standing Word
+station_start room at number =
+    and_then (ready_device (get at.devices at.device)) (λ (ready : Device).
+    by_word (act_on room number (λ _. StationStart at.device ready.rate at.now)))
 
 -- each document of the job, as it is handed to the device
-abbrev pub started : RoomValue → ℕ → Result Standing Word → Step
+abbrev pub started : (room : RoomValue) (number : ℕ) (decided : Result Standing Word) → Step
 started room number decided = refusing_or room decided (λ (standing : Standing). record {
   reply = reply.Documents (map (part_of standing.copies) (documents_of room number));
   room = with_moved room number standing;
@@ -54,13 +70,16 @@ started room number decided = refusing_or room decided (λ (standing : Standing)
 
 -- ---- settle
 
-abbrev pub station_settle : RoomValue → Devices → ℕ → List ℕ → ℕ → ℕ → Bool → Result Standing Word
-station_settle room devices now device number impressions failed =
-    and_then (known_device (get devices device)) (λ _.
-    by_word (act_on room number (λ _. StationSettle device impressions failed now)))
+-- of the job with the number, of which the device completed so many impressions
+abbrev pub station_settle :
+    (room : RoomValue) (at : PlainStation) (number impressions : ℕ) (failed : Bool) →
+    Result Standing Word
+station_settle room at number impressions failed =
+    and_then (known_device (get at.devices at.device)) (λ _.
+    by_word (act_on room number (λ _. StationSettle at.device impressions failed at.now)))
 
 -- what the job was charged, and what is left then
-abbrev pub settled : RoomValue → ℕ → ℕ → Result Standing Word → Step
+abbrev pub settled : (room : RoomValue) (now number : ℕ) (decided : Result Standing Word) → Step
 settled room now number decided = refusing_or room decided (λ (standing : Standing).
     let after = with_moved room number standing in
     telling after (Settled standing.charged (left_in after now)))

@@ -16,25 +16,26 @@ pub record Step : Type 0 where
   pub room : RoomValue
 
 -- a line that tells why, and nothing changes
-abbrev pub refusing : RoomValue → Word → Step
+abbrev pub refusing : (room : RoomValue) (word : Word) → Step
 refusing room word = record { reply = reply.Line (word_text word); room = room }
 
 -- a line that tells what was done
-abbrev pub telling : RoomValue → Success → Step
+abbrev pub telling : (room : RoomValue) (success : Success) → Step
 telling room success = record { reply = reply.Line (success_text success); room = room }
 
 -- the line that tells why, or what comes of an event that is not refused
-abbrev pub refusing_or : {A : Type 0} → RoomValue → Result A Word → (A → Step) → Step
+abbrev pub refusing_or : {A : Type 0} (room : RoomValue) (decided : Result A Word) (next : A → Step) → Step
 refusing_or room (Err word) next = refusing room word
 refusing_or room (Ok x) next = next x
 
 -- one check after another: the first that fails is the answer
-abbrev pub and_then : {A B E : Type 0} → Result A E → (A → Result B E) → Result B E
+abbrev pub and_then : {A B E : Type 0} (checked : Result A E) (next : A → Result B E) → Result B E
 and_then (Err e) next = Err e
 and_then (Ok x) next = next x
 
 -- an act on a job gives it another standing, and a job that ends loses its documents (RFC 8011 section
 -- 5.3.7; that documents go at once is this project's own)
-abbrev pub with_moved : RoomValue → ℕ → Standing → RoomValue
+abbrev pub with_moved : (room : RoomValue) (number : ℕ) (standing : Standing) → RoomValue
 with_moved room number standing =
-    if is_unfinished standing.state then with_standing room number standing None else with_ended room number standing
+    if is_unfinished standing.state then with_standing room number standing None
+    else with_ended room number standing

@@ -7,7 +7,7 @@ ghost use Rattle.std.specs.FinMap.{get};
 ghost use Rattle.room_answers.specs.Parts.{part_of};
 ghost use Rattle.room_core.specs.Moving.{CanMove};
 ghost use Rattle.room_core.specs.Rates.{AreRated};
-ghost use Rattle.room_core.specs.Stations.{station_release, released, station_start, started, station_settle, settled};
+ghost use Rattle.room_core.specs.Stations.{plain_station, station_release, released, station_start, started, station_settle, settled};
 ghost use Rattle.room_rules.specs.Devices.{device_map};
 ghost use Rattle.room_rules.specs.Limits.{most_impressions, last_moment};
 ghost use Rattle.room_state.specs.Documents.{documents_of};
@@ -58,8 +58,8 @@ pub(crate) fn release(
     requires moment { at.now.now ≤ last_moment }
     requires rates { AreRated (device_map at.now.devices.now) }
     requires impressions { impressions ≤ most_impressions }
-    ensures reply { IfOk result (λ reply. reply ≡ (released room.old at.entry.now.now number (station_release room.old (device_map at.entry.now.devices.now) at.entry.now.now at.entry.now.device number password.now impressions)).reply) }
-    ensures room { OnOk result (room.new ≡ (released room.old at.entry.now.now number (station_release room.old (device_map at.entry.now.devices.now) at.entry.now.now at.entry.now.device number password.now impressions)).room) }
+    ensures reply { IfOk result (λ reply. reply ≡ (released room.old at.entry.now.now number (station_release room.old (plain_station at.entry.now) number password.now impressions)).reply) }
+    ensures room { OnOk result (room.new ≡ (released room.old at.entry.now.now number (station_release room.old (plain_station at.entry.now) number password.now impressions)).room) }
     ensures memory { IfErr result (λ fault. fault ≡ CoreFault.Memory) }
     ensures unchanged { OnErr result (room.new ≡ room.old) }
 {
@@ -76,8 +76,8 @@ pub(crate) fn start(
 ) -> Result<Reply, CoreFault>
     requires moment { at.now.now ≤ last_moment }
     requires rates { AreRated (device_map at.now.devices.now) }
-    ensures reply { IfOk result (λ reply. reply ≡ (started room.old number (station_start room.old (device_map at.entry.now.devices.now) at.entry.now.now at.entry.now.device number)).reply) }
-    ensures room { OnOk result (room.new ≡ (started room.old number (station_start room.old (device_map at.entry.now.devices.now) at.entry.now.now at.entry.now.device number)).room) }
+    ensures reply { IfOk result (λ reply. reply ≡ (started room.old number (station_start room.old (plain_station at.entry.now) number)).reply) }
+    ensures room { OnOk result (room.new ≡ (started room.old number (station_start room.old (plain_station at.entry.now) number)).room) }
     ensures memory { IfErr result (λ fault. fault ≡ CoreFault.Memory) }
     ensures unchanged { OnErr result (room.new ≡ room.old) }
 {
@@ -98,8 +98,8 @@ pub(crate) fn settle(
     requires moment { at.now.now ≤ last_moment }
     requires rates { AreRated (device_map at.now.devices.now) }
     requires impressions { impressions ≤ most_impressions }
-    ensures reply { IfOk result (λ reply. reply ≡ (settled room.old at.entry.now.now number (station_settle room.old (device_map at.entry.now.devices.now) at.entry.now.now at.entry.now.device number impressions failed)).reply) }
-    ensures room { OnOk result (room.new ≡ (settled room.old at.entry.now.now number (station_settle room.old (device_map at.entry.now.devices.now) at.entry.now.now at.entry.now.device number impressions failed)).room) }
+    ensures reply { IfOk result (λ reply. reply ≡ (settled room.old at.entry.now.now number (station_settle room.old (plain_station at.entry.now) number impressions failed)).reply) }
+    ensures room { OnOk result (room.new ≡ (settled room.old at.entry.now.now number (station_settle room.old (plain_station at.entry.now) number impressions failed)).room) }
     ensures memory { IfErr result (λ fault. fault ≡ CoreFault.Memory) }
     ensures unchanged { OnErr result (room.new ≡ room.old) }
 {
@@ -118,7 +118,7 @@ fn station_release(
     requires moment { at.now.now ≤ last_moment }
     requires rates { AreRated (device_map at.now.devices.now) }
     requires impressions { impressions ≤ most_impressions }
-    ensures standing { result ≡ station_release room.now (device_map at.entry.now.devices.now) at.entry.now.now at.entry.now.device number password.now impressions }
+    ensures standing { result ≡ station_release room.now (plain_station at.entry.now) number password.now impressions }
     ensures can_move { IfOk result (CanMove room.now number) }
 {
     let ready = ready_device(device_at(at.devices, at.device))?;
@@ -161,7 +161,7 @@ fn tell_released(
 fn station_start(room: &Room, at: &Station<'_>, number: u32) -> Result<Standing, Word>
     requires moment { at.now.now ≤ last_moment }
     requires rates { AreRated (device_map at.now.devices.now) }
-    ensures standing { result ≡ station_start room.now (device_map at.entry.now.devices.now) at.entry.now.now at.entry.now.device number }
+    ensures standing { result ≡ station_start room.now (plain_station at.entry.now) number }
     ensures can_move { IfOk result (CanMove room.now number) }
 {
     let ready = ready_device(device_at(at.devices, at.device))?;
@@ -246,7 +246,7 @@ fn station_settle(
     requires moment { at.now.now ≤ last_moment }
     requires rates { AreRated (device_map at.now.devices.now) }
     requires impressions { impressions ≤ most_impressions }
-    ensures standing { result ≡ station_settle room.now (device_map at.entry.now.devices.now) at.entry.now.now at.entry.now.device number impressions failed }
+    ensures standing { result ≡ station_settle room.now (plain_station at.entry.now) number impressions failed }
     ensures can_move { IfOk result (CanMove room.now number) }
 {
     known_device(device_at(at.devices, at.device))?;

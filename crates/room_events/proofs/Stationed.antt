@@ -5,7 +5,7 @@ use Rattle.sqlite.specs.Effect.{Database}
 use Rattle.room_rules.specs.JobStates.{is_released}
 use Rattle.room_answers.specs.Stations.{known_device, left_after, ready_device}
 use Rattle.room_core.specs.JobActs.{job_or_refusal}
-use Rattle.room_core.specs.Stations.{by_word, station_release, released, station_settle, settled, station_start}
+use Rattle.room_core.specs.Stations.{PlainStation, by_word, station_release, released, station_settle, settled, station_start}
 use Rattle.room_core.proofs.Sums.{left_moved}
 use Rattle.room_core.specs.Steps.{and_then, telling, with_moved}
 use Rattle.room_rules.specs.Acts.{Act, StationRelease, StationSettle, StationStart}
@@ -60,33 +60,33 @@ by_device (Err other) next o word is = let same : other ≡ word = cc in ap (λ 
 
 -- ---- what a station may ask of a job that was found
 
-module _ (room : RoomValue) (devices : Devices) (now : ℕ) (device : List ℕ) (number : ℕ) where
+module _ (room : RoomValue) (at : PlainStation) (number : ℕ) where
   module _ (password : List ℕ) (impressions : ℕ) where
     release_by : ℕ → Job → Act
-    release_by rate job = StationRelease job.password device password impressions rate (left_in room now)
+    release_by rate job = StationRelease job.password at.device password impressions rate (left_in room at.now)
 
-    pub release_found : (rate : ℕ) (job : Job) → ready_rate (get devices device) ≡ Ok rate → get room.jobs number ≡ Some job → (asked : Result Standing Refusal)
-        → ((left : ℤ) → move (StationRelease job.password device password impressions rate left) job.standing ≡ kept_to_quota job.standing.state left asked)
-        → by_word (kept_to_quota job.standing.state (left_in room now) asked) ≡ station_release room devices now device number password impressions
+    pub release_found : (rate : ℕ) (job : Job) → ready_rate (get at.devices at.device) ≡ Ok rate → get room.jobs number ≡ Some job → (asked : Result Standing Refusal)
+        → ((left : ℤ) → move (StationRelease job.password at.device password impressions rate left) job.standing ≡ kept_to_quota job.standing.state left asked)
+        → by_word (kept_to_quota job.standing.state (left_in room at.now) asked) ≡ station_release room at number password impressions
     unfolding release_by
     release_found rate job ready there asked moved =
-        ap by_word (sym (moved (left_in room now))) ∙ sym (by_rate (ready_device (get devices device)) release_by (get room.jobs number) rate job ready there)
+        ap by_word (sym (moved (left_in room at.now))) ∙ sym (by_rate (ready_device (get at.devices at.device)) release_by (get room.jobs number) rate job ready there)
 
-    pub release_refused : (word : Word) → ready_rate (get devices device) ≡ Err word → station_release room devices now device number password impressions ≡ Err word
+    pub release_refused : (word : Word) → ready_rate (get at.devices at.device) ≡ Err word → station_release room at number password impressions ≡ Err word
     unfolding release_by
-    release_refused word ready = by_device (ready_device (get devices device)) release_by (get room.jobs number) word ready
+    release_refused word ready = by_device (ready_device (get at.devices at.device)) release_by (get room.jobs number) word ready
 
   start_by : ℕ → Job → Act
-  start_by rate job = StationStart device rate now
+  start_by rate job = StationStart at.device rate at.now
 
-  pub start_found : (rate : ℕ) (job : Job) → ready_rate (get devices device) ≡ Ok rate → get room.jobs number ≡ Some job → (decided : Result Standing Word) → decided ≡ by_word (move (StationStart device rate now) job.standing)
-      → decided ≡ station_start room devices now device number
+  pub start_found : (rate : ℕ) (job : Job) → ready_rate (get at.devices at.device) ≡ Ok rate → get room.jobs number ≡ Some job → (decided : Result Standing Word) → decided ≡ by_word (move (StationStart at.device rate at.now) job.standing)
+      → decided ≡ station_start room at number
   unfolding start_by
-  start_found rate job ready there decided moved = moved ∙ sym (by_rate (ready_device (get devices device)) start_by (get room.jobs number) rate job ready there)
+  start_found rate job ready there decided moved = moved ∙ sym (by_rate (ready_device (get at.devices at.device)) start_by (get room.jobs number) rate job ready there)
 
-  pub start_refused : (word : Word) → ready_rate (get devices device) ≡ Err word → station_start room devices now device number ≡ Err word
+  pub start_refused : (word : Word) → ready_rate (get at.devices at.device) ≡ Err word → station_start room at number ≡ Err word
   unfolding start_by
-  start_refused word ready = by_device (ready_device (get devices device)) start_by (get room.jobs number) word ready
+  start_refused word ready = by_device (ready_device (get at.devices at.device)) start_by (get room.jobs number) word ready
 
 -- a device is known where its row is
 known_as : (device : List ℕ) (found : Option Bool) (o : Option Device) → option_map (on_cells device) found ≡ option_map device_cells o → (on : Bool) → known_device found ≡ Ok on → (it : Device) × (known_device o ≡ Ok it)
@@ -99,20 +99,20 @@ unknown_as device None None rows word known = let same : NoDevice ≡ word = cc 
 unknown_as device None (Some it) rows word known = let no : ⊥ = cc in absurd no
 unknown_as device (Some b) o rows word known = let no : ⊥ = cc in absurd no
 
-module _ (room : RoomValue) (devices : Devices) (now : ℕ) (device : List ℕ) (number impressions : ℕ) (failed : Bool) (db : Database) (held : HoldsDevices db devices) (found : Option Bool) (at : device_at db device ≡ option_map (on_cells device) found) where
-  rows : option_map (on_cells device) found ≡ option_map device_cells (get devices device)
-  rows = sym at ∙ held.device_rows device
+module _ (room : RoomValue) (at : PlainStation) (number impressions : ℕ) (failed : Bool) (db : Database) (held : HoldsDevices db at.devices) (found : Option Bool) (its_row : device_at db at.device ≡ option_map (on_cells at.device) found) where
+  rows : option_map (on_cells at.device) found ≡ option_map device_cells (get at.devices at.device)
+  rows = sym its_row ∙ held.device_rows at.device
 
-  pub settle_refused : (word : Word) → known_device found ≡ Err word → station_settle room devices now device number impressions failed ≡ Err word
-  settle_refused word known = ap (λ (r : Result Device Word). and_then r (λ (it : Device). by_word (and_then (job_or_refusal (get room.jobs number)) (λ (job : Job). move (StationSettle device impressions failed now) job.standing)))) (unknown_as device found (get devices device) rows word known)
+  pub settle_refused : (word : Word) → known_device found ≡ Err word → station_settle room at number impressions failed ≡ Err word
+  settle_refused word known = ap (λ (r : Result Device Word). and_then r (λ (it : Device). by_word (and_then (job_or_refusal (get room.jobs number)) (λ (job : Job). move (StationSettle at.device impressions failed at.now) job.standing)))) (unknown_as at.device found (get at.devices at.device) rows word known)
 
-  with_known : (on : Bool) → known_device found ≡ Ok on → (o : Option Job) → get room.jobs number ≡ o → station_settle room devices now device number impressions failed ≡ by_word (and_then (job_or_refusal o) (λ (job : Job). move (StationSettle device impressions failed now) job.standing))
+  with_known : (on : Bool) → known_device found ≡ Ok on → (o : Option Job) → get room.jobs number ≡ o → station_settle room at number impressions failed ≡ by_word (and_then (job_or_refusal o) (λ (job : Job). move (StationSettle at.device impressions failed at.now) job.standing))
   with_known on known o there =
-      ap (λ (r : Result Device Word). and_then r (λ (it : Device). by_word (and_then (job_or_refusal (get room.jobs number)) (λ (job : Job). move (StationSettle device impressions failed now) job.standing)))) (known_as device found (get devices device) rows on known).1
-      ∙ ap (λ (p : Option Job). by_word (and_then (job_or_refusal p) (λ (job : Job). move (StationSettle device impressions failed now) job.standing))) there
+      ap (λ (r : Result Device Word). and_then r (λ (it : Device). by_word (and_then (job_or_refusal (get room.jobs number)) (λ (job : Job). move (StationSettle at.device impressions failed at.now) job.standing)))) (known_as at.device found (get at.devices at.device) rows on known).1
+      ∙ ap (λ (p : Option Job). by_word (and_then (job_or_refusal p) (λ (job : Job). move (StationSettle at.device impressions failed at.now) job.standing))) there
 
-  pub settle_found : (on : Bool) → known_device found ≡ Ok on → (job : Job) → get room.jobs number ≡ Some job → (decided : Result Standing Word) → decided ≡ by_word (move (StationSettle device impressions failed now) job.standing)
-      → decided ≡ station_settle room devices now device number impressions failed
+  pub settle_found : (on : Bool) → known_device found ≡ Ok on → (job : Job) → get room.jobs number ≡ Some job → (decided : Result Standing Word) → decided ≡ by_word (move (StationSettle at.device impressions failed at.now) job.standing)
+      → decided ≡ station_settle room at number impressions failed
   settle_found on known job there decided moved = moved ∙ sym (with_known on known (Some job) there)
 
 -- ---- what is told of the quota

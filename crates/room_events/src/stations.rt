@@ -4,7 +4,7 @@ ghost use Rattle.std.specs.Prelude.{◌≡◌, ◌≤◌, false, map, IfErr, IfO
 ghost use Rattle.std.specs.FinMap.{get};
 ghost use Rattle.room_answers.specs.Parts.{part_of};
 ghost use Rattle.room_core.specs.Moving.{Keeps};
-ghost use Rattle.room_core.specs.Stations.{by_word, station_release, released, station_settle, settled, station_start, started};
+ghost use Rattle.room_core.specs.Stations.{by_word, station, station_release, released, station_settle, settled, station_start, started};
 ghost use Rattle.room_core.specs.Steps.{with_moved};
 ghost use Rattle.room_core.specs.declared.event.Reply.TheVariants as reply;
 ghost use Rattle.room_rules.specs.Devices.{Devices};
@@ -47,7 +47,7 @@ pub fn release_at<S: Alter>(
     requires mode { connection.old.in_transaction ≡ false }
     requires moment { now ≤ last_moment }
     requires impressions { impressions ≤ most_impressions }
-    ensures served { Serves S.Store connection.old connection.new name (λ room devices. (released room now number (station_release room devices now device number password.now impressions)).reply) (λ room devices. (released room now number (station_release room devices now device number password.now impressions)).room) result }
+    ensures served { Serves S.Store connection.old connection.new name (λ room devices. (released room now number (station_release room (station devices device now) number password.now impressions)).reply) (λ room devices. (released room now number (station_release room (station devices device now) number password.now impressions)).room) result }
 {
     let rate = match ready_rate(connection, device)? {
         Ok(rate) => rate,
@@ -71,7 +71,7 @@ pub fn start<S: Alter>(
 ) -> Result<Reply, TableFault>
     requires mode { connection.old.in_transaction ≡ false }
     requires moment { now ≤ last_moment }
-    ensures served { Serves S.Store connection.old connection.new name (λ room devices. (started room number (station_start room devices now device number)).reply) (λ room devices. (started room number (station_start room devices now device number)).room) result }
+    ensures served { Serves S.Store connection.old connection.new name (λ room devices. (started room number (station_start room (station devices device now) number)).reply) (λ room devices. (started room number (station_start room (station devices device now) number)).room) result }
 {
     let rate = match ready_rate(connection, device)? {
         Ok(rate) => rate,
@@ -99,7 +99,7 @@ pub fn settle<S: Alter>(
     requires mode { connection.old.in_transaction ≡ false }
     requires moment { now ≤ last_moment }
     requires impressions { impressions ≤ most_impressions }
-    ensures served { Serves S.Store connection.old connection.new name (λ room devices. (settled room now number (station_settle room devices now device number impressions failed)).reply) (λ room devices. (settled room now number (station_settle room devices now device number impressions failed)).room) result }
+    ensures served { Serves S.Store connection.old connection.new name (λ room devices. (settled room now number (station_settle room (station devices device now) number impressions failed)).reply) (λ room devices. (settled room now number (station_settle room (station devices device now) number impressions failed)).room) result }
 {
     if let Err(word) = known_device(find_device(connection, device)?) {
         return refusing(alloc, word);
