@@ -1,5 +1,5 @@
 -- One account's answer to one event, and its room afterwards.
-use Rattle.std.specs.Prelude.{ℕ, nat_lt, if◌then◌else◌, List, length, Option, Some, None, Result, Ok, Err, codes}
+use Rattle.std.specs.Prelude.{ℕ, nat_lt, if◌then◌else◌, List, length, Option, Some, None, Result, Ok, Err}
 use Rattle.ipp_coding.specs.declared.message.Header.{Header}
 use Rattle.ipp_coding.specs.Reading.{header_in}
 use Rattle.room_answers.specs.Responses.{refused_text}
@@ -21,6 +21,8 @@ use Rattle.room_core.specs.Steps.{Step, refusing}
 use Rattle.room_rules.specs.declared.refusal.Word.TheVariants.{NoAccount, Exists}
 use Rattle.room_rules.specs.Devices.{Devices}
 use Rattle.room_state.specs.Rooms.{RoomValue, empty_room}
+use Rattle.room_texts.specs.declared.line.Success.TheVariants as success
+use Rattle.room_texts.specs.Lines.{success_text}
 use Rattle.room_texts.specs.Words.{word_text}
 
 -- ---- an IPP request
@@ -74,27 +76,34 @@ answered_open room devices now (event.Rate name units) = record { reply = reply.
 
 -- ---- an account that is not
 
-abbrev pub reply_unopened : (e : Event) → Reply
-reply_unopened (event.Open account) = reply.Line (codes "ok")
-reply_unopened (event.Ipp account body) = if nat_lt (length body.now) 8 then reply.Short else reply.NoAccount
-reply_unopened (event.Release device account job password impressions) = reply.Line (word_text NoAccount)
-reply_unopened (event.Start device account job) = reply.Line (word_text NoAccount)
-reply_unopened (event.Settle device account job impressions failed) = reply.Line (word_text NoAccount)
-reply_unopened (event.Grant account month pages) = reply.Line (word_text NoAccount)
-reply_unopened (event.Device name on) = reply.NoAccount
-reply_unopened (event.Rate name units) = reply.NoAccount
-
-abbrev pub room_unopened : (now : ℕ) (e : Event) → Option RoomValue
-room_unopened now (event.Open account) = Some (empty_room now)
-room_unopened now _ = None
-
--- ---- the machine
-
 -- a reply, and what room there is after it
 pub record Answer : Type 0 where
   pub reply : Reply
   pub room : Option RoomValue
 
+abbrev pub stays_unopened : (said : Reply) → Answer
+stays_unopened said = record { reply = said; room = None }
+
+abbrev pub answered_unopened : (now : ℕ) (e : Event) → Answer
+answered_unopened now (event.Open account) = record {
+  reply = reply.Line (success_text success.Ok);
+  room = Some (empty_room now);
+}
+answered_unopened now (event.Ipp account body) =
+    stays_unopened (if nat_lt (length body.now) 8 then reply.Short else reply.NoAccount)
+answered_unopened now (event.Release device account job password impressions) =
+    stays_unopened (reply.Line (word_text NoAccount))
+answered_unopened now (event.Start device account job) =
+    stays_unopened (reply.Line (word_text NoAccount))
+answered_unopened now (event.Settle device account job impressions failed) =
+    stays_unopened (reply.Line (word_text NoAccount))
+answered_unopened now (event.Grant account month pages) =
+    stays_unopened (reply.Line (word_text NoAccount))
+answered_unopened now (event.Device name on) = stays_unopened reply.NoAccount
+answered_unopened now (event.Rate name units) = stays_unopened reply.NoAccount
+
+-- ---- the machine
+
 abbrev pub answered : (room : Option RoomValue) (devices : Devices) (now : ℕ) (e : Event) → Answer
-answered None devices now e = record { reply = reply_unopened e; room = room_unopened now e }
+answered None devices now e = answered_unopened now e
 answered (Some room) devices now e = record { reply = (answered_open room devices now e).reply; room = Some (answered_open room devices now e).room }

@@ -4,7 +4,7 @@ ghost use Rattle.std.specs.Prelude.{◌≡◌, ◌≢◌, ◌↔◌, ◌<◌, �
 ghost use Rattle.ipp_coding.specs.Reading.{header_in};
 ghost use Rattle.room_asks.specs.Asks.{IsAsk, ask_of, plain_ask};
 ghost use Rattle.room_core.specs.Fits.{fits};
-ghost use Rattle.room_core.specs.Machine.{answered, answered_open, reply_unopened, room_unopened, requested, responded, responded_to};
+ghost use Rattle.room_core.specs.Machine.{answered, answered_open, answered_unopened, requested, responded, responded_to};
 ghost use Rattle.room_core.specs.Rates.{AreRated};
 ghost use Rattle.room_rules.specs.Devices.{device_map};
 ghost use Rattle.room_rules.specs.Limits.{last_moment};
@@ -60,8 +60,8 @@ fn answer_unopened(
 ) -> Result<Reply, CoreFault>
     requires moment { now ≤ last_moment }
     requires unopened { room.old ≡ None }
-    ensures reply { IfOk result (λ reply. reply ≡ reply_unopened e.entry.now) }
-    ensures room { OnOk result (room.new ≡ room_unopened now e.entry.now) }
+    ensures reply { IfOk result (λ reply. reply ≡ (answered_unopened now e.entry.now).reply) }
+    ensures room { OnOk result (room.new ≡ (answered_unopened now e.entry.now).room) }
     ensures memory { IfErr result (λ fault. fault ≡ CoreFault.Memory) }
     ensures unchanged { OnErr result (room.new ≡ room.old) }
 {

@@ -6,7 +6,7 @@ use Rattle.sqlite.specs.Held.{Held, state}
 use Rattle.ipp_coding.specs.declared.message.Header.{Header}
 use Rattle.ipp_coding.specs.Reading.{header_at, header_in}
 use Rattle.room_asks.specs.Asks.{ask_of}
-use Rattle.room_core.specs.Machine.{Answer, reply_unopened, requested, responded_to, room_unopened}
+use Rattle.room_core.specs.Machine.{Answer, answered_unopened, requested, responded_to}
 use Rattle.room_core.specs.Steps.{Step}
 use Rattle.room_core.specs.declared.event.Event.{Event}
 use Rattle.room_core.specs.declared.event.Event.TheVariants as event
@@ -60,7 +60,7 @@ module _ {S : Type 0} (store : Ghosts S) (name : List ℕ) (answered : Option Ro
     unopened_answers r line memory = says _ _ _ _ store old mid passed (same_rows name) said r line memory (λ clean has. is_none (none clean has))
 
 -- a line tells that the account is not open
-pub unopened_line : (now : ℕ) (e : Event) → IsLine e → (reply.Line (word_text NoAccount) ≡ reply_unopened e) × (room_unopened now e ≡ None)
+pub unopened_line : (now : ℕ) (e : Event) → IsLine e → (reply.Line (word_text NoAccount) ≡ (answered_unopened now e).reply) × ((answered_unopened now e).room ≡ None)
 unopened_line now (event.Open account) is = absurd is
 unopened_line now (event.Ipp account body) is = absurd is
 unopened_line now (event.Release device account job password impressions) is = (refl, refl)
