@@ -6,7 +6,7 @@ use Rattle.std.specs.FinMap.{get}
 use Rattle.room_rules.specs.Devices.{Devices, device_map, is_of_name}
 use Rattle.room_rules.proofs.DeviceMaps.{get_device}
 use Rattle.std.proofs.Common.{Result, Ok, Err, refl}
-use Rattle.std.specs.Prelude.{OnOk, OnErr}
+use Rattle.std.specs.Prelude.{OnErr}
 use Rattle.std.specs.Option.{option_map_or}
 use Rattle.std.specs.Ordering.{eq_by_cmp}
 use Rattle.std.specs.Cmp.Lexicographic.{nat_list_cmp_total}
@@ -16,7 +16,7 @@ use Rattle.room_rules.specs.Devices.{name_cmp, rated, rate_of, is_on_in}
 use Rattle.room_rules.specs.Limits.{most_rate}
 use Rattle.room_rules.specs.declared.fault.CoreFault.{CoreFault}
 use Rattle.room_core.specs.Fits.{fits}
-use Rattle.room_core.specs.DeviceEvents.{DeviceAnswer, device_answered}
+use Rattle.room_core.specs.DeviceEvents.{DeviceAnswer, IsDeviceAnswer, device_answered}
 use Rattle.room_core.specs.declared.event.Event.{Event}
 use Rattle.room_core.specs.declared.event.Event.TheVariants as event
 use Rattle.room_core.specs.declared.event.Reply.{Reply}
@@ -67,6 +67,6 @@ still_rated devices (event.Grant account month pages) h all = all
 
 -- whether or not there was memory for the answer
 pub answer_rated : (old new : List Device) (e : Event) (result : Result Reply CoreFault) → IsTrue (fits e) →
-    OnOk result (device_map new ≡ (device_answered (device_map old) e).devices) → OnErr result (new ≡ old) → AreRated (device_map old) → AreRated (device_map new)
-answer_rated old new e (Ok reply) h ok err all = subst AreRated (sym ok) (still_rated (device_map old) e h all)
+    IsDeviceAnswer result (device_map new) (device_answered (device_map old) e) → OnErr result (new ≡ old) → AreRated (device_map old) → AreRated (device_map new)
+answer_rated old new e (Ok reply) h ok err all = subst AreRated (sym ok.1) (still_rated (device_map old) e h all)
 answer_rated old new e (Err fault) h ok err all = subst (λ (devices : List Device). AreRated (device_map devices)) (sym err) all

@@ -1,5 +1,5 @@
 -- What an event of a device is answered, and the devices afterwards (all this project's own).
-use Rattle.std.specs.Prelude.{ℕ, Bool, List, if◌then◌else◌}
+use Rattle.std.specs.Prelude.{◌≡◌, ℕ, Bool, List, if◌then◌else◌, Result, IfOk}
 use Rattle.std.specs.FinMap.{contains_key}
 use Rattle.room_core.specs.declared.event.Event.{Event}
 use Rattle.room_core.specs.declared.event.Event.TheVariants as event
@@ -15,6 +15,13 @@ use Rattle.room_texts.specs.Words.{word_text}
 pub record DeviceAnswer : Type 0 where
   pub reply : Reply
   pub devices : Devices
+
+-- where there is a reply, it and the devices are those of the answer
+abbrev pub IsDeviceAnswer :
+    {E : Type 0} (result : Result Reply E) (devices : Devices) (answer : DeviceAnswer) →
+    Type 0
+IsDeviceAnswer result devices answer =
+    IfOk result (λ reply. (reply ≡ answer.reply) × (devices ≡ answer.devices))
 
 -- a device that is turned on or off is known from then on
 abbrev pub turned_answer : (devices : Devices) (name : List ℕ) (on : Bool) → DeviceAnswer

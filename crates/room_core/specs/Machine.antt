@@ -1,5 +1,5 @@
 -- One account's answer to one event, and its room afterwards.
-use Rattle.std.specs.Prelude.{ℕ, nat_lt, if◌then◌else◌, List, length, Option, Some, None, Result, Ok, Err}
+use Rattle.std.specs.Prelude.{◌≡◌, ℕ, nat_lt, if◌then◌else◌, List, length, Option, Some, None, Result, Ok, Err, IfOk}
 use Rattle.ipp_coding.specs.declared.message.Header.{Header}
 use Rattle.ipp_coding.specs.Reading.{header_in}
 use Rattle.room_answers.specs.Responses.{refused_text}
@@ -81,6 +81,12 @@ pub record Answer : Type 0 where
   pub reply : Reply
   pub room : Option RoomValue
 
+-- where there is a reply, it and the room are those of the answer
+abbrev pub IsAnswer :
+    {E : Type 0} (result : Result Reply E) (room : Option RoomValue) (answer : Answer) →
+    Type 0
+IsAnswer result room answer = IfOk result (λ reply. (reply ≡ answer.reply) × (room ≡ answer.room))
+
 abbrev pub stays_unopened : (said : Reply) → Answer
 stays_unopened said = record { reply = said; room = None }
 
@@ -106,4 +112,6 @@ answered_unopened now (event.Rate name units) = stays_unopened reply.NoAccount
 
 abbrev pub answered : (room : Option RoomValue) (devices : Devices) (now : ℕ) (e : Event) → Answer
 answered None devices now e = answered_unopened now e
-answered (Some room) devices now e = record { reply = (answered_open room devices now e).reply; room = Some (answered_open room devices now e).room }
+answered (Some room) devices now e =
+    let step = answered_open room devices now e in
+    record { reply = step.reply; room = Some step.room }

@@ -1,5 +1,5 @@
 -- What every request shares: a response, and the room after it.
-use Rattle.std.specs.Prelude.{ℕ, List, Result, Ok, Err}
+use Rattle.std.specs.Prelude.{◌≡◌, ℕ, List, Result, Ok, Err, IfOk}
 use Rattle.ipp_coding.specs.Plain.{PlainGroup}
 use Rattle.room_answers.specs.Responses.{refused_text, done_text}
 use Rattle.room_asks.specs.Asks.{PlainAsk}
@@ -10,6 +10,13 @@ use Rattle.room_texts.specs.Places.{PlainPlace}
 pub record Response : Type 0 where
   pub text : List ℕ
   pub room : RoomValue
+
+-- where there is a text, it and the room are those of the response
+abbrev pub IsResponse :
+    {E : Type 0} (result : Result (List ℕ) E) (room : RoomValue) (response : Response) →
+    Type 0
+IsResponse result room response =
+    IfOk result (λ text. (text ≡ response.text) × (room ≡ response.room))
 
 -- the request is refused, and nothing changes
 abbrev pub refusing_ask : (room : RoomValue) (ask : PlainAsk) (refusal : Refusal) → Response

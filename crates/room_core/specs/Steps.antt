@@ -1,5 +1,5 @@
 -- What an event comes to in an open account: a reply, and the room after it.
-use Rattle.std.specs.Prelude.{ℕ, if◌then◌else◌, None, Result, Ok, Err}
+use Rattle.std.specs.Prelude.{◌≡◌, ℕ, if◌then◌else◌, None, Result, Ok, Err, IfOk}
 use Rattle.room_rules.specs.JobStates.{is_unfinished}
 use Rattle.room_core.specs.declared.event.Reply.{Reply}
 use Rattle.room_core.specs.declared.event.Reply.TheVariants as reply
@@ -14,6 +14,10 @@ use Rattle.room_texts.specs.Words.{word_text}
 pub record Step : Type 0 where
   pub reply : Reply
   pub room : RoomValue
+
+-- where there is a reply, it and the room are those of the step
+abbrev pub IsStep : {E : Type 0} (result : Result Reply E) (room : RoomValue) (step : Step) → Type 0
+IsStep result room step = IfOk result (λ reply. (reply ≡ step.reply) × (room ≡ step.room))
 
 -- a line that tells why, and nothing changes
 abbrev pub refusing : (room : RoomValue) (word : Word) → Step

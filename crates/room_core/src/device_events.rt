@@ -1,7 +1,7 @@
 //! What the events of devices are answered, and what becomes of the devices.
 
-ghost use Rattle.std.specs.Prelude.{◌≡◌, ◌↔◌, ◌<◌, ◌≤◌, IsTrue, IfOk, IfErr, OnOk, OnErr, IsErrOf};
-ghost use Rattle.room_core.specs.DeviceEvents.{device_answered, rated_answer, turned_answer};
+ghost use Rattle.std.specs.Prelude.{◌≡◌, ◌↔◌, ◌<◌, ◌≤◌, IsTrue, IfErr, OnErr, IsErrOf};
+ghost use Rattle.room_core.specs.DeviceEvents.{IsDeviceAnswer, device_answered, rated_answer, turned_answer};
 ghost use Rattle.room_core.specs.Fits.{fits};
 ghost use Rattle.room_core.specs.Rates.{AreRated};
 ghost use Rattle.room_rules.specs.Devices.{device_map};
@@ -25,8 +25,8 @@ pub fn answer_device(
     e: &Event<'_>,
 ) -> Result<Reply, CoreFault>
     requires { IsTrue (fits e.now) }
-    ensures reply { IfOk result (λ reply. reply ≡ (device_answered (device_map devices.old.items) e.entry.now).reply) }
-    ensures devices { OnOk result (device_map devices.new.items ≡ (device_answered (device_map devices.old.items) e.entry.now).devices) }
+    ensures answer { IsDeviceAnswer result (device_map devices.new.items)
+        (device_answered (device_map devices.old.items) e.entry.now) }
     ensures rates { AreRated (device_map devices.old.items) → AreRated (device_map devices.new.items) }
     ensures moment { IsErrOf result CoreFault.Moment ↔ (last_moment < now) }
     ensures unchanged { OnErr result (devices.new.items ≡ devices.old.items) }
@@ -39,8 +39,8 @@ pub fn answer_device(
 
 fn change(alloc: Global, devices: &mut Vec<Device>, e: &Event<'_>) -> Result<Reply, CoreFault>
     requires { IsTrue (fits e.now) }
-    ensures reply { IfOk result (λ reply. reply ≡ (device_answered (device_map devices.old.items) e.entry.now).reply) }
-    ensures devices { OnOk result (device_map devices.new.items ≡ (device_answered (device_map devices.old.items) e.entry.now).devices) }
+    ensures answer { IsDeviceAnswer result (device_map devices.new.items)
+        (device_answered (device_map devices.old.items) e.entry.now) }
     ensures memory { IfErr result (λ fault. fault ≡ CoreFault.Memory) }
     ensures unchanged { OnErr result (devices.new.items ≡ devices.old.items) }
 {
@@ -53,8 +53,8 @@ fn change(alloc: Global, devices: &mut Vec<Device>, e: &Event<'_>) -> Result<Rep
 
 /// Turns the device on or off.
 fn turn(alloc: Global, devices: &mut Vec<Device>, name: Name, on: bool) -> Result<Reply, CoreFault>
-    ensures reply { IfOk result (λ reply. reply ≡ (turned_answer (device_map devices.old.items) name on).reply) }
-    ensures devices { OnOk result (device_map devices.new.items ≡ (turned_answer (device_map devices.old.items) name on).devices) }
+    ensures answer { IsDeviceAnswer result (device_map devices.new.items)
+        (turned_answer (device_map devices.old.items) name on) }
     ensures memory { IfErr result (λ fault. fault ≡ CoreFault.Memory) }
     ensures unchanged { OnErr result (devices.new.items ≡ devices.old.items) }
 {
@@ -71,8 +71,8 @@ fn rate(
     units: u32,
 ) -> Result<Reply, CoreFault>
     requires { (1 ≤ units) × (units ≤ most_rate) }
-    ensures reply { IfOk result (λ reply. reply ≡ (rated_answer (device_map devices.old.items) name units).reply) }
-    ensures devices { OnOk result (device_map devices.new.items ≡ (rated_answer (device_map devices.old.items) name units).devices) }
+    ensures answer { IsDeviceAnswer result (device_map devices.new.items)
+        (rated_answer (device_map devices.old.items) name units) }
     ensures memory { IfErr result (λ fault. fault ≡ CoreFault.Memory) }
     ensures unchanged { OnErr result (devices.new.items ≡ devices.old.items) }
 {

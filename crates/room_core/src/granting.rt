@@ -1,7 +1,8 @@
 //! What a grant is answered.
 
-ghost use Rattle.std.specs.Prelude.{◌≡◌, IfOk, IfErr, OnOk, OnErr};
+ghost use Rattle.std.specs.Prelude.{◌≡◌, IfErr, OnErr};
 ghost use Rattle.room_core.specs.Grants.{granted};
+ghost use Rattle.room_core.specs.Steps.{IsStep};
 ghost use Rattle.room_state.specs.RoomRules.{IsGrant};
 
 use crate::event::Reply;
@@ -19,8 +20,7 @@ pub(crate) fn grant(
     pages: u32,
 ) -> Result<Reply, CoreFault>
     requires { IsGrant month pages }
-    ensures reply { IfOk result (λ reply. reply ≡ (granted room.old month pages).reply) }
-    ensures room { OnOk result (room.new ≡ (granted room.old month pages).room) }
+    ensures step { IsStep result room.new (granted room.old month pages) }
     ensures memory { IfErr result (λ fault. fault ≡ CoreFault.Memory) }
     ensures unchanged { OnErr result (room.new ≡ room.old) }
 {

@@ -4,6 +4,7 @@ ghost use Rattle.std.specs.Prelude.{◌≡◌, ◌≤◌, IfOk, IfErr, OnOk, OnE
 ghost use Rattle.room_asks.specs.Asks.{IsAsk, plain_ask};
 ghost use Rattle.room_core.specs.JobRequests.{job_shown, cancel_of, hold_of, release_of, acted, has_data, sent, sent_document};
 ghost use Rattle.room_core.specs.Moving.{CanMove};
+ghost use Rattle.room_core.specs.Requests.{IsResponse};
 ghost use Rattle.room_rules.specs.Limits.{last_moment};
 ghost use Rattle.room_state.specs.Changes.{with_standing};
 ghost use Rattle.room_state.specs.Conditions.{CanRestand};
@@ -85,8 +86,8 @@ pub(crate) fn act(
 ) -> Result<List<u8>, CoreFault>
     requires ask { IsAsk (plain_ask ask.now) }
     requires can_move { IfOk decided (CanMove room.old ask.now.job) }
-    ensures text { IfOk result (λ text. text ≡ (acted room.old (plain_ask ask.entry.now) decided).text) }
-    ensures room { OnOk result (room.new ≡ (acted room.old (plain_ask ask.entry.now) decided).room) }
+    ensures response { IsResponse result room.new
+        (acted room.old (plain_ask ask.entry.now) decided) }
     ensures memory { IfErr result (λ fault. fault ≡ CoreFault.Memory) }
     ensures unchanged { OnErr result (room.new ≡ room.old) }
 {
@@ -111,8 +112,8 @@ pub(crate) fn send(
     requires ask { IsAsk (plain_ask ask.now) }
     requires moment { now ≤ last_moment }
     requires operation { ask.now.operation ≡ Operation.SendDocument }
-    ensures text { IfOk result (λ text. text ≡ (sent room.old account now (plain_ask ask.entry.now)).text) }
-    ensures room { OnOk result (room.new ≡ (sent room.old account now (plain_ask ask.entry.now)).room) }
+    ensures response { IsResponse result room.new
+        (sent room.old account now (plain_ask ask.entry.now)) }
     ensures memory { IfErr result (λ fault. fault ≡ CoreFault.Memory) }
     ensures unchanged { OnErr result (room.new ≡ room.old) }
 {

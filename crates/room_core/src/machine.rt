@@ -1,11 +1,13 @@
 //! What an account answers to an event, and what becomes of it.
 
-ghost use Rattle.std.specs.Prelude.{◌≡◌, ◌≢◌, ◌↔◌, ◌<◌, ◌≤◌, IsTrue, IfOk, IfErr, OnOk, OnErr, IsErrOf, None, length};
+ghost use Rattle.std.specs.Prelude.{◌≡◌, ◌≢◌, ◌↔◌, ◌<◌, ◌≤◌, IsTrue, IfErr, OnErr, IsErrOf, None, length};
 ghost use Rattle.ipp_coding.specs.Reading.{header_in};
 ghost use Rattle.room_asks.specs.Asks.{IsAsk, ask_of, plain_ask};
 ghost use Rattle.room_core.specs.Fits.{fits};
-ghost use Rattle.room_core.specs.Machine.{answered, answered_open, answered_unopened, requested, responded, responded_to};
+ghost use Rattle.room_core.specs.Machine.{IsAnswer, answered, answered_open, answered_unopened, requested, responded, responded_to};
 ghost use Rattle.room_core.specs.Rates.{AreRated};
+ghost use Rattle.room_core.specs.Requests.{IsResponse};
+ghost use Rattle.room_core.specs.Steps.{IsStep};
 ghost use Rattle.room_rules.specs.Devices.{device_map};
 ghost use Rattle.room_rules.specs.Limits.{last_moment};
 
@@ -38,8 +40,8 @@ pub fn answer(
 ) -> Result<Reply, CoreFault>
     requires fits { IsTrue (fits e.now) }
     requires rates { AreRated (device_map devices.now) }
-    ensures reply { IfOk result (λ reply. reply ≡ (answered room.old (device_map devices.now) now e.entry.now).reply) }
-    ensures room { OnOk result (room.new ≡ (answered room.old (device_map devices.now) now e.entry.now).room) }
+    ensures answer { IsAnswer result room.new
+        (answered room.old (device_map devices.now) now e.entry.now) }
     ensures moment { IsErrOf result CoreFault.Moment ↔ (last_moment < now) }
     ensures unchanged { OnErr result (room.new ≡ room.old) }
 {
@@ -60,8 +62,7 @@ fn answer_unopened(
 ) -> Result<Reply, CoreFault>
     requires moment { now ≤ last_moment }
     requires unopened { room.old ≡ None }
-    ensures reply { IfOk result (λ reply. reply ≡ (answered_unopened now e.entry.now).reply) }
-    ensures room { OnOk result (room.new ≡ (answered_unopened now e.entry.now).room) }
+    ensures answer { IsAnswer result room.new (answered_unopened now e.entry.now) }
     ensures memory { IfErr result (λ fault. fault ≡ CoreFault.Memory) }
     ensures unchanged { OnErr result (room.new ≡ room.old) }
 {
@@ -88,8 +89,8 @@ fn answer_open(
     requires moment { now ≤ last_moment }
     requires fits { IsTrue (fits e.now) }
     requires rates { AreRated (device_map devices.now) }
-    ensures reply { IfOk result (λ reply. reply ≡ (answered_open room.old (device_map devices.now) now e.entry.now).reply) }
-    ensures room { OnOk result (room.new ≡ (answered_open room.old (device_map devices.now) now e.entry.now).room) }
+    ensures step { IsStep result room.new
+        (answered_open room.old (device_map devices.now) now e.entry.now) }
     ensures memory { IfErr result (λ fault. fault ≡ CoreFault.Memory) }
     ensures unchanged { OnErr result (room.new ≡ room.old) }
 {
@@ -133,8 +134,8 @@ fn answer_request(
     body: &[u8],
 ) -> Result<Reply, CoreFault>
     requires moment { now ≤ last_moment }
-    ensures reply { IfOk result (λ reply. reply ≡ (requested room.old (device_map devices.now) now account body.now).reply) }
-    ensures room { OnOk result (room.new ≡ (requested room.old (device_map devices.now) now account body.now).room) }
+    ensures step { IsStep result room.new
+        (requested room.old (device_map devices.now) now account body.now) }
     ensures memory { IfErr result (λ fault. fault ≡ CoreFault.Memory) }
     ensures unchanged { OnErr result (room.new ≡ room.old) }
 {
@@ -156,8 +157,9 @@ fn response(
 ) -> Result<List<u8>, CoreFault>
     requires moment { now ≤ last_moment }
     requires length { 8 ≤ length body.now }
-    ensures text { IfOk result (λ text. text ≡ (responded_to room.old (device_map devices.now) account now header (ask_of account body.now)).text) }
-    ensures room { OnOk result (room.new ≡ (responded_to room.old (device_map devices.now) account now header (ask_of account body.now)).room) }
+    ensures response { IsResponse result room.new
+        (responded_to room.old (device_map devices.now) account now header
+        (ask_of account body.now)) }
     ensures memory { IfErr result (λ fault. fault ≡ CoreFault.Memory) }
     ensures unchanged { OnErr result (room.new ≡ room.old) }
 {
@@ -184,8 +186,9 @@ fn respond(
 ) -> Result<List<u8>, CoreFault>
     requires ask { IsAsk (plain_ask ask.now) }
     requires moment { now ≤ last_moment }
-    ensures text { IfOk result (λ text. text ≡ (responded room.old (device_map devices.now) account now (plain_ask ask.entry.now) ask.entry.now.operation).text) }
-    ensures room { OnOk result (room.new ≡ (responded room.old (device_map devices.now) account now (plain_ask ask.entry.now) ask.entry.now.operation).room) }
+    ensures response { IsResponse result room.new
+        (responded room.old (device_map devices.now) account now (plain_ask ask.entry.now)
+        ask.entry.now.operation) }
     ensures memory { IfErr result (λ fault. fault ≡ CoreFault.Memory) }
     ensures unchanged { OnErr result (room.new ≡ room.old) }
 {

@@ -1,9 +1,10 @@
 //! Print-Job, Create-Job and Validate-Job.
 
-ghost use Rattle.std.specs.Prelude.{◌≡◌, ◌<◌, ◌≤◌, IfOk, IfErr, OnOk, OnErr};
+ghost use Rattle.std.specs.Prelude.{◌≡◌, ◌<◌, ◌≤◌, IfOk, IfErr, OnErr};
 ghost use Rattle.room_asks.specs.Asks.{IsAsk, plain_ask};
 ghost use Rattle.room_asks.specs.Operations.{is_print_job};
 ghost use Rattle.room_core.specs.NewJobs.{accepts, made, validated, new_job, new_document};
+ghost use Rattle.room_core.specs.Requests.{IsResponse};
 ghost use Rattle.room_rules.specs.Limits.{last_moment, last_next_job};
 ghost use Rattle.room_texts.specs.Limits.{IsShowable};
 
@@ -25,8 +26,8 @@ pub(crate) fn make(
 ) -> Result<List<u8>, CoreFault>
     requires ask { IsAsk (plain_ask ask.now) }
     requires moment { now ≤ last_moment }
-    ensures text { IfOk result (λ text. text ≡ (made room.old account now (plain_ask ask.entry.now)).text) }
-    ensures room { OnOk result (room.new ≡ (made room.old account now (plain_ask ask.entry.now)).room) }
+    ensures response { IsResponse result room.new
+        (made room.old account now (plain_ask ask.entry.now)) }
     ensures memory { IfErr result (λ fault. fault ≡ CoreFault.Memory) }
     ensures unchanged { OnErr result (room.new ≡ room.old) }
 {

@@ -1,6 +1,6 @@
 //! What a station is answered.
 
-ghost use Rattle.std.specs.Prelude.{◌≡◌, ◌≤◌, IfOk, IfErr, OnOk, OnErr, map};
+ghost use Rattle.std.specs.Prelude.{◌≡◌, ◌≤◌, IfOk, IfErr, OnErr, map};
 ghost use Rattle.std.specs.List.{flat_map};
 ghost use Rattle.std.specs.Option.{option_to_list};
 ghost use Rattle.std.specs.FinMap.{get};
@@ -8,6 +8,7 @@ ghost use Rattle.room_answers.specs.Parts.{part_of};
 ghost use Rattle.room_core.specs.Moving.{CanMove};
 ghost use Rattle.room_core.specs.Rates.{AreRated};
 ghost use Rattle.room_core.specs.Stations.{plain_station, station_release, released, station_start, started, station_settle, settled};
+ghost use Rattle.room_core.specs.Steps.{IsStep};
 ghost use Rattle.room_rules.specs.Devices.{device_map};
 ghost use Rattle.room_rules.specs.Limits.{most_impressions, last_moment};
 ghost use Rattle.room_state.specs.Documents.{documents_of};
@@ -58,8 +59,9 @@ pub(crate) fn release(
     requires moment { at.now.now ≤ last_moment }
     requires rates { AreRated (device_map at.now.devices.now) }
     requires impressions { impressions ≤ most_impressions }
-    ensures reply { IfOk result (λ reply. reply ≡ (released room.old at.entry.now.now number (station_release room.old (plain_station at.entry.now) number password.now impressions)).reply) }
-    ensures room { OnOk result (room.new ≡ (released room.old at.entry.now.now number (station_release room.old (plain_station at.entry.now) number password.now impressions)).room) }
+    ensures step { IsStep result room.new
+        (released room.old at.entry.now.now number
+        (station_release room.old (plain_station at.entry.now) number password.now impressions)) }
     ensures memory { IfErr result (λ fault. fault ≡ CoreFault.Memory) }
     ensures unchanged { OnErr result (room.new ≡ room.old) }
 {
@@ -76,8 +78,8 @@ pub(crate) fn start(
 ) -> Result<Reply, CoreFault>
     requires moment { at.now.now ≤ last_moment }
     requires rates { AreRated (device_map at.now.devices.now) }
-    ensures reply { IfOk result (λ reply. reply ≡ (started room.old number (station_start room.old (plain_station at.entry.now) number)).reply) }
-    ensures room { OnOk result (room.new ≡ (started room.old number (station_start room.old (plain_station at.entry.now) number)).room) }
+    ensures step { IsStep result room.new
+        (started room.old number (station_start room.old (plain_station at.entry.now) number)) }
     ensures memory { IfErr result (λ fault. fault ≡ CoreFault.Memory) }
     ensures unchanged { OnErr result (room.new ≡ room.old) }
 {
@@ -98,8 +100,9 @@ pub(crate) fn settle(
     requires moment { at.now.now ≤ last_moment }
     requires rates { AreRated (device_map at.now.devices.now) }
     requires impressions { impressions ≤ most_impressions }
-    ensures reply { IfOk result (λ reply. reply ≡ (settled room.old at.entry.now.now number (station_settle room.old (plain_station at.entry.now) number impressions failed)).reply) }
-    ensures room { OnOk result (room.new ≡ (settled room.old at.entry.now.now number (station_settle room.old (plain_station at.entry.now) number impressions failed)).room) }
+    ensures step { IsStep result room.new
+        (settled room.old at.entry.now.now number
+        (station_settle room.old (plain_station at.entry.now) number impressions failed)) }
     ensures memory { IfErr result (λ fault. fault ≡ CoreFault.Memory) }
     ensures unchanged { OnErr result (room.new ≡ room.old) }
 {
@@ -139,8 +142,7 @@ fn tell_released(
 ) -> Result<Reply, CoreFault>
     requires moment { now ≤ last_moment }
     requires can_move { IfOk decided (CanMove room.old number) }
-    ensures reply { IfOk result (λ reply. reply ≡ (released room.old now number decided).reply) }
-    ensures room { OnOk result (room.new ≡ (released room.old now number decided).room) }
+    ensures step { IsStep result room.new (released room.old now number decided) }
     ensures memory { IfErr result (λ fault. fault ≡ CoreFault.Memory) }
     ensures unchanged { OnErr result (room.new ≡ room.old) }
 {
@@ -179,8 +181,7 @@ fn hand_over(
     decided: Result<Standing, Word>,
 ) -> Result<Reply, CoreFault>
     requires { IfOk decided (CanMove room.old number) }
-    ensures reply { IfOk result (λ reply. reply ≡ (started room.old number decided).reply) }
-    ensures room { OnOk result (room.new ≡ (started room.old number decided).room) }
+    ensures step { IsStep result room.new (started room.old number decided) }
     ensures memory { IfErr result (λ fault. fault ≡ CoreFault.Memory) }
     ensures unchanged { OnErr result (room.new ≡ room.old) }
 {
@@ -266,8 +267,7 @@ fn tell_settled(
 ) -> Result<Reply, CoreFault>
     requires moment { now ≤ last_moment }
     requires can_move { IfOk decided (CanMove room.old number) }
-    ensures reply { IfOk result (λ reply. reply ≡ (settled room.old now number decided).reply) }
-    ensures room { OnOk result (room.new ≡ (settled room.old now number decided).room) }
+    ensures step { IsStep result room.new (settled room.old now number decided) }
     ensures memory { IfErr result (λ fault. fault ≡ CoreFault.Memory) }
     ensures unchanged { OnErr result (room.new ≡ room.old) }
 {
