@@ -6,6 +6,8 @@ use Rattle.sqlite.specs.State.{HasCleanDisk}
 use Rattle.sqlite.specs.Held.{Held, state}
 use Rattle.room_core.specs.DeviceEvents.{DeviceAnswer}
 use Rattle.room_core.specs.Machine.{Answer}
+use Rattle.room_core.specs.Requests.{Response}
+use Rattle.room_core.specs.Steps.{Step}
 use Rattle.room_core.specs.declared.event.Reply.{Reply}
 use Rattle.room_rules.specs.Devices.{Devices}
 use Rattle.room_state.specs.Rooms.{RoomValue}
@@ -57,6 +59,16 @@ module _ {S : Type 0} (store : Ghosts S) (old new : Held S) where
   -- of an account that is open: no other account's rows change, and no device's
   abbrev pub Serves : {T : Type 0} → List ℕ → (RoomValue → Devices → T) → (RoomValue → Devices → RoomValue) → Result T TableFault → Type 0
   Serves name told left result = ComesTo (IsHeld name) (OnlyAccount name) (λ of. told of.0 of.1) (λ of db. HoldsRoom db name (left of.0 of.1)) result
+
+  -- by the step that an event comes to
+  abbrev pub ServesStep : (name : List ℕ) (step : RoomValue → Devices → Step) (result : Result Reply TableFault) → Type 0
+  ServesStep name step result =
+      Serves name (λ room devices. (step room devices).reply) (λ room devices. (step room devices).room) result
+
+  -- and by the response to a request
+  abbrev pub ServesResponse : (name : List ℕ) (response : RoomValue → Devices → Response) (result : Result (List ℕ) TableFault) → Type 0
+  ServesResponse name response result =
+      Serves name (λ room devices. (response room devices).text) (λ room devices. (response room devices).room) result
 
   -- of one that may not be
   abbrev pub Answers : List ℕ → (Option RoomValue → Devices → Answer) → Result Reply TableFault → Type 0

@@ -7,7 +7,7 @@ ghost use Rattle.room_core.specs.Machine.{answered, answered_open};
 ghost use Rattle.room_core.specs.declared.event.Reply.TheVariants as reply_is;
 ghost use Rattle.room_rules.specs.Limits.{last_moment};
 ghost use Rattle.room_events.specs.Events.{IsLine, IsOf, IsOfNone, IsShort};
-ghost use Rattle.room_events.specs.Serving.{Answers, Serves, ServesDevices, WasOpen};
+ghost use Rattle.room_events.specs.Serving.{Answers, ServesDevices, ServesStep, WasOpen};
 
 use crate::devices::{rate, turn};
 use crate::granting::grant;
@@ -82,7 +82,7 @@ fn answer_open<S: Alter>(
     requires fits { IsTrue (fits e.now) }
     requires line { IsLine e.now }
     requires moment { now ≤ last_moment }
-    ensures served { Serves S.Store connection.old connection.new name (λ room devices. (answered_open room devices now e.entry.now).reply) (λ room devices. (answered_open room devices now e.entry.now).room) result }
+    ensures served { ServesStep S.Store connection.old connection.new name (λ room devices. answered_open room devices now e.entry.now) result }
 {
     match *e {
         Event::Release {

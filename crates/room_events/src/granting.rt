@@ -3,7 +3,7 @@
 ghost use Rattle.std.specs.Prelude.{◌≡◌, false};
 ghost use Rattle.room_core.specs.Grants.{granted};
 ghost use Rattle.room_state.specs.RoomRules.{IsGrant};
-ghost use Rattle.room_events.specs.Serving.{Serves};
+ghost use Rattle.room_events.specs.Serving.{ServesStep};
 
 use crate::told::{refusing, telling};
 use room_changes::add_grant;
@@ -23,7 +23,7 @@ pub fn grant<S: Alter>(
 ) -> Result<Reply, TableFault>
     requires mode { connection.old.in_transaction ≡ false }
     requires grant { IsGrant month pages }
-    ensures served { Serves S.Store connection.old connection.new name (λ room devices. (granted room month pages).reply) (λ room devices. (granted room month pages).room) result }
+    ensures served { ServesStep S.Store connection.old connection.new name (λ room devices. granted room month pages) result }
 {
     let held = find_grant(connection, name, month)?;
     if let Err(word) = check_grant(held, pages) {

@@ -9,7 +9,7 @@ ghost use Rattle.room_rules.specs.Standings.{IsStanding};
 ghost use Rattle.room_tables.specs.Accounts.{IsAccount};
 ghost use Rattle.room_tables.specs.Calls.{OfStore};
 ghost use Rattle.room_events.specs.Known.{IsOpen, IsThere};
-ghost use Rattle.room_events.specs.Serving.{GoesFrom, Serves};
+ghost use Rattle.room_events.specs.Serving.{GoesFrom, Serves, ServesResponse};
 
 use crate::lookup::look_up;
 use crate::quota::keep_to_quota;
@@ -57,7 +57,7 @@ pub fn cancel<S: Alter>(
     requires mode { connection.old.in_transaction ≡ false }
     requires ask { IsAsk (plain_ask ask.now) }
     requires moment { now ≤ last_moment }
-    ensures served { Serves S.Store connection.old connection.new name (λ room devices. (acted room (plain_ask ask.entry.now) (cancel_of room now (plain_ask ask.entry.now))).text) (λ room devices. (acted room (plain_ask ask.entry.now) (cancel_of room now (plain_ask ask.entry.now))).room) result }
+    ensures served { ServesResponse S.Store connection.old connection.new name (λ room devices. acted room (plain_ask ask.entry.now) (cancel_of room now (plain_ask ask.entry.now))) result }
 {
     let Some(job) = look_up(connection, name, ask.job)? else {
         return refused_as(alloc, ask, no_job());
@@ -75,7 +75,7 @@ pub fn hold<S: Alter>(
 ) -> Result<List<u8>, TableFault>
     requires mode { connection.old.in_transaction ≡ false }
     requires ask { IsAsk (plain_ask ask.now) }
-    ensures served { Serves S.Store connection.old connection.new name (λ room devices. (acted room (plain_ask ask.entry.now) (hold_of room (plain_ask ask.entry.now))).text) (λ room devices. (acted room (plain_ask ask.entry.now) (hold_of room (plain_ask ask.entry.now))).room) result }
+    ensures served { ServesResponse S.Store connection.old connection.new name (λ room devices. acted room (plain_ask ask.entry.now) (hold_of room (plain_ask ask.entry.now))) result }
 {
     let Some(job) = look_up(connection, name, ask.job)? else {
         return refused_as(alloc, ask, no_job());
@@ -95,7 +95,7 @@ pub fn release<S: Alter>(
     requires mode { connection.old.in_transaction ≡ false }
     requires ask { IsAsk (plain_ask ask.now) }
     requires moment { now ≤ last_moment }
-    ensures served { Serves S.Store connection.old connection.new name (λ room devices. (acted room (plain_ask ask.entry.now) (release_of room now (plain_ask ask.entry.now))).text) (λ room devices. (acted room (plain_ask ask.entry.now) (release_of room now (plain_ask ask.entry.now))).room) result }
+    ensures served { ServesResponse S.Store connection.old connection.new name (λ room devices. acted room (plain_ask ask.entry.now) (release_of room now (plain_ask ask.entry.now))) result }
 {
     let Some(job) = look_up(connection, name, ask.job)? else {
         return refused_as(alloc, ask, no_job());
@@ -122,7 +122,7 @@ fn act<S: Alter>(
     requires in_range { IfOk decided IsStanding }
     requires kept { IfOk decided (Keeps job.now.standing) }
     ensures going { GoesFrom S.Store connection.old connection.new result }
-    ensures served { OfStore S.Store connection.old connection.new (IsThere name job.now) → Serves S.Store connection.old connection.new name (λ room devices. (acted room (plain_ask ask.entry.now) decided).text) (λ room devices. (acted room (plain_ask ask.entry.now) decided).room) result }
+    ensures served { OfStore S.Store connection.old connection.new (IsThere name job.now) → ServesResponse S.Store connection.old connection.new name (λ room devices. acted room (plain_ask ask.entry.now) decided) result }
 {
     let standing = match decided {
         Ok(standing) => standing,

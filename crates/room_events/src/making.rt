@@ -9,7 +9,7 @@ ghost use Rattle.room_tables.specs.Accounts.{IsAccount};
 ghost use Rattle.room_tables.specs.Calls.{OfStore};
 ghost use Rattle.room_texts.specs.Limits.{IsShowable};
 ghost use Rattle.room_events.specs.Known.{IsOpen};
-ghost use Rattle.room_events.specs.Serving.{GoesFrom, Serves};
+ghost use Rattle.room_events.specs.Serving.{GoesFrom, ServesResponse};
 
 use crate::told::{refused_as, shown_as};
 use ipp_coding::List;
@@ -36,7 +36,7 @@ pub fn make<S: Alter>(
     requires account { IsAccount account }
     requires moment { now ≤ last_moment }
     ensures going { GoesFrom S.Store connection.old connection.new result }
-    ensures served { OfStore S.Store connection.old connection.new (IsOpen name account) → Serves S.Store connection.old connection.new name (λ room devices. (made room name now (plain_ask ask.entry.now)).text) (λ room devices. (made room name now (plain_ask ask.entry.now)).room) result }
+    ensures served { OfStore S.Store connection.old connection.new (IsOpen name account) → ServesResponse S.Store connection.old connection.new name (λ room devices. made room name now (plain_ask ask.entry.now)) result }
 {
     let tally = tally_unfinished(connection, name)?;
     if let Err(refusal) = check_accepting(tally.unfinished, account.next_job) {

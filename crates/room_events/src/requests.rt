@@ -9,7 +9,7 @@ ghost use Rattle.room_rules.specs.Limits.{last_moment};
 ghost use Rattle.room_tables.specs.Accounts.{IsAccount};
 ghost use Rattle.room_tables.specs.Calls.{OfStore};
 ghost use Rattle.room_events.specs.Known.{IsOpen};
-ghost use Rattle.room_events.specs.Serving.{Answers, GoesFrom, Serves, WasOpen};
+ghost use Rattle.room_events.specs.Serving.{Answers, GoesFrom, ServesResponse, WasOpen};
 
 use crate::job_requests::{cancel, describe, hold, release};
 use crate::listing::list;
@@ -62,7 +62,7 @@ fn response<S: Alter>(
     requires moment { now ≤ last_moment }
     requires length { 8 ≤ length body.now }
     ensures going { GoesFrom S.Store connection.old connection.new result }
-    ensures served { OfStore S.Store connection.old connection.new (IsOpen name account) → Serves S.Store connection.old connection.new name (λ room devices. (responded_to room devices name now header (ask_of name body.now)).text) (λ room devices. (responded_to room devices name now header (ask_of name body.now)).room) result }
+    ensures served { OfStore S.Store connection.old connection.new (IsOpen name account) → ServesResponse S.Store connection.old connection.new name (λ room devices. responded_to room devices name now header (ask_of name body.now)) result }
 {
     match read_ask(alloc, body, name) {
         Ok(ask) => respond(alloc, connection, name, account, now, &ask),
@@ -92,7 +92,7 @@ fn respond<S: Alter>(
     requires account { IsAccount account }
     requires moment { now ≤ last_moment }
     ensures going { GoesFrom S.Store connection.old connection.new result }
-    ensures served { OfStore S.Store connection.old connection.new (IsOpen name account) → Serves S.Store connection.old connection.new name (λ room devices. (responded room devices name now (plain_ask ask.entry.now) ask.entry.now.operation).text) (λ room devices. (responded room devices name now (plain_ask ask.entry.now) ask.entry.now.operation).room) result }
+    ensures served { OfStore S.Store connection.old connection.new (IsOpen name account) → ServesResponse S.Store connection.old connection.new name (λ room devices. responded room devices name now (plain_ask ask.entry.now) ask.entry.now.operation) result }
 {
     match ask.operation {
         Operation::PrintJob | Operation::CreateJob => {

@@ -14,7 +14,7 @@ ghost use Rattle.room_statements.specs.Queues.{IsNumbered};
 ghost use Rattle.room_tables.specs.Accounts.{IsAccount};
 ghost use Rattle.room_tables.specs.Calls.{OfStore};
 ghost use Rattle.room_events.specs.Known.{IsOpen, IsThere, TakesDocument};
-ghost use Rattle.room_events.specs.Serving.{GoesFrom, Serves};
+ghost use Rattle.room_events.specs.Serving.{GoesFrom, ServesResponse};
 
 use crate::lookup::look_up;
 use crate::told::{refused_as, shown_as};
@@ -43,7 +43,7 @@ pub fn send<S: Alter>(
     requires account { IsAccount account }
     requires moment { now ≤ last_moment }
     ensures going { GoesFrom S.Store connection.old connection.new result }
-    ensures served { OfStore S.Store connection.old connection.new (IsOpen name account) → Serves S.Store connection.old connection.new name (λ room devices. (sent room name now (plain_ask ask.entry.now)).text) (λ room devices. (sent room name now (plain_ask ask.entry.now)).room) result }
+    ensures served { OfStore S.Store connection.old connection.new (IsOpen name account) → ServesResponse S.Store connection.old connection.new name (λ room devices. sent room name now (plain_ask ask.entry.now)) result }
 {
     let Some(job) = look_up(connection, name, ask.job)? else {
         return refused_as(alloc, ask, no_job());
@@ -83,7 +83,7 @@ fn take<S: Alter>(
     requires in_range { IfOk decided IsStanding }
     requires takes { IfOk decided (TakesDocument (has_data (plain_ask ask.now)) job.standing) }
     ensures going { GoesFrom S.Store connection.old connection.new result }
-    ensures served { OfStore S.Store connection.old connection.new (λ db. IsThere name job db × IsOpen name account db) → Serves S.Store connection.old connection.new name (λ room devices. (refusing_ask_or room (plain_ask ask.entry.now) decided (document_taken room name now (plain_ask ask.entry.now) job)).text) (λ room devices. (refusing_ask_or room (plain_ask ask.entry.now) decided (document_taken room name now (plain_ask ask.entry.now) job)).room) result }
+    ensures served { OfStore S.Store connection.old connection.new (λ db. IsThere name job db × IsOpen name account db) → ServesResponse S.Store connection.old connection.new name (λ room devices. refusing_ask_or room (plain_ask ask.entry.now) decided (document_taken room name now (plain_ask ask.entry.now) job)) result }
 {
     let standing = match decided {
         Ok(standing) => standing,

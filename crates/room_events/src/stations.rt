@@ -5,8 +5,7 @@ ghost use Rattle.std.specs.FinMap.{get};
 ghost use Rattle.room_answers.specs.Parts.{part_of};
 ghost use Rattle.room_core.specs.Moving.{Keeps};
 ghost use Rattle.room_core.specs.Stations.{by_word, station, station_release, released, station_settle, settled, station_start, started};
-ghost use Rattle.room_core.specs.Steps.{with_moved};
-ghost use Rattle.room_core.specs.declared.event.Reply.TheVariants as reply;
+ghost use Rattle.room_core.specs.Steps.{telling, with_moved};
 ghost use Rattle.room_rules.specs.Devices.{Devices};
 ghost use Rattle.room_rules.specs.Limits.{last_moment, most_impressions, most_rate};
 ghost use Rattle.room_rules.specs.Standings.{IsStanding};
@@ -14,9 +13,8 @@ ghost use Rattle.room_rules.specs.StateLaws.{kept_to_quota};
 ghost use Rattle.room_state.specs.Sums.{left_in};
 ghost use Rattle.room_tables.specs.Calls.{OfStore};
 ghost use Rattle.room_tables.specs.Devices.{HoldsDevices};
-ghost use Rattle.room_texts.specs.Lines.{success_text};
 ghost use Rattle.room_events.specs.Known.{IsThere, ready_rate};
-ghost use Rattle.room_events.specs.Serving.{GoesFrom, LooksUp, Serves};
+ghost use Rattle.room_events.specs.Serving.{GoesFrom, LooksUp, ServesStep};
 
 use crate::lookup::look_up;
 use crate::quota::left_now;
@@ -47,7 +45,7 @@ pub fn release_at<S: Alter>(
     requires mode { connection.old.in_transaction ≡ false }
     requires moment { now ≤ last_moment }
     requires impressions { impressions ≤ most_impressions }
-    ensures served { Serves S.Store connection.old connection.new name (λ room devices. (released room now number (station_release room (station devices device now) number password.now impressions)).reply) (λ room devices. (released room now number (station_release room (station devices device now) number password.now impressions)).room) result }
+    ensures served { ServesStep S.Store connection.old connection.new name (λ room devices. released room now number (station_release room (station devices device now) number password.now impressions)) result }
 {
     let rate = match ready_rate(connection, device)? {
         Ok(rate) => rate,
@@ -71,7 +69,7 @@ pub fn start<S: Alter>(
 ) -> Result<Reply, TableFault>
     requires mode { connection.old.in_transaction ≡ false }
     requires moment { now ≤ last_moment }
-    ensures served { Serves S.Store connection.old connection.new name (λ room devices. (started room number (station_start room (station devices device now) number)).reply) (λ room devices. (started room number (station_start room (station devices device now) number)).room) result }
+    ensures served { ServesStep S.Store connection.old connection.new name (λ room devices. started room number (station_start room (station devices device now) number)) result }
 {
     let rate = match ready_rate(connection, device)? {
         Ok(rate) => rate,
@@ -99,7 +97,7 @@ pub fn settle<S: Alter>(
     requires mode { connection.old.in_transaction ≡ false }
     requires moment { now ≤ last_moment }
     requires impressions { impressions ≤ most_impressions }
-    ensures served { Serves S.Store connection.old connection.new name (λ room devices. (settled room now number (station_settle room (station devices device now) number impressions failed)).reply) (λ room devices. (settled room now number (station_settle room (station devices device now) number impressions failed)).room) result }
+    ensures served { ServesStep S.Store connection.old connection.new name (λ room devices. settled room now number (station_settle room (station devices device now) number impressions failed)) result }
 {
     if let Err(word) = known_device(find_device(connection, device)?) {
         return refusing(alloc, word);
@@ -150,7 +148,7 @@ fn reserve<S: Alter>(
     requires in_range { IfOk asked IsStanding }
     requires kept { IfOk asked (Keeps job.now.standing) }
     ensures going { GoesFrom S.Store connection.old connection.new result }
-    ensures served { OfStore S.Store connection.old connection.new (IsThere name job.now) → Serves S.Store connection.old connection.new name (λ room devices. (released room now job.now.job (by_word (kept_to_quota job.now.standing.state (left_in room now) asked))).reply) (λ room devices. (released room now job.now.job (by_word (kept_to_quota job.now.standing.state (left_in room now) asked))).room) result }
+    ensures served { OfStore S.Store connection.old connection.new (IsThere name job.now) → ServesStep S.Store connection.old connection.new name (λ room devices. released room now job.now.job (by_word (kept_to_quota job.now.standing.state (left_in room now) asked))) result }
 {
     let released = match asked {
         Ok(released) => released,
@@ -192,7 +190,7 @@ fn charge<S: Alter>(
     requires in_range { IfOk decided IsStanding }
     requires kept { IfOk decided (Keeps job.now.standing) }
     ensures going { GoesFrom S.Store connection.old connection.new result }
-    ensures served { OfStore S.Store connection.old connection.new (IsThere name job.now) → Serves S.Store connection.old connection.new name (λ room devices. (settled room now job.now.job decided).reply) (λ room devices. (settled room now job.now.job decided).room) result }
+    ensures served { OfStore S.Store connection.old connection.new (IsThere name job.now) → ServesStep S.Store connection.old connection.new name (λ room devices. settled room now job.now.job decided) result }
 {
     let settled = match decided {
         Ok(settled) => settled,
@@ -219,7 +217,7 @@ fn hand_over<S: Alter>(
     requires in_range { IfOk decided IsStanding }
     requires kept { IfOk decided (Keeps job.now.standing) }
     ensures going { GoesFrom S.Store connection.old connection.new result }
-    ensures served { OfStore S.Store connection.old connection.new (IsThere name job.now) → Serves S.Store connection.old connection.new name (λ room devices. (started room job.now.job decided).reply) (λ room devices. (started room job.now.job decided).room) result }
+    ensures served { OfStore S.Store connection.old connection.new (IsThere name job.now) → ServesStep S.Store connection.old connection.new name (λ room devices. started room job.now.job decided) result }
 {
     let standing = match decided {
         Ok(standing) => standing,
@@ -265,7 +263,7 @@ fn tell<S: Alter>(
     requires in_range { IsStanding standing.now }
     requires kept { Keeps job.now.standing standing.now }
     ensures going { GoesFrom S.Store connection.old connection.new result }
-    ensures served { OfStore S.Store connection.old connection.new (IsThere name job.now) → Serves S.Store connection.old connection.new name (λ room devices. reply.Line (success_text told)) (λ room devices. with_moved room job.now.job standing.now) result }
+    ensures served { OfStore S.Store connection.old connection.new (IsThere name job.now) → ServesStep S.Store connection.old connection.new name (λ room devices. telling (with_moved room job.now.job standing.now) told) result }
 {
     let reply = telling(alloc, told)?;
     stand(connection, name, job, standing)?;
