@@ -5,5 +5,8 @@ use Rattle.room_answers.specs.declared.part.Part.{Part}
 use Rattle.room_texts.specs.Lines.{success_text}
 use Rattle.room_texts.specs.declared.line.Success.TheVariants.{Started}
 
-abbrev pub part_of : ℕ → Document → Part
-part_of copies document = record { line = success_text (Started document.job copies document.format (length document.bytes)); bytes = document.bytes }
+abbrev pub part_of : (copies : ℕ) (document : Document) → Part
+part_of copies document = record {
+  line = success_text (Started document.job copies document.format (length document.bytes));
+  bytes = document.bytes;
+}

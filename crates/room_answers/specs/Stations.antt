@@ -6,24 +6,24 @@ use Rattle.room_rules.specs.declared.refusal.Word.{Word}
 use Rattle.room_rules.specs.declared.refusal.Word.TheVariants.{NoDevice, DeviceOff}
 
 -- a station speaks for a device of which something is known
-abbrev pub known_device : {D : Type 0} → Option D → Result D Word
+abbrev pub known_device : {D : Type 0} (found : Option D) → Result D Word
 known_device None = Err NoDevice
 known_device (Some known) = Ok known
 
 -- and releases and starts jobs only while the device takes them
-abbrev pub check_on : Bool → Result (Unit {0}) Word
+abbrev pub check_on : (on : Bool) → Result (Unit {0}) Word
 check_on true = Ok tt
 check_on false = Err DeviceOff
 
-abbrev pub ready_device : Option Device → Result Device Word
+abbrev pub ready_device : (found : Option Device) → Result Device Word
 ready_device None = Err NoDevice
 ready_device (Some device) = if device.on then Ok device else Err DeviceOff
 
 -- ---- what is left of the quota as one job stands otherwise
 
 -- the units that a job takes
-abbrev pub units_of : Standing → ℕ
+abbrev pub units_of : (standing : Standing) → ℕ
 units_of standing = standing.reserved + standing.charged
 
-abbrev pub left_after : ℤ → Standing → Standing → ℤ
+abbrev pub left_after : (left : ℤ) (before after : Standing) → ℤ
 left_after left before after = (left +ℤ pos (units_of before)) -ℤ pos (units_of after)

@@ -28,7 +28,8 @@ pub fn refused(
     unsupported: &[Attribute<'_>],
 ) -> Result<List<u8>, CoreFault>
     requires { AllByRecursion IsAttribute (map plain_attribute unsupported.now) }
-    ensures text { IfOk result (λ text. text ≡ refused_text request refusal (map plain_attribute unsupported.now)) }
+    ensures text { IfOk result
+        (λ text. text ≡ refused_text request refusal (map plain_attribute unsupported.now)) }
     ensures memory { IfErr result (λ fault. fault ≡ CoreFault.Memory) }
 {
     let mut out = Vec::new(alloc);
@@ -49,7 +50,9 @@ pub fn begun(
     unsupported: &[Attribute<'_>],
 ) -> Result<Vec<u8>, CoreFault>
     requires { AllByRecursion IsAttribute (map plain_attribute unsupported.now) }
-    ensures text { IfOk result (λ text. text.items ≡ reply_text request (success_status (map plain_attribute unsupported.now)) None (map plain_attribute unsupported.now)) }
+    ensures text { IfOk result (λ text.
+        let all = map plain_attribute unsupported.now in
+        text.items ≡ reply_text request (success_status all) None all) }
     ensures memory { IfErr result (λ fault. fault ≡ CoreFault.Memory) }
 {
     let mut out = Vec::new(alloc);
@@ -90,7 +93,8 @@ pub fn done(
     unsupported: &[Attribute<'_>],
 ) -> Result<List<u8>, CoreFault>
     requires { AllByRecursion IsAttribute (map plain_attribute unsupported.now) }
-    ensures text { IfOk result (λ text. text ≡ done_text request (map plain_attribute unsupported.now) []) }
+    ensures text { IfOk result
+        (λ text. text ≡ done_text request (map plain_attribute unsupported.now) []) }
     ensures memory { IfErr result (λ fault. fault ≡ CoreFault.Memory) }
 {
     let out = begun(alloc, request, unsupported)?;
@@ -109,7 +113,9 @@ pub fn with_job(
     requires unsupported { AllByRecursion IsAttribute (map plain_attribute unsupported.now) }
     requires place { IsPlace (plain_place at.now) }
     requires job { IsShowable job.now }
-    ensures text { IfOk result (λ text. text ≡ done_text request (map plain_attribute unsupported.now) (job_group (plain_place at.entry.now) job.now (asked_names wanted.entry) ∷ [])) }
+    ensures text { IfOk result
+        (λ text. text ≡ done_text request (map plain_attribute unsupported.now)
+        (job_group (plain_place at.entry.now) job.now (asked_names wanted.entry) ∷ [])) }
     ensures memory { IfErr result (λ fault. fault ≡ CoreFault.Memory) }
 {
     let mut out = begun(alloc, request, unsupported)?;
@@ -129,7 +135,9 @@ pub fn with_jobs<J: AsJob>(
     requires unsupported { AllByRecursion IsAttribute (map plain_attribute unsupported.now) }
     requires place { IsPlace (plain_place at.now) }
     requires jobs { AllByRecursion (λ job. IsShowable (J.job job)) jobs.now }
-    ensures text { IfOk result (λ text. text ≡ done_text request (map plain_attribute unsupported.now) (job_groups (plain_place at.entry.now) (map J.job jobs.now) (asked_names wanted.entry))) }
+    ensures text { IfOk result
+        (λ text. text ≡ done_text request (map plain_attribute unsupported.now)
+        (job_groups (plain_place at.entry.now) (map J.job jobs.now) (asked_names wanted.entry))) }
     ensures memory { IfErr result (λ fault. fault ≡ CoreFault.Memory) }
 {
     let selection = Selection::of(wanted);
@@ -146,7 +154,8 @@ fn put_jobs<J: AsJob>(
 ) -> Result<(), CoreFault>
     requires place { IsPlace (plain_place at.now) }
     requires jobs { AllByRecursion (λ job. IsShowable (J.job job)) jobs.now }
-    ensures appended { OnOk result (out.new.items ≡ out.old.items ++ flat_map group_spelling (selected_groups (plain_place at.entry.now) (map J.job jobs.now) selection.now)) }
+    ensures appended { OnOk result (out.new.items ≡ out.old.items ++ flat_map group_spelling
+        (selected_groups (plain_place at.entry.now) (map J.job jobs.now) selection.now)) }
     ensures memory { IfErr result (λ fault. fault ≡ CoreFault.Memory) }
 {
     for job in jobs {
@@ -167,7 +176,9 @@ pub fn with_printer(
     requires unsupported { AllByRecursion IsAttribute (map plain_attribute unsupported.now) }
     requires place { IsPlace (plain_place at.now) }
     requires printer { IsPrinter now }
-    ensures text { IfOk result (λ text. text ≡ done_text request (map plain_attribute unsupported.now) (printer_group (plain_place at.entry.now) now (asked_names wanted.entry) ∷ [])) }
+    ensures text { IfOk result
+        (λ text. text ≡ done_text request (map plain_attribute unsupported.now)
+        (printer_group (plain_place at.entry.now) now (asked_names wanted.entry) ∷ [])) }
     ensures memory { IfErr result (λ fault. fault ≡ CoreFault.Memory) }
 {
     let mut out = begun(alloc, request, unsupported)?;

@@ -1,5 +1,5 @@
--- The requests about one job (RFC 8011 section 4.3). Whether it is there is asked first, then the table
--- of states (Moves of room_rules).
+-- The requests about one job (RFC 8011 section 4.3). Whether it is there is asked first, then the
+-- table of states (Moves of room_rules).
 use Rattle.std.specs.Prelude.{ℕ, ◌+◌, Bool, not, ◌==◌, if◌then◌else◌, List, [], ◌∷◌, length, Option, Some, None, Result}
 use Rattle.room_asks.specs.Asks.{PlainAsk}
 use Rattle.room_core.specs.JobActs.{job_in, act_on}
@@ -39,7 +39,9 @@ abbrev pub release_of : (room : RoomValue) (now : ℕ) (ask : PlainAsk) → Resu
 release_of room now ask =
     act_on room ask.job (λ (job : Job). ReleaseJob (has_password job) (left_in room now))
 
-abbrev pub acted : (room : RoomValue) (ask : PlainAsk) (decided : Result Standing Refusal) → Response
+abbrev pub acted :
+    (room : RoomValue) (ask : PlainAsk) (decided : Result Standing Refusal) →
+    Response
 acted room ask decided =
     refusing_ask_or room ask decided (λ (standing : Standing).
     doing_ask (with_moved room ask.job standing) ask [])
@@ -62,11 +64,13 @@ sent_document ask job =
 
 -- the job stands so, and has the document
 abbrev pub document_taken :
-    (room : RoomValue) (account : List ℕ) (now : ℕ) (ask : PlainAsk) (job : Job) (standing : Standing) →
+    (room : RoomValue) (account : List ℕ) (now : ℕ) (ask : PlainAsk) (job : Job)
+    (standing : Standing) →
     Response
 document_taken room account now ask job standing =
+    let at = asked_at room.opened account now ask in
     doing_ask (with_standing room ask.job standing (sent_document ask job)) ask
-    (job_group (asked_at room.opened account now ask) (record job { standing = standing }) made_names ∷ [])
+    (job_group at (record job { standing = standing }) made_names ∷ [])
 
 abbrev pub sent : (room : RoomValue) (account : List ℕ) (now : ℕ) (ask : PlainAsk) → Response
 sent room account now ask =

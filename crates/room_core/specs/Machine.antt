@@ -37,7 +37,8 @@ responded room devices account now ask SendDocument = sent room account now ask
 responded room devices account now ask CancelJob = acted room ask (cancel_of room now ask)
 responded room devices account now ask GetJobAttributes = job_shown room account now ask
 responded room devices account now ask GetJobs = listed room account now ask
-responded room devices account now ask GetPrinterAttributes = printer_shown room devices account now ask
+responded room devices account now ask GetPrinterAttributes =
+    printer_shown room devices account now ask
 responded room devices account now ask HoldJob = acted room ask (hold_of room ask)
 responded room devices account now ask ReleaseJob = acted room ask (release_of room now ask)
 
@@ -52,17 +53,20 @@ responded_to room devices account now header (Err refused) = record {
 responded_to room devices account now header (Ok ask) =
     responded room devices account now ask ask.operation
 
-abbrev pub requested : (room : RoomValue) (devices : Devices) (now : ℕ) (account body : List ℕ) → Step
+abbrev pub requested :
+    (room : RoomValue) (devices : Devices) (now : ℕ) (account body : List ℕ) →
+    Step
 requested room devices now account body =
+    let response = responded_to room devices account now (header_in body) (ask_of account body) in
     if nat_lt (length body) 8 then record { reply = reply.Short; room = room }
-    else (let response = responded_to room devices account now (header_in body) (ask_of account body) in
-    record { reply = reply.Ipp response.text; room = response.room })
+    else record { reply = reply.Ipp response.text; room = response.room }
 
 -- ---- an account that is open. A device's own event is of no account
 
 abbrev pub answered_open : (room : RoomValue) (devices : Devices) (now : ℕ) (e : Event) → Step
 answered_open room devices now (event.Open account) = refusing room Exists
-answered_open room devices now (event.Ipp account body) = requested room devices now account body.now
+answered_open room devices now (event.Ipp account body) =
+    requested room devices now account body.now
 answered_open room devices now (event.Release device account job password impressions) =
     released room now job
     (station_release room (station devices device now) job password.now impressions)
@@ -71,8 +75,10 @@ answered_open room devices now (event.Start device account job) =
 answered_open room devices now (event.Settle device account job impressions failed) =
     settled room now job (station_settle room (station devices device now) job impressions failed)
 answered_open room devices now (event.Grant account month pages) = granted room month pages
-answered_open room devices now (event.Device name on) = record { reply = reply.NoAccount; room = room }
-answered_open room devices now (event.Rate name units) = record { reply = reply.NoAccount; room = room }
+answered_open room devices now (event.Device name on) =
+    record { reply = reply.NoAccount; room = room }
+answered_open room devices now (event.Rate name units) =
+    record { reply = reply.NoAccount; room = room }
 
 -- ---- an account that is not
 

@@ -1,4 +1,5 @@
--- Print-Job and Create-Job, and Validate-Job, which makes no job (RFC 8011 sections 4.2.1, 4.2.4 and 4.2.3).
+-- Print-Job and Create-Job, and Validate-Job, which makes no job (RFC 8011 sections 4.2.1, 4.2.4
+-- and 4.2.3).
 use Rattle.std.specs.Prelude.{ℕ, if◌then◌else◌, List, [], ◌∷◌, Option, Some, None, Result, codes}
 use Rattle.room_answers.specs.Queues.{accepting_refusal}
 use Rattle.room_asks.specs.Asks.{PlainAsk}

@@ -20,5 +20,5 @@ abbrev pub printer_shown :
     (room : RoomValue) (devices : Devices) (account : List ℕ) (now : ℕ) (ask : PlainAsk) →
     Response
 printer_shown room devices account now ask =
-    let printer = printer_of room devices in
-    doing_ask room ask (printer_group (asked_at room.opened account now ask) printer ask.wanted ∷ [])
+    let at = asked_at room.opened account now ask in
+    doing_ask room ask (printer_group at (printer_of room devices) ask.wanted ∷ [])

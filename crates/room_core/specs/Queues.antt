@@ -1,5 +1,6 @@
 -- Get-Jobs (RFC 8011 section 4.2.6): which jobs, and in what order.
-use Rattle.std.specs.Prelude.{ℕ, List, [], ◌∷◌, Option, Some, None, codes}
+use Rattle.std.specs.Prelude.{ℕ, List, [], ◌∷◌, map, Option, Some, None, codes}
+use Rattle.std.specs.Borrow.{Bor}
 use Rattle.std.specs.FinMap.{values}
 use Rattle.room_answers.specs.Responses.{job_groups}
 use Rattle.room_asks.specs.Asks.{PlainAsk}
@@ -15,6 +16,10 @@ abbrev pub chosen : (which : Which) (jobs : List Job) → List Job
 chosen NotCompleted jobs = not_completed jobs
 chosen Completed jobs = completed jobs
 
+-- the jobs that are borrowed
+abbrev pub plain_jobs : (jobs : List (Bor Job)) → List Job
+plain_jobs jobs = map (λ (job : Bor Job). job.now) jobs
+
 abbrev pub asked_jobs : (ask : PlainAsk) (jobs : List Job) → List Job
 asked_jobs ask jobs = at_most ask.limit (chosen ask.which jobs)
 
@@ -25,5 +30,6 @@ listed_names (Some names) = Some names
 
 abbrev pub listed : (room : RoomValue) (account : List ℕ) (now : ℕ) (ask : PlainAsk) → Response
 listed room account now ask =
+    let at = asked_at room.opened account now ask in
     let jobs = asked_jobs ask (values room.jobs) in
-    doing_ask room ask (job_groups (asked_at room.opened account now ask) jobs (listed_names ask.wanted))
+    doing_ask room ask (job_groups at jobs (listed_names ask.wanted))

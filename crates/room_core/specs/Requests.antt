@@ -18,23 +18,25 @@ abbrev pub IsResponse :
 IsResponse result room response =
     IfOk result (λ text. (text ≡ response.text) × (room ≡ response.room))
 
+-- the texts that refuse the request, and that tell what was done
+abbrev pub refusal_to : (ask : PlainAsk) (refusal : Refusal) → List ℕ
+refusal_to ask refusal = refused_text ask.header refusal ask.unsupported
+
+abbrev pub answer_to : (ask : PlainAsk) (groups : List PlainGroup) → List ℕ
+answer_to ask groups = done_text ask.header ask.unsupported groups
+
 -- the request is refused, and nothing changes
 abbrev pub refusing_ask : (room : RoomValue) (ask : PlainAsk) (refusal : Refusal) → Response
-refusing_ask room ask refusal = record {
-  text = refused_text ask.header refusal ask.unsupported;
-  room = room;
-}
+refusing_ask room ask refusal = record { text = refusal_to ask refusal; room = room }
 
 -- the request is done, with these groups
 abbrev pub doing_ask : (room : RoomValue) (ask : PlainAsk) (groups : List PlainGroup) → Response
-doing_ask room ask groups = record {
-  text = done_text ask.header ask.unsupported groups;
-  room = room;
-}
+doing_ask room ask groups = record { text = answer_to ask groups; room = room }
 
 -- the refusal, or what comes of a request that is not refused
 abbrev pub refusing_ask_or :
-    {A : Type 0} (room : RoomValue) (ask : PlainAsk) (decided : Result A Refusal) (next : A → Response) →
+    {A : Type 0} (room : RoomValue) (ask : PlainAsk) (decided : Result A Refusal)
+    (next : A → Response) →
     Response
 refusing_ask_or room ask (Err refusal) next = refusing_ask room ask refusal
 refusing_ask_or room ask (Ok x) next = next x

@@ -56,7 +56,9 @@ released room now number decided = refusing_or room decided (λ (standing : Stan
 
 -- ---- start
 
-abbrev pub station_start : (room : RoomValue) (at : PlainStation) (number : ℕ) → Result Standing Word
+abbrev pub station_start :
+    (room : RoomValue) (at : PlainStation) (number : ℕ) →
+    Result Standing Word
 station_start room at number =
     and_then (ready_device (get at.devices at.device)) (λ (ready : Device).
     by_word (act_on room number (λ _. StationStart at.device ready.rate at.now)))

@@ -28,7 +28,9 @@ abbrev pub telling : (room : RoomValue) (success : Success) → Step
 telling room success = record { reply = reply.Line (success_text success); room = room }
 
 -- the line that tells why, or what comes of an event that is not refused
-abbrev pub refusing_or : {A : Type 0} (room : RoomValue) (decided : Result A Word) (next : A → Step) → Step
+abbrev pub refusing_or :
+    {A : Type 0} (room : RoomValue) (decided : Result A Word) (next : A → Step) →
+    Step
 refusing_or room (Err word) next = refusing room word
 refusing_or room (Ok x) next = next x
 
@@ -37,8 +39,8 @@ abbrev pub and_then : {A B E : Type 0} (checked : Result A E) (next : A → Resu
 and_then (Err e) next = Err e
 and_then (Ok x) next = next x
 
--- an act on a job gives it another standing, and a job that ends loses its documents (RFC 8011 section
--- 5.3.7; that documents go at once is this project's own)
+-- an act on a job gives it another standing, and a job that ends loses its documents (RFC 8011
+-- section 5.3.7; that documents go at once is this project's own)
 abbrev pub with_moved : (room : RoomValue) (number : ℕ) (standing : Standing) → RoomValue
 with_moved room number standing =
     if is_unfinished standing.state then with_standing room number standing None

@@ -27,7 +27,8 @@ pub fn answer_device(
     requires { IsTrue (fits e.now) }
     ensures answer { IsDeviceAnswer result (device_map devices.new.items)
         (device_answered (device_map devices.old.items) e.entry.now) }
-    ensures rates { AreRated (device_map devices.old.items) → AreRated (device_map devices.new.items) }
+    ensures rates { AreRated (device_map devices.old.items) →
+        AreRated (device_map devices.new.items) }
     ensures moment { IsErrOf result CoreFault.Moment ↔ (last_moment < now) }
     ensures unchanged { OnErr result (devices.new.items ≡ devices.old.items) }
 {

@@ -22,7 +22,8 @@ pub fn fits(e: &Event<'_>) -> bool
 }
 
 fn is_grant(month: u32, pages: u32) -> bool
-    ensures { result ≡ (nat_le first_month month && nat_le month last_month && nat_le pages most_pages) }
+    ensures { result ≡
+        (nat_le first_month month && nat_le month last_month && nat_le pages most_pages) }
 {
     FIRST_MONTH <= month && month <= LAST_MONTH && pages <= MOST_PAGES
 }

@@ -29,7 +29,8 @@ pub(crate) fn describe(
 ) -> Result<List<u8>, CoreFault>
     requires ask { IsAsk (plain_ask ask.now) }
     requires moment { now ≤ last_moment }
-    ensures text { IfOk result (λ text. text ≡ (job_shown room.now account now (plain_ask ask.entry.now)).text) }
+    ensures text { IfOk result
+        (λ text. text ≡ (job_shown room.now account now (plain_ask ask.entry.now)).text) }
     ensures memory { IfErr result (λ fault. fault ≡ CoreFault.Memory) }
 {
     let unsupported = ask.unsupported.as_slice();
@@ -155,7 +156,8 @@ pub(crate) fn sent_document(
     job: &Job,
 ) -> Result<Option<Document>, CoreFault>
     requires { job.now.standing.documents ≤ 8 }
-    ensures document { IfOk result (λ document. document ≡ sent_document (plain_ask ask.entry.now) job.now) }
+    ensures document { IfOk result
+        (λ document. document ≡ sent_document (plain_ask ask.entry.now) job.now) }
     ensures memory { IfErr result (λ fault. fault ≡ CoreFault.Memory) }
 {
     if !has_data(ask) {

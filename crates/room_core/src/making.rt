@@ -54,7 +54,8 @@ pub(crate) fn make(
 /// Tells whether the account would take the job.
 pub(crate) fn validate(alloc: Global, room: &Room, ask: &Ask<'_>) -> Result<List<u8>, CoreFault>
     requires { IsAsk (plain_ask ask.now) }
-    ensures text { IfOk result (λ text. text ≡ (validated room.now (plain_ask ask.entry.now)).text) }
+    ensures text { IfOk result
+        (λ text. text ≡ (validated room.now (plain_ask ask.entry.now)).text) }
     ensures memory { IfErr result (λ fault. fault ≡ CoreFault.Memory) }
 {
     let unsupported = ask.unsupported.as_slice();
@@ -98,7 +99,8 @@ pub(crate) fn document_made(
     number: u32,
     ask: &Ask<'_>,
 ) -> Result<Option<Document>, CoreFault>
-    ensures document { IfOk result (λ document. document ≡ new_document number (plain_ask ask.entry.now)) }
+    ensures document { IfOk result
+        (λ document. document ≡ new_document number (plain_ask ask.entry.now)) }
     ensures memory { IfErr result (λ fault. fault ≡ CoreFault.Memory) }
 {
     if ask.operation != Operation::PrintJob {

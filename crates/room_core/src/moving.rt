@@ -55,7 +55,8 @@ pub fn held(standing: Standing) -> Result<Standing, Refusal>
 /// what it keeps of the job. Whatever is left, it makes of the job what `within_quota` makes of this.
 pub fn released(standing: Standing, has_password: bool) -> Result<Standing, Refusal>
     requires { IsStanding standing }
-    ensures moved { (left : ℤ) → move (ReleaseJob has_password left) standing ≡ kept_to_quota standing.state left result }
+    ensures moved { (left : ℤ) →
+        move (ReleaseJob has_password left) standing ≡ kept_to_quota standing.state left result }
     ensures in_range { IfOk result IsStanding }
     ensures kept { IfOk result (Keeps standing) }
 {
@@ -74,7 +75,9 @@ pub fn released_at(
     requires standing { IsStanding job.now.standing }
     requires impressions { impressions ≤ most_impressions }
     requires rate { (1 ≤ rate) × (rate ≤ most_rate) }
-    ensures moved { (left : ℤ) → move (StationRelease job.now.password device password.now impressions rate left) job.now.standing ≡ kept_to_quota job.now.standing.state left result }
+    ensures moved { (left : ℤ) →
+        let act = StationRelease job.now.password device password.now impressions rate left in
+        move act job.now.standing ≡ kept_to_quota job.now.standing.state left result }
     ensures in_range { IfOk result IsStanding }
     ensures kept { IfOk result (Keeps job.now.standing) }
 {

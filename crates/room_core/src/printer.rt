@@ -26,7 +26,9 @@ pub(crate) fn show(
 ) -> Result<List<u8>, CoreFault>
     requires ask { IsAsk (plain_ask ask.now) }
     requires moment { now ≤ last_moment }
-    ensures text { IfOk result (λ text. text ≡ (printer_shown room.now (device_map devices.now) account now (plain_ask ask.entry.now)).text) }
+    ensures text { IfOk result (λ text. text ≡
+        (printer_shown room.now (device_map devices.now) account now
+        (plain_ask ask.entry.now)).text) }
     ensures memory { IfErr result (λ fault. fault ≡ CoreFault.Memory) }
 {
     let at = asked_at(room.account().opened, account, now, ask);

@@ -6,9 +6,10 @@ ghost use Rattle.std.specs.FinMap.{values};
 ghost use Rattle.std.specs.List.{AllByRecursion};
 ghost use Rattle.std.specs.Ordering.{is_lt};
 ghost use Rattle.room_rules.specs.JobStates.{is_unfinished};
-ghost use Rattle.room_answers.specs.Responses.{done_text, job_groups};
+ghost use Rattle.room_answers.specs.Responses.{job_groups};
 ghost use Rattle.room_asks.specs.Asks.{IsAsk, plain_ask};
-ghost use Rattle.room_core.specs.Queues.{chosen, asked_jobs, listed, listed_names};
+ghost use Rattle.room_core.specs.Queues.{chosen, asked_jobs, listed, listed_names, plain_jobs};
+ghost use Rattle.room_core.specs.Requests.{answer_to};
 ghost use Rattle.room_rules.specs.declared.job.Job.{Job};
 ghost use Rattle.room_rules.specs.Limits.{last_moment, last_next_job};
 ghost use Rattle.room_state.specs.Queues.{is_later, not_completed, completed, at_most};
@@ -35,7 +36,8 @@ pub(crate) fn list(
 ) -> Result<List<u8>, CoreFault>
     requires ask { IsAsk (plain_ask ask.now) }
     requires moment { now ≤ last_moment }
-    ensures text { IfOk result (λ text. text ≡ (listed room.now account now (plain_ask ask.entry.now)).text) }
+    ensures text { IfOk result
+        (λ text. text ≡ (listed room.now account now (plain_ask ask.entry.now)).text) }
     ensures memory { IfErr result (λ fault. fault ≡ CoreFault.Memory) }
 {
     let at = asked_at(room.account().opened, account, now, ask);
@@ -54,7 +56,9 @@ pub fn jobs_told<J: AsJob>(
     requires ask { IsAsk (plain_ask ask.now) }
     requires place { IsPlace (plain_place at.now) }
     requires jobs { AllByRecursion (λ job. IsShowable (J.job job)) jobs.now }
-    ensures text { IfOk result (λ text. text ≡ done_text (plain_ask ask.entry.now).header (plain_ask ask.entry.now).unsupported (job_groups (plain_place at.entry.now) (map J.job jobs.now) (listed_names (plain_ask ask.entry.now).wanted))) }
+    ensures text { IfOk result
+        (λ text. text ≡ answer_to (plain_ask ask.entry.now) (job_groups (plain_place at.entry.now)
+        (map J.job jobs.now) (listed_names (plain_ask ask.entry.now).wanted))) }
     ensures memory { IfErr result (λ fault. fault ≡ CoreFault.Memory) }
 {
     let unsupported = ask.unsupported.as_slice();
@@ -81,8 +85,10 @@ fn listed_names() -> [&'static [u8]; 2]
 /// The jobs that the request asks for, in the order of the answer.
 fn asked_jobs<'r>(alloc: Global, room: &'r Room, ask: &Ask<'_>) -> Result<Vec<&'r Job>, CoreFault>
     requires { room.now.next ≤ last_next_job }
-    ensures asked { IfOk result (λ asked. map (λ (job : Bor Job). job.now) asked.items ≡ asked_jobs (plain_ask ask.entry.now) (values room.entry.now.jobs)) }
-    ensures showable { IfOk result (λ asked. AllByRecursion (λ (job : Bor Job). IsShowable job.now) asked.items) }
+    ensures asked { IfOk result (λ asked. map (λ (job : Bor Job). job.now) asked.items ≡
+        asked_jobs (plain_ask ask.entry.now) (values room.entry.now.jobs)) }
+    ensures showable { IfOk result
+        (λ asked. AllByRecursion (λ (job : Bor Job). IsShowable job.now) asked.items) }
     ensures memory { IfErr result (λ fault. fault ≡ CoreFault.Memory) }
 {
     let jobs = chosen(alloc, room.jobs(), ask.which)?;
@@ -91,7 +97,7 @@ fn asked_jobs<'r>(alloc: Global, room: &'r Room, ask: &Ask<'_>) -> Result<Vec<&'
 
 /// The first so many.
 fn at_most<'r>(jobs: Vec<&'r Job>, limit: Option<u32>) -> Vec<&'r Job>
-    ensures { map (λ (job : Bor Job). job.now) result.items ≡ at_most limit (map (λ (job : Bor Job). job.now) jobs.entry.items) }
+    ensures { plain_jobs result.items ≡ at_most limit (plain_jobs jobs.entry.items) }
 {
     match limit {
         None => jobs,
@@ -100,7 +106,7 @@ fn at_most<'r>(jobs: Vec<&'r Job>, limit: Option<u32>) -> Vec<&'r Job>
 }
 
 fn first_of<'r>(jobs: Vec<&'r Job>, count: usize) -> Vec<&'r Job>
-    ensures { map (λ (job : Bor Job). job.now) result.items ≡ take count (map (λ (job : Bor Job). job.now) jobs.entry.items) }
+    ensures { plain_jobs result.items ≡ take count (plain_jobs jobs.entry.items) }
 {
     let mut first = jobs;
     first.truncate(count);
@@ -108,7 +114,7 @@ fn first_of<'r>(jobs: Vec<&'r Job>, count: usize) -> Vec<&'r Job>
 }
 
 fn chosen<'r>(alloc: Global, jobs: &'r [Job], which: Which) -> Result<Vec<&'r Job>, CoreFault>
-    ensures chosen { IfOk result (λ asked. map (λ (job : Bor Job). job.now) asked.items ≡ chosen which jobs.now) }
+    ensures chosen { IfOk result (λ asked. plain_jobs asked.items ≡ chosen which jobs.now) }
     ensures memory { IfErr result (λ fault. fault ≡ CoreFault.Memory) }
 {
     match which {
@@ -118,7 +124,7 @@ fn chosen<'r>(alloc: Global, jobs: &'r [Job], which: Which) -> Result<Vec<&'r Jo
 }
 
 fn not_completed<'r>(alloc: Global, jobs: &'r [Job]) -> Result<Vec<&'r Job>, CoreFault>
-    ensures chosen { IfOk result (λ asked. map (λ (job : Bor Job). job.now) asked.items ≡ not_completed jobs.now) }
+    ensures chosen { IfOk result (λ asked. plain_jobs asked.items ≡ not_completed jobs.now) }
     ensures memory { IfErr result (λ fault. fault ≡ CoreFault.Memory) }
 {
     let mut asked = Vec::new(alloc);
@@ -132,7 +138,7 @@ fn not_completed<'r>(alloc: Global, jobs: &'r [Job]) -> Result<Vec<&'r Job>, Cor
 
 /// By falling moment of ending, and where that is the same by falling number.
 fn completed<'r>(alloc: Global, jobs: &'r [Job]) -> Result<Vec<&'r Job>, CoreFault>
-    ensures chosen { IfOk result (λ asked. map (λ (job : Bor Job). job.now) asked.items ≡ completed jobs.now) }
+    ensures chosen { IfOk result (λ asked. plain_jobs asked.items ≡ completed jobs.now) }
     ensures memory { IfErr result (λ fault. fault ≡ CoreFault.Memory) }
 {
     let mut asked = ended(alloc, jobs)?;
@@ -142,7 +148,8 @@ fn completed<'r>(alloc: Global, jobs: &'r [Job]) -> Result<Vec<&'r Job>, CoreFau
 
 /// Those that have ended, in the order in which they stand.
 fn ended<'r>(alloc: Global, jobs: &'r [Job]) -> Result<Vec<&'r Job>, CoreFault>
-    ensures ended { IfOk result (λ asked. map (λ (job : Bor Job). job.now) asked.items ≡ filter (λ job. not (is_unfinished job.standing.state)) jobs.now) }
+    ensures ended { IfOk result (λ asked.
+        plain_jobs asked.items ≡ filter (λ job. not (is_unfinished job.standing.state)) jobs.now) }
     ensures memory { IfErr result (λ fault. fault ≡ CoreFault.Memory) }
 {
     let mut asked = Vec::new(alloc);

@@ -110,7 +110,8 @@ pub(crate) fn settle(
     tell_settled(alloc, room, at.now, number, decided)
 }
 
-/// What becomes of the job as the station releases it, with the password and the impressions that are handed in there.
+/// What becomes of the job as the station releases it, with the password and the impressions that are
+/// handed in there.
 fn station_release(
     room: &Room,
     at: &Station<'_>,
@@ -121,7 +122,8 @@ fn station_release(
     requires moment { at.now.now ≤ last_moment }
     requires rates { AreRated (device_map at.now.devices.now) }
     requires impressions { impressions ≤ most_impressions }
-    ensures standing { result ≡ station_release room.now (plain_station at.entry.now) number password.now impressions }
+    ensures standing { result ≡
+        station_release room.now (plain_station at.entry.now) number password.now impressions }
     ensures can_move { IfOk result (CanMove room.now number) }
 {
     let ready = ready_device(device_at(at.devices, at.device))?;
@@ -209,7 +211,8 @@ fn parts(
     copies: u32,
     numbers: &[u32],
 ) -> Result<Vec<Part>, CoreFault>
-    ensures parts { IfOk result (λ parts. parts.items ≡ map (part_of copies) (flat_map (λ number. option_to_list (get room.now.documents (job, number))) numbers.now)) }
+    ensures parts { IfOk result (λ parts. parts.items ≡ map (part_of copies)
+        (flat_map (λ number. option_to_list (get room.now.documents (job, number))) numbers.now)) }
     ensures memory { IfErr result (λ fault. fault ≡ CoreFault.Memory) }
 {
     let mut parts = Vec::new(alloc);
@@ -247,7 +250,8 @@ fn station_settle(
     requires moment { at.now.now ≤ last_moment }
     requires rates { AreRated (device_map at.now.devices.now) }
     requires impressions { impressions ≤ most_impressions }
-    ensures standing { result ≡ station_settle room.now (plain_station at.entry.now) number impressions failed }
+    ensures standing { result ≡
+        station_settle room.now (plain_station at.entry.now) number impressions failed }
     ensures can_move { IfOk result (CanMove room.now number) }
 {
     known_device(device_at(at.devices, at.device))?;
