@@ -3,8 +3,13 @@ use Rattle.std.specs.Prelude.{ℕ, Option, option_map}
 use Rattle.room_rules.specs.declared.job.Document.{Document}
 use Rattle.room_changes.specs.declared.document.NewDocument.{NewDocument}
 
-abbrev pub document_of : ℕ → NewDocument → Document
-document_of job it = record { job = job; number = it.number; format = it.format; bytes = it.bytes.now }
+abbrev pub document_of : (job : ℕ) (it : NewDocument) → Document
+document_of job it = record {
+  job = job;
+  number = it.number;
+  format = it.format;
+  bytes = it.bytes.now;
+}
 
-abbrev pub first_of : ℕ → Option NewDocument → Option Document
+abbrev pub first_of : (job : ℕ) (it : Option NewDocument) → Option Document
 first_of job it = option_map (document_of job) it

@@ -1,5 +1,5 @@
--- The rows that a change sets, one write after another (all this project's own). The tables between two writes
--- are those of no event.
+-- The rows that a change sets, one write after another (all this project's own). The tables between two
+-- writes are those of no event.
 use Rattle.std.specs.Prelude.{◌≡◌, ℕ, ◌+◌, Bool, true, false, pos, ⊤, List, [], ◌∷◌, Option, Some, None}
 use Rattle.sqlite_value.specs.declared.value.Value.TheVariants.{Text}
 use Rattle.sqlite.specs.Effect.{Database}
@@ -13,25 +13,32 @@ use Rattle.room_tables.specs.Cells.{number, account_cells, job_cells, document_c
 use Rattle.room_tables.specs.Accounts.{account_at, job_at, document_at}
 
 -- one document more, if there is one
-abbrev pub AddsDocument : List ℕ → Option Document → Database → Database → Type 0
+abbrev pub AddsDocument : (name : List ℕ) (first : Option Document) (old new : Database) → Type 0
 AddsDocument name None old new = new ≡ old
 AddsDocument name (Some it) old new = SetsRow document_table (document_cells name it) old new
 
 -- its place is free
-abbrev pub IsFree : List ℕ → Option Document → Database → Type 0
+abbrev pub IsFree : (name : List ℕ) (first : Option Document) (db : Database) → Type 0
 IsFree name None db = ⊤
 IsFree name (Some it) db = document_at db name (pos it.job) (pos it.number) ≡ None
 
 -- the standing of a job that is there
-abbrev pub SetsStanding : List ℕ → ℕ → Standing → Database → Database → Type 0
-SetsStanding name number standing old new = (it : Job) → job_at old name (pos number) ≡ Some (job_cells name it) → SetsRow job_table (job_cells name (record it { standing = standing })) old new
+abbrev pub SetsStanding :
+    (name : List ℕ) (number : ℕ) (standing : Standing) (old new : Database) →
+    Type 0
+SetsStanding name number standing old new =
+    (it : Job) → job_at old name (pos number) ≡ Some (job_cells name it) →
+    SetsRow job_table (job_cells name (record it { standing = standing })) old new
 
 -- the next number of an account that is there
-abbrev pub SetsNext : List ℕ → ℕ → Database → Database → Type 0
-SetsNext name next old new = (it : Account) → account_at old name ≡ Some (account_cells name it) → SetsRow account_table (account_cells name (record it { next_job = next })) old new
+abbrev pub SetsNext : (name : List ℕ) (next : ℕ) (old new : Database) → Type 0
+SetsNext name next old new =
+    (it : Account) → account_at old name ≡ Some (account_cells name it) →
+    SetsRow account_table (account_cells name (record it { next_job = next })) old new
 
 -- a job with its first document or with none, and the number after it
-pub record AddsJob (name : List ℕ) (it : Job) (first : Option Document) (old new : Database) : Type 0 where
+pub record AddsJob
+    (name : List ℕ) (it : Job) (first : Option Document) (old new : Database) : Type 0 where
   pub with_job : Database
   pub with_document : Database
   pub job_row : SetsRow job_table (job_cells name it) old with_job
@@ -39,19 +46,23 @@ pub record AddsJob (name : List ℕ) (it : Job) (first : Option Document) (old n
   pub account_row : SetsNext name (it.job + 1) with_document new
 
 -- a job takes its next document or none, and stands otherwise
-pub record Restands (name : List ℕ) (number : ℕ) (standing : Standing) (next : Option Document) (old new : Database) : Type 0 where
+pub record Restands
+    (name : List ℕ) (number : ℕ) (standing : Standing) (next : Option Document)
+    (old new : Database) : Type 0 where
   pub with_document : Database
   pub document_row : AddsDocument name next old with_document
   pub job_row : SetsStanding name number standing with_document new
 
 -- a job has ended, and its documents are gone
-pub record EndsJob (name : List ℕ) (job : ℕ) (standing : Standing) (old new : Database) : Type 0 where
+pub record EndsJob
+    (name : List ℕ) (job : ℕ) (standing : Standing) (old new : Database) : Type 0 where
   pub with_standing : Database
   pub job_row : SetsStanding name job standing old with_standing
-  pub document_rows : RemovesRows document_table (Text name ∷ number job ∷ []) (1 ∷ 2 ∷ []) with_standing new
+  pub document_rows :
+      RemovesRows document_table (Text name ∷ number job ∷ []) (1 ∷ 2 ∷ []) with_standing new
 
 -- a device that is new has rate 1
-abbrev pub RatesNew : List ℕ → Bool → Database → Database → Type 0
+abbrev pub RatesNew : (name : List ℕ) (is_new : Bool) (old new : Database) → Type 0
 RatesNew name true old new = SetsRow rates_table (units_cells name 1) old new
 RatesNew name false old new = new ≡ old
 

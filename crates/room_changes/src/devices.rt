@@ -25,7 +25,9 @@ pub fn turn_device<S: Alter>(
     is_new: bool,
 ) -> Result<(), Error>
     requires { connection.old.in_transaction ≡ false }
-    ensures devices { Changes S.Store connection.old connection.new result (λ before after. (devices : Devices) → HoldsDevices before devices → is_new ≡ not (contains_key devices name) → HoldsDevices after (turned devices name on)) }
+    ensures devices { Changes S.Store connection.old connection.new result
+        (λ before after. (devices : Devices) → HoldsDevices before devices →
+        is_new ≡ not (contains_key devices name) → HoldsDevices after (turned devices name on)) }
     ensures alone { Changes S.Store connection.old connection.new result OnlyDevices }
     ensures whole { IsWhole S.Store connection.old connection.new result }
 {
@@ -39,7 +41,8 @@ fn put_device<S: Alter>(
     is_new: bool,
 ) -> Result<(), Error>
     requires { connection.old.in_transaction ≡ false }
-    ensures turns { Changes S.Store connection.old connection.new result (TurnsDevice name on is_new) }
+    ensures turns { Changes S.Store connection.old connection.new result
+        (TurnsDevice name on is_new) }
     ensures name { IsTrue (is_name name) }
     ensures whole { IsWhole S.Store connection.old connection.new result }
 {
@@ -54,7 +57,8 @@ fn turn<S: Alter>(
     on: bool,
     is_new: bool,
 ) -> Result<(), Error>
-    ensures turns { Changes S.Store transaction.old.conn.now transaction.new.conn.now result (TurnsDevice name on is_new) }
+    ensures turns { Changes S.Store transaction.old.conn.now transaction.new.conn.now result
+        (TurnsDevice name on is_new) }
     ensures name { IsTrue (is_name name) }
     ensures inside { StaysInside S.Store transaction.old.conn transaction.new.conn result }
 {
@@ -73,7 +77,9 @@ pub fn rate_device<S: Alter>(
 ) -> Result<(), Error>
     requires mode { connection.old.in_transaction ≡ false }
     requires units { (1 ≤ units) × (units ≤ most_rate) }
-    ensures devices { Changes S.Store connection.old connection.new result (λ before after. (devices : Devices) → HoldsDevices before devices → contains_key devices name ≡ true → HoldsDevices after (rated devices name units)) }
+    ensures devices { Changes S.Store connection.old connection.new result
+        (λ before after. (devices : Devices) → HoldsDevices before devices →
+        contains_key devices name ≡ true → HoldsDevices after (rated devices name units)) }
     ensures alone { Changes S.Store connection.old connection.new result OnlyDevices }
     ensures whole { IsWhole S.Store connection.old connection.new result }
 {
@@ -82,7 +88,8 @@ pub fn rate_device<S: Alter>(
 
 fn put_rate<S: Alter>(connection: &mut Connection<S>, name: Name, units: u32) -> Result<(), Error>
     requires { connection.old.in_transaction ≡ false }
-    ensures sets { Changes S.Store connection.old connection.new result (SetsRow rates_table (units_cells name units)) }
+    ensures sets { Changes S.Store connection.old connection.new result
+        (SetsRow rates_table (units_cells name units)) }
     ensures name { IsTrue (is_name name) }
     ensures whole { IsWhole S.Store connection.old connection.new result }
 {

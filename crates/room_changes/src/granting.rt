@@ -23,7 +23,9 @@ pub fn add_grant<S: Alter>(
     pages: u32,
 ) -> Result<(), Error>
     requires { connection.old.in_transaction ≡ false }
-    ensures room { Changes S.Store connection.old connection.new result (λ before after. (room : RoomValue) → HoldsRoom before name room → CanAddGrant room month pages → HoldsRoom after name (with_grant room month pages)) }
+    ensures room { Changes S.Store connection.old connection.new result
+        (λ before after. (room : RoomValue) → HoldsRoom before name room →
+        CanAddGrant room month pages → HoldsRoom after name (with_grant room month pages)) }
     ensures alone { Changes S.Store connection.old connection.new result (OnlyAccount name) }
     ensures whole { IsWhole S.Store connection.old connection.new result }
 {
@@ -37,7 +39,8 @@ fn put_grant<S: Alter>(
     pages: u32,
 ) -> Result<(), Error>
     requires { connection.old.in_transaction ≡ false }
-    ensures sets { Changes S.Store connection.old connection.new result (SetsRow grants_table (grant_cells name month pages)) }
+    ensures sets { Changes S.Store connection.old connection.new result
+        (SetsRow grants_table (grant_cells name month pages)) }
     ensures whole { IsWhole S.Store connection.old connection.new result }
 {
     let mut transaction = connection.transaction();

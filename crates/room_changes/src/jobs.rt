@@ -33,9 +33,17 @@ pub fn make_job<S: Alter>(
     requires mode { connection.old.in_transaction ≡ false }
     requires standing { IsStanding job.now.standing }
     requires number { job.now.job < last_next_job }
-    ensures room { Changes S.Store connection.old connection.new result (λ before after. (room : RoomValue) → HoldsRoom before name room → CanAddJob room job.now (first_of job.now.job document.entry) → HoldsRoom after name (with_new_job room job.now (first_of job.now.job document.entry))) }
-    ensures alone { Changes S.Store connection.old connection.new result (λ before after. (account : AccountValue) → account_at before name ≡ Some (account_cells name account) → OnlyAccount name before after) }
-    ensures damaged { OfStore S.Store connection.old connection.new (λ db. result ≡ Err TableFault.Damaged → job_at db name (pos job.now.job) ≡ None → IsFree name (first_of job.now.job document.entry) db → ⊥) }
+    ensures room { Changes S.Store connection.old connection.new result
+        (λ before after. (room : RoomValue) → HoldsRoom before name room →
+        CanAddJob room job.now (first_of job.now.job document.entry) →
+        HoldsRoom after name (with_new_job room job.now (first_of job.now.job document.entry))) }
+    ensures alone { Changes S.Store connection.old connection.new result
+        (λ before after. (account : AccountValue) →
+        account_at before name ≡ Some (account_cells name account) →
+        OnlyAccount name before after) }
+    ensures damaged { OfStore S.Store connection.old connection.new
+        (λ db. result ≡ Err TableFault.Damaged → job_at db name (pos job.now.job) ≡ None →
+        IsFree name (first_of job.now.job document.entry) db → ⊥) }
     ensures whole { IsWhole S.Store connection.old connection.new result }
 {
     put_job(connection, name, job, document)
@@ -50,8 +58,11 @@ fn put_job<S: Alter>(
     requires mode { connection.old.in_transaction ≡ false }
     requires standing { IsStanding job.now.standing }
     requires number { job.now.job < last_next_job }
-    ensures adds { Changes S.Store connection.old connection.new result (AddsJob name job.now (first_of job.now.job document.entry)) }
-    ensures damaged { OfStore S.Store connection.old connection.new (λ db. result ≡ Err TableFault.Damaged → job_at db name (pos job.now.job) ≡ None → IsFree name (first_of job.now.job document.entry) db → ⊥) }
+    ensures adds { Changes S.Store connection.old connection.new result
+        (AddsJob name job.now (first_of job.now.job document.entry)) }
+    ensures damaged { OfStore S.Store connection.old connection.new
+        (λ db. result ≡ Err TableFault.Damaged → job_at db name (pos job.now.job) ≡ None →
+        IsFree name (first_of job.now.job document.entry) db → ⊥) }
     ensures whole { IsWhole S.Store connection.old connection.new result }
 {
     let mut transaction = connection.transaction();
@@ -67,8 +78,11 @@ fn add<S: Alter>(
 ) -> Result<(), TableFault>
     requires standing { IsStanding job.now.standing }
     requires number { job.now.job < last_next_job }
-    ensures adds { Changes S.Store transaction.old.conn.now transaction.new.conn.now result (AddsJob name job.now (first_of job.now.job document.entry)) }
-    ensures damaged { OfStore S.Store transaction.old.conn.now transaction.new.conn.now (λ db. result ≡ Err TableFault.Damaged → job_at db name (pos job.now.job) ≡ None → IsFree name (first_of job.now.job document.entry) db → ⊥) }
+    ensures adds { Changes S.Store transaction.old.conn.now transaction.new.conn.now result
+        (AddsJob name job.now (first_of job.now.job document.entry)) }
+    ensures damaged { OfStore S.Store transaction.old.conn.now transaction.new.conn.now
+        (λ db. result ≡ Err TableFault.Damaged → job_at db name (pos job.now.job) ≡ None →
+        IsFree name (first_of job.now.job document.entry) db → ⊥) }
     ensures inside { StaysInside S.Store transaction.old.conn transaction.new.conn result }
 {
     match document {
@@ -85,8 +99,11 @@ fn add_with<S: Alter>(
 ) -> Result<(), TableFault>
     requires standing { IsStanding job.now.standing }
     requires number { job.now.job < last_next_job }
-    ensures adds { Changes S.Store transaction.old.conn.now transaction.new.conn.now result (AddsJob name job.now (Some (document_of job.now.job first.entry))) }
-    ensures damaged { OfStore S.Store transaction.old.conn.now transaction.new.conn.now (λ db. result ≡ Err TableFault.Damaged → job_at db name (pos job.now.job) ≡ None → IsFree name (Some (document_of job.now.job first.entry)) db → ⊥) }
+    ensures adds { Changes S.Store transaction.old.conn.now transaction.new.conn.now result
+        (AddsJob name job.now (Some (document_of job.now.job first.entry))) }
+    ensures damaged { OfStore S.Store transaction.old.conn.now transaction.new.conn.now
+        (λ db. result ≡ Err TableFault.Damaged → job_at db name (pos job.now.job) ≡ None →
+        IsFree name (Some (document_of job.now.job first.entry)) db → ⊥) }
     ensures inside { StaysInside S.Store transaction.old.conn transaction.new.conn result }
 {
     add_job(transaction, name, job)?;
@@ -108,8 +125,10 @@ fn add_without<S: Alter>(
 ) -> Result<(), TableFault>
     requires standing { IsStanding job.now.standing }
     requires number { job.now.job < last_next_job }
-    ensures adds { Changes S.Store transaction.old.conn.now transaction.new.conn.now result (AddsJob name job.now None) }
-    ensures damaged { OfStore S.Store transaction.old.conn.now transaction.new.conn.now (λ db. result ≡ Err TableFault.Damaged → job_at db name (pos job.now.job) ≡ None → ⊥) }
+    ensures adds { Changes S.Store transaction.old.conn.now transaction.new.conn.now result
+        (AddsJob name job.now None) }
+    ensures damaged { OfStore S.Store transaction.old.conn.now transaction.new.conn.now
+        (λ db. result ≡ Err TableFault.Damaged → job_at db name (pos job.now.job) ≡ None → ⊥) }
     ensures inside { StaysInside S.Store transaction.old.conn transaction.new.conn result }
 {
     add_job(transaction, name, job)?;
@@ -123,7 +142,8 @@ fn count_on<S: Alter>(
     job: &Job,
 ) -> Result<(), TableFault>
     requires { job.now.job < last_next_job }
-    ensures counts { Changes S.Store transaction.old.conn.now transaction.new.conn.now result (SetsNext name (job.now.job + 1)) }
+    ensures counts { Changes S.Store transaction.old.conn.now transaction.new.conn.now result
+        (SetsNext name (job.now.job + 1)) }
     ensures undamaged { result ≡ Err TableFault.Damaged → ⊥ }
     ensures inside { StaysInside S.Store transaction.old.conn transaction.new.conn result }
 {
@@ -141,9 +161,18 @@ pub fn restand_job<S: Alter>(
 ) -> Result<(), TableFault>
     requires mode { connection.old.in_transaction ≡ false }
     requires standing { IsStanding standing.now }
-    ensures room { Changes S.Store connection.old connection.new result (λ before after. (room : RoomValue) → HoldsRoom before name room → CanRestand room number standing.now (first_of number document.entry) → HoldsRoom after name (with_standing room number standing.now (first_of number document.entry))) }
-    ensures alone { Changes S.Store connection.old connection.new result (λ before after. (job : JobValue) → job_at before name (pos number) ≡ Some (job_cells name job) → OnlyAccount name before after) }
-    ensures damaged { OfStore S.Store connection.old connection.new (λ db. result ≡ Err TableFault.Damaged → IsFree name (first_of number document.entry) db → ⊥) }
+    ensures room { Changes S.Store connection.old connection.new result
+        (λ before after. (room : RoomValue) → HoldsRoom before name room →
+        CanRestand room number standing.now (first_of number document.entry) →
+        HoldsRoom after name
+        (with_standing room number standing.now (first_of number document.entry))) }
+    ensures alone { Changes S.Store connection.old connection.new result
+        (λ before after. (job : JobValue) →
+        job_at before name (pos number) ≡ Some (job_cells name job) →
+        OnlyAccount name before after) }
+    ensures damaged { OfStore S.Store connection.old connection.new
+        (λ db. result ≡ Err TableFault.Damaged →
+        IsFree name (first_of number document.entry) db → ⊥) }
     ensures whole { IsWhole S.Store connection.old connection.new result }
 {
     put_standing(connection, name, number, standing, document)
@@ -158,8 +187,11 @@ fn put_standing<S: Alter>(
 ) -> Result<(), TableFault>
     requires mode { connection.old.in_transaction ≡ false }
     requires standing { IsStanding standing.now }
-    ensures restands { Changes S.Store connection.old connection.new result (Restands name number standing.now (first_of number document.entry)) }
-    ensures damaged { OfStore S.Store connection.old connection.new (λ db. result ≡ Err TableFault.Damaged → IsFree name (first_of number document.entry) db → ⊥) }
+    ensures restands { Changes S.Store connection.old connection.new result
+        (Restands name number standing.now (first_of number document.entry)) }
+    ensures damaged { OfStore S.Store connection.old connection.new
+        (λ db. result ≡ Err TableFault.Damaged →
+        IsFree name (first_of number document.entry) db → ⊥) }
     ensures whole { IsWhole S.Store connection.old connection.new result }
 {
     let mut transaction = connection.transaction();
@@ -175,8 +207,11 @@ fn restand<S: Alter>(
     document: Option<NewDocument<'_>>,
 ) -> Result<(), TableFault>
     requires { IsStanding standing.now }
-    ensures restands { Changes S.Store transaction.old.conn.now transaction.new.conn.now result (Restands name number standing.now (first_of number document.entry)) }
-    ensures damaged { OfStore S.Store transaction.old.conn.now transaction.new.conn.now (λ db. result ≡ Err TableFault.Damaged → IsFree name (first_of number document.entry) db → ⊥) }
+    ensures restands { Changes S.Store transaction.old.conn.now transaction.new.conn.now result
+        (Restands name number standing.now (first_of number document.entry)) }
+    ensures damaged { OfStore S.Store transaction.old.conn.now transaction.new.conn.now
+        (λ db. result ≡ Err TableFault.Damaged →
+        IsFree name (first_of number document.entry) db → ⊥) }
     ensures inside { StaysInside S.Store transaction.old.conn transaction.new.conn result }
 {
     match document {
@@ -193,8 +228,11 @@ fn restand_with<S: Alter>(
     next: NewDocument<'_>,
 ) -> Result<(), TableFault>
     requires { IsStanding standing.now }
-    ensures restands { Changes S.Store transaction.old.conn.now transaction.new.conn.now result (Restands name number standing.now (Some (document_of number next.entry))) }
-    ensures damaged { OfStore S.Store transaction.old.conn.now transaction.new.conn.now (λ db. result ≡ Err TableFault.Damaged → IsFree name (Some (document_of number next.entry)) db → ⊥) }
+    ensures restands { Changes S.Store transaction.old.conn.now transaction.new.conn.now result
+        (Restands name number standing.now (Some (document_of number next.entry))) }
+    ensures damaged { OfStore S.Store transaction.old.conn.now transaction.new.conn.now
+        (λ db. result ≡ Err TableFault.Damaged →
+        IsFree name (Some (document_of number next.entry)) db → ⊥) }
     ensures inside { StaysInside S.Store transaction.old.conn transaction.new.conn result }
 {
     add_document(
@@ -215,7 +253,8 @@ fn restand_without<S: Alter>(
     standing: &Standing,
 ) -> Result<(), TableFault>
     requires { IsStanding standing.now }
-    ensures restands { Changes S.Store transaction.old.conn.now transaction.new.conn.now result (Restands name number standing.now None) }
+    ensures restands { Changes S.Store transaction.old.conn.now transaction.new.conn.now result
+        (Restands name number standing.now None) }
     ensures undamaged { result ≡ Err TableFault.Damaged → ⊥ }
     ensures inside { StaysInside S.Store transaction.old.conn transaction.new.conn result }
 {
@@ -231,8 +270,14 @@ pub fn end_job<S: Alter>(
 ) -> Result<(), Error>
     requires mode { connection.old.in_transaction ≡ false }
     requires standing { IsStanding standing.now }
-    ensures room { Changes S.Store connection.old connection.new result (λ before after. (room : RoomValue) → HoldsRoom before name room → CanFinish room number standing.now → HoldsRoom after name (with_ended room number standing.now)) }
-    ensures alone { Changes S.Store connection.old connection.new result (λ before after. (job : JobValue) → job_at before name (pos number) ≡ Some (job_cells name job) → OnlyAccount name before after) }
+    ensures room { Changes S.Store connection.old connection.new result
+        (λ before after. (room : RoomValue) → HoldsRoom before name room →
+        CanFinish room number standing.now →
+        HoldsRoom after name (with_ended room number standing.now)) }
+    ensures alone { Changes S.Store connection.old connection.new result
+        (λ before after. (job : JobValue) →
+        job_at before name (pos number) ≡ Some (job_cells name job) →
+        OnlyAccount name before after) }
     ensures whole { IsWhole S.Store connection.old connection.new result }
 {
     put_ended(connection, name, number, standing)
@@ -246,7 +291,8 @@ fn put_ended<S: Alter>(
 ) -> Result<(), Error>
     requires mode { connection.old.in_transaction ≡ false }
     requires standing { IsStanding standing.now }
-    ensures ends { Changes S.Store connection.old connection.new result (EndsJob name number standing.now) }
+    ensures ends { Changes S.Store connection.old connection.new result
+        (EndsJob name number standing.now) }
     ensures whole { IsWhole S.Store connection.old connection.new result }
 {
     let mut transaction = connection.transaction();
@@ -261,7 +307,8 @@ fn end<S: Alter>(
     standing: &Standing,
 ) -> Result<(), Error>
     requires { IsStanding standing.now }
-    ensures ends { Changes S.Store transaction.old.conn.now transaction.new.conn.now result (EndsJob name number standing.now) }
+    ensures ends { Changes S.Store transaction.old.conn.now transaction.new.conn.now result
+        (EndsJob name number standing.now) }
     ensures inside { StaysInside S.Store transaction.old.conn transaction.new.conn result }
 {
     set_standing(transaction, name, number, standing)?;

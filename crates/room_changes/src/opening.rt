@@ -22,7 +22,8 @@ pub fn open_account<S: Alter>(
 ) -> Result<(), Error>
     requires mode { connection.old.in_transaction ≡ false }
     requires moment { now ≤ last_moment }
-    ensures room { Changes S.Store connection.old connection.new result (λ before after. HoldsNothing before name → HoldsRoom after name (empty_room now)) }
+    ensures room { Changes S.Store connection.old connection.new result
+        (λ before after. HoldsNothing before name → HoldsRoom after name (empty_room now)) }
     ensures alone { Changes S.Store connection.old connection.new result (OnlyAccount name) }
     ensures whole { IsWhole S.Store connection.old connection.new result }
 {
@@ -32,7 +33,8 @@ pub fn open_account<S: Alter>(
 fn put_account<S: Alter>(connection: &mut Connection<S>, name: Name, now: u64) -> Result<(), Error>
     requires mode { connection.old.in_transaction ≡ false }
     requires moment { now ≤ last_moment }
-    ensures sets { Changes S.Store connection.old connection.new result (SetsRow account_table (account_cells name (record { opened = now; next_job = 1 }))) }
+    ensures sets { Changes S.Store connection.old connection.new result
+        (SetsRow account_table (account_cells name (record { opened = now; next_job = 1 }))) }
     ensures whole { IsWhole S.Store connection.old connection.new result }
 {
     let account = Account {
