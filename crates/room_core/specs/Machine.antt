@@ -28,8 +28,9 @@ use Rattle.room_texts.specs.Words.{word_text}
 -- ---- an IPP request
 
 abbrev pub responded :
-    (room : RoomValue) (devices : Devices) (account : List ℕ) (now : ℕ) (ask : PlainAsk) →
-    Operation → Response
+    (room : RoomValue) (devices : Devices) (account : List ℕ) (now : ℕ) (ask : PlainAsk)
+    (operation : Operation) →
+    Response
 responded room devices account now ask PrintJob = made room account now ask
 responded room devices account now ask ValidateJob = validated room ask
 responded room devices account now ask CreateJob = made room account now ask
@@ -44,8 +45,9 @@ responded room devices account now ask ReleaseJob = acted room ask (release_of r
 
 -- the checks that need no room come first
 abbrev pub responded_to :
-    (room : RoomValue) (devices : Devices) (account : List ℕ) (now : ℕ) (header : Header) →
-    Result PlainAsk PlainRefusal → Response
+    (room : RoomValue) (devices : Devices) (account : List ℕ) (now : ℕ) (header : Header)
+    (read : Result PlainAsk PlainRefusal) →
+    Response
 responded_to room devices account now header (Err refused) = record {
   text = refused_text header refused.refusal refused.unsupported;
   room = room;
