@@ -9,7 +9,6 @@ use Rattle.room_core.specs.Stations.{PlainStation, by_word, station_release, rel
 use Rattle.room_core.proofs.Sums.{left_moved}
 use Rattle.room_core.specs.Steps.{and_then, telling, with_moved}
 use Rattle.room_rules.specs.Acts.{Act, StationRelease, StationSettle, StationStart}
-use Rattle.room_rules.specs.Devices.{Devices}
 use Rattle.room_rules.specs.declared.device.Device.{Device}
 use Rattle.room_rules.specs.declared.job.Job.{Job}
 use Rattle.room_rules.specs.declared.job.Standing.{Standing}

@@ -13,15 +13,15 @@ use Rattle.room_tables.specs.Accounts.{account_at, job_at}
 use Rattle.room_tables.specs.Cells.{account_cells, job_cells}
 
 -- it is open, and this is its own row
-abbrev pub IsOpen : List ℕ → Account → Database → Type 0
+abbrev pub IsOpen : (name : List ℕ) (account : Account) (db : Database) → Type 0
 IsOpen name account db = account_at db name ≡ Some (account_cells name account)
 
 -- the row of the job is there under its number
-abbrev pub IsThere : List ℕ → Job → Database → Type 0
+abbrev pub IsThere : (name : List ℕ) (job : Job) (db : Database) → Type 0
 IsThere name job db = job_at db name (pos job.job) ≡ Some (job_cells name job)
 
 -- the units that an impression counts on a device that takes jobs
-abbrev pub ready_rate : Option Device → Result ℕ Word
+abbrev pub ready_rate : (device : Option Device) → Result ℕ Word
 ready_rate device = and_then (ready_device device) (λ (ready : Device). Ok ready.rate)
 
 -- an unfinished job that stays so takes one document more where there is data

@@ -21,7 +21,8 @@ pub fn turn<S: Alter>(
     on: bool,
 ) -> Result<Reply, TableFault>
     requires mode { connection.old.in_transaction ≡ false }
-    ensures served { ServesDevices S.Store connection.old connection.new (λ devices. turned_answer devices name on) result }
+    ensures served { ServesDevices S.Store connection.old connection.new
+        (λ devices. turned_answer devices name on) result }
     ensures asks { WasOpen S.Store connection.old connection.new result }
 {
     let is_new = find_device(connection, name)?.is_none();
@@ -39,7 +40,8 @@ pub fn rate<S: Alter>(
 ) -> Result<Reply, TableFault>
     requires mode { connection.old.in_transaction ≡ false }
     requires units { (1 ≤ units) × (units ≤ most_rate) }
-    ensures served { ServesDevices S.Store connection.old connection.new (λ devices. rated_answer devices name units) result }
+    ensures served { ServesDevices S.Store connection.old connection.new
+        (λ devices. rated_answer devices name units) result }
     ensures asks { WasOpen S.Store connection.old connection.new result }
 {
     if let Err(word) = known_device(find_device(connection, name)?) {

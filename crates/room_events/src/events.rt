@@ -32,10 +32,15 @@ pub fn answer_event<S: Alter>(
     requires mode { connection.old.in_transaction ≡ false }
     requires fits { IsTrue (fits e.now) }
     requires moment { now ≤ last_moment }
-    ensures of_account { (name : List ℕ) → IsOf e.entry.now name → Answers S.Store connection.old connection.new name (λ room devices. answered room devices now e.entry.now) result }
-    ensures of_devices { IsOfNone e.entry.now → ServesDevices S.Store connection.old connection.new (λ devices. device_answered devices e.entry.now) result }
+    ensures of_account { (name : List ℕ) → IsOf e.entry.now name →
+        Answers S.Store connection.old connection.new name
+        (λ room devices. answered room devices now e.entry.now) result }
+    ensures of_devices { IsOfNone e.entry.now →
+        ServesDevices S.Store connection.old connection.new
+        (λ devices. device_answered devices e.entry.now) result }
     ensures short { IsShort e.entry.now → IfOk result (λ told. told ≡ reply_is.Short) }
-    ensures asks { (IsShort e.entry.now → ⊥) → WasOpen S.Store connection.old connection.new result }
+    ensures asks { (IsShort e.entry.now → ⊥) →
+        WasOpen S.Store connection.old connection.new result }
 {
     match *e {
         Event::Open { account } => open(alloc, connection, account, now),
@@ -61,7 +66,8 @@ fn answer_line<S: Alter>(
     requires fits { IsTrue (fits e.now) }
     requires line { IsLine e.now }
     requires moment { now ≤ last_moment }
-    ensures served { Answers S.Store connection.old connection.new name (λ room devices. answered room devices now e.entry.now) result }
+    ensures served { Answers S.Store connection.old connection.new name
+        (λ room devices. answered room devices now e.entry.now) result }
     ensures asks { WasOpen S.Store connection.old connection.new result }
 {
     match find_account(connection, name)? {
@@ -82,7 +88,8 @@ fn answer_open<S: Alter>(
     requires fits { IsTrue (fits e.now) }
     requires line { IsLine e.now }
     requires moment { now ≤ last_moment }
-    ensures served { ServesStep S.Store connection.old connection.new name (λ room devices. answered_open room devices now e.entry.now) result }
+    ensures served { ServesStep S.Store connection.old connection.new name
+        (λ room devices. answered_open room devices now e.entry.now) result }
 {
     match *e {
         Event::Release {

@@ -23,7 +23,8 @@ pub fn grant<S: Alter>(
 ) -> Result<Reply, TableFault>
     requires mode { connection.old.in_transaction ≡ false }
     requires grant { IsGrant month pages }
-    ensures served { ServesStep S.Store connection.old connection.new name (λ room devices. granted room month pages) result }
+    ensures served { ServesStep S.Store connection.old connection.new name
+        (λ room devices. granted room month pages) result }
 {
     let held = find_grant(connection, name, month)?;
     if let Err(word) = check_grant(held, pages) {

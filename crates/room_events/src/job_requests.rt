@@ -37,7 +37,10 @@ pub fn describe<S: Alter>(
     requires account { IsAccount account }
     requires moment { now ≤ last_moment }
     ensures going { GoesFrom S.Store connection.old connection.new result }
-    ensures served { OfStore S.Store connection.old connection.new (IsOpen name account) → Serves S.Store connection.old connection.new name (λ room devices. (job_shown room name now (plain_ask ask.entry.now)).text) (λ room devices. room) result }
+    ensures served { OfStore S.Store connection.old connection.new (IsOpen name account) →
+        Serves S.Store connection.old connection.new name
+        (λ room devices. (job_shown room name now (plain_ask ask.entry.now)).text)
+        (λ room devices. room) result }
 {
     let Some(job) = look_up(connection, name, ask.job)? else {
         return refused_as(alloc, ask, no_job());
@@ -57,7 +60,9 @@ pub fn cancel<S: Alter>(
     requires mode { connection.old.in_transaction ≡ false }
     requires ask { IsAsk (plain_ask ask.now) }
     requires moment { now ≤ last_moment }
-    ensures served { ServesResponse S.Store connection.old connection.new name (λ room devices. acted room (plain_ask ask.entry.now) (cancel_of room now (plain_ask ask.entry.now))) result }
+    ensures served { ServesResponse S.Store connection.old connection.new name
+        (λ room devices. acted room (plain_ask ask.entry.now)
+        (cancel_of room now (plain_ask ask.entry.now))) result }
 {
     let Some(job) = look_up(connection, name, ask.job)? else {
         return refused_as(alloc, ask, no_job());
@@ -75,7 +80,9 @@ pub fn hold<S: Alter>(
 ) -> Result<List<u8>, TableFault>
     requires mode { connection.old.in_transaction ≡ false }
     requires ask { IsAsk (plain_ask ask.now) }
-    ensures served { ServesResponse S.Store connection.old connection.new name (λ room devices. acted room (plain_ask ask.entry.now) (hold_of room (plain_ask ask.entry.now))) result }
+    ensures served { ServesResponse S.Store connection.old connection.new name
+        (λ room devices. acted room (plain_ask ask.entry.now)
+        (hold_of room (plain_ask ask.entry.now))) result }
 {
     let Some(job) = look_up(connection, name, ask.job)? else {
         return refused_as(alloc, ask, no_job());
@@ -95,7 +102,9 @@ pub fn release<S: Alter>(
     requires mode { connection.old.in_transaction ≡ false }
     requires ask { IsAsk (plain_ask ask.now) }
     requires moment { now ≤ last_moment }
-    ensures served { ServesResponse S.Store connection.old connection.new name (λ room devices. acted room (plain_ask ask.entry.now) (release_of room now (plain_ask ask.entry.now))) result }
+    ensures served { ServesResponse S.Store connection.old connection.new name
+        (λ room devices. acted room (plain_ask ask.entry.now)
+        (release_of room now (plain_ask ask.entry.now))) result }
 {
     let Some(job) = look_up(connection, name, ask.job)? else {
         return refused_as(alloc, ask, no_job());
@@ -122,7 +131,9 @@ fn act<S: Alter>(
     requires in_range { IfOk decided IsStanding }
     requires kept { IfOk decided (Keeps job.now.standing) }
     ensures going { GoesFrom S.Store connection.old connection.new result }
-    ensures served { OfStore S.Store connection.old connection.new (IsThere name job.now) → ServesResponse S.Store connection.old connection.new name (λ room devices. acted room (plain_ask ask.entry.now) decided) result }
+    ensures served { OfStore S.Store connection.old connection.new (IsThere name job.now) →
+        ServesResponse S.Store connection.old connection.new name
+        (λ room devices. acted room (plain_ask ask.entry.now) decided) result }
 {
     let standing = match decided {
         Ok(standing) => standing,

@@ -34,7 +34,10 @@ pub fn list<S: Alter>(
     requires account { IsAccount account }
     requires moment { now ≤ last_moment }
     ensures going { GoesFrom S.Store connection.old connection.new result }
-    ensures served { OfStore S.Store connection.old connection.new (IsOpen name account) → Serves S.Store connection.old connection.new name (λ room devices. (listed room name now (plain_ask ask.entry.now)).text) (λ room devices. room) result }
+    ensures served { OfStore S.Store connection.old connection.new (IsOpen name account) →
+        Serves S.Store connection.old connection.new name
+        (λ room devices. (listed room name now (plain_ask ask.entry.now)).text)
+        (λ room devices. room) result }
 {
     let jobs = asked_jobs(alloc, connection, name, ask)?;
     let at = asked_at(account.opened, name, now, ask);
@@ -48,9 +51,12 @@ fn asked_jobs<S: Alter>(
     name: Name,
     ask: &Ask<'_>,
 ) -> Result<List<Job>, TableFault>
-    ensures listed { OfStore S.Store connection.old connection.new (λ db. (room : RoomValue) → HoldsRoom db name room → IfOk result (λ jobs. jobs ≡ asked_jobs (plain_ask ask.entry.now) (values room.jobs))) }
+    ensures listed { OfStore S.Store connection.old connection.new
+        (λ db. (room : RoomValue) → HoldsRoom db name room →
+        IfOk result (λ jobs. jobs ≡ asked_jobs (plain_ask ask.entry.now) (values room.jobs))) }
     ensures numbered { IfOk result (AllByRecursion IsNumbered) }
-    ensures damaged { OfStore S.Store connection.old connection.new (λ db. result ≡ Err TableFault.Damaged → (room : RoomValue) → HoldsRoom db name room → ⊥) }
+    ensures damaged { OfStore S.Store connection.old connection.new
+        (λ db. result ≡ Err TableFault.Damaged → (room : RoomValue) → HoldsRoom db name room → ⊥) }
     ensures reads { ReadsStore S.Store connection.old connection.new result }
 {
     match ask.which {

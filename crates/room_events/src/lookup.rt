@@ -21,10 +21,15 @@ pub(crate) fn look_up<S: Alter>(
     name: Name,
     number: u32,
 ) -> Result<Option<Job>, TableFault>
-    ensures found { OfStore S.Store connection.old connection.new (λ db. (room : RoomValue) → HoldsRoom db name room → IfOk result (λ found. found ≡ get room.jobs number)) }
-    ensures is_there { OfStore S.Store connection.old connection.new (λ db. IfOk result (λ found. IfSome found (λ job. IsThere name job db))) }
-    ensures in_range { IfOk result (λ found. IfSome found (λ job. (job.job ≡ number) × IsNumbered job)) }
-    ensures damaged { OfStore S.Store connection.old connection.new (λ db. result ≡ Err TableFault.Damaged → (room : RoomValue) → HoldsRoom db name room → ⊥) }
+    ensures found { OfStore S.Store connection.old connection.new
+        (λ db. (room : RoomValue) → HoldsRoom db name room →
+        IfOk result (λ found. found ≡ get room.jobs number)) }
+    ensures is_there { OfStore S.Store connection.old connection.new
+        (λ db. IfOk result (λ found. IfSome found (λ job. IsThere name job db))) }
+    ensures in_range { IfOk result
+        (λ found. IfSome found (λ job. (job.job ≡ number) × IsNumbered job)) }
+    ensures damaged { OfStore S.Store connection.old connection.new
+        (λ db. result ≡ Err TableFault.Damaged → (room : RoomValue) → HoldsRoom db name room → ⊥) }
     ensures looks { LooksUp S.Store connection.old connection.new result }
 {
     if !may_be_job(number) {

@@ -36,7 +36,9 @@ pub fn make<S: Alter>(
     requires account { IsAccount account }
     requires moment { now ≤ last_moment }
     ensures going { GoesFrom S.Store connection.old connection.new result }
-    ensures served { OfStore S.Store connection.old connection.new (IsOpen name account) → ServesResponse S.Store connection.old connection.new name (λ room devices. made room name now (plain_ask ask.entry.now)) result }
+    ensures served { OfStore S.Store connection.old connection.new (IsOpen name account) →
+        ServesResponse S.Store connection.old connection.new name
+        (λ room devices. made room name now (plain_ask ask.entry.now)) result }
 {
     let tally = tally_unfinished(connection, name)?;
     if let Err(refusal) = check_accepting(tally.unfinished, account.next_job) {
@@ -63,7 +65,8 @@ fn next_job(alloc: Global, number: u32, now: u64, ask: &Ask<'_>) -> Result<Job, 
 
 /// The document that a Print-Job brings; another request brings none.
 fn first_document<'a>(ask: &Ask<'a>) -> Option<NewDocument<'a>>
-    ensures { (number : ℕ) → first_of number result ≡ new_document number (plain_ask ask.entry.now) }
+    ensures { (number : ℕ) →
+        first_of number result ≡ new_document number (plain_ask ask.entry.now) }
 {
     if ask.operation != Operation::PrintJob {
         return None;

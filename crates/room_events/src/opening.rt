@@ -23,7 +23,8 @@ pub fn open<S: Alter>(
 ) -> Result<Reply, TableFault>
     requires mode { connection.old.in_transaction ≡ false }
     requires moment { now ≤ last_moment }
-    ensures served { Answers S.Store connection.old connection.new name (λ room devices. answered room devices now (event.Open name)) result }
+    ensures served { Answers S.Store connection.old connection.new name
+        (λ room devices. answered room devices now (event.Open name)) result }
     ensures asks { WasOpen S.Store connection.old connection.new result }
 {
     if find_account(connection, name)?.is_some() {

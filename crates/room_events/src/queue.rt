@@ -28,7 +28,10 @@ pub fn validate<S: Alter>(
 ) -> Result<List<u8>, TableFault>
     requires { IsAsk (plain_ask ask.now) }
     ensures going { GoesFrom S.Store connection.old connection.new result }
-    ensures served { OfStore S.Store connection.old connection.new (IsOpen name account) → Serves S.Store connection.old connection.new name (λ room devices. (validated room (plain_ask ask.entry.now)).text) (λ room devices. room) result }
+    ensures served { OfStore S.Store connection.old connection.new (IsOpen name account) →
+        Serves S.Store connection.old connection.new name
+        (λ room devices. (validated room (plain_ask ask.entry.now)).text)
+        (λ room devices. room) result }
 {
     let tally = tally_unfinished(connection, name)?;
     match check_accepting(tally.unfinished, account.next_job) {
@@ -50,7 +53,10 @@ pub fn show<S: Alter>(
     requires account { IsAccount account }
     requires moment { now ≤ last_moment }
     ensures going { GoesFrom S.Store connection.old connection.new result }
-    ensures served { OfStore S.Store connection.old connection.new (IsOpen name account) → Serves S.Store connection.old connection.new name (λ room devices. (printer_shown room devices name now (plain_ask ask.entry.now)).text) (λ room devices. room) result }
+    ensures served { OfStore S.Store connection.old connection.new (IsOpen name account) →
+        Serves S.Store connection.old connection.new name
+        (λ room devices. (printer_shown room devices name now (plain_ask ask.entry.now)).text)
+        (λ room devices. room) result }
 {
     let tally = tally_unfinished(connection, name)?;
     let on = is_device_on(connection)?;

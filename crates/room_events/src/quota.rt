@@ -24,10 +24,13 @@ pub(crate) fn left_now<S: Alter>(
     now: u64,
 ) -> Result<i64, TableFault>
     requires { now ≤ last_moment }
-    ensures left { OfStore S.Store connection.old connection.new (λ db. (room : RoomValue) → HoldsRoom db name room → IfOk result (λ left. left ≡ left_in room now)) }
+    ensures left { OfStore S.Store connection.old connection.new
+        (λ db. (room : RoomValue) → HoldsRoom db name room →
+        IfOk result (λ left. left ≡ left_in room now)) }
     ensures low { IfOk result (λ left. neg_ℤ (pos (2 * 10 ^ 18)) ≤ℤ left) }
     ensures high { IfOk result (λ left. left ≤ℤ pos (10 ^ 18)) }
-    ensures damaged { OfStore S.Store connection.old connection.new (λ db. result ≡ Err TableFault.Damaged → (room : RoomValue) → HoldsRoom db name room → ⊥) }
+    ensures damaged { OfStore S.Store connection.old connection.new
+        (λ db. result ≡ Err TableFault.Damaged → (room : RoomValue) → HoldsRoom db name room → ⊥) }
     ensures looks { LooksUp S.Store connection.old connection.new result }
 {
     let tally = tally_jobs(connection, name)?;
@@ -42,9 +45,12 @@ fn granted_now<S: Alter>(
     now: u64,
 ) -> Result<u64, TableFault>
     requires { now ≤ last_moment }
-    ensures granted { OfStore S.Store connection.old connection.new (λ db. (room : RoomValue) → HoldsRoom db name room → IfOk result (λ granted. granted ≡ granted_to room (month_at now))) }
+    ensures granted { OfStore S.Store connection.old connection.new
+        (λ db. (room : RoomValue) → HoldsRoom db name room →
+        IfOk result (λ granted. granted ≡ granted_to room (month_at now))) }
     ensures bound { IfOk result (λ granted. granted ≤ most_units) }
-    ensures damaged { OfStore S.Store connection.old connection.new (λ db. result ≡ Err TableFault.Damaged → (room : RoomValue) → HoldsRoom db name room → ⊥) }
+    ensures damaged { OfStore S.Store connection.old connection.new
+        (λ db. result ≡ Err TableFault.Damaged → (room : RoomValue) → HoldsRoom db name room → ⊥) }
     ensures reads { ReadsStore S.Store connection.old connection.new result }
 {
     granted_to(connection, name, month_of(now).unwrap())
@@ -72,9 +78,12 @@ pub(crate) fn keep_to_quota<S: Alter>(
     asked: Result<Standing, Refusal>,
 ) -> Result<Result<Standing, Refusal>, TableFault>
     requires { now ≤ last_moment }
-    ensures kept { OfStore S.Store connection.old connection.new (λ db. (room : RoomValue) → HoldsRoom db name room → IfOk result (λ decided. decided ≡ kept_to_quota before (left_in room now) asked)) }
+    ensures kept { OfStore S.Store connection.old connection.new
+        (λ db. (room : RoomValue) → HoldsRoom db name room →
+        IfOk result (λ decided. decided ≡ kept_to_quota before (left_in room now) asked)) }
     ensures same { IfOk result (λ decided. IfOk decided (λ released. asked ≡ Ok released)) }
-    ensures damaged { OfStore S.Store connection.old connection.new (λ db. result ≡ Err TableFault.Damaged → (room : RoomValue) → HoldsRoom db name room → ⊥) }
+    ensures damaged { OfStore S.Store connection.old connection.new
+        (λ db. result ≡ Err TableFault.Damaged → (room : RoomValue) → HoldsRoom db name room → ⊥) }
     ensures looks { LooksUp S.Store connection.old connection.new result }
 {
     let released = match asked {

@@ -33,9 +33,11 @@ pub fn answer_request<S: Alter>(
 ) -> Result<Reply, TableFault>
     requires mode { connection.old.in_transaction ≡ false }
     requires moment { now ≤ last_moment }
-    ensures served { Answers S.Store connection.old connection.new name (λ room devices. answered room devices now (event.Ipp name body.entry)) result }
+    ensures served { Answers S.Store connection.old connection.new name
+        (λ room devices. answered room devices now (event.Ipp name body.entry)) result }
     ensures short { length body.now < 8 → IfOk result (λ told. told ≡ reply.Short) }
-    ensures asks { (length body.now < 8 → ⊥) → WasOpen S.Store connection.old connection.new result }
+    ensures asks { (length body.now < 8 → ⊥) →
+        WasOpen S.Store connection.old connection.new result }
 {
     let Some(header) = read_header(body) else {
         return Ok(Reply::Short);
@@ -62,7 +64,9 @@ fn response<S: Alter>(
     requires moment { now ≤ last_moment }
     requires length { 8 ≤ length body.now }
     ensures going { GoesFrom S.Store connection.old connection.new result }
-    ensures served { OfStore S.Store connection.old connection.new (IsOpen name account) → ServesResponse S.Store connection.old connection.new name (λ room devices. responded_to room devices name now header (ask_of name body.now)) result }
+    ensures served { OfStore S.Store connection.old connection.new (IsOpen name account) →
+        ServesResponse S.Store connection.old connection.new name
+        (λ room devices. responded_to room devices name now header (ask_of name body.now)) result }
 {
     match read_ask(alloc, body, name) {
         Ok(ask) => respond(alloc, connection, name, account, now, &ask),
@@ -92,7 +96,10 @@ fn respond<S: Alter>(
     requires account { IsAccount account }
     requires moment { now ≤ last_moment }
     ensures going { GoesFrom S.Store connection.old connection.new result }
-    ensures served { OfStore S.Store connection.old connection.new (IsOpen name account) → ServesResponse S.Store connection.old connection.new name (λ room devices. responded room devices name now (plain_ask ask.entry.now) ask.entry.now.operation) result }
+    ensures served { OfStore S.Store connection.old connection.new (IsOpen name account) →
+        ServesResponse S.Store connection.old connection.new name
+        (λ room devices. responded room devices name now (plain_ask ask.entry.now)
+        ask.entry.now.operation) result }
 {
     match ask.operation {
         Operation::PrintJob | Operation::CreateJob => {

@@ -43,7 +43,9 @@ pub fn send<S: Alter>(
     requires account { IsAccount account }
     requires moment { now ≤ last_moment }
     ensures going { GoesFrom S.Store connection.old connection.new result }
-    ensures served { OfStore S.Store connection.old connection.new (IsOpen name account) → ServesResponse S.Store connection.old connection.new name (λ room devices. sent room name now (plain_ask ask.entry.now)) result }
+    ensures served { OfStore S.Store connection.old connection.new (IsOpen name account) →
+        ServesResponse S.Store connection.old connection.new name
+        (λ room devices. sent room name now (plain_ask ask.entry.now)) result }
 {
     let Some(job) = look_up(connection, name, ask.job)? else {
         return refused_as(alloc, ask, no_job());
@@ -55,7 +57,8 @@ pub fn send<S: Alter>(
 /// What Send-Document makes of a job: `add_document`, and what it keeps of the job.
 fn added(standing: Standing, ask: &Ask<'_>) -> Result<Standing, Refusal>
     requires { IsStanding standing }
-    ensures moved { result ≡ move (SendDocument (plain_ask ask.entry.now).last (has_data (plain_ask ask.entry.now))) standing }
+    ensures moved { let it = plain_ask ask.entry.now in
+        result ≡ move (SendDocument it.last (has_data it)) standing }
     ensures in_range { IfOk result IsStanding }
     ensures takes { IfOk result (TakesDocument (has_data (plain_ask ask.entry.now)) standing) }
 {
@@ -83,7 +86,11 @@ fn take<S: Alter>(
     requires in_range { IfOk decided IsStanding }
     requires takes { IfOk decided (TakesDocument (has_data (plain_ask ask.now)) job.standing) }
     ensures going { GoesFrom S.Store connection.old connection.new result }
-    ensures served { OfStore S.Store connection.old connection.new (λ db. IsThere name job db × IsOpen name account db) → ServesResponse S.Store connection.old connection.new name (λ room devices. refusing_ask_or room (plain_ask ask.entry.now) decided (document_taken room name now (plain_ask ask.entry.now) job)) result }
+    ensures served { OfStore S.Store connection.old connection.new
+        (λ db. IsThere name job db × IsOpen name account db) →
+        ServesResponse S.Store connection.old connection.new name
+        (λ room devices. refusing_ask_or room (plain_ask ask.entry.now) decided
+        (document_taken room name now (plain_ask ask.entry.now) job)) result }
 {
     let standing = match decided {
         Ok(standing) => standing,
@@ -100,7 +107,8 @@ fn take<S: Alter>(
 /// The data of the request as the next document of a job with so many, and none where there is no data.
 fn next_document<'a>(ask: &Ask<'a>, documents: u32) -> Option<NewDocument<'a>>
     requires { documents ≤ 8 }
-    ensures { (job : JobValue) → job.standing.documents ≡ documents → first_of (plain_ask ask.entry.now).job result ≡ sent_document (plain_ask ask.entry.now) job }
+    ensures { (job : JobValue) → job.standing.documents ≡ documents →
+        first_of ask.entry.now.job result ≡ sent_document (plain_ask ask.entry.now) job }
 {
     if !has_data(ask) {
         return None;

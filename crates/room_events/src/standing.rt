@@ -26,9 +26,14 @@ pub(crate) fn stand<S: Alter>(
     requires before { IsStanding job.now.standing }
     requires in_range { IsStanding standing.now }
     requires kept { Keeps job.now.standing standing.now }
-    ensures room { Changes S.Store connection.old connection.new result (λ before after. IsThere name job.now before → (room : RoomValue) → HoldsRoom before name room → HoldsRoom after name (with_moved room job.now.job standing.now)) }
-    ensures alone { Changes S.Store connection.old connection.new result (λ before after. IsThere name job.now before → OnlyAccount name before after) }
-    ensures undamaged { OfStore S.Store connection.old connection.new (λ db. result ≡ Err TableFault.Damaged → ⊥) }
+    ensures room { Changes S.Store connection.old connection.new result
+        (λ before after. IsThere name job.now before → (room : RoomValue) →
+        HoldsRoom before name room →
+        HoldsRoom after name (with_moved room job.now.job standing.now)) }
+    ensures alone { Changes S.Store connection.old connection.new result
+        (λ before after. IsThere name job.now before → OnlyAccount name before after) }
+    ensures undamaged { OfStore S.Store connection.old connection.new
+        (λ db. result ≡ Err TableFault.Damaged → ⊥) }
     ensures whole { IsWhole S.Store connection.old connection.new result }
 {
     if standing.state.is_unfinished() {

@@ -45,7 +45,10 @@ pub fn release_at<S: Alter>(
     requires mode { connection.old.in_transaction ≡ false }
     requires moment { now ≤ last_moment }
     requires impressions { impressions ≤ most_impressions }
-    ensures served { ServesStep S.Store connection.old connection.new name (λ room devices. released room now number (station_release room (station devices device now) number password.now impressions)) result }
+    ensures served { ServesStep S.Store connection.old connection.new name
+        (λ room devices. released room now number
+        (station_release room (station devices device now) number password.now impressions))
+        result }
 {
     let rate = match ready_rate(connection, device)? {
         Ok(rate) => rate,
@@ -69,7 +72,9 @@ pub fn start<S: Alter>(
 ) -> Result<Reply, TableFault>
     requires mode { connection.old.in_transaction ≡ false }
     requires moment { now ≤ last_moment }
-    ensures served { ServesStep S.Store connection.old connection.new name (λ room devices. started room number (station_start room (station devices device now) number)) result }
+    ensures served { ServesStep S.Store connection.old connection.new name
+        (λ room devices. started room number
+        (station_start room (station devices device now) number)) result }
 {
     let rate = match ready_rate(connection, device)? {
         Ok(rate) => rate,
@@ -97,7 +102,9 @@ pub fn settle<S: Alter>(
     requires mode { connection.old.in_transaction ≡ false }
     requires moment { now ≤ last_moment }
     requires impressions { impressions ≤ most_impressions }
-    ensures served { ServesStep S.Store connection.old connection.new name (λ room devices. settled room now number (station_settle room (station devices device now) number impressions failed)) result }
+    ensures served { ServesStep S.Store connection.old connection.new name
+        (λ room devices. settled room now number
+        (station_settle room (station devices device now) number impressions failed)) result }
 {
     if let Err(word) = known_device(find_device(connection, device)?) {
         return refusing(alloc, word);
@@ -115,9 +122,13 @@ fn ready_rate<S: Alter>(
     connection: &mut Connection<S>,
     device: Name,
 ) -> Result<Result<u32, Word>, TableFault>
-    ensures ready { OfStore S.Store connection.old connection.new (λ db. (devices : Devices) → HoldsDevices db devices → IfOk result (λ ready. ready ≡ ready_rate (get devices device))) }
+    ensures ready { OfStore S.Store connection.old connection.new
+        (λ db. (devices : Devices) → HoldsDevices db devices →
+        IfOk result (λ ready. ready ≡ ready_rate (get devices device))) }
     ensures rate { IfOk result (λ ready. IfOk ready (λ rate. (1 ≤ rate) × (rate ≤ most_rate))) }
-    ensures damaged { OfStore S.Store connection.old connection.new (λ db. result ≡ Err TableFault.Damaged → (devices : Devices) → HoldsDevices db devices → ⊥) }
+    ensures damaged { OfStore S.Store connection.old connection.new
+        (λ db. result ≡ Err TableFault.Damaged → (devices : Devices) →
+        HoldsDevices db devices → ⊥) }
     ensures looks { LooksUp S.Store connection.old connection.new result }
 {
     let on = match known_device(find_device(connection, device)?) {
@@ -148,7 +159,10 @@ fn reserve<S: Alter>(
     requires in_range { IfOk asked IsStanding }
     requires kept { IfOk asked (Keeps job.now.standing) }
     ensures going { GoesFrom S.Store connection.old connection.new result }
-    ensures served { OfStore S.Store connection.old connection.new (IsThere name job.now) → ServesStep S.Store connection.old connection.new name (λ room devices. released room now job.now.job (by_word (kept_to_quota job.now.standing.state (left_in room now) asked))) result }
+    ensures served { OfStore S.Store connection.old connection.new (IsThere name job.now) →
+        ServesStep S.Store connection.old connection.new name
+        (λ room devices. released room now job.now.job
+        (by_word (kept_to_quota job.now.standing.state (left_in room now) asked))) result }
 {
     let released = match asked {
         Ok(released) => released,
@@ -190,7 +204,9 @@ fn charge<S: Alter>(
     requires in_range { IfOk decided IsStanding }
     requires kept { IfOk decided (Keeps job.now.standing) }
     ensures going { GoesFrom S.Store connection.old connection.new result }
-    ensures served { OfStore S.Store connection.old connection.new (IsThere name job.now) → ServesStep S.Store connection.old connection.new name (λ room devices. settled room now job.now.job decided) result }
+    ensures served { OfStore S.Store connection.old connection.new (IsThere name job.now) →
+        ServesStep S.Store connection.old connection.new name
+        (λ room devices. settled room now job.now.job decided) result }
 {
     let settled = match decided {
         Ok(settled) => settled,
@@ -217,7 +233,9 @@ fn hand_over<S: Alter>(
     requires in_range { IfOk decided IsStanding }
     requires kept { IfOk decided (Keeps job.now.standing) }
     ensures going { GoesFrom S.Store connection.old connection.new result }
-    ensures served { OfStore S.Store connection.old connection.new (IsThere name job.now) → ServesStep S.Store connection.old connection.new name (λ room devices. started room job.now.job decided) result }
+    ensures served { OfStore S.Store connection.old connection.new (IsThere name job.now) →
+        ServesStep S.Store connection.old connection.new name
+        (λ room devices. started room job.now.job decided) result }
 {
     let standing = match decided {
         Ok(standing) => standing,
@@ -263,7 +281,9 @@ fn tell<S: Alter>(
     requires in_range { IsStanding standing.now }
     requires kept { Keeps job.now.standing standing.now }
     ensures going { GoesFrom S.Store connection.old connection.new result }
-    ensures served { OfStore S.Store connection.old connection.new (IsThere name job.now) → ServesStep S.Store connection.old connection.new name (λ room devices. telling (with_moved room job.now.job standing.now) told) result }
+    ensures served { OfStore S.Store connection.old connection.new (IsThere name job.now) →
+        ServesStep S.Store connection.old connection.new name
+        (λ room devices. telling (with_moved room job.now.job standing.now) told) result }
 {
     let reply = telling(alloc, told)?;
     stand(connection, name, job, standing)?;

@@ -2,9 +2,10 @@
 
 ghost use Rattle.std.specs.Prelude.{◌≡◌, [], ◌∷◌, IfOk, IfErr};
 ghost use Rattle.std.specs.List.{AllByRecursion};
-ghost use Rattle.room_answers.specs.Responses.{done_text, job_groups, refused_text};
+ghost use Rattle.room_answers.specs.Responses.{job_groups};
 ghost use Rattle.room_asks.specs.Asks.{IsAsk, plain_ask};
 ghost use Rattle.room_core.specs.Queues.{listed_names};
+ghost use Rattle.room_core.specs.Requests.{answer_to, refusal_to};
 ghost use Rattle.room_core.specs.declared.event.Reply.TheVariants as reply;
 ghost use Rattle.room_texts.specs.JobAttributes.{job_group};
 ghost use Rattle.room_texts.specs.Limits.{IsPlace, IsPrinter, IsShowable};
@@ -47,7 +48,7 @@ pub(crate) fn refused_as(
     refusal: Refusal,
 ) -> Result<List<u8>, TableFault>
     requires { IsAsk (plain_ask ask.now) }
-    ensures text { IfOk result (λ text. text ≡ refused_text (plain_ask ask.entry.now).header refusal (plain_ask ask.entry.now).unsupported) }
+    ensures text { IfOk result (λ text. text ≡ refusal_to (plain_ask ask.entry.now) refusal) }
     ensures memory { IfErr result (λ fault. fault ≡ TableFault.Memory) }
 {
     refused(alloc, ask.header, refusal, ask.unsupported.as_slice()).map_err(
@@ -58,7 +59,7 @@ pub(crate) fn refused_as(
 /// The response to a request that was done. `Memory` is its only fault.
 pub(crate) fn done_as(alloc: Global, ask: &Ask<'_>) -> Result<List<u8>, TableFault>
     requires { IsAsk (plain_ask ask.now) }
-    ensures text { IfOk result (λ text. text ≡ done_text (plain_ask ask.entry.now).header (plain_ask ask.entry.now).unsupported []) }
+    ensures text { IfOk result (λ text. text ≡ answer_to (plain_ask ask.entry.now) []) }
     ensures memory { IfErr result (λ fault. fault ≡ TableFault.Memory) }
 {
     done(alloc, ask.header, ask.unsupported.as_slice()).map_err(|fault| TableFault::of_core(fault))
@@ -76,7 +77,8 @@ pub(crate) fn shown_as(
     requires ask { IsAsk (plain_ask ask.now) }
     requires place { IsPlace (plain_place at.now) }
     requires job { IsShowable job.now }
-    ensures text { IfOk result (λ text. text ≡ done_text (plain_ask ask.entry.now).header (plain_ask ask.entry.now).unsupported (job_group (plain_place at.entry.now) job.now (asked_names wanted.entry) ∷ [])) }
+    ensures text { IfOk result (λ text. text ≡ answer_to (plain_ask ask.entry.now)
+        (job_group (plain_place at.entry.now) job.now (asked_names wanted.entry) ∷ [])) }
     ensures memory { IfErr result (λ fault. fault ≡ TableFault.Memory) }
 {
     with_job(
@@ -100,7 +102,9 @@ pub(crate) fn jobs_as(
     requires ask { IsAsk (plain_ask ask.now) }
     requires place { IsPlace (plain_place at.now) }
     requires jobs { AllByRecursion IsShowable jobs.now }
-    ensures text { IfOk result (λ text. text ≡ done_text (plain_ask ask.entry.now).header (plain_ask ask.entry.now).unsupported (job_groups (plain_place at.entry.now) jobs.now (listed_names (plain_ask ask.entry.now).wanted))) }
+    ensures text { let it = plain_ask ask.entry.now in
+        IfOk result (λ text. text ≡
+        answer_to it (job_groups (plain_place at.entry.now) jobs.now (listed_names it.wanted))) }
     ensures memory { IfErr result (λ fault. fault ≡ TableFault.Memory) }
 {
     jobs_told(alloc, ask, at, jobs).map_err(|fault| TableFault::of_core(fault))
@@ -116,7 +120,8 @@ pub(crate) fn printer_as(
     requires ask { IsAsk (plain_ask ask.now) }
     requires place { IsPlace (plain_place at.now) }
     requires printer { IsPrinter printer }
-    ensures text { IfOk result (λ text. text ≡ done_text (plain_ask ask.entry.now).header (plain_ask ask.entry.now).unsupported (printer_group (plain_place at.entry.now) printer (plain_ask ask.entry.now).wanted ∷ [])) }
+    ensures text { IfOk result (λ text. text ≡ answer_to (plain_ask ask.entry.now)
+        (printer_group (plain_place at.entry.now) printer (plain_ask ask.entry.now).wanted ∷ [])) }
     ensures memory { IfErr result (λ fault. fault ≡ TableFault.Memory) }
 {
     with_printer(
