@@ -15,9 +15,11 @@ pub record StandsAt (b : Bor (List ℕ)) (n : ℕ) (x : Bor (List ℕ)) : Type 0
   pub offset : x.ref_ptr.1 ≡ b.ref_ptr.1 + n
 
 -- things that follow one another from place n on, each as long as its spelling
-abbrev pub StandInARow : {A : Type 0} → (ℕ → A → Type 0) → (A → List ℕ) → ℕ → List A → Type 0
+abbrev pub StandInARow : {A : Type 0}
+    → (Stands : ℕ → A → Type 0) (spelling : A → List ℕ) (n : ℕ) (xs : List A) → Type 0
 StandInARow Stands spelling n [] = Unit {0}
-StandInARow Stands spelling n (x ∷ xs) = Stands n x × StandInARow Stands spelling (n + length (spelling x)) xs
+StandInARow Stands spelling n (x ∷ xs) =
+    Stands n x × StandInARow Stands spelling (n + length (spelling x)) xs
 
 -- behind the tag, the two bytes of an empty name and the value-length
 abbrev pub FurtherStands : Bor (List ℕ) → ℕ → Value → Type 0
@@ -31,10 +33,13 @@ pub record FirstStands (b : Bor (List ℕ)) (n : ℕ) (name : Bor (List ℕ)) (v
 abbrev pub further_text : Value → List ℕ
 further_text v = further_spelling (plain_value v)
 
-abbrev pub ValuesStand : Bor (List ℕ) → ℕ → Bor (List ℕ) → List Value → Type 0
+abbrev pub ValuesStand : (b : Bor (List ℕ)) (n : ℕ) (name : Bor (List ℕ)) (values : List Value)
+    → Type 0
 ValuesStand b n name [] = ⊥
 ValuesStand b n name (first ∷ further) =
-    FirstStands b n name first × StandInARow (FurtherStands b) further_text (n + 5 + length name.now + length first.bytes.now) further
+    FirstStands b n name first
+    × StandInARow (FurtherStands b) further_text
+    (n + 5 + length name.now + length first.bytes.now) further
 
 abbrev pub AttributeStands : Bor (List ℕ) → ℕ → Attribute → Type 0
 AttributeStands b n a = ValuesStand b n a.name a.values

@@ -1,4 +1,5 @@
--- The message that bytes spell, found from left to right. (That it is the one that spells them is a law: `reading_is_spelling`.)
+-- The message that bytes spell, found from left to right. (That it is the one that spells them is a
+-- law: `reading_is_spelling`.)
 use Rattle.std.specs.Prelude.{◌≡◌, ℕ, zero, suc, List, [], ◌∷◌, ◌++◌, length, take, drop, slice_index, Bool, false, ◌&&◌, not, Option, Some, None, Result, Ok, Err, nat_lt, nat_le, ◌==◌, if◌then◌else◌}
 use Rattle.byteorder.specs.Endian.{big_number}
 use Rattle.ipp_coding.specs.declared.message.Header.{Header}
@@ -22,7 +23,9 @@ ReadsAs view (Err fault) read = RefusesAs fault read
 
 -- ---- one after the other, as long as a test holds of what is left
 
-unfoldable pub series : {A : Type 0} → (List ℕ → Bool) → (List ℕ → Option (A × List ℕ)) → ℕ → List ℕ → Option (List A × List ℕ)
+unfoldable pub series : {A : Type 0}
+    → (begins : List ℕ → Bool) (one : List ℕ → Option (A × List ℕ)) (most : ℕ) (bytes : List ℕ)
+    → Option (List A × List ℕ)
 series begins one zero bytes = Some ([], bytes)
 series begins one (suc most) bytes =
     if begins bytes
@@ -40,7 +43,8 @@ sized n rest = if nat_lt (length rest) n then None else Some (take n rest, drop 
 
 -- a length in two bytes, then that many bytes
 unfoldable pub prefixed_at : List ℕ → Option (List ℕ × List ℕ)
-prefixed_at bytes = if nat_lt (length bytes) 2 then None else sized (big_number 2 bytes) (drop 2 bytes)
+prefixed_at bytes =
+    if nat_lt (length bytes) 2 then None else sized (big_number 2 bytes) (drop 2 bytes)
 
 -- a name or a value
 unfoldable pub field_at : List ℕ → Option (List ℕ × List ℕ)
@@ -109,7 +113,12 @@ payload_at (tag ∷ rest) = if tag == 3 then Some rest else None
 
 -- the header in the first 8 bytes
 abbrev pub header_in : List ℕ → Header
-header_in bytes = record { major = slice_index bytes 0; minor = slice_index bytes 1; code = big_number 2 (drop 2 bytes); request_id = big_number 4 (drop 4 bytes) }
+header_in bytes = record {
+  major = slice_index bytes 0;
+  minor = slice_index bytes 1;
+  code = big_number 2 (drop 2 bytes);
+  request_id = big_number 4 (drop 4 bytes);
+}
 
 abbrev pub header_at : List ℕ → Option Header
 header_at bytes = if nat_lt (length bytes) 8 then None else Some (header_in bytes)

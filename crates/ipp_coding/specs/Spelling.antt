@@ -15,7 +15,8 @@ header_spelling h = h.major ∷ h.minor ∷ (big_bytes 2 h.code ++ big_bytes 4 h
 abbrev pub field_spelling : List ℕ → List ℕ
 field_spelling bytes = big_bytes 2 (length bytes) ++ bytes
 
--- an attribute with its first value: value-tag, name-length, name, value-length, value (RFC 8010 section 3.1.4)
+-- an attribute with its first value: value-tag, name-length, name, value-length, value (RFC 8010
+-- section 3.1.4)
 abbrev pub first_spelling : List ℕ → PlainValue → List ℕ
 first_spelling name v = v.tag ∷ (field_spelling name ++ field_spelling v.bytes)
 
@@ -26,7 +27,8 @@ further_spelling v = v.tag ∷ 0 ∷ 0 ∷ field_spelling v.bytes
 -- a first value, then further values, also none (RFC 8010 section 3.1.3)
 abbrev pub values_spelling : List ℕ → List PlainValue → List ℕ
 values_spelling name [] = []
-values_spelling name (first ∷ further) = first_spelling name first ++ flat_map further_spelling further
+values_spelling name (first ∷ further) =
+    first_spelling name first ++ flat_map further_spelling further
 
 abbrev pub attribute_spelling : PlainAttribute → List ℕ
 attribute_spelling a = values_spelling a.name a.values
@@ -35,13 +37,16 @@ attribute_spelling a = values_spelling a.name a.values
 abbrev pub group_spelling : PlainGroup → List ℕ
 group_spelling g = g.tag ∷ flat_map attribute_spelling g.attributes
 
--- the header, the groups, also none, end-of-attributes-tag 0x03, the data to the end (RFC 8010 section 3.1.1)
+-- the header, the groups, also none, end-of-attributes-tag 0x03, the data to the end (RFC 8010
+-- section 3.1.1)
 abbrev pub message_spelling : PlainMessage → List ℕ
-message_spelling m = header_spelling m.header ++ (flat_map group_spelling m.groups ++ (3 ∷ m.payload))
+message_spelling m =
+    header_spelling m.header ++ (flat_map group_spelling m.groups ++ (3 ∷ m.payload))
 
 -- ---- which parts have a spelling
 
--- a name or a value has at most 32767 bytes (this project's bound: of the two bytes of a length the top bit stays clear)
+-- a name or a value has at most 32767 bytes (this project's bound: of the two bytes of a length the
+-- top bit stays clear)
 abbrev pub Fits : List ℕ → Type 0
 Fits bytes = length bytes ≤ 32767
 
@@ -55,13 +60,15 @@ abbrev pub AreValues : List PlainValue → Type 0
 AreValues [] = ⊥
 AreValues (first ∷ further) = AllByRecursion IsValue (first ∷ further)
 
--- a name is not empty (this project's rule: a value without a name belongs to the attribute before it)
+-- a name is not empty (this project's rule: a value without a name belongs to the attribute before
+-- it)
 pub record IsAttribute (a : PlainAttribute) : Type 0 where
   pub named : 0 < length a.name
   pub name : Fits a.name
   pub values : AreValues a.values
 
--- group tags are 0x01 to 0x0F without the end tag 0x03 (RFC 8010 section 3.5.1); 0x00 begins none (this project's rule)
+-- group tags are 0x01 to 0x0F without the end tag 0x03 (RFC 8010 section 3.5.1); 0x00 begins none
+-- (this project's rule)
 pub record IsGroup (g : PlainGroup) : Type 0 where
   pub low : 0 < g.tag
   pub high : g.tag < 16

@@ -12,7 +12,10 @@ is_number_tag tag = tag == 33 || tag == 35
 
 -- a number is four bytes in two's complement (RFC 8010 section 3.9)
 abbrev pub int_said : PlainValue → Option ℤ
-int_said v = if is_number_tag v.tag && (length v.bytes == 4) then Some (cast_signed w32 (big_number 4 v.bytes)) else None
+int_said v =
+    if is_number_tag v.tag && (length v.bytes == 4)
+    then Some (cast_signed w32 (big_number 4 v.bytes))
+    else None
 
 -- boolean 0x22: one byte 0x00 or 0x01 (RFC 8010 section 3.9)
 abbrev pub bool_in : List ℕ → Option Bool
@@ -23,7 +26,8 @@ bool_in (byte ∷ next ∷ more) = None
 abbrev pub bool_said : PlainValue → Option Bool
 bool_said v = if v.tag == 34 then bool_in v.bytes else None
 
--- textWithoutLanguage 0x41, nameWithoutLanguage 0x42, keyword 0x44 to mimeMediaType 0x49 (RFC 8010 section 3.5.2)
+-- textWithoutLanguage 0x41, nameWithoutLanguage 0x42, keyword 0x44 to mimeMediaType 0x49 (RFC 8010
+-- section 3.5.2)
 abbrev pub is_text_tag : ℕ → Bool
 is_text_tag tag = tag == 65 || tag == 66 || nat_le 68 tag && nat_le tag 73
 
@@ -31,7 +35,8 @@ is_text_tag tag = tag == 65 || tag == 66 || nat_le 68 tag && nat_le tag 73
 abbrev pub is_language_tag : ℕ → Bool
 is_language_tag tag = tag == 53 || tag == 54
 
--- a language and a text, each behind its length in two bytes, and nothing after them (RFC 8010 section 3.9)
+-- a language and a text, each behind its length in two bytes, and nothing after them (RFC 8010
+-- section 3.9)
 pub record IsTextWithLanguage (bytes text : List ℕ) : Type 0 where
   pub language : List ℕ
   pub language_fits : length language < 2 ^ 16

@@ -14,7 +14,7 @@ is_value_tag tag = nat_le 16 tag
 abbrev pub group_refusal : ℕ → Option PutFault
 group_refusal tag = if is_group_tag tag then None else Some BadTag
 
-abbrev pub attribute_refusal : ℕ → List ℕ → List ℕ → Option PutFault
+abbrev pub attribute_refusal : (tag : ℕ) (name value : List ℕ) → Option PutFault
 attribute_refusal tag name value =
     if is_too_long name then Some TooLong
     else if is_too_long value then Some TooLong

@@ -52,7 +52,8 @@ pub fn read_message<'a>(alloc: Global, b: &'a [u8]) -> Result<Message<'a>, ReadF
     ensures spelled { IfOk result (λ m. Spells (plain_message m) b.now) }
     // What a message spells is read as that message, unless memory runs out.
     ensures read { (m : PlainMessage) → Spells m b.now → ReadsAs plain_message result (Some m) }
-    ensures malformed { IsErrOf result ReadFault.Malformed → (m : PlainMessage) → Spells m b.now → ⊥ }
+    ensures malformed { IsErrOf result ReadFault.Malformed
+        → (m : PlainMessage) → Spells m b.now → ⊥ }
     // Each slice that the message lends stands at its place in b.
     ensures places { IfOk result (λ m. MessageStands b.entry m) }
     ensures value { ReadsAs plain_message result (message_of b.now) }
@@ -103,8 +104,11 @@ fn payload_of(bytes: &[u8]) -> Option<&[u8]>
 
 /// The groups at the front, up to a byte that begins none, and what is left.
 fn groups_of<'a>(alloc: Global, start: Rest<'a>) -> Result<(List<Group<'a>>, &'a [u8]), ReadFault>
-    ensures value { ReadsAs (λ x. (map plain_group x.0, x.1.now)) result (groups_at start.entry.bytes.now) }
-    ensures places { IfOk result (λ x. (b : Bor (List ℕ)) (n : ℕ) → StandsAt b n start.entry.bytes → StandInARow (GroupStands b) group_text n x.0 × StandsAt b (n + length (flat_map group_text x.0)) x.1) }
+    ensures value { ReadsAs (λ x. (map plain_group x.0, x.1.now)) result
+        (groups_at start.entry.bytes.now) }
+    ensures places { IfOk result (λ x. (b : Bor (List ℕ)) (n : ℕ) → StandsAt b n start.entry.bytes
+        → StandInARow (GroupStands b) group_text n x.0
+        × StandsAt b (n + length (flat_map group_text x.0)) x.1) }
 {
     let mut groups = Vec::new(alloc);
     let mut rest = start;
@@ -123,7 +127,8 @@ fn groups_of<'a>(alloc: Global, start: Rest<'a>) -> Result<(List<Group<'a>>, &'a
 #[tactic(auto, unfolding(crate::specs::Reading::group_at))]
 fn group_of<'a>(alloc: Global, bytes: &'a [u8]) -> Result<(Group<'a>, &'a [u8]), ReadFault>
     ensures value { ReadsAs (λ x. (plain_group x.0, x.1.now)) result (group_at bytes.now) }
-    ensures places { IfOk result (λ x. (b : Bor (List ℕ)) (n : ℕ) → StandsAt b n bytes.entry → GroupStands b n x.0 × StandsAt b (n + length (group_text x.0)) x.1) }
+    ensures places { IfOk result (λ x. (b : Bor (List ℕ)) (n : ℕ) → StandsAt b n bytes.entry
+        → GroupStands b n x.0 × StandsAt b (n + length (group_text x.0)) x.1) }
 {
     match bytes {
         [] => Err(ReadFault::Malformed),
@@ -145,8 +150,11 @@ fn attributes_of<'a>(
     alloc: Global,
     start: Rest<'a>,
 ) -> Result<(List<Attribute<'a>>, &'a [u8]), ReadFault>
-    ensures value { ReadsAs (λ x. (map plain_attribute x.0, x.1.now)) result (attributes_at start.entry.bytes.now) }
-    ensures places { IfOk result (λ x. (b : Bor (List ℕ)) (n : ℕ) → StandsAt b n start.entry.bytes → StandInARow (AttributeStands b) attribute_text n x.0 × StandsAt b (n + length (flat_map attribute_text x.0)) x.1) }
+    ensures value { ReadsAs (λ x. (map plain_attribute x.0, x.1.now)) result
+        (attributes_at start.entry.bytes.now) }
+    ensures places { IfOk result (λ x. (b : Bor (List ℕ)) (n : ℕ) → StandsAt b n start.entry.bytes
+        → StandInARow (AttributeStands b) attribute_text n x.0
+        × StandsAt b (n + length (flat_map attribute_text x.0)) x.1) }
 {
     let mut attributes = Vec::new(alloc);
     let mut rest = start;
@@ -164,7 +172,8 @@ fn attributes_of<'a>(
 #[tactic(auto, unfolding(crate::specs::Reading::attribute_at))]
 fn attribute_of<'a>(alloc: Global, bytes: &'a [u8]) -> Result<(Attribute<'a>, &'a [u8]), ReadFault>
     ensures value { ReadsAs (λ x. (plain_attribute x.0, x.1.now)) result (attribute_at bytes.now) }
-    ensures places { IfOk result (λ x. (b : Bor (List ℕ)) (n : ℕ) → StandsAt b n bytes.entry → AttributeStands b n x.0 × StandsAt b (n + length (attribute_text x.0)) x.1) }
+    ensures places { IfOk result (λ x. (b : Bor (List ℕ)) (n : ℕ) → StandsAt b n bytes.entry
+        → AttributeStands b n x.0 × StandsAt b (n + length (attribute_text x.0)) x.1) }
 {
     let Some(((name, first), rest)) = first_of(bytes) else {
         return Err(ReadFault::Malformed);
@@ -179,8 +188,12 @@ fn values_of<'a>(
     first: Value<'a>,
     start: Rest<'a>,
 ) -> Result<(List<Value<'a>>, &'a [u8]), ReadFault>
-    ensures value { ReadsAs (λ x. (map plain_value x.0, x.1.now)) result (after_those (plain_value first.entry ∷ []) (all_further_at start.entry.bytes.now)) }
-    ensures places { IfOk result (λ x. (further : List Value) × (x.0 ≡ first.entry ∷ further) × ((b : Bor (List ℕ)) (n : ℕ) → StandsAt b n start.entry.bytes → StandInARow (FurtherStands b) further_text n further × StandsAt b (n + length (flat_map further_text further)) x.1)) }
+    ensures value { ReadsAs (λ x. (map plain_value x.0, x.1.now)) result
+        (after_those (plain_value first.entry ∷ []) (all_further_at start.entry.bytes.now)) }
+    ensures places { IfOk result (λ x. (further : List Value) × (x.0 ≡ first.entry ∷ further)
+        × ((b : Bor (List ℕ)) (n : ℕ) → StandsAt b n start.entry.bytes
+        → StandInARow (FurtherStands b) further_text n further
+        × StandsAt b (n + length (flat_map further_text further)) x.1)) }
 {
     let mut values = Vec::new(alloc);
     values.push(first)?;
@@ -201,8 +214,10 @@ fn values_of<'a>(
 /// The first value of an attribute, with the attribute's name.
 #[tactic(auto, unfolding(crate::specs::Reading::first_at))]
 fn first_of(bytes: &[u8]) -> Option<((&[u8], Value<'_>), &[u8])>
-    ensures value { option_map (λ x. ((x.0.0.now, plain_value x.0.1), x.1.now)) result ≡ first_at bytes.now }
-    ensures places { IfSome result (λ x. FirstStands bytes.entry 0 x.0.0 x.0.1 × StandsAt bytes.entry (5 + length x.0.0.now + length x.0.1.bytes.now) x.1) }
+    ensures value { option_map (λ x. ((x.0.0.now, plain_value x.0.1), x.1.now)) result
+        ≡ first_at bytes.now }
+    ensures places { IfSome result (λ x. FirstStands bytes.entry 0 x.0.0 x.0.1
+        × StandsAt bytes.entry (5 + length x.0.0.now + length x.0.1.bytes.now) x.1) }
 {
     match bytes {
         [] => None,
@@ -230,7 +245,8 @@ fn first_of(bytes: &[u8]) -> Option<((&[u8], Value<'_>), &[u8])>
 #[tactic(auto, unfolding(crate::specs::Reading::further_at))]
 fn further_of(bytes: &[u8]) -> Option<(Value<'_>, &[u8])>
     ensures value { option_map (λ x. (plain_value x.0, x.1.now)) result ≡ further_at bytes.now }
-    ensures places { IfSome result (λ x. FurtherStands bytes.entry 0 x.0 × StandsAt bytes.entry (5 + length x.0.bytes.now) x.1) }
+    ensures places { IfSome result (λ x.
+        FurtherStands bytes.entry 0 x.0 × StandsAt bytes.entry (5 + length x.0.bytes.now) x.1) }
 {
     match bytes {
         [tag, _, _, rest @ ..] => {
@@ -251,7 +267,8 @@ fn further_of(bytes: &[u8]) -> Option<(Value<'_>, &[u8])>
 #[tactic(auto, unfolding(crate::specs::Reading::field_at))]
 fn field_of(bytes: &[u8]) -> Option<(&[u8], &[u8])>
     ensures value { option_map (λ x. (x.0.now, x.1.now)) result ≡ field_at bytes.now }
-    ensures places { IfSome result (λ x. StandsAt bytes.entry 2 x.0 × StandsAt bytes.entry (2 + length x.0.now) x.1) }
+    ensures places { IfSome result
+        (λ x. StandsAt bytes.entry 2 x.0 × StandsAt bytes.entry (2 + length x.0.now) x.1) }
 {
     let (field, rest) = prefixed_of(bytes)?;
     if field.len() > LONGEST {
@@ -264,7 +281,8 @@ fn field_of(bytes: &[u8]) -> Option<(&[u8], &[u8])>
 #[tactic(auto, unfolding(crate::specs::Reading::prefixed_at))]
 pub(crate) fn prefixed_of(bytes: &[u8]) -> Option<(&[u8], &[u8])>
     ensures value { option_map (λ x. (x.0.now, x.1.now)) result ≡ prefixed_at bytes.now }
-    ensures places { IfSome result (λ x. StandsAt bytes.entry 2 x.0 × StandsAt bytes.entry (2 + length x.0.now) x.1) }
+    ensures places { IfSome result
+        (λ x. StandsAt bytes.entry 2 x.0 × StandsAt bytes.entry (2 + length x.0.now) x.1) }
 {
     if bytes.len() < 2 {
         return None;

@@ -39,7 +39,8 @@ pub fn put_group(out: &mut Vec<u8>, tag: u8) -> Result<(), PutFault>
 /// Appends an attribute with its first value (RFC 8010 section 3.1.4). `TooLong` where the name or
 /// the value has over 32767 bytes, then `EmptyName`, then `BadTag` where the tag is below 0x10.
 pub fn put_attribute(out: &mut Vec<u8>, tag: u8, name: &[u8], value: &[u8]) -> Result<(), PutFault>
-    ensures appended { OnOk result (out.new.items ≡ out.old.items ++ first_spelling name.now (record { tag = tag; bytes = value.now })) }
+    ensures appended { OnOk result (out.new.items
+        ≡ out.old.items ++ first_spelling name.now (record { tag = tag; bytes = value.now })) }
     ensures answer { AnswersBy (attribute_refusal tag name.now value.now) result }
     ensures unchanged { OnErr result (out.new.items ≡ out.old.items) }
 {
@@ -65,7 +66,8 @@ pub fn put_attribute(out: &mut Vec<u8>, tag: u8, name: &[u8], value: &[u8]) -> R
 /// Appends a further value of the attribute before it (RFC 8010 section 3.1.5). `TooLong` where the
 /// value has over 32767 bytes, then `BadTag` where the tag is below 0x10.
 pub fn put_more(out: &mut Vec<u8>, tag: u8, value: &[u8]) -> Result<(), PutFault>
-    ensures appended { OnOk result (out.new.items ≡ out.old.items ++ further_spelling (record { tag = tag; bytes = value.now })) }
+    ensures appended { OnOk result (out.new.items
+        ≡ out.old.items ++ further_spelling (record { tag = tag; bytes = value.now })) }
     ensures answer { AnswersBy (further_refusal tag value.now) result }
     ensures unchanged { OnErr result (out.new.items ≡ out.old.items) }
 {
