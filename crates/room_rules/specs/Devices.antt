@@ -1,5 +1,5 @@
--- The devices: a map from names. A list of devices stands for the map in which the first record of a
--- name counts (all this project's own).
+-- The devices: a map from names. A list of devices stands for the map in which the first record of
+-- a name counts (all this project's own).
 use Rattle.std.specs.Prelude.{ℕ, Bool, false, nat_eq, List, map}
 use Rattle.std.specs.declared.cmp.Ordering.{Ordering}
 use Rattle.std.specs.Option.{option_map_or}
@@ -45,8 +45,10 @@ rate_of devices name = option_map_or (λ (device : Device). device.rate) (get de
 
 -- the name's device is turned on or off
 abbrev pub turned : Devices → List ℕ → Bool → Devices
-turned devices name on = insert devices name (record { name = name; on = on; rate = rate_of devices name })
+turned devices name on =
+    insert devices name (record { name = name; on = on; rate = rate_of devices name })
 
 -- the name's device has another rate
 abbrev pub rated : Devices → List ℕ → ℕ → Devices
-rated devices name units = insert devices name (record { name = name; on = is_on_in devices name; rate = units })
+rated devices name units =
+    insert devices name (record { name = name; on = is_on_in devices name; rate = units })

@@ -1,5 +1,6 @@
 -- What each act makes of a job in a state in which it has an effect, or the first refusal. A field
--- that is not named stays as it is. What has no section of RFC 8011 beside it is this project's own.
+-- that is not named stays as it is. What has no section of RFC 8011 beside it is this project's
+-- own.
 use Rattle.std.specs.Prelude.{ℕ, ◌+◌, ◌*◌, ℤ, Bool, true, false, ◌&&◌, ◌||◌, not, ◌==◌, nat_lt, nat_le, nat_eq, if◌then◌else◌, List, length, Option, Some, None, is_none, Result, Ok, Err}
 use Rattle.std.specs.Cmp.Lexicographic.{pointwise}
 use Rattle.room_rules.specs.declared.job.JobState.{JobState}
@@ -21,7 +22,7 @@ abbrev pub refused_document : Result Standing Refusal
 refused_document = Err (record { status = 0x0509; word = TooManyDocuments })
 
 -- Send-Document (RFC 8011 section 4.3.1): the last document closes the job
-abbrev pub after_document : Standing → Bool → Bool → Result Standing Refusal
+abbrev pub after_document : (s : Standing) (last some_data : Bool) → Result Standing Refusal
 after_document s last some_data =
     if not s.is_open then refused Closed else
     if not some_data then Ok (record s { is_open = not last }) else
@@ -42,18 +43,26 @@ abbrev pub after_hold : Standing → Standing
 after_hold s = record s { state = Held; reserved = 0; rate = 1; device = None }
 
 -- a release takes what it needs of the quota, where so much is left
-abbrev pub after_reserving : Standing → ℕ → ℕ → Option (List ℕ) → ℤ → Result Standing Refusal
+abbrev pub after_reserving : (s : Standing) (impressions rate : ℕ)
+    (device : Option (List ℕ)) (left : ℤ) → Result Standing Refusal
 after_reserving s impressions rate device left =
     if impressions == 0 then refused ImpressionsUnknown else
-    if exceeds (need_of impressions s.copies rate) left then refused (Quota (need_of impressions s.copies rate) left) else
-    Ok (record s { state = Pending; impressions = impressions; reserved = need_of impressions s.copies rate; rate = rate; device = device })
+    if exceeds (need_of impressions s.copies rate) left
+    then refused (Quota (need_of impressions s.copies rate) left) else
+    Ok (record s {
+      state = Pending;
+      impressions = impressions;
+      reserved = need_of impressions s.copies rate;
+      rate = rate;
+      device = device;
+    })
 
 -- a job can be printed once it is closed and has a document
 abbrev pub is_incomplete : Standing → Bool
 is_incomplete s = s.is_open || s.documents == 0
 
--- Release-Job (RFC 8011 section 4.3.6) reserves at rate 1 and binds no device. A job with a password
--- is released at a station alone.
+-- Release-Job (RFC 8011 section 4.3.6) reserves at rate 1 and binds no device. A job with a
+-- password is released at a station alone.
 abbrev pub after_release : Standing → Bool → ℤ → Result Standing Refusal
 after_release s has_password left =
     if is_incomplete s then refused Incomplete else
@@ -61,7 +70,7 @@ after_release s has_password left =
     after_reserving s s.impressions 1 None left
 
 -- an empty one is none
-abbrev pub is_wrong_password : List ℕ → List ℕ → Bool
+abbrev pub is_wrong_password : (kept given : List ℕ) → Bool
 is_wrong_password kept given = not (length kept == 0) && not (pointwise nat_eq kept given)
 
 -- what a station hands in stands above what the owner said
@@ -69,7 +78,8 @@ abbrev pub impressions_of : Standing → ℕ → ℕ
 impressions_of s handed_in = if nat_lt 0 handed_in then handed_in else s.impressions
 
 -- a release at a station reserves at its device's rate and binds the job to the device
-abbrev pub after_station_release : Standing → List ℕ → List ℕ → List ℕ → ℕ → ℕ → ℤ → Result Standing Refusal
+abbrev pub after_station_release : (s : Standing) (kept device given : List ℕ)
+    (handed_in rate : ℕ) (left : ℤ) → Result Standing Refusal
 after_station_release s kept device given handed_in rate left =
     if is_incomplete s then refused Incomplete else
     if is_wrong_password kept given then refused Password else
@@ -80,20 +90,27 @@ is_bound_elsewhere None device = false
 is_bound_elsewhere (Some bound) device = not (pointwise nat_eq bound device)
 
 -- what was released over IPP is printed at rate 1 alone
-abbrev pub after_start : Standing → List ℕ → ℕ → ℕ → Result Standing Refusal
+abbrev pub after_start : (s : Standing) (device : List ℕ) (rate now : ℕ) → Result Standing Refusal
 after_start s device rate now =
     if is_bound_elsewhere s.device device then refused OtherDevice else
     if is_none s.device && not (rate == 1) then refused Rate else
     Ok (record s { state = Processing; device = Some device; started = Some now })
 
 -- the state in which a job ends (RFC 8011 section 5.3.7): it was canceled, or failed, or is done
-abbrev pub end_of : Bool → Bool → JobState
+abbrev pub end_of : (stopping failed : Bool) → JobState
 end_of true failed = Canceled
 end_of false true = Aborted
 end_of false false = Completed
 
 -- settling charges what the device completed, all copies included, at the job's rate
-abbrev pub after_settling : Standing → List ℕ → ℕ → Bool → ℕ → Result Standing Refusal
+abbrev pub after_settling : (s : Standing) (device : List ℕ) (completed : ℕ)
+    (failed : Bool) (now : ℕ) → Result Standing Refusal
 after_settling s device completed failed now =
     if is_bound_elsewhere s.device device then refused OtherDevice else
-    Ok (record s { state = end_of s.stopping failed; is_open = false; reserved = 0; charged = completed * s.rate; ended = Some now })
+    Ok (record s {
+      state = end_of s.stopping failed;
+      is_open = false;
+      reserved = 0;
+      charged = completed * s.rate;
+      ended = Some now;
+    })

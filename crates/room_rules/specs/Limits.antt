@@ -1,4 +1,5 @@
--- The numbers that bound an account, its jobs and its requests (this project's own, where no section is named).
+-- The numbers that bound an account, its jobs and its requests (this project's own, where no
+-- section is named).
 use Rattle.std.specs.Prelude.{ℕ, ◌+◌, ◌≤◌, Bool, ◌&&◌, nat_le, nat_lt}
 
 -- of an integer in a message, which has 32 bits with the sign

@@ -12,7 +12,9 @@ is_name_byte b = is_letter b || (nat_le 48 b && nat_le b 57) || b == 45
 
 -- 1 to 32 such bytes, the first of them a letter
 abbrev pub is_name : List ℕ → Bool
-is_name bytes = if length bytes == 0 || nat_lt 32 (length bytes) then false else is_letter (slice_index bytes 0) && list_all is_name_byte bytes
+is_name bytes =
+    if length bytes == 0 || nat_lt 32 (length bytes) then false
+    else is_letter (slice_index bytes 0) && list_all is_name_byte bytes
 
 -- a device that a job is bound to has a name, which is not empty
 abbrev pub IsNameOrNone : Option (List ℕ) → Type 0

@@ -6,7 +6,7 @@ use Rattle.room_rules.specs.declared.job.JobState.TheVariants.{Held}
 use Rattle.room_rules.specs.declared.job.Standing.{Standing}
 
 -- Print-Job brings the job's one document, Create-Job leaves the job open for some
-abbrev pub fresh : Bool → ℕ → ℕ → ℕ → Standing
+abbrev pub fresh : (is_print_job : Bool) (copies impressions now : ℕ) → Standing
 fresh is_print_job copies impressions now = record {
   state = Held;
   is_open = not is_print_job;

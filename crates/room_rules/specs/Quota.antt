@@ -3,11 +3,11 @@
 use Rattle.std.specs.Prelude.{ℕ, ◌*◌, ℤ, pos, negsuc, ◌-ℤ◌, Bool, true, nat_lt}
 
 -- `copies` of a document of so many impressions, on a device with this rate
-abbrev pub need_of : ℕ → ℕ → ℕ → ℕ
+abbrev pub need_of : (impressions copies rate : ℕ) → ℕ
 need_of impressions copies rate = impressions * copies * rate
 
 -- negative where more was charged than granted
-abbrev pub left_of : ℤ → ℤ → ℤ → ℤ
+abbrev pub left_of : (granted reserved charged : ℤ) → ℤ
 left_of granted reserved charged = (granted -ℤ reserved) -ℤ charged
 
 -- more is needed than what is left

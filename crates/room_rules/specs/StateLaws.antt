@@ -17,17 +17,20 @@ use Rattle.room_rules.specs.Standings.{IsStanding}
 abbrev pub EndedJobsStay : Type 0
 EndedJobsStay = (act : Act) (s : Standing) → has_ended s.state ≡ true → IsErr (move act s)
 
--- what a job is charged once it was moved so: settling alone charges, the device's count times the rate of the job
+-- what a job is charged once it was moved so: settling alone charges, the device's count times the
+-- rate of the job
 abbrev pub charged_after : Act → Standing → ℕ
 charged_after (StationSettle device completed failed now) s = completed * s.rate
 charged_after _ s = s.charged
 
 abbrev pub SettlingAloneCharges : Type 0
-SettlingAloneCharges = (act : Act) (s next : Standing) → move act s ≡ Ok next → next.charged ≡ charged_after act s
+SettlingAloneCharges =
+    (act : Act) (s next : Standing) → move act s ≡ Ok next → next.charged ≡ charged_after act s
 
 -- the rate of a released job is the one that its release fixed, unless the job is held again
 abbrev pub ReleasesFixRates : Type 0
-ReleasesFixRates = (act : Act) (s next : Standing) → move act s ≡ Ok next → is_released s.state ≡ true → (next.rate ≡ s.rate) ⊎ (next.state ≡ Held)
+ReleasesFixRates = (act : Act) (s next : Standing) → move act s ≡ Ok next
+    → is_released s.state ≡ true → (next.rate ≡ s.rate) ⊎ (next.state ≡ Held)
 
 -- what an act is told to be left of the quota, if it is told
 abbrev pub left_told : Act → Option ℤ
@@ -42,24 +45,31 @@ pub record Reserves (act : Act) (released : Standing) : Type 0 where
   pub within_left : IfSome (left_told act) (λ left. pos released.reserved ≤ℤ left)
 
 abbrev pub ReleasesReserve : Type 0
-ReleasesReserve = (act : Act) (s next : Standing) → move act s ≡ Ok next → s.state ≡ Held → next.state ≡ Pending → Reserves act next
+ReleasesReserve = (act : Act) (s next : Standing) → move act s ≡ Ok next → s.state ≡ Held
+    → next.state ≡ Pending → Reserves act next
 
--- what is reserved is given back whole when the job is held, canceled or settled, and stays until then
+-- what is reserved is given back whole when the job is held, canceled or settled, and stays until
+-- then
 abbrev pub ReservationsAreGivenBack : Type 0
-ReservationsAreGivenBack = (act : Act) (s next : Standing) → IsStanding s → move act s ≡ Ok next → is_released next.state ≡ false → next.reserved ≡ 0
+ReservationsAreGivenBack = (act : Act) (s next : Standing) → IsStanding s → move act s ≡ Ok next
+    → is_released next.state ≡ false → next.reserved ≡ 0
 
 abbrev pub ReservationsStay : Type 0
-ReservationsStay = (act : Act) (s next : Standing) → move act s ≡ Ok next → is_released s.state ≡ true → is_released next.state ≡ true → next.reserved ≡ s.reserved
+ReservationsStay = (act : Act) (s next : Standing) → move act s ≡ Ok next
+    → is_released s.state ≡ true → is_released next.state ≡ true → next.reserved ≡ s.reserved
 
 -- what opens a job with a password: at a station, exactly its password
 abbrev pub MeetsPassword : Act → Type 0
 MeetsPassword (ReleaseJob has_password left) = has_password ≡ false
-MeetsPassword (StationRelease kept device given impressions rate left) = (kept ≡ []) ⊎ (given ≡ kept)
+MeetsPassword (StationRelease kept device given impressions rate left) =
+    (kept ≡ []) ⊎ (given ≡ kept)
 MeetsPassword _ = ⊥
 
--- a job with a password becomes pending at a station alone, by exactly its password; nothing but a release makes a job pending
+-- a job with a password becomes pending at a station alone, by exactly its password; nothing but a
+-- release makes a job pending
 abbrev pub PasswordsAreAsked : Type 0
-PasswordsAreAsked = (act : Act) (s next : Standing) → move act s ≡ Ok next → next.state ≡ Pending → (next ≡ s) ⊎ MeetsPassword act
+PasswordsAreAsked = (act : Act) (s next : Standing) → move act s ≡ Ok next → next.state ≡ Pending
+    → (next ≡ s) ⊎ MeetsPassword act
 
 abbrev pub IsStart : Act → Type 0
 IsStart (StationStart device rate now) = Unit {0}
@@ -67,13 +77,16 @@ IsStart _ = ⊥
 
 -- nothing but a start makes a job processing
 abbrev pub StartsAloneProcess : Type 0
-StartsAloneProcess = (act : Act) (s next : Standing) → move act s ≡ Ok next → next.state ≡ Processing → (s.state ≡ Processing) ⊎ IsStart act
+StartsAloneProcess = (act : Act) (s next : Standing) → move act s ≡ Ok next
+    → next.state ≡ Processing → (s.state ≡ Processing) ⊎ IsStart act
 
 -- a job as it was released, where what that reserves is left
 abbrev pub within_quota : Standing → ℤ → Result Standing Refusal
-within_quota released left = if exceeds released.reserved left then refused (Quota released.reserved left) else Ok released
+within_quota released left =
+    if exceeds released.reserved left then refused (Quota released.reserved left) else Ok released
 
--- a release by the act is refused for the quota where it would reserve more than what is left, and else stays as it is
+-- a release by the act is refused for the quota where it would reserve more than what is left, and
+-- else stays as it is
 abbrev pub kept_to_quota : JobState → ℤ → Result Standing Refusal → Result Standing Refusal
 kept_to_quota before left (Err refusal) = Err refusal
 kept_to_quota before left (Ok next) = if is_released before then Ok next else within_quota next left
@@ -84,7 +97,13 @@ RefusesNothing enough = pos (most_impressions * most_copies * most_rate) ≤ℤ 
 
 -- the quota is the last that a release is refused for
 pub record QuotaComesLast : Type 0 where
-  pub of_the_owner : (s : Standing) (has_password : Bool) (left enough : ℤ) → IsStanding s → RefusesNothing enough →
-      move (ReleaseJob has_password left) s ≡ kept_to_quota s.state left (move (ReleaseJob has_password enough) s)
-  pub at_a_station : (s : Standing) (kept device given : List ℕ) (impressions rate : ℕ) (left enough : ℤ) → IsStanding s → impressions ≤ most_impressions → rate ≤ most_rate → RefusesNothing enough →
-      move (StationRelease kept device given impressions rate left) s ≡ kept_to_quota s.state left (move (StationRelease kept device given impressions rate enough) s)
+  pub of_the_owner : (s : Standing) (has_password : Bool) (left enough : ℤ)
+      → IsStanding s → RefusesNothing enough
+      → move (ReleaseJob has_password left) s
+      ≡ kept_to_quota s.state left (move (ReleaseJob has_password enough) s)
+  pub at_a_station : (s : Standing) (kept device given : List ℕ) (impressions rate : ℕ)
+      (left enough : ℤ)
+      → IsStanding s → impressions ≤ most_impressions → rate ≤ most_rate → RefusesNothing enough
+      → move (StationRelease kept device given impressions rate left) s
+      ≡ kept_to_quota s.state left
+      (move (StationRelease kept device given impressions rate enough) s)

@@ -98,7 +98,8 @@ pub fn release_at_station(
     requires standing { IsStanding s }
     requires impressions { impressions ≤ most_impressions }
     requires rate { (1 ≤ rate) × (rate ≤ most_rate) }
-    ensures moved { result ≡ move (StationRelease kept.now device given.now impressions rate left) s }
+    ensures moved { result
+        ≡ move (StationRelease kept.now device given.now impressions rate left) s }
     ensures standing { IfOk result IsStanding }
 {
     match s.state {

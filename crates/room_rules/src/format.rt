@@ -72,7 +72,8 @@ fn is_named(format: &Format, text: &[u8]) -> bool
 }
 
 fn first_spelled(text: &[u8]) -> Option<&'static Format>
-    ensures { option_copied result ≡ find (λ format. bytes_eq text.now (media_type format)) formats }
+    ensures { option_copied result
+        ≡ find (λ format. bytes_eq text.now (media_type format)) formats }
 {
     FORMATS.iter().find(|format| is_spelled(format, text))
 }
