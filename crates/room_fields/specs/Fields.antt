@@ -4,17 +4,20 @@ use Rattle.std.specs.Cmp.Lexicographic.{pointwise}
 use Rattle.std.specs.Str.Parse.{IsNumeral}
 
 -- one of two words
-abbrev pub choice_said : List ℕ → List ℕ → List ℕ → Option Bool
-choice_said first second text = if pointwise nat_eq text first then Some true else if pointwise nat_eq text second then Some false else None
+abbrev pub choice_said : (first second text : List ℕ) → Option Bool
+choice_said first second text =
+    if pointwise nat_eq text first then Some true
+    else if pointwise nat_eq text second then Some false
+    else None
 
 -- a decimal digit
 abbrev pub digit_said : ℕ → Option ℕ
 digit_said byte = if nat_le 48 byte && nat_le byte 57 then Some (byte - 48) else None
 
-abbrev pub after_tens : ℕ → ℕ → Option ℕ
+abbrev pub after_tens : (ones tens : ℕ) → Option ℕ
 after_tens ones tens = option_map (λ one. tens * 10 + one) (digit_said ones)
 
-abbrev pub two_digits_said : ℕ → ℕ → Option ℕ
+abbrev pub two_digits_said : (tens ones : ℕ) → Option ℕ
 two_digits_said tens ones = option_and_then (after_tens ones) (digit_said tens)
 
 -- decimal digits, the first of which is 0 in `0` alone
@@ -23,14 +26,17 @@ pub record IsDecimal (text : List ℕ) : Type 0 where
   pub no_leading_zero : slice_index text 0 ≡ 48 → length text ≡ 1
 
 -- a number within bounds
-abbrev pub within : ℕ → ℕ → ℕ → Option ℕ
+abbrev pub within : (least most n : ℕ) → Option ℕ
 within least most n = if nat_le least n && nat_le n most then Some n else None
 
 -- twelve times the year, and 0 for January to 11 for December; the years 1970 to 2099
-abbrev pub month_number : ℕ → ℕ → Option ℕ
-month_number year month = if nat_le 1970 year && nat_le year 2099 && nat_le 1 month && nat_le month 12 then Some (year * 12 + month - 1) else None
+abbrev pub month_number : (year month : ℕ) → Option ℕ
+month_number year month =
+    if nat_le 1970 year && nat_le year 2099 && nat_le 1 month && nat_le month 12
+    then Some (year * 12 + month - 1)
+    else None
 
-abbrev pub with_year : Option ℕ → Option ℕ → Option ℕ → Option ℕ
+abbrev pub with_year : (centuries years month : Option ℕ) → Option ℕ
 with_year None years month = None
 with_year (Some centuries) None month = None
 with_year (Some centuries) (Some years) None = None
@@ -40,5 +46,7 @@ with_year (Some centuries) (Some years) (Some month) = month_number (centuries *
 abbrev pub month_said : List ℕ → Option ℕ
 month_said text =
     if (length text == 7) && (slice_index text 4 == 45)
-    then with_year (two_digits_said (slice_index text 0) (slice_index text 1)) (two_digits_said (slice_index text 2) (slice_index text 3)) (two_digits_said (slice_index text 5) (slice_index text 6))
+    then with_year (two_digits_said (slice_index text 0) (slice_index text 1))
+    (two_digits_said (slice_index text 2) (slice_index text 3))
+    (two_digits_said (slice_index text 5) (slice_index text 6))
     else None

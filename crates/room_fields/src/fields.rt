@@ -24,7 +24,8 @@ pub enum FieldFault {
 /// The number that the bytes write in decimal, which is `0` or begins with a digit that is not 0.
 /// A sign, a leading zero or a number of 2^64 or more gives `None`.
 pub fn decimal(text: &[u8]) -> Option<u64>
-    ensures { SomeIff result (IsDecimal text.now × (digits_value 10 text.now < 2 ^ 64)) (digits_value 10 text.now) }
+    ensures { SomeIff result (IsDecimal text.now × (digits_value 10 text.now < 2 ^ 64))
+        (digits_value 10 text.now) }
 {
     match text {
         [b'0'] => Some(0),
@@ -40,7 +41,9 @@ pub fn decimal(text: &[u8]) -> Option<u64>
 
 /// The number that the bytes write in decimal, if it lies between the two.
 pub fn number(text: &[u8], least: u32, most: u32) -> Option<u32>
-    ensures { SomeIff result (IsDecimal text.now × (least ≤ digits_value 10 text.now) × (digits_value 10 text.now ≤ most)) (digits_value 10 text.now) }
+    ensures { SomeIff result
+        (IsDecimal text.now × (least ≤ digits_value 10 text.now)
+        × (digits_value 10 text.now ≤ most)) (digits_value 10 text.now) }
 {
     let number = u32::try_from(decimal(text)?).ok()?;
     if least <= number && number <= most {
@@ -102,7 +105,8 @@ pub fn choice(text: &[u8], yes: &[u8], no: &[u8]) -> Option<bool>
 pub fn bytes(alloc: Global, text: &[u8]) -> Result<Vec<u8>, FieldFault>
     ensures read { IfOk result (λ bytes. decode_of text.now ≡ Ok bytes.items) }
     ensures pairs { OnOk result (0 < length text.now) }
-    ensures malformed { IsErrOf result FieldFault.Malformed → 0 < length text.now → IsErr (decode_of text.now) }
+    ensures malformed { IsErrOf result FieldFault.Malformed → 0 < length text.now
+        → IsErr (decode_of text.now) }
 {
     if text.is_empty() {
         return Err(FieldFault::Malformed);

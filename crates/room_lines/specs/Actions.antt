@@ -1,4 +1,5 @@
--- The numbers that a line may say, whose lines they are, and the events that they ask for (this project's own).
+-- The numbers that a line may say, whose lines they are, and the events that they ask for (this
+-- project's own).
 use Rattle.std.specs.Prelude.{ℕ, Bool, true, false, ◌&&◌, nat_le, Option, Some, None, unwrap_or}
 use Rattle.room_core.specs.declared.event.Event.{Event}
 use Rattle.room_core.specs.declared.event.Event.TheVariants as event
@@ -15,11 +16,13 @@ abbrev pub is_in_range : Action → Bool
 is_in_range (action.Open account) = true
 is_in_range (action.Device name on) = true
 is_in_range (action.Rate name units) = nat_le 1 units && nat_le units most_rate
-is_in_range (action.Grant account month pages) = nat_le first_month month && nat_le month last_month && nat_le pages most_pages
+is_in_range (action.Grant account month pages) =
+    nat_le first_month month && nat_le month last_month && nat_le pages most_pages
 is_in_range (action.Ipp account body) = true
 is_in_range (action.Release device account job password impressions) = are_impressions impressions
 is_in_range (action.Start device account job) = true
-is_in_range (action.Settle device account job impressions failed) = nat_le impressions most_impressions
+is_in_range (action.Settle device account job impressions failed) =
+    nat_le impressions most_impressions
 
 -- ---- whose line it is
 
@@ -43,7 +46,10 @@ event_of at (action.Open account) = event.Open account
 event_of at (action.Device name on) = event.Device name on
 event_of at (action.Rate name units) = event.Rate name units
 event_of at (action.Grant account month pages) = event.Grant account month pages
-event_of at (action.Ipp account body) = event.Ipp account (record { ref_ptr = at; now = body.items })
-event_of at (action.Release device account job password impressions) = event.Release device account job (record { ref_ptr = at; now = password.items }) (unwrap_or impressions 0)
+event_of at (action.Ipp account body) =
+    event.Ipp account (record { ref_ptr = at; now = body.items })
+event_of at (action.Release device account job password impressions) = event.Release device account
+    job (record { ref_ptr = at; now = password.items }) (unwrap_or impressions 0)
 event_of at (action.Start device account job) = event.Start device account job
-event_of at (action.Settle device account job impressions failed) = event.Settle device account job impressions failed
+event_of at (action.Settle device account job impressions failed) =
+    event.Settle device account job impressions failed

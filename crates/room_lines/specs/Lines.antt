@@ -5,7 +5,8 @@ use Rattle.room_lines.specs.declared.lines.Grammar.{Grammar}
 use Rattle.room_lines.specs.declared.lines.Grammar.TheVariants.{Script, Station, Operator}
 use Rattle.room_lines.specs.declared.line.Line.{Line}
 
--- a station's do nothing that an operator's do, nor the other way round, and both count as done at their moment
+-- a station's do nothing that an operator's do, nor the other way round, and both count as done at
+-- their moment
 abbrev pub IsAllowed : Grammar → Line → Type 0
 IsAllowed Script line = ⊤
 IsAllowed (Station moment) line = IsTrue (is_of_station line.action) × (line.moment ≡ moment)

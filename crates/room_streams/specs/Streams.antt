@@ -1,4 +1,5 @@
--- What a call of a source takes of the bytes that may be left in it, and a call of a sink of what it is handed.
+-- What a call of a source takes of the bytes that may be left in it, and a call of a sink of what
+-- it is handed.
 use Rattle.std.specs.Prelude.{◌≡◌, ◌==◌, ◌&&◌, ℕ, Bool, true, false, if◌then◌else◌, nat_lt, List, [], ◌++◌, length, Option, Some, None, Result, Ok, Err, ⊤, refl}
 use Rattle.room_streams.specs.declared.fault.StreamFault.{StreamFault}
 use Rattle.room_streams.specs.declared.fault.StreamFault.TheVariants.{Read, Memory, TooLong}
@@ -18,7 +19,8 @@ MayBeLeft None false rest = ⊤
 MayBeLeft (Some bytes) false rest = rest ≡ bytes
 
 -- something may be left in each reader
-pub some_left_of : (known : Option (List ℕ)) (ended : Bool) → (rest : List ℕ) × MayBeLeft known ended rest
+pub some_left_of : (known : Option (List ℕ)) (ended : Bool)
+    → (rest : List ℕ) × MayBeLeft known ended rest
 some_left_of known true = ([], refl)
 some_left_of None false = ([], tt)
 some_left_of (Some bytes) false = (bytes, refl)
@@ -33,7 +35,8 @@ abbrev pub failed_writes : {E : Type 0} → Result ℕ E → List ℕ → ℕ
 failed_writes (Ok count) piece = if count == 0 && nat_lt 0 (length piece) then 1 else 0
 failed_writes (Err error) piece = 1
 
--- the calls of the source that failed in a call that ended so: one where it tells of reading, else none
+-- the calls of the source that failed in a call that ended so: one where it tells of reading, else
+-- none
 abbrev pub read_faults : {A : Type 0} → Result A StreamFault → ℕ
 read_faults (Ok bytes) = 0
 read_faults (Err Read) = 1

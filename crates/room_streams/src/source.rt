@@ -19,7 +19,8 @@ pub trait Source {
     fn read(&mut self, buffer: &mut [u8]) -> io::Result<usize>
         requires { failures self.old < 2 ^ 64 - 1 }
         ensures bound { IfOk result (λ n. n ≤ length buffer.old) }
-        ensures bytes { IfOk result (λ n. Yields (left self.old) (left self.new) (take n buffer.new)) }
+        ensures bytes { IfOk result
+            (λ n. Yields (left self.old) (left self.new) (take n buffer.new)) }
         ensures end { IfOk result (λ n. n ≡ 0 → 0 < length buffer.old → IsSpent (left self.new)) }
         ensures failed { OnErr result (Yields (left self.old) (left self.new) []) }
         ensures count { failures self.new ≡ failures self.old + failed_reads result };

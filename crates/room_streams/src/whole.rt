@@ -22,8 +22,10 @@ pub fn read_whole<R: Source>(
     ensures all { IfOk result (λ bytes. R.left reader.old bytes.items) }
     ensures short { IfOk result (λ bytes. length bytes.items ≤ most) }
     ensures end { OnOk result (IsSpent (R.left reader.new)) }
-    ensures long { IsErrOf result StreamFault.TooLong → (bytes : List ℕ) × R.left reader.old bytes × (most < length bytes) }
-    ensures takes { (bytes : List ℕ) × (length bytes ≤ most + 1) × Yields (R.left reader.old) (R.left reader.new) bytes }
+    ensures long { IsErrOf result StreamFault.TooLong
+        → (bytes : List ℕ) × R.left reader.old bytes × (most < length bytes) }
+    ensures takes { (bytes : List ℕ) × (length bytes ≤ most + 1)
+        × Yields (R.left reader.old) (R.left reader.new) bytes }
     ensures count { R.failures reader.new ≡ R.failures reader.old + read_faults result }
 {
     let mut bytes = Vec::new(alloc);
