@@ -11,7 +11,7 @@ count_said [] = None
 count_said (digit ∷ []) = if nat_le 48 digit && nat_le digit 56 then Some (digit - 48) else None
 count_said (digit ∷ more ∷ rest) = None
 
-abbrev pub is_line : List ℕ → List ℕ → Bool
+abbrev pub is_line : (line text : List ℕ) → Bool
 is_line line text = pointwise nat_eq line text
 
 -- `failed`, `bad-line`, `documents N`, or anything else
@@ -19,7 +19,8 @@ abbrev pub answer_said : List ℕ → Option Answer
 answer_said line =
     if is_line line (codes "failed") then Some Failed
     else if is_line line (codes "bad-line") then Some BadLine
-    else if is_line (take 10 line) (codes "documents ") then option_map (λ count. Documents count) (count_said (drop 10 line))
+    else if is_line (take 10 line) (codes "documents ")
+    then option_map (λ count. Documents count) (count_said (drop 10 line))
     else Some Told
 
 -- a space or what ASCII prints

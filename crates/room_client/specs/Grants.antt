@@ -8,10 +8,12 @@ two_digits number = (48 + number / 10) ∷ (48 + number % 10) ∷ []
 
 -- `YYYY-MM` of twelve times the year, and 0 for January to 11 for December
 abbrev pub month_text : ℕ → List ℕ
-month_text month = two_digits (month / 12 / 100) ++ two_digits (month / 12 % 100) ++ codes "-" ++ two_digits (month % 12 + 1)
+month_text month = two_digits (month / 12 / 100) ++ two_digits (month / 12 % 100) ++ codes "-"
+    ++ two_digits (month % 12 + 1)
 
-abbrev pub grant_line : List ℕ → ℕ → ℕ → List ℕ
-grant_line account month pages = codes "grant " ++ account ++ codes " " ++ month_text month ++ codes " " ++ decimal pages
+abbrev pub grant_line : (account : List ℕ) (month pages : ℕ) → List ℕ
+grant_line account month pages =
+    codes "grant " ++ account ++ codes " " ++ month_text month ++ codes " " ++ decimal pages
 
 -- a bad record asks for none
 abbrev pub line_asked : GrantLine → Option (List ℕ)

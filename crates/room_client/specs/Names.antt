@@ -2,5 +2,6 @@
 use Rattle.std.specs.Prelude.{ℕ, List, ◌++◌, codes, decimal}
 
 -- `ACCOUNT-JOB-NUMBER`
-abbrev pub document_name : List ℕ → ℕ → ℕ → List ℕ
-document_name account job number = account ++ codes "-" ++ decimal job ++ codes "-" ++ decimal number
+abbrev pub document_name : (account : List ℕ) (job number : ℕ) → List ℕ
+document_name account job number =
+    account ++ codes "-" ++ decimal job ++ codes "-" ++ decimal number

@@ -32,7 +32,8 @@ impl Asked {
 
     /// The name of its document of the number: `ACCOUNT-JOB-NUMBER`.
     pub(crate) fn document_name(&self, alloc: Global, number: u8) -> Result<String, AllocError>
-        ensures { IfOk result (λ name. string_bytes name ≡ document_name self.now.account self.now.job number) }
+        ensures { IfOk result
+            (λ name. string_bytes name ≡ document_name self.now.account self.now.job number) }
     {
         match str::from_utf8(self.account.bytes()) {
             Ok(account) => name_of(alloc, account, self.job, number),

@@ -26,7 +26,8 @@ impl<R: BufRead, W: Write> Peer<R, W> {
 
     /// Sends a line, with the line feed that ends it.
     pub(crate) fn say(&mut self, line: &[u8]) -> Result<(), ClientFault>
-        ensures { OnOk result (Appends (W.contents self.old.writer) (W.contents self.new.writer) (line.now ++ codes "\n")) }
+        ensures { OnOk result (Appends (W.contents self.old.writer) (W.contents self.new.writer)
+            (line.now ++ codes "\n")) }
     {
         self.writer.write_all(line)?;
         self.writer.write_all(b"\n")?;

@@ -3,8 +3,8 @@ use Rattle.std.specs.Prelude.{ℕ}
 use Rattle.room_commands.specs.declared.fault.Fault.{Fault}
 use Rattle.room_commands.specs.declared.fault.Fault.TheVariants.{Usage, Name, Input, Line, Store, Memory, Io}
 
--- 1 for usage, 2 for bad input, of which nothing was run unless it was sent, 3 for the store and for memory, 4 for
--- reading and writing
+-- 1 for usage, 2 for bad input, of which nothing was run unless it was sent, 3 for the store and
+-- for memory, 4 for reading and writing
 abbrev pub status_of : Fault → ℕ
 status_of (Usage error) = 1
 status_of Name = 2

@@ -13,7 +13,8 @@ grant_fault_of stream.Read = grants.Read
 grant_fault_of stream.Memory = grants.Memory
 grant_fault_of stream.TooLong = grants.TooMany
 
--- the calls of the source that failed in a call that ended so: one where it tells of reading, else none
+-- the calls of the source that failed in a call that ended so: one where it tells of reading, else
+-- none
 abbrev pub read_faults : {A : Type 0} → Result A GrantFault → ℕ
 read_faults (Ok lines) = 0
 read_faults (Err grants.Read) = 1

@@ -15,14 +15,17 @@ name_said text = if is_name text then Some text else None
 
 -- decimal digits, the first of which is 0 in `0` alone
 abbrev pub is_decimal : List ℕ → Bool
-is_decimal text = nat_lt 0 (length text) && list_all is_ascii_digit text && (length text == 1 || not (slice_index text 0 == 48))
+is_decimal text = nat_lt 0 (length text) && list_all is_ascii_digit text
+    && (length text == 1 || not (slice_index text 0 == 48))
 
 -- pages in decimal, up to the most that one grant has
 abbrev pub pages_said : List ℕ → Option ℕ
-pages_said text = if is_decimal text && nat_le (digits_value 10 text) most_pages then Some (digits_value 10 text) else None
+pages_said text =
+    if is_decimal text && nat_le (digits_value 10 text) most_pages then Some (digits_value 10 text)
+    else None
 
 -- a grant, where each of its three fields says what it is to say
-abbrev pub good_line : Option (List ℕ) → Option ℕ → Option ℕ → Option GrantLine
+abbrev pub good_line : (account : Option (List ℕ)) (month pages : Option ℕ) → Option GrantLine
 good_line (Some account) (Some month) (Some pages) = Some (Good account month pages)
 good_line (Some account) (Some month) None = None
 good_line (Some account) None pages = None
@@ -30,7 +33,8 @@ good_line None month pages = None
 
 -- the record of this number: a grant where it has three fields, else bad
 abbrev pub grant_line : ℕ → List (List ℕ) → GrantLine
-grant_line number (account ∷ month ∷ pages ∷ []) = unwrap_or (good_line (name_said account) (month_said month) (pages_said pages)) (Bad number)
+grant_line number (account ∷ month ∷ pages ∷ []) =
+    unwrap_or (good_line (name_said account) (month_said month) (pages_said pages)) (Bad number)
 grant_line number [] = Bad number
 grant_line number (account ∷ []) = Bad number
 grant_line number (account ∷ month ∷ []) = Bad number
@@ -47,5 +51,6 @@ grant_lines records = lines_from 1 records
 
 -- a grant lies within the months of grants and the most pages of one
 abbrev pub IsInRange : GrantLine → Type 0
-IsInRange (Good account month pages) = (first_month ≤ month) × (month ≤ last_month) × (pages ≤ most_pages)
+IsInRange (Good account month pages) =
+    (first_month ≤ month) × (month ≤ last_month) × (pages ≤ most_pages)
 IsInRange (Bad number) = ⊤

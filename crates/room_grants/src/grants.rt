@@ -25,11 +25,14 @@ pub const MOST_BYTES: usize = 67_108_864;
 /// The file is read whole first, and of one that is too long no byte behind the first too many.
 pub fn read_grants<R: Source>(alloc: Global, reader: &mut R) -> Result<Vec<GrantLine>, GrantFault>
     requires { R.failures reader.old < 2 ^ 64 - 1 }
-    ensures lines { IfOk result (λ lines. (bytes : List ℕ) × R.left reader.old bytes × (exceeds bytes ≡ false) × (lines.items ≡ grant_lines (records_of bytes))) }
-    ensures many { IsErrOf result GrantFault.TooMany → (bytes : List ℕ) × R.left reader.old bytes × (exceeds bytes ≡ true) }
+    ensures lines { IfOk result (λ lines. (bytes : List ℕ) × R.left reader.old bytes
+        × (exceeds bytes ≡ false) × (lines.items ≡ grant_lines (records_of bytes))) }
+    ensures many { IsErrOf result GrantFault.TooMany
+        → (bytes : List ℕ) × R.left reader.old bytes × (exceeds bytes ≡ true) }
     ensures ranges { IfOk result (λ lines. All IsInRange lines.items) }
     ensures end { OnOk result (IsSpent (R.left reader.new)) }
-    ensures takes { (bytes : List ℕ) × (length bytes ≤ 67108865) × Yields (R.left reader.old) (R.left reader.new) bytes }
+    ensures takes { (bytes : List ℕ) × (length bytes ≤ 67108865)
+        × Yields (R.left reader.old) (R.left reader.new) bytes }
     ensures count { R.failures reader.new ≡ R.failures reader.old + read_faults result }
 {
     let bytes = read_whole(alloc, reader, MOST_BYTES)?;

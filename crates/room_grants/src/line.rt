@@ -41,7 +41,8 @@ pub(crate) fn grant_line(number: u32, row: &ByteRecord) -> GrantLine
 }
 
 fn good_line(account: &[u8], month_text: &[u8], pages: &[u8]) -> Option<GrantLine>
-    ensures said { result ≡ good_line (name_said account.now) (month_said month_text.now) (pages_said pages.now) }
+    ensures said { result
+        ≡ good_line (name_said account.now) (month_said month_text.now) (pages_said pages.now) }
     ensures range { IfSome result IsInRange }
 {
     Some(GrantLine::Good {
