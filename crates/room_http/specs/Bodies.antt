@@ -19,17 +19,19 @@ pub record IsChunkedBody (b body rest : List ℕ) : Type 0 where
   pub spelled : b ≡ (text ++ print_chunk_line last) ++ print_trailers trailers ++ rest
 
 -- the body, and what follows it
-abbrev pub HasBody : Framing → List ℕ → List ℕ → List ℕ → Type 0
+abbrev pub HasBody : (framing : Framing) (b body rest : List ℕ) → Type 0
 HasBody (Length n) b body rest = (b ≡ body ++ rest) × (length body ≡ n)
 HasBody Chunked b body rest = IsChunkedBody b body rest
 
 -- chunks, and something behind them
 abbrev pub HasBehindChunks : List ℕ → (List ℕ → List ℕ → Type 0) → Type 0
-HasBehindChunks b P = (chunks : List Chunk) × (text : List ℕ) × (body : List ℕ) × (behind : List ℕ) × AreChunks chunks text body × (length body ≤ 16842752) × (b ≡ text ++ behind) × P body behind
+HasBehindChunks b P = (chunks : List Chunk) × (text : List ℕ) × (body : List ℕ) × (behind : List ℕ)
+    × AreChunks chunks text body × (length body ≤ 16842752) × (b ≡ text ++ behind) × P body behind
 
 -- the line of size 0, and then no trailers
 abbrev pub EndsBadly : List ℕ → Type 0
-EndsBadly b = (last : ChunkLine) × (rest : List ℕ) × IsLast last × (b ≡ print_chunk_line last ++ rest) × HasNoTrailers rest
+EndsBadly b = (last : ChunkLine) × (rest : List ℕ) × IsLast last
+    × (b ≡ print_chunk_line last ++ rest) × HasNoTrailers rest
 
 -- something that is no body: the end, or chunks that are none
 pub data IsNoBody (b : List ℕ) : Framing → Type 0 where

@@ -1,4 +1,5 @@
--- A body in chunks (RFC 9112 section 7.1): lines that tell a size, each with so many bytes and CR LF behind it.
+-- A body in chunks (RFC 9112 section 7.1): lines that tell a size, each with so many bytes and CR
+-- LF behind it.
 use Rattle.std.specs.Prelude.{◌≡◌, ℕ, ◌+◌, ◌<◌, ◌≤◌, List, ◌++◌, length}
 use Rattle.std.specs.List.{flat_map, AllByRecursion}
 use Rattle.httparse.specs.Ascii.{crlf_bytes}
@@ -30,7 +31,8 @@ pub record AreChunks (chunks : List Chunk) (text bytes : List ℕ) : Type 0 wher
 
 -- no line that tells a size is at the front: one is refused, or too long, or the input ends
 abbrev pub HasNoSizeLine : List ℕ → Type 0
-HasNoSizeLine b = (line : ChunkLine) (rest : List ℕ) → IsSizeLine line → b ≡ print_chunk_line line ++ rest → ⊥
+HasNoSizeLine b =
+    (line : ChunkLine) (rest : List ℕ) → IsSizeLine line → b ≡ print_chunk_line line ++ rest → ⊥
 
 -- CR LF is not at the front
 abbrev pub HasNoLineEnd : List ℕ → Type 0
@@ -42,13 +44,17 @@ HasNoLineEnd b = (rest : List ℕ) → b ≡ crlf_bytes ++ rest → ⊥
 pub data IsNoChunk (b : List ℕ) : Type 0 where
   has_no_line : HasNoSizeLine b → IsNoChunk b
   -- the line, and fewer bytes than it tells
-  is_cut : (line : ChunkLine) (bytes : List ℕ) → IsSizeLine line → b ≡ print_chunk_line line ++ bytes → length bytes < chunk_size line → IsNoChunk b
+  is_cut : (line : ChunkLine) (bytes : List ℕ) → IsSizeLine line
+      → b ≡ print_chunk_line line ++ bytes → length bytes < chunk_size line → IsNoChunk b
   -- the line, the bytes that it tells, and something else than CR LF
-  has_no_end : (line : ChunkLine) (bytes rest : List ℕ) → IsSizeLine line → 0 < chunk_size line → chunk_size line ≡ length bytes → b ≡ print_chunk_line line ++ bytes ++ rest → HasNoLineEnd rest → IsNoChunk b
+  has_no_end : (line : ChunkLine) (bytes rest : List ℕ) → IsSizeLine line → 0 < chunk_size line
+      → chunk_size line ≡ length bytes → b ≡ print_chunk_line line ++ bytes ++ rest
+      → HasNoLineEnd rest → IsNoChunk b
 
 -- a chunk that makes a body of more than 16842752 bytes
 abbrev pub IsTooLongWith : ℕ → List ℕ → Type 0
-IsTooLongWith size b = (line : ChunkLine) × (rest : List ℕ) × IsSizeLine line × (b ≡ print_chunk_line line ++ rest) × (16842752 < size + chunk_size line)
+IsTooLongWith size b = (line : ChunkLine) × (rest : List ℕ) × IsSizeLine line
+    × (b ≡ print_chunk_line line ++ rest) × (16842752 < size + chunk_size line)
 
 -- the line of size 0, which ends the chunks
 abbrev pub IsLast : ChunkLine → Type 0

@@ -27,12 +27,13 @@ write_faults (Err Memory) = 0
 write_faults (Err Ended) = 0
 
 -- a front of the text was written that is not all of it
-abbrev pub AppendsFront : Option (List ℕ) → Option (List ℕ) → List ℕ → Type 0
+abbrev pub AppendsFront : (old new : Option (List ℕ)) (text : List ℕ) → Type 0
 AppendsFront old new text = (n : ℕ) × (n < length text) × Appends old new (take n text)
 
 -- Some bytes were taken, and with what is left now behind them this holds.
-abbrev pub Takes : (List ℕ → Type 0) → (List ℕ → Type 0) → (List ℕ → List ℕ → Type 0) → Type 0
-Takes before after P = (taken : List ℕ) × Yields before after taken × ((rest : List ℕ) → after rest → P (taken ++ rest) rest)
+abbrev pub Takes : (before after : List ℕ → Type 0) (P : (b rest : List ℕ) → Type 0) → Type 0
+Takes before after P = (taken : List ℕ) × Yields before after taken
+    × ((rest : List ℕ) → after rest → P (taken ++ rest) rest)
 
 -- A head that orders this was taken, and nothing behind it.
 pub record TakesHead (before after : List ℕ → Type 0) (order : Order) : Type 0 where
@@ -41,17 +42,27 @@ pub record TakesHead (before after : List ℕ → Type 0) (order : Order) : Type
   pub orders : (rest : List ℕ) → Orders (taken ++ rest) order rest
 
 -- what was received, by what the whole input is, and what was written
-abbrev pub ReceivedIs : (List ℕ → Type 0) → (List ℕ → Type 0) → Option (List ℕ) → Option (List ℕ) → Received → Type 0
-ReceivedIs before after old new received.Nothing = Takes before after (λ b rest. Http b Nothing) × (new ≡ old)
-ReceivedIs before after old new (received.Refused why) = (interim : Bool) × Takes before after (λ b rest. Http b (Refused interim why)) × Appends old new (interim_text interim)
-ReceivedIs before after old new (received.Carried order body) = Takes before after (λ b rest. Http b (Carried order body.items rest)) × Appends old new (interim_text order.expects)
+abbrev pub ReceivedIs : (before after : List ℕ → Type 0) (old new : Option (List ℕ))
+    (received : Received) → Type 0
+ReceivedIs before after old new received.Nothing =
+    Takes before after (λ b rest. Http b Nothing) × (new ≡ old)
+ReceivedIs before after old new (received.Refused why) =
+    (interim : Bool) × Takes before after (λ b rest. Http b (Refused interim why))
+    × Appends old new (interim_text interim)
+ReceivedIs before after old new (received.Carried order body) =
+    Takes before after (λ b rest. Http b (Carried order body.items rest))
+    × Appends old new (interim_text order.expects)
 
--- what is written where there was a fault: nothing or the 100 text, or a front of it, before anything behind the head
--- was taken
-abbrev pub FailedReceiving : (List ℕ → Type 0) → (List ℕ → Type 0) → Option (List ℕ) → Option (List ℕ) → WireFault → Type 0
-FailedReceiving before after old new Read = (interim : Bool) × Appends old new (interim_text interim)
-FailedReceiving before after old new Memory = (interim : Bool) × Appends old new (interim_text interim)
-FailedReceiving before after old new Write = (order : Order) × TakesHead before after order × (order.expects ≡ true) × AppendsFront old new (interim_text true)
+-- what is written where there was a fault: nothing or the 100 text, or a front of it, before
+-- anything behind the head was taken
+abbrev pub FailedReceiving : (before after : List ℕ → Type 0) (old new : Option (List ℕ))
+    (fault : WireFault) → Type 0
+FailedReceiving before after old new Read =
+    (interim : Bool) × Appends old new (interim_text interim)
+FailedReceiving before after old new Memory =
+    (interim : Bool) × Appends old new (interim_text interim)
+FailedReceiving before after old new Write = (order : Order) × TakesHead before after order
+    × (order.expects ≡ true) × AppendsFront old new (interim_text true)
 FailedReceiving before after old new Ended = ⊥
 
 -- a message of IPP has a header

@@ -18,14 +18,17 @@ is_named name field = is_same_word field.0 name
 -- the values of the fields of a name, in order
 abbrev pub values_named : List ℕ → List NameAndValue → List (List ℕ)
 values_named name [] = []
-values_named name (field ∷ fields) = if is_named name field then field.1 ∷ values_named name fields else values_named name fields
+values_named name (field ∷ fields) =
+    if is_named name field then field.1 ∷ values_named name fields else values_named name fields
 
 -- what was found among these values
 abbrev pub FoundIs : List (List ℕ) → Found → Type 0
 FoundIs values Absent = values ≡ []
 FoundIs values (One value) = values ≡ value.now ∷ []
-FoundIs values (Many first) = (second : List ℕ) × (others : List (List ℕ)) × (values ≡ first.now ∷ second ∷ others)
+FoundIs values (Many first) =
+    (second : List ℕ) × (others : List (List ℕ)) × (values ≡ first.now ∷ second ∷ others)
 
 -- the same with one more value
 abbrev pub FindsMore : Found → List ℕ → Found → Type 0
-FindsMore old value new = (values : List (List ℕ)) → FoundIs values old → FoundIs (values ++ value ∷ []) new
+FindsMore old value new =
+    (values : List (List ℕ)) → FoundIs values old → FoundIs (values ++ value ∷ []) new

@@ -1,6 +1,6 @@
--- Where the body of a message ends (RFC 9112 section 6): one Content-Length of 1 to 18 digits, or one
--- Transfer-Encoding, which is chunked, or neither, and then there is none (narrower than RFC 9112: this
--- project's rule).
+-- Where the body of a message ends (RFC 9112 section 6): one Content-Length of 1 to 18 digits, or
+-- one Transfer-Encoding, which is chunked, or neither, and then there is none (narrower than
+-- RFC 9112: this project's rule).
 use Rattle.std.specs.Prelude.{ℕ, ◌&&◌, Bool, List, [], ◌∷◌, Option, Some, None, codes, if◌then◌else◌, length, nat_le, nat_lt}
 use Rattle.std.specs.Char.{is_ascii_digit}
 use Rattle.std.specs.List.{list_all}
@@ -11,7 +11,8 @@ use Rattle.room_http.specs.declared.framing.Framing.{Framing}
 use Rattle.room_http.specs.declared.framing.Framing.TheVariants.{Length, Chunked}
 
 abbrev pub is_short_number : List ℕ → Bool
-is_short_number digits = nat_lt 0 (length digits) && (nat_le (length digits) 18 && list_all is_ascii_digit digits)
+is_short_number digits =
+    nat_lt 0 (length digits) && (nat_le (length digits) 18 && list_all is_ascii_digit digits)
 
 abbrev pub by_length : List ℕ → Option Framing
 by_length digits = if is_short_number digits then Some (Length (digits_value 10 digits)) else None
@@ -29,4 +30,5 @@ framed_by (digits ∷ []) (coding ∷ codings) = None
 framed_by (digits ∷ another ∷ lengths) codings = None
 
 abbrev pub framing_of : List NameAndValue → Option Framing
-framing_of fields = framed_by (values_named (codes "content-length") fields) (values_named (codes "transfer-encoding") fields)
+framing_of fields = framed_by (values_named (codes "content-length") fields)
+    (values_named (codes "transfer-encoding") fields)

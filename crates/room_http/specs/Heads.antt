@@ -1,5 +1,5 @@
--- Heads of requests (RFC 9112 sections 2 to 5, as `httparse` reads them): of 16384 bytes and 64 fields at
--- most (this project's limits), and what stands in the place of one.
+-- Heads of requests (RFC 9112 sections 2 to 5, as `httparse` reads them): of 16384 bytes and 64
+-- fields at most (this project's limits), and what stands in the place of one.
 use Rattle.std.specs.Prelude.{◌≡◌, ◌≢◌, ℕ, ◌<◌, ◌≤◌, List, [], ◌++◌, length}
 use Rattle.httparse.specs.Grammar.{RequestHead, IsRequestHead, print_request, HasNoRequest, MayBecomeRequest, NeverHasRequest}
 use Rattle.httparse.specs.Spans.{RequestExceeds, RequestOverflows}
@@ -13,14 +13,17 @@ pub record Opens (b : List ℕ) (h : RequestHead) (behind : List ℕ) : Type 0 w
 
 -- 16384 bytes are there, which hold no whole head and are not refused
 abbrev pub IsTooLong : List ℕ → Type 0
-IsTooLong b = (front : List ℕ) × (rest : List ℕ) × (b ≡ front ++ rest) × (length front ≡ 16384) × HasNoRequest front × MayBecomeRequest front
+IsTooLong b = (front : List ℕ) × (rest : List ℕ) × (b ≡ front ++ rest) × (length front ≡ 16384)
+    × HasNoRequest front × MayBecomeRequest front
 
 -- in its place
 
 pub data IsNoHead (b : List ℕ) : Type 0 where
   -- bytes that no head begins with
-  is_invalid : (front rest : List ℕ) → b ≡ front ++ rest → length front ≤ 16384 → NeverHasRequest front → IsNoHead b
+  is_invalid : (front rest : List ℕ) → b ≡ front ++ rest → length front ≤ 16384
+      → NeverHasRequest front → IsNoHead b
   -- more fields than there may be
-  has_many_fields : (front rest : List ℕ) → b ≡ front ++ rest → length front ≤ 16384 → RequestExceeds 64 front → RequestOverflows 64 front → IsNoHead b
+  has_many_fields : (front rest : List ℕ) → b ≡ front ++ rest → length front ≤ 16384
+      → RequestExceeds 64 front → RequestOverflows 64 front → IsNoHead b
   -- the end
   is_cut : b ≢ [] → length b < 16384 → HasNoRequest b → IsNoHead b

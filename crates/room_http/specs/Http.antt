@@ -1,5 +1,5 @@
--- What a whole input is: nothing, a message that is refused, or one that is carried out with what follows it.
--- The refusals stand in the order in which they are judged (all this project's own).
+-- What a whole input is: nothing, a message that is refused, or one that is carried out with what
+-- follows it. The refusals stand in the order in which they are judged (all this project's own).
 use Rattle.std.specs.Prelude.{◌≡◌, ℕ, ◌<◌, ◌≤◌, Bool, false, List, [], Ok, Err, length}
 use Rattle.httparse.specs.Grammar.{RequestHead}
 use Rattle.room_http.specs.Bodies.{HasBody, IsNoBody, IsTooLongBody}
@@ -15,7 +15,7 @@ pub data Heard : Type 0 where
   -- whether the 100 text came before, and the refusal
   Refused : Bool → Refusal → Heard
   -- what its head orders, its body, and what follows
-  Carried : Order → List ℕ → List ℕ → Heard
+  Carried : (order : Order) (body rest : List ℕ) → Heard
 
 -- a head stands at the front that orders this, and what stands behind it
 pub record Orders (b : List ℕ) (order : Order) (behind : List ℕ) : Type 0 where
@@ -30,12 +30,19 @@ pub data Http (b : List ℕ) : Heard → Type 0 where
   -- line 2: no head
   has_no_head : IsNoHead b → Http b (Refused false BadRequest)
   -- lines 2 to 6: a head that is refused for what it says
-  has_refused_head : (head : RequestHead) (behind : List ℕ) (why : Refusal) → Opens b head behind → judged (said_by head) ≡ Err why → Http b (Refused false why)
+  has_refused_head : (head : RequestHead) (behind : List ℕ) (why : Refusal) → Opens b head behind
+      → judged (said_by head) ≡ Err why → Http b (Refused false why)
   -- line 6: chunks of more bytes than a body may have
-  has_long_body : (order : Order) (behind : List ℕ) → Orders b order behind → order.framing ≡ Chunked → IsTooLongBody behind → Http b (Refused order.expects PayloadTooLarge)
+  has_long_body : (order : Order) (behind : List ℕ) → Orders b order behind
+      → order.framing ≡ Chunked → IsTooLongBody behind
+      → Http b (Refused order.expects PayloadTooLarge)
   -- line 6: no body
-  has_no_body : (order : Order) (behind : List ℕ) → Orders b order behind → IsNoBody behind order.framing → Http b (Refused order.expects BadRequest)
+  has_no_body : (order : Order) (behind : List ℕ) → Orders b order behind
+      → IsNoBody behind order.framing → Http b (Refused order.expects BadRequest)
   -- line 7: a body that is too short for a message of IPP
-  has_short_body : (order : Order) (behind body rest : List ℕ) → Orders b order behind → HasBody order.framing behind body rest → length body < 8 → Http b (Refused order.expects BadRequest)
+  has_short_body : (order : Order) (behind body rest : List ℕ) → Orders b order behind
+      → HasBody order.framing behind body rest → length body < 8
+      → Http b (Refused order.expects BadRequest)
   -- whether the account is known is seen when it is asked
-  has_message : (order : Order) (behind body rest : List ℕ) → Orders b order behind → HasBody order.framing behind body rest → 8 ≤ length body → Http b (Carried order body rest)
+  has_message : (order : Order) (behind body rest : List ℕ) → Orders b order behind
+      → HasBody order.framing behind body rest → 8 ≤ length body → Http b (Carried order body rest)

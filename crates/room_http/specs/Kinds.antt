@@ -3,7 +3,7 @@ use Rattle.std.specs.Prelude.{◌≡◌, ◌==◌, ◌&&◌, ◌||◌, ℕ, Bool
 use Rattle.std.specs.List.{ends_with, list_any}
 
 -- none is at the front
-abbrev pub HasNone : {X : Type 0} → (X → List ℕ) → (X → Type 0) → List ℕ → Type 0
+abbrev pub HasNone : {X : Type 0} → (print : X → List ℕ) (IsX : X → Type 0) (text : List ℕ) → Type 0
 HasNone {X} print IsX text = (x : X) (rest : List ℕ) → ¬ (IsX x × (text ≡ print x ++ rest))
 
 -- a line ends here
@@ -12,7 +12,8 @@ ends_line text = ends_with nat_eq text (codes "\n")
 
 -- an empty line ends here
 abbrev pub ends_empty_line : List ℕ → Bool
-ends_empty_line text = ends_with nat_eq text (codes "\n\n") || ends_with nat_eq text (codes "\n\r\n")
+ends_empty_line text =
+    ends_with nat_eq text (codes "\n\n") || ends_with nat_eq text (codes "\n\r\n")
 
 abbrev pub has_space : List ℕ → Bool
 has_space text = list_any (λ b. b == 32) text

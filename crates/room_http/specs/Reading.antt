@@ -37,25 +37,34 @@ byte_list (Some byte) = byte ∷ []
 
 -- ---- heads
 
-abbrev pub HeadIs : ℕ → (List ℕ → Type 0) → List ℕ → List HeaderSpan → Head → Type 0
-HeadIs room left text headers (head_is.Whole spans) = IsRequestOf text headers spans × IsRequestWithin text headers spans × (spans.len ≡ length text)
+abbrev pub HeadIs : (room : ℕ) (left : List ℕ → Type 0) (text : List ℕ)
+    (headers : List HeaderSpan) (head : Head) → Type 0
+HeadIs room left text headers (head_is.Whole spans) =
+    IsRequestOf text headers spans × IsRequestWithin text headers spans × (spans.len ≡ length text)
 HeadIs room left text headers head_is.Absent = (text ≡ []) × IsSpent left
-HeadIs room left text headers head_is.Cut = (text ≢ []) × (length text < 16384) × IsSpent left × HasNoRequest text
+HeadIs room left text headers head_is.Cut =
+    (text ≢ []) × (length text < 16384) × IsSpent left × HasNoRequest text
 HeadIs room left text headers head_is.Invalid = NeverHasRequest text
-HeadIs room left text headers head_is.TooMany = RequestExceeds room text × RequestOverflows room text
-HeadIs room left text headers head_is.TooLong = (length text ≡ 16384) × HasNoRequest text × MayBecomeRequest text
+HeadIs room left text headers head_is.TooMany =
+    RequestExceeds room text × RequestOverflows room text
+HeadIs room left text headers head_is.TooLong =
+    (length text ≡ 16384) × HasNoRequest text × MayBecomeRequest text
 
 -- ---- so many bytes
 
 -- they were read behind what was there, or fewer and the end
-abbrev pub ReadsInto : (List ℕ → Type 0) → (List ℕ → Type 0) → List ℕ → List ℕ → ℕ → Bool → Type 0
-ReadsInto before after old new count true = (bytes : List ℕ) × (length bytes ≡ count) × (new ≡ old ++ bytes) × Yields before after bytes
-ReadsInto before after old new count false = (bytes : List ℕ) × (length bytes < count) × (new ≡ old ++ bytes) × Yields before after bytes × IsSpent after
+abbrev pub ReadsInto : (before after : List ℕ → Type 0) (old new : List ℕ) (count : ℕ)
+    (is_whole : Bool) → Type 0
+ReadsInto before after old new count true =
+    (bytes : List ℕ) × (length bytes ≡ count) × (new ≡ old ++ bytes) × Yields before after bytes
+ReadsInto before after old new count false = (bytes : List ℕ) × (length bytes < count)
+    × (new ≡ old ++ bytes) × Yields before after bytes × IsSpent after
 
 -- ---- chunks
 
 abbrev pub SizeLineIs : (List ℕ → Type 0) → (List ℕ → Type 0) → SizeLine → Type 0
-SizeLineIs before after (Size size) = (line : ChunkLine) × IsSizeLine line × Yields before after (print_chunk_line line) × (size ≡ chunk_size line)
+SizeLineIs before after (Size size) = (line : ChunkLine) × IsSizeLine line
+    × Yields before after (print_chunk_line line) × (size ≡ chunk_size line)
 SizeLineIs before after Invalid = Takes before after (λ b rest. HasNoSizeLine b)
 
 abbrev pub LineEndIs : (List ℕ → Type 0) → (List ℕ → Type 0) → Bool → Type 0
@@ -64,29 +73,37 @@ LineEndIs before after false = Takes before after (λ b rest. HasNoLineEnd b)
 
 -- the chunks of this body, and the line of size 0 behind them
 abbrev pub EndsChunks : (List ℕ → Type 0) → (List ℕ → Type 0) → List ℕ → Type 0
-EndsChunks before after body = (chunks : List Chunk) × (text : List ℕ) × (last : ChunkLine) × AreChunks chunks text body × IsLast last × (length body ≤ 16842752) × Yields before after (text ++ print_chunk_line last)
+EndsChunks before after body =
+    (chunks : List Chunk) × (text : List ℕ) × (last : ChunkLine) × AreChunks chunks text body
+    × IsLast last × (length body ≤ 16842752) × Yields before after (text ++ print_chunk_line last)
 
-abbrev pub ChunksAre : (List ℕ → Type 0) → (List ℕ → Type 0) → List ℕ → Chunks → Type 0
+abbrev pub ChunksAre : (before after : List ℕ → Type 0) (body : List ℕ) (chunks : Chunks) → Type 0
 ChunksAre before after body chunks_are.Whole = EndsChunks before after body
-ChunksAre before after body chunks_are.Invalid = Takes before after (λ b rest. HasBehindChunks b (λ bytes behind. IsNoChunk behind))
+ChunksAre before after body chunks_are.Invalid =
+    Takes before after (λ b rest. HasBehindChunks b (λ bytes behind. IsNoChunk behind))
 ChunksAre before after body chunks_are.TooLong = Takes before after (λ b rest. IsTooLongBody b)
 
 -- ---- trailers
 
 abbrev pub TrailersAre : (List ℕ → Type 0) → (List ℕ → Type 0) → Bool → Type 0
-TrailersAre before after true = (section : Section) × AreTrailers section × Yields before after (print_trailers section)
+TrailersAre before after true =
+    (section : Section) × AreTrailers section × Yields before after (print_trailers section)
 TrailersAre before after false = Takes before after (λ b rest. HasNoTrailers b)
 
 -- ---- bodies
 
-abbrev pub BodyIs : Framing → (List ℕ → Type 0) → (List ℕ → Type 0) → Body → Type 0
-BodyIs framing before after (body_is.Whole body) = Takes before after (λ b rest. HasBody framing b body.items rest)
+abbrev pub BodyIs : (framing : Framing) (before after : List ℕ → Type 0) (body : Body) → Type 0
+BodyIs framing before after (body_is.Whole body) =
+    Takes before after (λ b rest. HasBody framing b body.items rest)
 BodyIs framing before after body_is.Bad = Takes before after (λ b rest. IsNoBody b framing)
-BodyIs framing before after body_is.TooLong = (framing ≡ framing_is.Chunked) × Takes before after (λ b rest. IsTooLongBody b)
+BodyIs framing before after body_is.TooLong =
+    (framing ≡ framing_is.Chunked) × Takes before after (λ b rest. IsTooLongBody b)
 
 -- ---- heads that are judged
 
 abbrev pub OpeningIs : (List ℕ → Type 0) → (List ℕ → Type 0) → Opening → Type 0
 OpeningIs before after opening_is.Nothing = Takes before after (λ b rest. Http b Nothing)
-OpeningIs before after (opening_is.Refused why) = Takes before after (λ b rest. Http b (Refused false why))
-OpeningIs before after (opening_is.Ordered order) = TakesHead before after order × FitsLimit order.framing
+OpeningIs before after (opening_is.Refused why) =
+    Takes before after (λ b rest. Http b (Refused false why))
+OpeningIs before after (opening_is.Ordered order) =
+    TakesHead before after order × FitsLimit order.framing

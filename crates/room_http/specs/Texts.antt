@@ -13,7 +13,8 @@ status_of UnsupportedMediaType = 415
 status_of HeadTooLarge = 431
 
 unfoldable pub status_line : ℕ → List ℕ
-status_line status = codes "HTTP/1.1 " ++ code_digits status ++ codes " " ++ unwrap_or (reason_phrase status) [] ++ codes "\r\n"
+status_line status = codes "HTTP/1.1 " ++ code_digits status ++ codes " "
+    ++ unwrap_or (reason_phrase status) [] ++ codes "\r\n"
 
 -- a refusal of the method names the one that there is (RFC 9110 section 15.5.6)
 abbrev pub allowed : Refusal → List ℕ
@@ -21,7 +22,8 @@ allowed MethodNotAllowed = codes "Allow: POST\r\n"
 allowed _ = []
 
 abbrev pub refusal_text : Refusal → List ℕ
-refusal_text refusal = status_line (status_of refusal) ++ codes "Content-Length: 0\r\nConnection: close\r\n" ++ allowed refusal ++ codes "\r\n"
+refusal_text refusal = status_line (status_of refusal)
+    ++ codes "Content-Length: 0\r\nConnection: close\r\n" ++ allowed refusal ++ codes "\r\n"
 
 -- the text that a client may wait for before it sends the body
 abbrev pub interim_text : Bool → List ℕ
@@ -32,7 +34,9 @@ abbrev pub close_field : Bool → List ℕ
 close_field closes = if closes then codes "Connection: close\r\n" else []
 
 abbrev pub answer_head : ℕ → Bool → List ℕ
-answer_head size closes = status_line 200 ++ codes "Content-Type: application/ipp\r\nContent-Length: " ++ decimal size ++ codes "\r\n" ++ close_field closes ++ codes "\r\n"
+answer_head size closes =
+    status_line 200 ++ codes "Content-Type: application/ipp\r\nContent-Length: " ++ decimal size
+    ++ codes "\r\n" ++ close_field closes ++ codes "\r\n"
 
 -- an answer of IPP
 abbrev pub answer_text : List ℕ → Bool → List ℕ

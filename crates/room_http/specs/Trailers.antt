@@ -1,5 +1,5 @@
--- The fields behind a body in chunks (RFC 9112 section 7.1.2): 64 at most, of 4096 bytes at most with the
--- empty line behind them (this project's limits). What they say is ignored.
+-- The fields behind a body in chunks (RFC 9112 section 7.1.2): 64 at most, of 4096 bytes at most
+-- with the empty line behind them (this project's limits). What they say is ignored.
 use Rattle.std.specs.Prelude.{◌≡◌, ℕ, ◌≤◌, List, ◌++◌, length, All}
 use Rattle.httparse.specs.Grammar.{Field, IsField, LineEnd, print_section}
 
@@ -18,4 +18,5 @@ pub record AreTrailers (section : Section) : Type 0 where
 
 -- none are at the front
 abbrev pub HasNoTrailers : List ℕ → Type 0
-HasNoTrailers b = (section : Section) (rest : List ℕ) → AreTrailers section → b ≡ print_trailers section ++ rest → ⊥
+HasNoTrailers b = (section : Section) (rest : List ℕ) → AreTrailers section
+    → b ≡ print_trailers section ++ rest → ⊥

@@ -5,7 +5,7 @@ use Rattle.std.specs.List.{list_any, position_or_len, slice_split}
 use Rattle.httparse.specs.Ascii.{comma}
 
 -- the same word, in any case
-abbrev pub is_same_word : List ℕ → List ℕ → Bool
+abbrev pub is_same_word : (a b : List ℕ) → Bool
 is_same_word a b = bytes_eq (map to_ascii_lowercase a) (map to_ascii_lowercase b)
 
 -- what stands before the first such byte, and all where there is none
@@ -13,14 +13,16 @@ abbrev pub before : ℕ → List ℕ → List ℕ
 before mark bytes = take (position_or_len (λ b. b == mark) bytes) bytes
 
 -- without the bytes of a margin at its front
-abbrev pub without_front : List ℕ → List ℕ → List ℕ
+abbrev pub without_front : (margin bytes : List ℕ) → List ℕ
 without_front margin [] = []
-without_front margin (b ∷ bytes) = if list_any (λ m. m == b) margin then without_front margin bytes else b ∷ bytes
+without_front margin (b ∷ bytes) =
+    if list_any (λ m. m == b) margin then without_front margin bytes else b ∷ bytes
 
 -- without them at both ends
-abbrev pub without_margin : List ℕ → List ℕ → List ℕ
+abbrev pub without_margin : (margin bytes : List ℕ) → List ℕ
 without_margin margin bytes = reverse (without_front margin (reverse (without_front margin bytes)))
 
 -- the word stands in the value, which lists words between commas with spaces and tabs round them
-abbrev pub lists : List ℕ → List ℕ → Bool
-lists word value = list_any (λ item. is_same_word (without_margin (32 ∷ 9 ∷ []) item) word) (slice_split (λ b. b == comma) value)
+abbrev pub lists : (word value : List ℕ) → Bool
+lists word value = list_any (λ item. is_same_word (without_margin (32 ∷ 9 ∷ []) item) word)
+    (slice_split (λ b. b == comma) value)

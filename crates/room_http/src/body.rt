@@ -34,7 +34,8 @@ pub(crate) fn read_into<R: Source>(
 ) -> Result<bool, WireFault>
     requires ready { R.failures reader.old < 2 ^ 64 - 1 }
     requires piece { 0 < length piece.old }
-    ensures is { IfOk result (ReadsInto (R.left reader.old) (R.left reader.new) body.old.items body.new.items count) }
+    ensures is { IfOk result
+        (ReadsInto (R.left reader.old) (R.left reader.new) body.old.items body.new.items count) }
     ensures count { R.failures reader.new ≡ R.failures reader.old + read_faults result }
     ensures cause { IfErr result IsReading }
     ensures piece { length piece.new ≡ length piece.old }
@@ -74,7 +75,8 @@ pub(crate) fn read_body<R: Source>(
 
 fn read_sized<R: Source>(alloc: Global, reader: &mut R, size: usize) -> Result<Body, WireFault>
     requires ready { R.failures reader.old < 2 ^ 64 - 1 }
-    ensures is { IfOk result (BodyIs (Framing.Length size) (R.left reader.old) (R.left reader.new)) }
+    ensures is { IfOk result
+        (BodyIs (Framing.Length size) (R.left reader.old) (R.left reader.new)) }
     ensures count { R.failures reader.new ≡ R.failures reader.old + read_faults result }
     ensures cause { IfErr result IsReading }
 {

@@ -7,7 +7,8 @@ ghost use Rattle.room_http.specs.Framing.{is_short_number};
 
 /// The number that 1 to 18 digits spell, and None of anything else.
 pub(crate) fn short_number(digits: &[u8]) -> Option<u64>
-    ensures { result ≡ (if is_short_number digits.now then Some (digits_value 10 digits.now) else None) }
+    ensures { result
+        ≡ (if is_short_number digits.now then Some (digits_value 10 digits.now) else None) }
 {
     if digits.is_empty() || digits.len() > 18 || !are_digits(digits) {
         return None;

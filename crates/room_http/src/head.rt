@@ -33,7 +33,8 @@ pub(crate) enum Head {
 /// Reads one byte. None where the input is at its end.
 pub(crate) fn read_byte<R: Source>(reader: &mut R) -> Result<Option<u8>, WireFault>
     requires { R.failures reader.old < 2 ^ 64 - 1 }
-    ensures took { IfOk result (λ byte. Yields (R.left reader.old) (R.left reader.new) (byte_list byte)) }
+    ensures took { IfOk result
+        (λ byte. Yields (R.left reader.old) (R.left reader.new) (byte_list byte)) }
     ensures end { IfOk result (λ byte. IfNone byte (IsSpent (R.left reader.new))) }
     ensures count { R.failures reader.new ≡ R.failures reader.old + read_faults result }
     ensures cause { IfErr result IsReading }
@@ -59,7 +60,8 @@ pub(crate) fn read_head<R: Source>(
     requires empty { text.old.items ≡ [] }
     ensures took { OnOk result (Yields (R.left reader.old) (R.left reader.new) text.new.items) }
     ensures short { length text.new.items ≤ HEAD_LIMIT }
-    ensures is { IfOk result (HeadIs (length headers.old) (R.left reader.new) text.new.items headers.new) }
+    ensures is { IfOk result
+        (HeadIs (length headers.old) (R.left reader.new) text.new.items headers.new) }
     ensures count { R.failures reader.new ≡ R.failures reader.old + read_faults result }
     ensures cause { IfErr result IsReading }
 {

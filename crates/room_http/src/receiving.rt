@@ -56,9 +56,11 @@ pub fn receive<R: Source, W: Sink>(
 ) -> Result<Received, WireFault>
     requires reads { R.failures reader.old < 2 ^ 64 - 1 }
     requires writes { W.failures writer.old < 2 ^ 64 - 1 }
-    ensures received { IfOk result (ReceivedIs (R.left reader.old) (R.left reader.new) (W.given writer.old) (W.given writer.new)) }
+    ensures received { IfOk result (ReceivedIs (R.left reader.old) (R.left reader.new)
+        (W.given writer.old) (W.given writer.new)) }
     ensures header { IfOk result HasHeader }
-    ensures fault { IfErr result (FailedReceiving (R.left reader.old) (R.left reader.new) (W.given writer.old) (W.given writer.new)) }
+    ensures fault { IfErr result (FailedReceiving (R.left reader.old) (R.left reader.new)
+        (W.given writer.old) (W.given writer.new)) }
     ensures reads { R.failures reader.new ≡ R.failures reader.old + read_faults result }
     ensures writes { W.failures writer.new ≡ W.failures writer.old + write_faults result }
 {
@@ -110,7 +112,8 @@ pub(crate) fn judge_spans(
 ) -> Result<Order, Refusal>
     requires within { IsRequestWithin text.now headers.now spans }
     requires few { length headers.now ≤ MOST_FIELDS }
-    ensures value { (head : RequestHead) → IsRequestAt text.now headers.now spans head → result ≡ judged (said_by head) }
+    ensures value { (head : RequestHead) → IsRequestAt text.now headers.now spans head
+        → result ≡ judged (said_by head) }
     ensures fits { IfOk result (λ order. FitsLimit order.framing) }
 {
     let fields = fields_of(text, &headers[..spans.headers]);

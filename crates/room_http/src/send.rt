@@ -41,8 +41,10 @@ pub(crate) fn write_all<W: Sink>(writer: &mut W, text: &[u8]) -> Result<(), Wire
 #[tactic(auto, using(crate::proofs::Streams::nothing_sent))]
 pub(crate) fn send_interim<W: Sink>(writer: &mut W, expects: bool) -> Result<(), WireFault>
     requires { W.failures writer.old < 2 ^ 64 - 1 }
-    ensures sent { OnOk result (Appends (W.given writer.old) (W.given writer.new) (interim_text expects)) }
-    ensures front { OnErr result (AppendsFront (W.given writer.old) (W.given writer.new) (interim_text true)) }
+    ensures sent { OnOk result
+        (Appends (W.given writer.old) (W.given writer.new) (interim_text expects)) }
+    ensures front { OnErr result
+        (AppendsFront (W.given writer.old) (W.given writer.new) (interim_text true)) }
     ensures due { OnErr result (expects ≡ true) }
     ensures cause { IfErr result (λ fault. fault ≡ WireFault.Write) }
     ensures count { W.failures writer.new ≡ W.failures writer.old + write_faults result }
@@ -56,8 +58,10 @@ pub(crate) fn send_interim<W: Sink>(writer: &mut W, expects: bool) -> Result<(),
 /// Writes the answer to what is refused.
 pub fn send_refusal<W: Sink>(writer: &mut W, refusal: Refusal) -> Result<(), WireFault>
     requires { W.failures writer.old < 2 ^ 64 - 1 }
-    ensures sent { OnOk result (Appends (W.given writer.old) (W.given writer.new) (refusal_text refusal)) }
-    ensures front { OnErr result (AppendsFront (W.given writer.old) (W.given writer.new) (refusal_text refusal)) }
+    ensures sent { OnOk result
+        (Appends (W.given writer.old) (W.given writer.new) (refusal_text refusal)) }
+    ensures front { OnErr result
+        (AppendsFront (W.given writer.old) (W.given writer.new) (refusal_text refusal)) }
     ensures cause { IfErr result (λ fault. fault ≡ WireFault.Write) }
     ensures count { W.failures writer.new ≡ W.failures writer.old + write_faults result }
 {
@@ -69,8 +73,10 @@ pub fn send_refusal<W: Sink>(writer: &mut W, refusal: Refusal) -> Result<(), Wir
 /// head with the first part of it first. It takes no memory.
 pub fn send_answer<W: Sink>(writer: &mut W, answer: &[u8], closes: bool) -> Result<(), WireFault>
     requires { W.failures writer.old < 2 ^ 64 - 1 }
-    ensures sent { OnOk result (Appends (W.given writer.old) (W.given writer.new) (answer_text answer.now closes)) }
-    ensures front { OnErr result (AppendsFront (W.given writer.old) (W.given writer.new) (answer_text answer.now closes)) }
+    ensures sent { OnOk result
+        (Appends (W.given writer.old) (W.given writer.new) (answer_text answer.now closes)) }
+    ensures front { OnErr result
+        (AppendsFront (W.given writer.old) (W.given writer.new) (answer_text answer.now closes)) }
     ensures cause { IfErr result (λ fault. fault ≡ WireFault.Write) }
     ensures count { W.failures writer.new ≡ W.failures writer.old + write_faults result }
 {
@@ -84,8 +90,10 @@ pub fn send_answer<W: Sink>(writer: &mut W, answer: &[u8], closes: bool) -> Resu
 /// Writes two texts, one after the other.
 fn write_both<W: Sink>(writer: &mut W, first: &[u8], rest: &[u8]) -> Result<(), WireFault>
     requires { W.failures writer.old < 2 ^ 64 - 1 }
-    ensures sent { OnOk result (Appends (W.given writer.old) (W.given writer.new) (first.now ++ rest.now)) }
-    ensures front { OnErr result (AppendsFront (W.given writer.old) (W.given writer.new) (first.now ++ rest.now)) }
+    ensures sent { OnOk result
+        (Appends (W.given writer.old) (W.given writer.new) (first.now ++ rest.now)) }
+    ensures front { OnErr result
+        (AppendsFront (W.given writer.old) (W.given writer.new) (first.now ++ rest.now)) }
     ensures cause { IfErr result (λ fault. fault ≡ WireFault.Write) }
     ensures count { W.failures writer.new ≡ W.failures writer.old + write_faults result }
 {
