@@ -1,4 +1,5 @@
--- Which rows of the shared tables are an account, and which rooms they can be (all this project's own).
+-- Which rows of the shared tables are an account, and which rooms they can be (all this project's
+-- own).
 use Rattle.std.specs.Prelude.{◌≡◌, ℕ, ◌≤◌, ℤ, pos, negsuc, List, [], ◌∷◌, Option, Some, None, option_map}
 use Rattle.std.specs.Ordering.{nat_cmp}
 use Rattle.std.specs.FinMap.{FinMap, get}
@@ -21,7 +22,7 @@ account_at db name = row_at account (Text name ∷ []) db
 abbrev pub job_at : Database → List ℕ → ℤ → Option Row
 job_at db name number = row_at job (Text name ∷ Int number ∷ []) db
 
-abbrev pub document_at : Database → List ℕ → ℤ → ℤ → Option Row
+abbrev pub document_at : (db : Database) (name : List ℕ) (job number : ℤ) → Option Row
 document_at db name job number = row_at document (Text name ∷ Int job ∷ Int number ∷ []) db
 
 abbrev pub grant_at : Database → List ℕ → ℤ → Option Row
@@ -31,7 +32,8 @@ grant_at db name month = row_at grants (Text name ∷ Int month ∷ []) db
 pub record AgreeOnRows (name : List ℕ) (a b : Database) : Type 0 where
   pub same_account : account_at b name ≡ account_at a name
   pub same_jobs : (number : ℤ) → job_at b name number ≡ job_at a name number
-  pub same_documents : (job number : ℤ) → document_at b name job number ≡ document_at a name job number
+  pub same_documents : (job number : ℤ)
+      → document_at b name job number ≡ document_at a name job number
   pub same_grants : (month : ℤ) → grant_at b name month ≡ grant_at a name month
 
 -- ---- the room that they are
@@ -41,7 +43,7 @@ abbrev pub under : {X : Type 0} → FinMap nat_cmp X → ℤ → Option X
 under map (pos n) = get map n
 under map (negsuc _) = None
 
-abbrev pub under_pair : {X : Type 0} → FinMap place_cmp X → ℤ → ℤ → Option X
+abbrev pub under_pair : {X : Type 0} → (map : FinMap place_cmp X) (m n : ℤ) → Option X
 under_pair map (pos m) (pos n) = get map (m, n)
 under_pair map _ _ = None
 
@@ -52,13 +54,16 @@ whole (negsuc _) = 0
 abbrev pub account_of : RoomValue → Account
 account_of room = record { opened = room.opened; next_job = room.next }
 
--- the rows of the account are those of the room, and no others; between the writes of one event the room may
--- break its rules
+-- the rows of the account are those of the room, and no others; between the writes of one event the
+-- room may break its rules
 pub record HoldsRows (db : Database) (name : List ℕ) (room : RoomValue) : Type 0 where
   pub account_row : account_at db name ≡ Some (account_cells name (account_of room))
-  pub job_rows : (number : ℤ) → job_at db name number ≡ option_map (job_cells name) (under room.jobs number)
-  pub document_rows : (job number : ℤ) → document_at db name job number ≡ option_map (document_cells name) (under_pair room.documents job number)
-  pub grant_rows : (month : ℤ) → grant_at db name month ≡ option_map (grant_cells name (whole month)) (under room.grants month)
+  pub job_rows : (number : ℤ)
+      → job_at db name number ≡ option_map (job_cells name) (under room.jobs number)
+  pub document_rows : (job number : ℤ) → document_at db name job number
+      ≡ option_map (document_cells name) (under_pair room.documents job number)
+  pub grant_rows : (month : ℤ) → grant_at db name month
+      ≡ option_map (grant_cells name (whole month)) (under room.grants month)
 
 -- the rows of the account are those of a room that keeps its rules
 pub record HoldsRoom (db : Database) (name : List ℕ) (room : RoomValue) : Type 0 where

@@ -16,8 +16,8 @@ use Rattle.room_tables.specs.Keyed.{HasSchema}
 
 -- ---- what a connection shows before a call and after it
 
--- No fault of the disk is forgotten, only a fault shuts the connection and nothing opens it again, no
--- transaction is left under way, and how its queries are limited and its reads tested stays.
+-- No fault of the disk is forgotten, only a fault shuts the connection and nothing opens it again,
+-- no transaction is left under way, and how its queries are limited and its reads tested stays.
 pub record Goes (old new : State) : Type 0 where
   pub clean : doubt old.is_clean ≤ doubt new.is_clean
   pub back : HasCleanDisk new → IsTrue new.is_open → IsTrue old.is_open
@@ -25,28 +25,32 @@ pub record Goes (old new : State) : Type 0 where
   pub shield : old.IsShielded → new.IsShielded
   pub counts : old.faults ≤ new.faults
   pub limit : new.step_limit ≡ old.step_limit
-  pub closes : HasCleanDisk new → IsTrue old.is_open → IsTrue new.is_open ⊎ MoreFaults old.faults new.faults
+  pub closes : HasCleanDisk new → IsTrue old.is_open
+      → IsTrue new.is_open ⊎ MoreFaults old.faults new.faults
 
 -- outside a transaction, where what is seen is what was committed, the tables are as they were
 abbrev pub Stays : State → State → Type 0
-Stays old new = IsTrue new.is_open → old.now ≡ old.committed → (new.now ≡ old.now) × (new.committed ≡ old.committed)
+Stays old new = IsTrue new.is_open → old.now ≡ old.committed
+    → (new.now ≡ old.now) × (new.committed ≡ old.committed)
 
 abbrev pub IsSame : State → State → Type 0
 IsSame old new = (new.now ≡ old.now) × (new.committed ≡ old.committed)
 
 -- a read by a key: what is shown of the row that is there, and nothing is changed
-pub record Gets (old new : State) (there : Option Row) (shown : Row → Row) (result : Result (Option Row) Error) : Type 0 where
+pub record Gets (old new : State) (there : Option Row) (shown : Row → Row)
+    (result : Result (Option Row) Error) : Type 0 where
   pub found : IfOk result (λ o. o ≡ option_map shown there)
   pub same : OnOk result (IsSame old new)
   pub stays : Stays old new
 
 -- a write: the statement has run, whatever it counted
-abbrev pub HasRun : List ℕ → Row → State → State → Type 0
+abbrev pub HasRun : (text : List ℕ) (params : Row) (old new : State) → Type 0
 HasRun text params old new = (count : ℕ) × Executes text params old new (Ok count)
 
 -- the statement was refused as a second row of a key
-abbrev pub IsTaken : List ℕ → Row → State → State → Type 0
-IsTaken text params old new = Executes text params old new (Err (SqliteFailure (ConstraintViolation Unique)))
+abbrev pub IsTaken : (text : List ℕ) (params : Row) (old new : State) → Type 0
+IsTaken text params old new =
+    Executes text params old new (Err (SqliteFailure (ConstraintViolation Unique)))
 
 -- ---- the same of a connection, in the words that clauses use
 
@@ -61,18 +65,22 @@ module _ {S : Type 0} (store : Ghosts S) (old new : Held S) where
 
   -- and where they are the store's
   abbrev pub OfStore : (Database → Type 0) → Type 0
-  OfStore told = HasCleanDisk (state store new) → HasSchema (state store old).now → told (state store old).now
+  OfStore told =
+      HasCleanDisk (state store new) → HasSchema (state store old).now → told (state store old).now
 
   module _ {T E : Type 0} where
     -- what answers had an open connection, and leaves it open
     pub record GoesOn (result : Result T E) : Type 0 where
       pub goes : Goes (state store old) (state store new)
-      pub opened : HasCleanDisk (state store new) → OnOk result (IsTrue (state store old).is_open × IsTrue (state store new).is_open)
+      pub opened : HasCleanDisk (state store new)
+          → OnOk result (IsTrue (state store old).is_open × IsTrue (state store new).is_open)
 
-    -- a read: where so much is known of the tables it leaves them as they were, whether it answers or not
+    -- a read: where so much is known of the tables it leaves them as they were, whether it answers
+    -- or not
     pub record OnlyReads (Known : Database → Type 0) (result : Result T E) : Type 0 where
       pub goes : Goes (state store old) (state store new)
-      pub opened : HasCleanDisk (state store new) → OnOk result (IsTrue (state store old).is_open × IsTrue (state store new).is_open)
+      pub opened : HasCleanDisk (state store new)
+          → OnOk result (IsTrue (state store old).is_open × IsTrue (state store new).is_open)
       pub same : OnDisk (λ db. Known db → OnOk result (IsSame (state store old) (state store new)))
       pub stays : OnDisk (λ db. Known db → Stays (state store old) (state store new))
 
@@ -82,26 +90,33 @@ module _ {S : Type 0} (store : Ghosts S) (old new : Held S) where
 
   -- of the store's tables, by a key
   abbrev pub GetsRow : (Database → Option Row) → (Row → Row) → Result (Option Row) Error → Type 0
-  GetsRow there shown result = OfStore (λ db. Gets (state store old) (state store new) (there db) shown result)
+  GetsRow there shown result =
+      OfStore (λ db. Gets (state store old) (state store new) (there db) shown result)
 
   module _ {T E : Type 0} (result : Result T E) where
     -- what is made of the tables, where the disk was honest
     abbrev pub Makes : (Database → Database → Type 0) → Type 0
-    Makes made = HasCleanDisk (state store new) → OnOk result (made (state store old).now (state store new).now)
+    Makes made = HasCleanDisk (state store new)
+        → OnOk result (made (state store old).now (state store new).now)
 
     -- and of the store's, which they stay
     abbrev pub Changes : (Database → Database → Type 0) → Type 0
-    Changes changed = Makes (λ before after. HasSchema before → HasSchema after × changed before after)
+    Changes changed =
+        Makes (λ before after. HasSchema before → HasSchema after × changed before after)
 
     -- the whole is made, or nothing is
     pub record IsWhole : Type 0 where
       pub goes : Goes (state store old) (state store new)
-      pub opened : HasCleanDisk (state store new) → OnOk result (IsTrue (state store old).is_open × IsTrue (state store new).is_open)
-      pub undone : HasCleanDisk (state store new) → OnErr result (Stays (state store old) (state store new))
+      pub opened : HasCleanDisk (state store new)
+          → OnOk result (IsTrue (state store old).is_open × IsTrue (state store new).is_open)
+      pub undone : HasCleanDisk (state store new)
+          → OnErr result (Stays (state store old) (state store new))
 
 -- a write inside a transaction, which it leaves under way where it answers; it commits nothing
-pub record StaysInside {S T E : Type 0} (store : Ghosts S) (old new : MutBor (Held S)) (result : Result T E) : Type 0 where
+pub record StaysInside {S T E : Type 0} (store : Ghosts S) (old new : MutBor (Held S))
+    (result : Result T E) : Type 0 where
   pub same_reference : new.ghost_name ≡ old.ghost_name
   pub mode : HasCleanDisk (state store new.now) → OnOk result (IsTrue new.now.in_transaction)
-  pub kept : HasCleanDisk (state store new.now) → KeepsCommit (state store old.now) (state store new.now)
+  pub kept : HasCleanDisk (state store new.now)
+      → KeepsCommit (state store old.now) (state store new.now)
   pub survives : Survives (state store old.now) (state store new.now) (λ _. ⊥)

@@ -1,5 +1,6 @@
--- The rows that stand for values: their cells, the key first. A flag is 0 or 1, a state has its number
--- (RFC 8011 section 5.3.7); that no device is the empty text, and no moment -1, is this project's own.
+-- The rows that stand for values: their cells, the key first. A flag is 0 or 1, a state has its
+-- number (RFC 8011 section 5.3.7); that no device is the empty text, and no moment -1, is this
+-- project's own.
 use Rattle.std.specs.Prelude.{if◌then◌else◌, ℕ, ℤ, pos, negsuc, Bool, List, [], ◌∷◌, Option, Some, None}
 use Rattle.sqlite_value.specs.declared.value.Value.{Value}
 use Rattle.sqlite_value.specs.declared.value.Value.TheVariants.{Int, Text, Blob}
@@ -38,17 +39,20 @@ account_cells name account = Text name ∷ number account.opened ∷ number acco
 abbrev pub standing_cells : Standing → Row
 standing_cells standing =
     number (state_number standing.state) ∷ flag standing.is_open ∷ flag standing.stopping
-    ∷ number standing.copies ∷ number standing.impressions ∷ number standing.reserved ∷ number standing.charged
+    ∷ number standing.copies ∷ number standing.impressions
+    ∷ number standing.reserved ∷ number standing.charged
     ∷ number standing.documents ∷ number standing.rate ∷ device_text standing.device
     ∷ number standing.created ∷ moment standing.started ∷ moment standing.ended ∷ []
 
 abbrev pub job_cells : List ℕ → Job → Row
-job_cells name job = Text name ∷ number job.job ∷ Blob job.name ∷ Blob job.password ∷ standing_cells job.standing
+job_cells name job =
+    Text name ∷ number job.job ∷ Blob job.name ∷ Blob job.password ∷ standing_cells job.standing
 
 abbrev pub document_cells : List ℕ → Document → Row
-document_cells name document = Text name ∷ number document.job ∷ number document.number ∷ Text (media_type document.format) ∷ Blob document.bytes ∷ []
+document_cells name document = Text name ∷ number document.job ∷ number document.number
+    ∷ Text (media_type document.format) ∷ Blob document.bytes ∷ []
 
-abbrev pub grant_cells : List ℕ → ℕ → ℕ → Row
+abbrev pub grant_cells : (name : List ℕ) (month pages : ℕ) → Row
 grant_cells name month pages = Text name ∷ number month ∷ number pages ∷ []
 
 abbrev pub on_cells : List ℕ → Bool → Row

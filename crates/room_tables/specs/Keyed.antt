@@ -1,5 +1,5 @@
--- A table as a map from its keys to rows. Keys are compared as SQL's = compares them; the row number is
--- no part of a row.
+-- A table as a map from its keys to rows. Keys are compared as SQL's = compares them; the row
+-- number is no part of a row.
 use Rattle.std.specs.Prelude.{◌≡◌, ◌≢◌, ℕ, Bool, if◌then◌else◌, ◌∷◌, drop, map, filter, find, Option, Some, None, option_map, List}
 use Rattle.std.specs.List.{AllByRecursion}
 use Rattle.sqlite_value.specs.declared.value.Value.TheVariants.{Null}
@@ -20,8 +20,10 @@ abbrev pub row_at : Table → Row → Database → Option Row
 row_at table key db = option_map (drop 1) (find (has_key table key) (db.trees table.tree))
 
 -- the rows whose cells at the places are these, which begin a key
-abbrev pub rows_under : Table → List ℕ → Row → Database → List Row
-rows_under table places beginning db = map (drop 1) (filter (λ row. agree plain places row places (Null ∷ beginning)) (db.trees table.tree))
+abbrev pub rows_under : (table : Table) (places : List ℕ) (beginning : Row) (db : Database)
+    → List Row
+rows_under table places beginning db = map (drop 1)
+    (filter (λ row. agree plain places row places (Null ∷ beginning)) (db.trees table.tree))
 
 -- in none of the tables does a row number come twice, which the engine keeps and no clause of a
 -- connection says
@@ -36,14 +38,21 @@ pub record HasSchema (db : Database) : Type 0 where
 
 -- each table but this one is as it was
 abbrev pub OnlyChanges : Table → Database → Database → Type 0
-OnlyChanges table old new = AllByRecursion (λ other. other.tree ≢ table.tree → new.trees other.tree ≡ old.trees other.tree) room_schema.tables
+OnlyChanges table old new =
+    AllByRecursion (λ other. other.tree ≢ table.tree → new.trees other.tree ≡ old.trees other.tree)
+    room_schema.tables
 
--- the cells, which begin with their key, are the row of this key, and each other key has what it had
+-- the cells, which begin with their key, are the row of this key, and each other key has what it
+-- had
 pub record SetsRow (table : Table) (cells : Row) (old new : Database) : Type 0 where
-  pub rows : (key : Row) → row_at table key new ≡ (if has_key table key (Null ∷ cells) then Some cells else row_at table key old)
+  pub rows : (key : Row) → row_at table key new
+      ≡ (if has_key table key (Null ∷ cells) then Some cells else row_at table key old)
   pub rest : OnlyChanges table old new
 
 -- the rows whose key begins so are gone, and each other key has what it had
-pub record RemovesRows (table : Table) (beginning : Row) (places : List ℕ) (old new : Database) : Type 0 where
-  pub rows : (key : Row) → row_at table key new ≡ (if agree plain places (Null ∷ key) places (Null ∷ beginning) then None else row_at table key old)
+pub record RemovesRows (table : Table) (beginning : Row) (places : List ℕ) (old new : Database)
+    : Type 0 where
+  pub rows : (key : Row) → row_at table key new
+      ≡ (if agree plain places (Null ∷ key) places (Null ∷ beginning) then None
+      else row_at table key old)
   pub rest : OnlyChanges table old new

@@ -43,7 +43,8 @@ with_grants = created with_document grants
 
 -- it has the tables of the schema, and no row
 abbrev pub IsBlank : Schema → Database → Type 0
-IsBlank schema db = (db.schema ≡ schema) × AllByRecursion (λ table. db.trees table.tree ≡ []) schema.tables
+IsBlank schema db =
+    (db.schema ≡ schema) × AllByRecursion (λ table. db.trees table.tree ≡ []) schema.tables
 
 -- ---- the row of the version
 
@@ -59,21 +60,24 @@ HasVersion db version = (row : Row) × IsVersionRow db row × (column row 2 ≡ 
 
 -- there is no such row, or it has no number
 abbrev pub LacksVersion : Database → Type 0
-LacksVersion db = ((row : Row) → IsVersionRow db row → ⊥) ⊎ ((row : Row) × IsVersionRow db row × ((version : ℤ) → column row 2 ≢ Int version))
+LacksVersion db = ((row : Row) → IsVersionRow db row → ⊥)
+    ⊎ ((row : Row) × IsVersionRow db row × ((version : ℤ) → column row 2 ≢ Int version))
 
 -- ---- as it is made
 
--- the row of a version: the number 1, which is its id and is kept beside the columns, and the version
+-- the row of a version: the number 1, which is its id and is kept beside the columns, and the
+-- version
 abbrev pub version_row : ℤ → Row
 version_row version = Int (pos 1) ∷ Null ∷ Int version ∷ []
 
--- the tables of version 2, in which there is the row (1, 2) of the version and no other, so that every
--- account is absent and there is no device
+-- the tables of version 2, in which there is the row (1, 2) of the version and no other, so that
+-- every account is absent and there is no device
 pub record IsNew (db : Database) : Type 0 where
   pub has_schema : HasSchema db
   pub one_version : db.trees meta.tree ≡ version_row (pos 2) ∷ []
   pub version_two : HasVersion db (pos 2)
-  pub no_row : AllByRecursion (λ table. table.tree ≢ meta.tree → db.trees table.tree ≡ []) room_schema.tables
+  pub no_row : AllByRecursion (λ table. table.tree ≢ meta.tree → db.trees table.tree ≡ [])
+      room_schema.tables
   pub no_account : (name : List ℕ) → HoldsNothing db name
   pub no_device : HoldsDevices db empty
 

@@ -25,18 +25,22 @@ pub record IsFirst (db : Database) : Type 0 where
 -- each device has one row, and counts one unit for an impression
 pub record HoldsFirstDevices (db : Database) (devices : Devices) : Type 0 where
   pub schema_is : db.schema ≡ first_schema
-  pub are_devices : (name : List ℕ) → IfSome (get devices name) (λ device. IsDevice name device × (device.rate ≡ 1))
+  pub are_devices : (name : List ℕ)
+      → IfSome (get devices name) (λ device. IsDevice name device × (device.rate ≡ 1))
   pub device_rows : (name : List ℕ) → device_at db name ≡ option_map device_cells (get devices name)
 
 -- ---- as it is migrated
 
 -- each device has rate 1, and nothing else has a rate
 abbrev pub AreRatedOne : Database → Type 0
-AreRatedOne db = (name : List ℕ) → rate_at db name ≡ option_map (λ row. units_cells name 1) (device_at db name)
+AreRatedOne db =
+    (name : List ℕ) → rate_at db name ≡ option_map (λ row. units_cells name 1) (device_at db name)
 
 -- each table of version 1 but that of the version is as it was
 abbrev pub KeepsFirst : Database → Database → Type 0
-KeepsFirst old new = AllByRecursion (λ table. table.tree ≢ meta.tree → new.trees table.tree ≡ old.trees table.tree) first_schema.tables
+KeepsFirst old new =
+    AllByRecursion (λ table. table.tree ≢ meta.tree → new.trees table.tree ≡ old.trees table.tree)
+    first_schema.tables
 
 pub record IsMigrated (old new : Database) : Type 0 where
   pub was_first : IsFirst old
@@ -52,13 +56,15 @@ pub record IsMigrated (old new : Database) : Type 0 where
 -- the table `rates` is there, with no row, beside the tables of version 1
 pub record AddsRates (schema : Schema) (old new : Database) : Type 0 where
   pub schema_is : new.schema ≡ schema
-  pub kept : AllByRecursion (λ table. new.trees table.tree ≡ old.trees table.tree) first_schema.tables
+  pub kept : AllByRecursion (λ table. new.trees table.tree ≡ old.trees table.tree)
+      first_schema.tables
   pub no_rate : new.trees rates.tree ≡ []
 
 -- the index on jobs is there, and each table is as it was
 pub record AddsIndex (old new : Database) : Type 0 where
   pub schema_is : new.schema ≡ room_schema
-  pub kept : AllByRecursion (λ table. new.trees table.tree ≡ old.trees table.tree) rated_schema.tables
+  pub kept : AllByRecursion (λ table. new.trees table.tree ≡ old.trees table.tree)
+      rated_schema.tables
 
 pub record RatesDevices (old new : Database) : Type 0 where
   pub schema_is : new.schema ≡ room_schema
@@ -71,13 +77,15 @@ pub record NotesVersionTwo (old new : Database) : Type 0 where
   pub is_database : IsDatabase new
   pub kept : OnlyChanges meta old new
   pub version_two : HasVersion new (pos 2)
-  pub numbered : IsShaped shape.Table (old.trees meta.tree) → IsShaped shape.Table (new.trees meta.tree)
+  pub numbered : IsShaped shape.Table (old.trees meta.tree)
+      → IsShaped shape.Table (new.trees meta.tree)
 
 -- ---- why it is not migrated
 
 -- a version that there is none of, whatever its tables are beside that of the version
 abbrev pub IsOfOtherVersion : Database → ℤ → Type 0
-IsOfOtherVersion db version = KeepsVersion db.schema × HasVersion db version × (version ≢ pos 1) × (version ≢ pos 2)
+IsOfOtherVersion db version =
+    KeepsVersion db.schema × HasVersion db version × (version ≢ pos 1) × (version ≢ pos 2)
 
 -- want of memory and a failure of the storage say nothing of it
 abbrev pub IsMigrateFault : Database → OpenFault → Type 0

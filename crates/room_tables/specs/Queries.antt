@@ -24,8 +24,10 @@ use Rattle.sqlite.specs.declared.error.Error.{Error}
 use Rattle.sqlite.specs.declared.error.Error.TheVariants.{SqliteFailure}
 use Rattle.sqlite.specs.declared.error.ErrorCode.TheVariants.{OperationInterrupted}
 
--- the terms that are shown of each row of a table that passes the tests, in an order, the first so many
-abbrev pub first_of_table : ℕ → List Term → List Term → List (Term × Key) → Term → Query
+-- the terms that are shown of each row of a table that passes the tests, in an order, the first so
+-- many
+abbrev pub first_of_table : (tree : ℕ) (tests shows : List Term) (order : List (Term × Key))
+    (limit : Term) → Query
 first_of_table tree tests shows order limit = record {
   from = inner tree end;
   filter = tests;
@@ -39,11 +41,11 @@ first_of_table tree tests shows order limit = record {
 }
 
 -- all of them
-abbrev pub of_table : ℕ → List Term → List Term → List (Term × Key) → Query
+abbrev pub of_table : (tree : ℕ) (tests shows : List Term) (order : List (Term × Key)) → Query
 of_table tree tests shows order = first_of_table tree tests shows order (lit (Int (negsuc 0)))
 
 -- a column, by its place, is the parameter of this number, counted from 1
-abbrev pub is_given : ℕ → ℕ → Term
+abbrev pub is_given : (place parameter : ℕ) → Term
 is_given place parameter = op2 (Compare Eq Binary) (col 1 place) (col 0 (parameter - 1))
 
 abbrev pub query_in : Result Compiled CompileError → Command
@@ -60,7 +62,8 @@ parameters_of (Err fault) = 0
 
 -- Under the schema the text is this query and nothing more: it writes nothing, reads no list of the
 -- schema and no time, and takes so many parameters.
-pub record Means (schema : Schema) (text : List ℕ) (query : Query) (names : List (List ℕ)) (parameters : ℕ) : Type 0 where
+pub record Means (schema : Schema) (text : List ℕ) (query : Query) (names : List (List ℕ))
+    (parameters : ℕ) : Type 0 where
   pub is : query_in (understood schema text) ≡ Select (record { lets = []; body = query }) names
   pub lists_nothing : reads_listing schema text ≡ false
   pub is_plain : IsPlain (understood schema text)
@@ -78,7 +81,7 @@ pub record HasNoSums (query : Query) : Type 0 where
   pub unfolded : has_no_fold query.from ≡ true
 
 -- the rows are an answer of the query over these tables
-abbrev pub IsShownBy : Query → Trees → Row → List Row → Type 0
+abbrev pub IsShownBy : (query : Query) (trees : Trees) (params : Row) (rows : List Row) → Type 0
 IsShownBy query trees params rows = IsAnswer query (overlay trees []) params rows
 
 abbrev pub passes : List Term → Row → Row → Bool
@@ -87,26 +90,32 @@ passes tests params row = list_all (holds (params ∷ row ∷ [])) tests
 abbrev pub shows_of : List Term → Row → Row → Row
 shows_of shows params row = eval_all shows (params ∷ row ∷ [])
 
-abbrev pub shown_of : ℕ → List Term → List Term → Row → Trees → List Row
-shown_of tree tests shows params trees = map (shows_of shows params) (filter (passes tests params) (trees tree))
+abbrev pub shown_of : (tree : ℕ) (tests shows : List Term) (params : Row) (trees : Trees) → List Row
+shown_of tree tests shows params trees =
+    map (shows_of shows params) (filter (passes tests params) (trees tree))
 
 -- the first row in some order, or that there is none
 abbrev pub IsFirst : List Row → Option Row → Type 0
 IsFirst rows None = rows ≡ []
 IsFirst rows (Some row) = (others : List Row) × IsPermutation rows (row ∷ others)
 
--- Want of memory, the disk or an earlier failure ended the read, and with it a transaction. Or a limit
--- on steps did, and nothing has changed.
+-- Want of memory, the disk or an earlier failure ended the read, and with it a transaction. Or a
+-- limit on steps did, and nothing has changed.
 abbrev pub FailsToRead : State → State → Error → Type 0
-FailsToRead old new error = Fails old new ⊥ error ⊎ ((error ≡ SqliteFailure OperationInterrupted) × IsSome old.step_limit × IsUnchanged old new)
+FailsToRead old new error = Fails old new ⊥ error
+    ⊎ ((error ≡ SqliteFailure OperationInterrupted) × IsSome old.step_limit × IsUnchanged old new)
 
-pub record FindsRow (old new : State) (tree : ℕ) (tests shows : List Term) (params : Row) (result : Result (Option Row) Error) : Type 0 where
+pub record FindsRow (old new : State) (tree : ℕ) (tests shows : List Term) (params : Row)
+    (result : Result (Option Row) Error) : Type 0 where
   pub found : IfOk result (IsFirst (shown_of tree tests shows params old.now.trees))
   pub same : OnOk result (IsUnchanged old new)
   pub failed : IfErr result (FailsToRead old new)
 
 -- whatever the text means as a query on one table, this is what it finds
-abbrev pub Finds : State → State → List ℕ → Row → Result (Option Row) Error → Type 0
+abbrev pub Finds : (old new : State) (text : List ℕ) (params : Row)
+    (result : Result (Option Row) Error) → Type 0
 Finds old new text params result =
-    (tree : ℕ) (tests shows : List Term) (names : List (List ℕ)) (parameters : ℕ) → Means old.now.schema text (of_table tree tests shows []) names parameters
-    → Takes old.now.schema (of_table tree tests shows []) params parameters → FindsRow old new tree tests shows params result
+    (tree : ℕ) (tests shows : List Term) (names : List (List ℕ)) (parameters : ℕ)
+    → Means old.now.schema text (of_table tree tests shows []) names parameters
+    → Takes old.now.schema (of_table tree tests shows []) params parameters
+    → FindsRow old new tree tests shows params result

@@ -12,7 +12,8 @@ use sqlite::{Alter, Connection, Error, Transaction};
 /// Makes the tables of version 2, with no row but that of the version, in one transaction.
 pub fn make_tables<S: Alter>(connection: &mut Connection<S>) -> Result<(), Error>
     requires mode { connection.old.in_transaction ≡ false }
-    ensures made { Makes S.Store connection.old connection.new result (λ before after. before.schema ≡ no_schema → IsNew after) }
+    ensures made { Makes S.Store connection.old connection.new result
+        (λ before after. before.schema ≡ no_schema → IsNew after) }
     ensures whole { IsWhole S.Store connection.old connection.new result }
 {
     let mut transaction = connection.transaction();
@@ -24,7 +25,8 @@ pub fn make_tables<S: Alter>(connection: &mut Connection<S>) -> Result<(), Error
 
 /// The tables of version 1.
 fn make_first_tables<S: Alter>(transaction: &mut Transaction<'_, S>) -> Result<(), Error>
-    ensures made { Makes S.Store transaction.old.conn.now transaction.new.conn.now result (λ before after. IsBlank no_schema before → IsBlank first_schema after) }
+    ensures made { Makes S.Store transaction.old.conn.now transaction.new.conn.now result
+        (λ before after. IsBlank no_schema before → IsBlank first_schema after) }
     ensures inside { StaysInside S.Store transaction.old.conn transaction.new.conn result }
 {
     make_meta(transaction)?;
@@ -36,7 +38,8 @@ fn make_first_tables<S: Alter>(transaction: &mut Transaction<'_, S>) -> Result<(
 }
 
 fn make_meta<S: Alter>(transaction: &mut Transaction<'_, S>) -> Result<(), Error>
-    ensures made { Makes S.Store transaction.old.conn.now transaction.new.conn.now result (λ before after. IsBlank no_schema before → IsBlank with_meta after) }
+    ensures made { Makes S.Store transaction.old.conn.now transaction.new.conn.now result
+        (λ before after. IsBlank no_schema before → IsBlank with_meta after) }
     ensures inside { StaysInside S.Store transaction.old.conn transaction.new.conn result }
 {
     write(
@@ -47,7 +50,8 @@ fn make_meta<S: Alter>(transaction: &mut Transaction<'_, S>) -> Result<(), Error
 }
 
 fn make_account<S: Alter>(transaction: &mut Transaction<'_, S>) -> Result<(), Error>
-    ensures made { Makes S.Store transaction.old.conn.now transaction.new.conn.now result (λ before after. IsBlank with_meta before → IsBlank with_account after) }
+    ensures made { Makes S.Store transaction.old.conn.now transaction.new.conn.now result
+        (λ before after. IsBlank with_meta before → IsBlank with_account after) }
     ensures inside { StaysInside S.Store transaction.old.conn transaction.new.conn result }
 {
     write(
@@ -58,7 +62,8 @@ fn make_account<S: Alter>(transaction: &mut Transaction<'_, S>) -> Result<(), Er
 }
 
 fn make_job<S: Alter>(transaction: &mut Transaction<'_, S>) -> Result<(), Error>
-    ensures made { Makes S.Store transaction.old.conn.now transaction.new.conn.now result (λ before after. IsBlank with_account before → IsBlank with_job after) }
+    ensures made { Makes S.Store transaction.old.conn.now transaction.new.conn.now result
+        (λ before after. IsBlank with_account before → IsBlank with_job after) }
     ensures inside { StaysInside S.Store transaction.old.conn transaction.new.conn result }
 {
     write(
@@ -69,7 +74,8 @@ fn make_job<S: Alter>(transaction: &mut Transaction<'_, S>) -> Result<(), Error>
 }
 
 fn make_document<S: Alter>(transaction: &mut Transaction<'_, S>) -> Result<(), Error>
-    ensures made { Makes S.Store transaction.old.conn.now transaction.new.conn.now result (λ before after. IsBlank with_job before → IsBlank with_document after) }
+    ensures made { Makes S.Store transaction.old.conn.now transaction.new.conn.now result
+        (λ before after. IsBlank with_job before → IsBlank with_document after) }
     ensures inside { StaysInside S.Store transaction.old.conn transaction.new.conn result }
 {
     write(
@@ -80,7 +86,8 @@ fn make_document<S: Alter>(transaction: &mut Transaction<'_, S>) -> Result<(), E
 }
 
 fn make_grants<S: Alter>(transaction: &mut Transaction<'_, S>) -> Result<(), Error>
-    ensures made { Makes S.Store transaction.old.conn.now transaction.new.conn.now result (λ before after. IsBlank with_document before → IsBlank with_grants after) }
+    ensures made { Makes S.Store transaction.old.conn.now transaction.new.conn.now result
+        (λ before after. IsBlank with_document before → IsBlank with_grants after) }
     ensures inside { StaysInside S.Store transaction.old.conn transaction.new.conn result }
 {
     write(
@@ -91,7 +98,8 @@ fn make_grants<S: Alter>(transaction: &mut Transaction<'_, S>) -> Result<(), Err
 }
 
 fn make_device<S: Alter>(transaction: &mut Transaction<'_, S>) -> Result<(), Error>
-    ensures made { Makes S.Store transaction.old.conn.now transaction.new.conn.now result (λ before after. IsBlank with_grants before → IsBlank first_schema after) }
+    ensures made { Makes S.Store transaction.old.conn.now transaction.new.conn.now result
+        (λ before after. IsBlank with_grants before → IsBlank first_schema after) }
     ensures inside { StaysInside S.Store transaction.old.conn transaction.new.conn result }
 {
     write(
@@ -104,8 +112,10 @@ fn make_device<S: Alter>(transaction: &mut Transaction<'_, S>) -> Result<(), Err
 /// What version 2 has beside the tables of version 1: the rates, and the index by which an account's jobs are
 /// found by their ends.
 pub(crate) fn extend_tables<S: Alter>(transaction: &mut Transaction<'_, S>) -> Result<(), Error>
-    ensures made { Makes S.Store transaction.old.conn.now transaction.new.conn.now result (λ before after. IsBlank first_schema before → IsBlank room_schema after) }
-    ensures adds { Makes S.Store transaction.old.conn.now transaction.new.conn.now result (λ before after. before.schema ≡ first_schema → AddsRates room_schema before after) }
+    ensures made { Makes S.Store transaction.old.conn.now transaction.new.conn.now result
+        (λ before after. IsBlank first_schema before → IsBlank room_schema after) }
+    ensures adds { Makes S.Store transaction.old.conn.now transaction.new.conn.now result
+        (λ before after. before.schema ≡ first_schema → AddsRates room_schema before after) }
     ensures inside { StaysInside S.Store transaction.old.conn transaction.new.conn result }
 {
     make_rates(transaction)?;
@@ -113,8 +123,10 @@ pub(crate) fn extend_tables<S: Alter>(transaction: &mut Transaction<'_, S>) -> R
 }
 
 fn make_rates<S: Alter>(transaction: &mut Transaction<'_, S>) -> Result<(), Error>
-    ensures made { Makes S.Store transaction.old.conn.now transaction.new.conn.now result (λ before after. IsBlank first_schema before → IsBlank rated_schema after) }
-    ensures adds { Makes S.Store transaction.old.conn.now transaction.new.conn.now result (λ before after. before.schema ≡ first_schema → AddsRates rated_schema before after) }
+    ensures made { Makes S.Store transaction.old.conn.now transaction.new.conn.now result
+        (λ before after. IsBlank first_schema before → IsBlank rated_schema after) }
+    ensures adds { Makes S.Store transaction.old.conn.now transaction.new.conn.now result
+        (λ before after. before.schema ≡ first_schema → AddsRates rated_schema before after) }
     ensures inside { StaysInside S.Store transaction.old.conn transaction.new.conn result }
 {
     write(
@@ -125,7 +137,8 @@ fn make_rates<S: Alter>(transaction: &mut Transaction<'_, S>) -> Result<(), Erro
 }
 
 fn make_job_ended<S: Alter>(transaction: &mut Transaction<'_, S>) -> Result<(), Error>
-    ensures adds { Makes S.Store transaction.old.conn.now transaction.new.conn.now result (λ before after. before.schema ≡ rated_schema → AddsIndex before after) }
+    ensures adds { Makes S.Store transaction.old.conn.now transaction.new.conn.now result
+        (λ before after. before.schema ≡ rated_schema → AddsIndex before after) }
     ensures inside { StaysInside S.Store transaction.old.conn transaction.new.conn result }
 {
     write(
@@ -136,7 +149,8 @@ fn make_job_ended<S: Alter>(transaction: &mut Transaction<'_, S>) -> Result<(), 
 }
 
 fn note_version<S: Alter>(transaction: &mut Transaction<'_, S>) -> Result<(), Error>
-    ensures made { Makes S.Store transaction.old.conn.now transaction.new.conn.now result (λ before after. IsBlank room_schema before → IsNew after) }
+    ensures made { Makes S.Store transaction.old.conn.now transaction.new.conn.now result
+        (λ before after. IsBlank room_schema before → IsNew after) }
     ensures inside { StaysInside S.Store transaction.old.conn transaction.new.conn result }
 {
     write(

@@ -17,8 +17,12 @@ use sqlite::{Alter, Connection, Error, Transaction};
 /// Makes version 2 of version 1, and leaves version 2 as it is.
 pub fn migrate_tables<S: Alter>(connection: &mut Connection<S>) -> Result<(), OpenFault>
     requires mode { connection.old.in_transaction ≡ false }
-    ensures migrated { HasCleanDisk (state S.Store connection.new) → OnOk result ((IsOpened (state S.Store connection.old).now × IsSame (state S.Store connection.old) (state S.Store connection.new)) ⊎ IsMigrated (state S.Store connection.old).now (state S.Store connection.new).now) }
-    ensures fault { OnDisk S.Store connection.old connection.new (λ db. IfErr result (IsMigrateFault db)) }
+    ensures migrated { HasCleanDisk (state S.Store connection.new)
+        → OnOk result ((IsOpened (state S.Store connection.old).now
+        × IsSame (state S.Store connection.old) (state S.Store connection.new))
+        ⊎ IsMigrated (state S.Store connection.old).now (state S.Store connection.new).now) }
+    ensures fault { OnDisk S.Store connection.old connection.new
+        (λ db. IfErr result (IsMigrateFault db)) }
     ensures whole { IsWhole S.Store connection.old connection.new result }
 {
     if is_older(connection)? {
@@ -31,7 +35,8 @@ pub fn migrate_tables<S: Alter>(connection: &mut Connection<S>) -> Result<(), Op
 /// transaction.
 fn add_rates<S: Alter>(connection: &mut Connection<S>) -> Result<(), Error>
     requires mode { connection.old.in_transaction ≡ false }
-    ensures migrated { Makes S.Store connection.old connection.new result (λ before after. IsFirst before → IsMigrated before after) }
+    ensures migrated { Makes S.Store connection.old connection.new result
+        (λ before after. IsFirst before → IsMigrated before after) }
     ensures whole { IsWhole S.Store connection.old connection.new result }
 {
     let mut transaction = connection.transaction();
@@ -40,7 +45,8 @@ fn add_rates<S: Alter>(connection: &mut Connection<S>) -> Result<(), Error>
 }
 
 fn become_version_two<S: Alter>(transaction: &mut Transaction<'_, S>) -> Result<(), Error>
-    ensures migrated { Makes S.Store transaction.old.conn.now transaction.new.conn.now result (λ before after. IsFirst before → IsMigrated before after) }
+    ensures migrated { Makes S.Store transaction.old.conn.now transaction.new.conn.now result
+        (λ before after. IsFirst before → IsMigrated before after) }
     ensures inside { StaysInside S.Store transaction.old.conn transaction.new.conn result }
 {
     extend_tables(transaction)?;
@@ -49,7 +55,9 @@ fn become_version_two<S: Alter>(transaction: &mut Transaction<'_, S>) -> Result<
 }
 
 fn rate_devices<S: Alter>(transaction: &mut Transaction<'_, S>) -> Result<(), Error>
-    ensures rates { Makes S.Store transaction.old.conn.now transaction.new.conn.now result (λ before after. before.schema ≡ room_schema → before.trees rates.tree ≡ [] → RatesDevices before after) }
+    ensures rates { Makes S.Store transaction.old.conn.now transaction.new.conn.now result
+        (λ before after. before.schema ≡ room_schema → before.trees rates.tree ≡ []
+        → RatesDevices before after) }
     ensures inside { StaysInside S.Store transaction.old.conn transaction.new.conn result }
 {
     write(
@@ -60,7 +68,9 @@ fn rate_devices<S: Alter>(transaction: &mut Transaction<'_, S>) -> Result<(), Er
 }
 
 fn note_version_two<S: Alter>(transaction: &mut Transaction<'_, S>) -> Result<(), Error>
-    ensures notes { Makes S.Store transaction.old.conn.now transaction.new.conn.now result (λ before after. before.schema ≡ room_schema → HasVersion before (pos 1) → NotesVersionTwo before after) }
+    ensures notes { Makes S.Store transaction.old.conn.now transaction.new.conn.now result
+        (λ before after. before.schema ≡ room_schema → HasVersion before (pos 1)
+        → NotesVersionTwo before after) }
     ensures inside { StaysInside S.Store transaction.old.conn transaction.new.conn result }
 {
     write(transaction, "UPDATE meta SET version = 2 WHERE id = 1", &[])

@@ -15,7 +15,9 @@ pub fn find_row<S: Alter>(
     text: &str,
     params: &[ValueRef<'_>],
 ) -> Result<Option<Row>, Error>
-    ensures finds { HasCleanDisk (state S.Store connection.new) → Finds (state S.Store connection.old) (state S.Store connection.new) text.now (bound params.now) result }
+    ensures finds { HasCleanDisk (state S.Store connection.new)
+        → Finds (state S.Store connection.old) (state S.Store connection.new) text.now
+        (bound params.now) result }
     ensures going { GoesOn S.Store connection.old connection.new result }
 {
     match connection.query_row(text, params) {

@@ -242,7 +242,8 @@ fn is_rates(table: &Table) -> bool
 }
 
 fn is_keyed(table: &Table, name: &str, tree: u32, key: &[usize], columns: &[ColumnForm]) -> bool
-    ensures { IsTrue result ↔ table.now ≡ keyed name.now tree key.now (map column_formed columns.now) }
+    ensures { IsTrue result
+        ↔ table.now ≡ keyed name.now tree key.now (map column_formed columns.now) }
 {
     table.key.is_none()
         && is_only(&table.uniques, key)
@@ -377,7 +378,14 @@ fn are_last_indexes(indexes: &[Index]) -> bool
 /// Whether it is the index of a table's key, in the tree after the table's.
 fn is_index(index: &Index, name: &str, table: u32, key: &[usize]) -> bool
     requires { table < 2 ^ 31 }
-    ensures { IsTrue result ↔ index.now ≡ record { name = name.now; tree = table + 1; table = table; columns = key.now; order = plain; is_unique = true } }
+    ensures { IsTrue result ↔ index.now ≡ record {
+      name = name.now;
+      tree = table + 1;
+      table = table;
+      columns = key.now;
+      order = plain;
+      is_unique = true;
+    } }
 {
     is_name(&index.name, name)
         && index.tree == table + 1

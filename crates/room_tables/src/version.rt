@@ -31,8 +31,10 @@ struct Edition {
 
 /// Whether the database is one that the store can be opened on.
 pub fn check<S: Alter>(connection: &mut Connection<S>) -> Result<(), OpenFault>
-    ensures opened { OnDisk S.Store connection.old connection.new (λ db. OnOk result (IsOpened db)) }
-    ensures fault { OnDisk S.Store connection.old connection.new (λ db. IfErr result (IsOpenFault db)) }
+    ensures opened { OnDisk S.Store connection.old connection.new
+        (λ db. OnOk result (IsOpened db)) }
+    ensures fault { OnDisk S.Store connection.old connection.new
+        (λ db. IfErr result (IsOpenFault db)) }
     ensures reads { OnlyReads S.Store connection.old connection.new (λ _. ⊤) result }
 {
     let edition = find_edition(connection)?;
@@ -41,8 +43,10 @@ pub fn check<S: Alter>(connection: &mut Connection<S>) -> Result<(), OpenFault>
 
 /// Whether the database is to be migrated. If not, the store can be opened on it.
 pub(crate) fn is_older<S: Alter>(connection: &mut Connection<S>) -> Result<bool, OpenFault>
-    ensures found { OnDisk S.Store connection.old connection.new (λ db. IfOk result (λ older. (IsTrue older → IsFirst db) × (older ≡ false → IsOpened db))) }
-    ensures fault { OnDisk S.Store connection.old connection.new (λ db. IfErr result (IsMigrateFault db)) }
+    ensures found { OnDisk S.Store connection.old connection.new (λ db.
+        IfOk result (λ older. (IsTrue older → IsFirst db) × (older ≡ false → IsOpened db))) }
+    ensures fault { OnDisk S.Store connection.old connection.new
+        (λ db. IfErr result (IsMigrateFault db)) }
     ensures reads { OnlyReads S.Store connection.old connection.new (λ _. ⊤) result }
 {
     let edition = find_edition(connection)?;
@@ -52,7 +56,10 @@ pub(crate) fn is_older<S: Alter>(connection: &mut Connection<S>) -> Result<bool,
 /// Whether it is an edition that the store can be opened on.
 fn judge(edition: Edition) -> Result<(), OpenFault>
     ensures accepted { OnOk result ((edition.layout ≡ Layout.Current) × (edition.version ≡ pos 2)) }
-    ensures refused { IfErr result (λ fault. ((edition.version ≢ pos 2) × (fault ≡ OpenFault.WrongVersion edition.version)) ⊎ ((edition.version ≡ pos 2) × (edition.layout ≢ Layout.Current) × (fault ≡ OpenFault.NotOurs))) }
+    ensures refused { IfErr result (λ fault.
+        ((edition.version ≢ pos 2) × (fault ≡ OpenFault.WrongVersion edition.version))
+        ⊎ ((edition.version ≡ pos 2) × (edition.layout ≢ Layout.Current)
+        × (fault ≡ OpenFault.NotOurs))) }
 {
     if edition.version != VERSION {
         return Err(OpenFault::WrongVersion(edition.version));
@@ -65,8 +72,17 @@ fn judge(edition: Edition) -> Result<(), OpenFault>
 
 /// Whether it is the edition that can be migrated. If not, it is judged as an open judges it.
 fn judge_older(edition: Edition) -> Result<bool, OpenFault>
-    ensures accepted { IfOk result (λ older. (IsTrue older → (edition.layout ≡ Layout.First) × (edition.version ≡ pos 1)) × (older ≡ false → (edition.layout ≡ Layout.Current) × (edition.version ≡ pos 2))) }
-    ensures refused { IfErr result (λ fault. ((edition.version ≢ pos 1) × (edition.version ≢ pos 2) × (fault ≡ OpenFault.WrongVersion edition.version)) ⊎ (((edition.version ≡ pos 2) × (edition.layout ≢ Layout.Current) × (fault ≡ OpenFault.NotOurs)) ⊎ (((edition.version ≡ pos 1) × (edition.layout ≡ Layout.Other) × (fault ≡ OpenFault.NotOurs)) ⊎ ((edition.version ≡ pos 1) × (edition.layout ≡ Layout.Current) × (fault ≡ OpenFault.Storage))))) }
+    ensures accepted { IfOk result (λ older.
+        (IsTrue older → (edition.layout ≡ Layout.First) × (edition.version ≡ pos 1))
+        × (older ≡ false → (edition.layout ≡ Layout.Current) × (edition.version ≡ pos 2))) }
+    ensures refused { IfErr result (λ fault. ((edition.version ≢ pos 1) × (edition.version ≢ pos 2)
+        × (fault ≡ OpenFault.WrongVersion edition.version))
+        ⊎ (((edition.version ≡ pos 2) × (edition.layout ≢ Layout.Current)
+        × (fault ≡ OpenFault.NotOurs))
+        ⊎ (((edition.version ≡ pos 1) × (edition.layout ≡ Layout.Other)
+        × (fault ≡ OpenFault.NotOurs))
+        ⊎ ((edition.version ≡ pos 1) × (edition.layout ≡ Layout.Current)
+        × (fault ≡ OpenFault.Storage))))) }
 {
     if edition.version != OLDER_VERSION {
         judge(edition)?;
@@ -82,8 +98,10 @@ fn judge_older(edition: Edition) -> Result<bool, OpenFault>
 
 /// The edition that a database is, where it is one.
 fn find_edition<S: Alter>(connection: &mut Connection<S>) -> Result<Edition, OpenFault>
-    ensures found { OnDisk S.Store connection.old connection.new (λ db. IfOk result (IsEdition db)) }
-    ensures fault { OnDisk S.Store connection.old connection.new (λ db. IfErr result (IsNoEdition db)) }
+    ensures found { OnDisk S.Store connection.old connection.new
+        (λ db. IfOk result (IsEdition db)) }
+    ensures fault { OnDisk S.Store connection.old connection.new
+        (λ db. IfErr result (IsNoEdition db)) }
     ensures reads { OnlyReads S.Store connection.old connection.new (λ _. ⊤) result }
 {
     if !keeps_version(connection.schema()) {
@@ -98,9 +116,12 @@ fn find_edition<S: Alter>(connection: &mut Connection<S>) -> Result<Edition, Ope
 
 /// The version that the row of `meta` tells, where it tells one.
 fn find_version<S: Alter>(connection: &mut Connection<S>) -> Result<Option<i64>, OpenFault>
-    ensures found { OnDisk S.Store connection.old connection.new (λ db. KeepsVersion db.schema → IfOk result (λ found. MatchOption found (LacksVersion db) (HasVersion db))) }
-    ensures fault { IfErr result (λ fault. (fault ≡ OpenFault.Storage) ⊎ (fault ≡ OpenFault.Memory)) }
-    ensures reads { OnlyReads S.Store connection.old connection.new (λ db. KeepsVersion db.schema) result }
+    ensures found { OnDisk S.Store connection.old connection.new (λ db. KeepsVersion db.schema
+        → IfOk result (λ found. MatchOption found (LacksVersion db) (HasVersion db))) }
+    ensures fault { IfErr result
+        (λ fault. (fault ≡ OpenFault.Storage) ⊎ (fault ≡ OpenFault.Memory)) }
+    ensures reads { OnlyReads S.Store connection.old connection.new
+        (λ db. KeepsVersion db.schema) result }
 {
     match version_row(connection)? {
         Some(row) => version_from(&row),
@@ -109,7 +130,10 @@ fn find_version<S: Alter>(connection: &mut Connection<S>) -> Result<Option<i64>,
 }
 
 fn version_row<S: Alter>(connection: &mut Connection<S>) -> Result<Option<Row>, Error>
-    ensures finds { HasCleanDisk (state S.Store connection.new) → KeepsVersion (state S.Store connection.old).now.schema → FindsRow (state S.Store connection.old) (state S.Store connection.new) 0 version_tests (col 1 2 ∷ []) [] result }
+    ensures finds { HasCleanDisk (state S.Store connection.new)
+        → KeepsVersion (state S.Store connection.old).now.schema
+        → FindsRow (state S.Store connection.old) (state S.Store connection.new) 0 version_tests
+        (col 1 2 ∷ []) [] result }
     ensures going { GoesOn S.Store connection.old connection.new result }
 {
     find_row(connection, "SELECT version FROM meta WHERE id = 1", &[])
@@ -117,7 +141,9 @@ fn version_row<S: Alter>(connection: &mut Connection<S>) -> Result<Option<Row>, 
 
 /// The version that the row tells, where it is a number.
 fn version_from(row: &Row) -> Result<Option<i64>, OpenFault>
-    ensures read { IfOk result (λ found. MatchOption found ((version : ℤ) → column row.now 0 ≢ Int version) (λ version. column row.now 0 ≡ Int version)) }
+    ensures read { IfOk result (λ found. MatchOption found
+        ((version : ℤ) → column row.now 0 ≢ Int version)
+        (λ version. column row.now 0 ≡ Int version)) }
     ensures fault { IfErr result (λ fault. fault ≡ OpenFault.Memory) }
 {
     match row.get(0) {

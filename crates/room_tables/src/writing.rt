@@ -17,7 +17,9 @@ pub fn write<S: Alter>(
     text: &str,
     params: &[ValueRef<'_>],
 ) -> Result<(), Error>
-    ensures runs { HasCleanDisk (state S.Store transaction.new.conn.now) → OnOk result (HasRun text.now (bound params.now) (state S.Store transaction.old.conn.now) (state S.Store transaction.new.conn.now)) }
+    ensures runs { HasCleanDisk (state S.Store transaction.new.conn.now)
+        → OnOk result (HasRun text.now (bound params.now)
+        (state S.Store transaction.old.conn.now) (state S.Store transaction.new.conn.now)) }
     ensures inside { StaysInside S.Store transaction.old.conn transaction.new.conn result }
 {
     transaction.execute(text, params)?;
@@ -30,8 +32,12 @@ pub fn put<S: Alter>(
     text: &str,
     params: &[ValueRef<'_>],
 ) -> Result<(), TableFault>
-    ensures runs { HasCleanDisk (state S.Store transaction.new.conn.now) → OnOk result (HasRun text.now (bound params.now) (state S.Store transaction.old.conn.now) (state S.Store transaction.new.conn.now)) }
-    ensures taken { HasCleanDisk (state S.Store transaction.new.conn.now) → result ≡ Err TableFault.Damaged → IsTaken text.now (bound params.now) (state S.Store transaction.old.conn.now) (state S.Store transaction.new.conn.now) }
+    ensures runs { HasCleanDisk (state S.Store transaction.new.conn.now)
+        → OnOk result (HasRun text.now (bound params.now)
+        (state S.Store transaction.old.conn.now) (state S.Store transaction.new.conn.now)) }
+    ensures taken { HasCleanDisk (state S.Store transaction.new.conn.now)
+        → result ≡ Err TableFault.Damaged → IsTaken text.now (bound params.now)
+        (state S.Store transaction.old.conn.now) (state S.Store transaction.new.conn.now) }
     ensures inside { StaysInside S.Store transaction.old.conn transaction.new.conn result }
 {
     match transaction.execute(text, params) {
