@@ -13,11 +13,13 @@ use Rattle.room_tables.specs.Cells.{number}
 
 -- the row, its row number first, is of a document of the job
 abbrev pub is_of_job : List ℕ → ℕ → Row → Bool
-is_of_job name job row = agree plain (1 ∷ 2 ∷ []) row (1 ∷ 2 ∷ []) (Null ∷ Text name ∷ number job ∷ [])
+is_of_job name job row =
+    agree plain (1 ∷ 2 ∷ []) row (1 ∷ 2 ∷ []) (Null ∷ Text name ∷ number job ∷ [])
 
 -- what is shown of the documents of the job: of each the columns behind that of the job
 abbrev pub shown_documents : Database → List ℕ → ℕ → List Row
-shown_documents db name job = map (λ row. column row 3 ∷ column row 4 ∷ column row 5 ∷ []) (filter (is_of_job name job) (db.trees document_table.tree))
+shown_documents db name job = map (λ row. column row 3 ∷ column row 4 ∷ column row 5 ∷ [])
+    (filter (is_of_job name job) (db.trees document_table.tree))
 
 -- what is shown tells the document
 pub record ShowsDocument (row : Row) (document : Document) : Type 0 where
@@ -35,11 +37,13 @@ pub record IsDocumentOf (job : ℕ) (document : Document) : Type 0 where
 -- ---- the documents of a job in places, that of the number 1 in the first
 
 -- the row tells a document of the job, which is put in its place
-pub record GathersDocument (job : ℕ) (first : List (Option Document)) (row : Row) (last : List (Option Document)) : Type 0 where
+pub record GathersDocument (job : ℕ) (first : List (Option Document)) (row : Row)
+    (last : List (Option Document)) : Type 0 where
   pub document : Document
   pub told : ShowsDocument row document
   pub in_range : IsDocumentOf job document
   pub put : last ≡ slice_set first (document.number - 1) (Some document)
 
 abbrev pub refuses_document : ℕ → Row → Type 0
-refuses_document job row = (document : Document) → IsDocumentOf job document → ShowsDocument row document → ⊥
+refuses_document job row =
+    (document : Document) → IsDocumentOf job document → ShowsDocument row document → ⊥

@@ -19,7 +19,8 @@ limit_number (Some limit) = pos limit
 
 -- the cells of a job behind its key, and then its number
 abbrev pub numbered_cells : Job → Row
-numbered_cells job = Blob job.name ∷ Blob job.password ∷ (standing_cells job.standing ++ number job.job ∷ [])
+numbered_cells job =
+    Blob job.name ∷ Blob job.password ∷ (standing_cells job.standing ++ number job.job ∷ [])
 
 pub record ShowsNumbered (row : Row) (job : Job) : Type 0 where
   pub shown : ShowsJob row job
@@ -45,8 +46,11 @@ refuses_numbered row = (job : Job) → IsNumbered job → ShowsNumbered row job 
 abbrev pub listed_cells : Row → Row
 listed_cells cells = behind_key cells ++ column cells 1 ∷ []
 
--- each of the rows is one of those that were to be read, and where they are a room's, they are those of the jobs
--- that are chosen of it, in their order
-pub record AreListed (chosen : List Job → List Job) (read : List Row) (db : Database) (name : List ℕ) (rows : List Row) : Type 0 where
-  pub of_room : (room : RoomValue) → HoldsRoom db name room → rows ≡ map numbered_cells (chosen (values room.jobs))
-  pub are_read : (row : Row) → Has rows row → (cells : Row) × Has read cells × (row ≡ listed_cells cells)
+-- each of the rows is one of those that were to be read, and where they are a room's, they are
+-- those of the jobs that are chosen of it, in their order
+pub record AreListed (chosen : List Job → List Job) (read : List Row) (db : Database)
+    (name : List ℕ) (rows : List Row) : Type 0 where
+  pub of_room : (room : RoomValue) → HoldsRoom db name room
+      → rows ≡ map numbered_cells (chosen (values room.jobs))
+  pub are_read : (row : Row) → Has rows row
+      → (cells : Row) × Has read cells × (row ≡ listed_cells cells)

@@ -12,8 +12,9 @@ use Rattle.room_tables.specs.Cells.{number, flag, moment, device_text}
 -- the cells of a job behind its key
 abbrev pub behind_key : Row → Row
 behind_key cells =
-    column cells 2 ∷ column cells 3 ∷ column cells 4 ∷ column cells 5 ∷ column cells 6 ∷ column cells 7 ∷ column cells 8 ∷ column cells 9
-    ∷ column cells 10 ∷ column cells 11 ∷ column cells 12 ∷ column cells 13 ∷ column cells 14 ∷ column cells 15 ∷ column cells 16 ∷ []
+    column cells 2 ∷ column cells 3 ∷ column cells 4 ∷ column cells 5 ∷ column cells 6
+    ∷ column cells 7 ∷ column cells 8 ∷ column cells 9 ∷ column cells 10 ∷ column cells 11
+    ∷ column cells 12 ∷ column cells 13 ∷ column cells 14 ∷ column cells 15 ∷ column cells 16 ∷ []
 
 -- from the third column on, a standing
 pub record ShowsStanding (row : Row) (s : Standing) : Type 0 where

@@ -1,5 +1,5 @@
--- What a read can find in sound rows: where it tells `Damaged`, what it read is none of these (all this project's
--- own).
+-- What a read can find in sound rows: where it tells `Damaged`, what it read is none of these (all
+-- this project's own).
 use Rattle.std.specs.Prelude.{◌≡◌, ℕ, ◌≤◌, pos, negsuc, Bool, ⊤, List, [], ◌∷◌, map, filter, drop, IsPermutation, Option, option_map, IfSome, IsTrue}
 use Rattle.std.specs.List.{sum_by}
 use Rattle.sqlite_value.specs.declared.value.Value.TheVariants.{Int, Text}
@@ -24,12 +24,16 @@ use Rattle.room_statements.specs.Documents.{IsDocumentOf}
 use Rattle.room_statements.specs.Queues.{IsNumbered}
 
 -- the row of a key is that of a value in its range, or there is none
-abbrev pub IsRowOf : {X : Type 0} → (X → Row) → (X → Type 0) → Option Row → Type 0
-IsRowOf {X} cells InRange there = (found : Option X) × IfSome found InRange × (there ≡ option_map cells found)
+abbrev pub IsRowOf : {X : Type 0}
+    → (cells : X → Row) (InRange : X → Type 0) (there : Option Row) → Type 0
+IsRowOf {X} cells InRange there =
+    (found : Option X) × IfSome found InRange × (there ≡ option_map cells found)
 
 -- each of the rows is that of a value in its range
-abbrev pub AreRowsOf : {X : Type 0} → (X → Row) → (X → Type 0) → List Row → Type 0
-AreRowsOf {X} cells InRange rows = (row : Row) → Has rows row → (x : X) × InRange x × (row ≡ cells x)
+abbrev pub AreRowsOf : {X : Type 0}
+    → (cells : X → Row) (InRange : X → Type 0) (rows : List Row) → Type 0
+AreRowsOf {X} cells InRange rows =
+    (row : Row) → Has rows row → (x : X) × InRange x × (row ≡ cells x)
 
 -- ---- the rows of an account in a table
 
@@ -78,9 +82,12 @@ pub record CanBeAdded (name : List ℕ) (month : ℕ) (rows : List Row) : Type 0
 
 pub record AccountsRead (db : Database) (name : List ℕ) : Type 0 where
   pub account : IsRowOf (account_cells name) IsAccount (account_at db name)
-  pub jobs : (number : ℕ) → IsRowOf (job_cells name) (λ it. (it.job ≡ number) × IsJob it) (job_at db name (pos number))
-  pub grants : (month : ℕ) → IsRowOf (grant_cells name month) (λ pages. pages ≤ most_pages) (grant_at db name (pos month))
-  pub documents : (number : ℕ) → AreRowsOf (document_cells name) (IsDocumentOf number) (document_rows db name number)
+  pub jobs : (number : ℕ)
+      → IsRowOf (job_cells name) (λ it. (it.job ≡ number) × IsJob it) (job_at db name (pos number))
+  pub grants : (month : ℕ) → IsRowOf (grant_cells name month) (λ pages. pages ≤ most_pages)
+      (grant_at db name (pos month))
+  pub documents : (number : ℕ)
+      → AreRowsOf (document_cells name) (IsDocumentOf number) (document_rows db name number)
   pub queues : AreRowsOf (job_cells name) IsNumbered (job_rows db name)
   pub counted : CanBeCounted name (job_rows db name)
   pub queued : CanBeCounted name (unfinished_rows db name)
@@ -88,9 +95,11 @@ pub record AccountsRead (db : Database) (name : List ℕ) : Type 0 where
 
 pub record DevicesRead (db : Database) : Type 0 where
   pub devices : (name : List ℕ) → IsRowOf (on_cells name) (λ _. ⊤) (device_at db name)
-  pub rates : (name : List ℕ) → IsRowOf (units_cells name) (λ units. (1 ≤ units) × (units ≤ most_rate)) (rate_at db name)
+  pub rates : (name : List ℕ)
+      → IsRowOf (units_cells name) (λ units. (1 ≤ units) × (units ≤ most_rate)) (rate_at db name)
   pub all : AreRowsOf (λ (it : List ℕ × Bool). on_cells it.0 it.1) (λ _. ⊤) (device_rows db)
 
 pub record SoundRowsAreRead : Type 0 where
-  pub accounts : (db : Database) (name : List ℕ) → HasSchema db → IsSound db name → AccountsRead db name
+  pub accounts : (db : Database) (name : List ℕ) → HasSchema db → IsSound db name
+      → AccountsRead db name
   pub of_devices : (db : Database) → HasSchema db → AreSoundDevices db → DevicesRead db

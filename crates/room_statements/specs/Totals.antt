@@ -29,7 +29,9 @@ pub record CountsJob (first : Tally) (row : Row) (last : Tally) : Type 0 where
 
 -- it tells none that can be counted
 abbrev pub refuses_job : Tally → Row → Type 0
-refuses_job first row = (state : JobState) (reserved charged : ℕ) → TellsCounted row state reserved charged → counted_in_bounds first state reserved charged ≡ None
+refuses_job first row =
+    (state : JobState) (reserved charged : ℕ) → TellsCounted row state reserved charged
+    → counted_in_bounds first state reserved charged ≡ None
 
 -- ---- its grants
 
@@ -51,4 +53,5 @@ pub record AddsGrant (now first : ℕ) (row : Row) (last : ℕ) : Type 0 where
 
 -- it tells none that can be added
 abbrev pub refuses_grant : (now first : ℕ) → Row → Type 0
-refuses_grant now first row = (month pages : ℕ) → TellsGrant row month pages → most_units < first + pages_by now (month, pages)
+refuses_grant now first row = (month pages : ℕ) → TellsGrant row month pages
+    → most_units < first + pages_by now (month, pages)

@@ -12,18 +12,21 @@ use Rattle.room_tables.specs.Calls.{IsSame, Stays, OfStore}
 use Rattle.room_tables.specs.Queries.{HasNoSums, Means, Takes, IsShownBy}
 
 -- row by row, each step from what the one before left
-abbrev pub GathersAll : {G : Type 0} → (G → Row → G → Type 0) → G → List Row → G → Type 0
+abbrev pub GathersAll : {G : Type 0}
+    → (step : G → Row → G → Type 0) (first : G) (rows : List Row) (last : G) → Type 0
 GathersAll step first [] last = first ≡ last
-GathersAll {G} step first (row ∷ rows) last = (next : G) × step first row next × GathersAll step next rows last
+GathersAll {G} step first (row ∷ rows) last =
+    (next : G) × step first row next × GathersAll step next rows last
 
 -- some rows are gathered, whichever they are
-abbrev pub HasGathered : {G : Type 0} → (G → Row → G → Type 0) → G → G → Type 0
+abbrev pub HasGathered : {G : Type 0} → (step : G → Row → G → Type 0) (first last : G) → Type 0
 HasGathered step first last = (given : List Row) × GathersAll step first given last
 
 module _ {G : Type 0} (step : G → Row → G → Type 0) (refuses : G → Row → Type 0) where
   -- each row of what may be shown is gathered, in its order
   abbrev pub GathersShown : (List Row → Type 0) → G → G → Type 0
-  GathersShown IsShown first last = (given : List Row) × IsShown given × GathersAll step first given last
+  GathersShown IsShown first last =
+      (given : List Row) × IsShown given × GathersAll step first given last
 
   -- after some of them comes one that is refused
   pub record RefusesShown (IsShown : List Row → Type 0) (first : G) : Type 0 where
@@ -35,21 +38,28 @@ module _ {G : Type 0} (step : G → Row → G → Type 0) (refuses : G → Row �
     pub gathered : GathersAll step first given so_far
     pub refused : refuses so_far row
 
-  pub record WalksShown (old new : State) (IsShown : List Row → Type 0) (first last : G) (result : Result (Unit {0}) TableFault) : Type 0 where
+  pub record WalksShown (old new : State) (IsShown : List Row → Type 0) (first last : G)
+      (result : Result (Unit {0}) TableFault) : Type 0 where
     pub all : OnOk result (GathersShown IsShown first last)
     pub damaged : result ≡ Err Damaged → RefusesShown IsShown first
     pub same : OnOk result (IsSame old new)
     pub stays : Stays old new
 
   -- whatever query the text means, this is what the walk comes to
-  abbrev pub Walks : State → State → List ℕ → Row → G → G → Result (Unit {0}) TableFault → Type 0
+  abbrev pub Walks : (old new : State) (text : List ℕ) (params : Row) (first last : G)
+      (result : Result (Unit {0}) TableFault) → Type 0
   Walks old new text params first last result =
-      (query : Query) (names : List (List ℕ)) (parameters : ℕ) → HasNoSums query → Means old.now.schema text query names parameters
-      → Takes old.now.schema query params parameters → WalksShown old new (IsShownBy query old.now.trees params) first last result
+      (query : Query) (names : List (List ℕ)) (parameters : ℕ) → HasNoSums query
+      → Means old.now.schema text query names parameters
+      → Takes old.now.schema query params parameters
+      → WalksShown old new (IsShownBy query old.now.trees params) first last result
 
   -- over the store's tables, of which so much is shown
-  abbrev pub WalksStore : {S : Type 0} → Ghosts S → Held S → Held S → (Database → List Row → Type 0) → G → G → Result (Unit {0}) TableFault → Type 0
-  WalksStore store old new IsShown first last result = OfStore store old new (λ db. WalksShown (state store old) (state store new) (IsShown db) first last result)
+  abbrev pub WalksStore : {S : Type 0}
+      → (store : Ghosts S) (old new : Held S) (IsShown : Database → List Row → Type 0)
+      (first last : G) (result : Result (Unit {0}) TableFault) → Type 0
+  WalksStore store old new IsShown first last result = OfStore store old new
+      (λ db. WalksShown (state store old) (state store new) (IsShown db) first last result)
 
   -- ---- over rows that are shown in some order
 
@@ -59,5 +69,7 @@ module _ {G : Type 0} (step : G → Row → G → Type 0) (refuses : G → Row �
   abbrev pub RefusesOne : List Row → G → Type 0
   RefusesOne shown first = RefusesShown (IsPermutation shown) first
 
-  abbrev pub WalksOver : State → State → List Row → G → G → Result (Unit {0}) TableFault → Type 0
-  WalksOver old new shown first last result = WalksShown old new (IsPermutation shown) first last result
+  abbrev pub WalksOver : (old new : State) (shown : List Row) (first last : G)
+      (result : Result (Unit {0}) TableFault) → Type 0
+  WalksOver old new shown first last result =
+      WalksShown old new (IsPermutation shown) first last result

@@ -21,9 +21,12 @@ pub fn find_account<S: Alter>(
     connection: &mut Connection<S>,
     name: Name,
 ) -> Result<Option<Account>, TableFault>
-    ensures found { OfStore S.Store connection.old connection.new (λ db. IfOk result (λ found. account_at db name ≡ option_map (account_cells name) found)) }
+    ensures found { OfStore S.Store connection.old connection.new
+        (λ db. IfOk result (λ found. account_at db name ≡ option_map (account_cells name) found)) }
     ensures in_range { IfOk result (λ found. IfSome found IsAccount) }
-    ensures damaged { OfStore S.Store connection.old connection.new (λ db. result ≡ Err TableFault.Damaged → IsRowOf (account_cells name) IsAccount (account_at db name) → ⊥) }
+    ensures damaged { OfStore S.Store connection.old connection.new (λ db.
+        result ≡ Err TableFault.Damaged
+        → IsRowOf (account_cells name) IsAccount (account_at db name) → ⊥) }
     ensures reads { ReadsStore S.Store connection.old connection.new result }
 {
     match account_row(connection, name)? {
@@ -33,7 +36,8 @@ pub fn find_account<S: Alter>(
 }
 
 fn account_row<S: Alter>(connection: &mut Connection<S>, name: Name) -> Result<Option<Row>, Error>
-    ensures gets { GetsRow S.Store connection.old connection.new (λ db. account_at db name) (λ cells. column cells 1 ∷ column cells 2 ∷ []) result }
+    ensures gets { GetsRow S.Store connection.old connection.new (λ db. account_at db name)
+        (λ cells. column cells 1 ∷ column cells 2 ∷ []) result }
     ensures going { GoesOn S.Store connection.old connection.new result }
 {
     find_row(
@@ -44,9 +48,11 @@ fn account_row<S: Alter>(connection: &mut Connection<S>, name: Name) -> Result<O
 }
 
 fn account_from(row: &Row) -> Result<Account, TableFault>
-    ensures read { IfOk result (λ account. (column row.now 0 ≡ number account.opened) × (column row.now 1 ≡ number account.next_job)) }
+    ensures read { IfOk result (λ account.
+        (column row.now 0 ≡ number account.opened) × (column row.now 1 ≡ number account.next_job)) }
     ensures in_range { IfOk result IsAccount }
-    ensures damaged { result ≡ Err TableFault.Damaged → (account : AccountValue) → IsAccount account → column row.now 0 ≡ number account.opened → column row.now 1 ≢ number account.next_job }
+    ensures damaged { result ≡ Err TableFault.Damaged → (account : AccountValue) → IsAccount account
+        → column row.now 0 ≡ number account.opened → column row.now 1 ≢ number account.next_job }
 {
     let opened = number_at(row, 0)?;
     let next_job = number_at(row, 1)?;
@@ -66,7 +72,8 @@ pub fn set_account<S: Alter>(
     account: Account,
 ) -> Result<(), Error>
     requires { IsAccount account }
-    ensures sets { Changes S.Store transaction.old.conn.now transaction.new.conn.now result (SetsRow account_table (account_cells name account)) }
+    ensures sets { Changes S.Store transaction.old.conn.now transaction.new.conn.now result
+        (SetsRow account_table (account_cells name account)) }
     ensures inside { StaysInside S.Store transaction.old.conn transaction.new.conn result }
 {
     write(
@@ -86,7 +93,10 @@ pub fn set_next_job<S: Alter>(
     name: Name,
     next_job: u32,
 ) -> Result<(), Error>
-    ensures sets { Changes S.Store transaction.old.conn.now transaction.new.conn.now result (λ before after. (account : AccountValue) → account_at before name ≡ Some (account_cells name account) → SetsRow account_table (account_cells name (record account { next_job = next_job })) before after) }
+    ensures sets { Changes S.Store transaction.old.conn.now transaction.new.conn.now result
+        (λ before after. (account : AccountValue)
+        → account_at before name ≡ Some (account_cells name account) → SetsRow account_table
+        (account_cells name (record account { next_job = next_job })) before after) }
     ensures inside { StaysInside S.Store transaction.old.conn transaction.new.conn result }
 {
     write(

@@ -25,8 +25,11 @@ pub fn find_device<S: Alter>(
     connection: &mut Connection<S>,
     name: Name,
 ) -> Result<Option<bool>, TableFault>
-    ensures found { OfStore S.Store connection.old connection.new (λ db. IfOk result (λ found. device_at db name ≡ option_map (on_cells name) found)) }
-    ensures damaged { OfStore S.Store connection.old connection.new (λ db. result ≡ Err TableFault.Damaged → IsRowOf (on_cells name) (λ _. ⊤) (device_at db name) → ⊥) }
+    ensures found { OfStore S.Store connection.old connection.new
+        (λ db. IfOk result (λ found. device_at db name ≡ option_map (on_cells name) found)) }
+    ensures damaged { OfStore S.Store connection.old connection.new (λ db.
+        result ≡ Err TableFault.Damaged
+        → IsRowOf (on_cells name) (λ _. ⊤) (device_at db name) → ⊥) }
     ensures reads { ReadsStore S.Store connection.old connection.new result }
 {
     match device_row(connection, name)? {
@@ -36,7 +39,8 @@ pub fn find_device<S: Alter>(
 }
 
 fn device_row<S: Alter>(connection: &mut Connection<S>, name: Name) -> Result<Option<Row>, Error>
-    ensures gets { GetsRow S.Store connection.old connection.new (λ db. device_at db name) (λ cells. column cells 1 ∷ []) result }
+    ensures gets { GetsRow S.Store connection.old connection.new (λ db. device_at db name)
+        (λ cells. column cells 1 ∷ []) result }
     ensures going { GoesOn S.Store connection.old connection.new result }
 {
     find_row(
@@ -48,9 +52,13 @@ fn device_row<S: Alter>(connection: &mut Connection<S>, name: Name) -> Result<Op
 
 /// Whether some device takes jobs now, of the rows or, where they are sound, of the map that they are. `Damaged` tells that a row that is there can be none of sound rows.
 pub fn is_device_on<S: Alter>(connection: &mut Connection<S>) -> Result<bool, TableFault>
-    ensures found { OfStore S.Store connection.old connection.new (λ db. IfOk result (λ on. IsTrue on ↔ ((name : List ℕ) × (device_at db name ≡ Some (on_cells name true))))) }
-    ensures of_map { OfStore S.Store connection.old connection.new (λ db. IfOk result (λ on. (devices : Devices) → HoldsDevices db devices → on ≡ is_some_on devices)) }
-    ensures damaged { OfStore S.Store connection.old connection.new (λ db. result ≡ Err TableFault.Damaged → AreRowsOf (λ (it : List ℕ × Bool). on_cells it.0 it.1) (λ _. ⊤) (device_rows db) → ⊥) }
+    ensures found { OfStore S.Store connection.old connection.new (λ db. IfOk result
+        (λ on. IsTrue on ↔ ((name : List ℕ) × (device_at db name ≡ Some (on_cells name true))))) }
+    ensures of_map { OfStore S.Store connection.old connection.new (λ db. IfOk result
+        (λ on. (devices : Devices) → HoldsDevices db devices → on ≡ is_some_on devices)) }
+    ensures damaged { OfStore S.Store connection.old connection.new (λ db.
+        result ≡ Err TableFault.Damaged
+        → AreRowsOf (λ (it : List ℕ × Bool). on_cells it.0 it.1) (λ _. ⊤) (device_rows db) → ⊥) }
     ensures reads { ReadsStore S.Store connection.old connection.new result }
 {
     let mut found = AnyOn { is_on: false };
@@ -83,7 +91,10 @@ fn walk_devices<S: Alter>(
     connection: &mut Connection<S>,
     found: &mut AnyOn,
 ) -> Result<(), TableFault>
-    ensures walks { WalksStore (λ first row last. GathersOn first.is_on row last.is_on) (λ first row. refuses_flag row) S.Store connection.old connection.new (λ db. IsPermutation (map (λ row. column row 2 ∷ []) (db.trees device_table.tree))) found.old found.new result }
+    ensures walks { WalksStore (λ first row last. GathersOn first.is_on row last.is_on)
+        (λ first row. refuses_flag row) S.Store connection.old connection.new
+        (λ db. IsPermutation (map (λ row. column row 2 ∷ []) (db.trees device_table.tree)))
+        found.old found.new result }
     ensures going { GoesOn S.Store connection.old connection.new result }
 {
     walk(connection, "SELECT accepting FROM device", &[], found)
@@ -95,7 +106,8 @@ pub fn set_device<S: Alter>(
     name: Name,
     on: bool,
 ) -> Result<(), Error>
-    ensures sets { Changes S.Store transaction.old.conn.now transaction.new.conn.now result (SetsRow device_table (on_cells name on)) }
+    ensures sets { Changes S.Store transaction.old.conn.now transaction.new.conn.now result
+        (SetsRow device_table (on_cells name on)) }
     ensures name { IsTrue (is_name name) }
     ensures inside { StaysInside S.Store transaction.old.conn transaction.new.conn result }
 {

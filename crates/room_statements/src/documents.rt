@@ -33,8 +33,11 @@ pub fn find_documents<S: Alter>(
     name: Name,
     job: u32,
 ) -> Result<List<Document>, TableFault>
-    ensures listed { OfStore S.Store connection.old connection.new (λ db. (room : RoomValue) → HoldsRoom db name room → IfOk result (λ documents. documents ≡ documents_of room job)) }
-    ensures damaged { OfStore S.Store connection.old connection.new (λ db. result ≡ Err TableFault.Damaged → AreRowsOf (document_cells name) (IsDocumentOf job) (document_rows db name job) → ⊥) }
+    ensures listed { OfStore S.Store connection.old connection.new (λ db. (room : RoomValue)
+        → HoldsRoom db name room → IfOk result (λ documents. documents ≡ documents_of room job)) }
+    ensures damaged { OfStore S.Store connection.old connection.new (λ db.
+        result ≡ Err TableFault.Damaged
+        → AreRowsOf (document_cells name) (IsDocumentOf job) (document_rows db name job) → ⊥) }
     ensures reads { ReadsStore S.Store connection.old connection.new result }
 {
     let mut found = Found {
@@ -72,7 +75,8 @@ impl Gather for Found {
 fn document_from(row: &Row, job: u32) -> Result<Document, TableFault>
     ensures read { IfOk result (ShowsDocument row.now) }
     ensures in_range { IfOk result (IsDocumentOf job) }
-    ensures damaged { result ≡ Err TableFault.Damaged → (document : DocumentValue) → IsDocumentOf job document → ShowsDocument row.now document → ⊥ }
+    ensures damaged { result ≡ Err TableFault.Damaged → (document : DocumentValue)
+        → IsDocumentOf job document → ShowsDocument row.now document → ⊥ }
 {
     let number = short_at(row, 0)?;
     let format = format_at(row, 1)?;
@@ -93,7 +97,11 @@ fn walk_documents<S: Alter>(
     name: Name,
     found: &mut Found,
 ) -> Result<(), TableFault>
-    ensures walks { WalksStore (λ first row last. (last.job ≡ first.job) × GathersDocument first.job first.places row last.places) (λ first row. refuses_document first.job row) S.Store connection.old connection.new (λ db. IsPermutation (shown_documents db name found.old.job)) found.old found.new result }
+    ensures walks { WalksStore
+        (λ first row last. (last.job ≡ first.job)
+        × GathersDocument first.job first.places row last.places)
+        (λ first row. refuses_document first.job row) S.Store connection.old connection.new
+        (λ db. IsPermutation (shown_documents db name found.old.job)) found.old found.new result }
     ensures going { GoesOn S.Store connection.old connection.new result }
 {
     walk(
@@ -128,8 +136,12 @@ pub fn add_document<S: Alter>(
     format: Format,
     bytes: &[u8],
 ) -> Result<(), TableFault>
-    ensures sets { Changes S.Store transaction.old.conn.now transaction.new.conn.now result (SetsRow document_table (document_cells name (record { job = job; number = number_in_job; format = format; bytes = bytes.now }))) }
-    ensures taken { OfStore S.Store transaction.old.conn.now transaction.new.conn.now (λ db. result ≡ Err TableFault.Damaged → document_at db name (pos job) (pos number_in_job) ≡ None → ⊥) }
+    ensures sets { Changes S.Store transaction.old.conn.now transaction.new.conn.now result
+        (SetsRow document_table (document_cells name
+        (record { job = job; number = number_in_job; format = format; bytes = bytes.now }))) }
+    ensures taken { OfStore S.Store transaction.old.conn.now transaction.new.conn.now (λ db.
+        result ≡ Err TableFault.Damaged
+        → document_at db name (pos job) (pos number_in_job) ≡ None → ⊥) }
     ensures inside { StaysInside S.Store transaction.old.conn transaction.new.conn result }
 {
     put(
@@ -151,7 +163,8 @@ pub fn remove_documents<S: Alter>(
     name: Name,
     job: u32,
 ) -> Result<(), Error>
-    ensures removes { Changes S.Store transaction.old.conn.now transaction.new.conn.now result (RemovesRows document_table (Text name ∷ number job ∷ []) (1 ∷ 2 ∷ [])) }
+    ensures removes { Changes S.Store transaction.old.conn.now transaction.new.conn.now result
+        (RemovesRows document_table (Text name ∷ number job ∷ []) (1 ∷ 2 ∷ [])) }
     ensures inside { StaysInside S.Store transaction.old.conn transaction.new.conn result }
 {
     write(

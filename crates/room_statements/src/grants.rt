@@ -30,9 +30,13 @@ pub fn find_grant<S: Alter>(
     name: Name,
     month: u32,
 ) -> Result<Option<u32>, TableFault>
-    ensures found { OfStore S.Store connection.old connection.new (λ db. IfOk result (λ found. grant_at db name (pos month) ≡ option_map (grant_cells name month) found)) }
+    ensures found { OfStore S.Store connection.old connection.new (λ db. IfOk result
+        (λ found. grant_at db name (pos month) ≡ option_map (grant_cells name month) found)) }
     ensures in_range { IfOk result (λ found. IfSome found (λ pages. pages ≤ most_pages)) }
-    ensures damaged { OfStore S.Store connection.old connection.new (λ db. result ≡ Err TableFault.Damaged → IsRowOf (grant_cells name month) (λ pages. pages ≤ most_pages) (grant_at db name (pos month)) → ⊥) }
+    ensures damaged { OfStore S.Store connection.old connection.new (λ db.
+        result ≡ Err TableFault.Damaged
+        → IsRowOf (grant_cells name month) (λ pages. pages ≤ most_pages)
+        (grant_at db name (pos month)) → ⊥) }
     ensures reads { ReadsStore S.Store connection.old connection.new result }
 {
     match grant_row(connection, name, month)? {
@@ -46,7 +50,8 @@ fn grant_row<S: Alter>(
     name: Name,
     month: u32,
 ) -> Result<Option<Row>, Error>
-    ensures gets { GetsRow S.Store connection.old connection.new (λ db. grant_at db name (pos month)) (λ cells. column cells 2 ∷ []) result }
+    ensures gets { GetsRow S.Store connection.old connection.new
+        (λ db. grant_at db name (pos month)) (λ cells. column cells 2 ∷ []) result }
     ensures going { GoesOn S.Store connection.old connection.new result }
 {
     find_row(
@@ -59,7 +64,8 @@ fn grant_row<S: Alter>(
 fn pages_from(row: &Row) -> Result<u32, TableFault>
     ensures read { IfOk result (λ pages. column row.now 0 ≡ number pages) }
     ensures in_range { IfOk result (λ pages. pages ≤ most_pages) }
-    ensures damaged { result ≡ Err TableFault.Damaged → (pages : ℕ) → pages ≤ most_pages → column row.now 0 ≢ number pages }
+    ensures damaged { result ≡ Err TableFault.Damaged → (pages : ℕ) → pages ≤ most_pages
+        → column row.now 0 ≢ number pages }
 {
     let pages = number_at(row, 0)?;
     if pages > MOST_PAGES as u64 {
@@ -75,9 +81,11 @@ pub fn granted_to<S: Alter>(
     name: Name,
     month: u32,
 ) -> Result<u64, TableFault>
-    ensures granted { OfStore S.Store connection.old connection.new (λ db. (room : RoomValue) → HoldsRoom db name room → IfOk result (λ pages. pages ≡ granted_to room month)) }
+    ensures granted { OfStore S.Store connection.old connection.new (λ db. (room : RoomValue)
+        → HoldsRoom db name room → IfOk result (λ pages. pages ≡ granted_to room month)) }
     ensures in_range { IfOk result (λ pages. pages ≤ most_units) }
-    ensures damaged { OfStore S.Store connection.old connection.new (λ db. result ≡ Err TableFault.Damaged → CanBeAdded name month (grant_rows db name) → ⊥) }
+    ensures damaged { OfStore S.Store connection.old connection.new
+        (λ db. result ≡ Err TableFault.Damaged → CanBeAdded name month (grant_rows db name) → ⊥) }
     ensures reads { ReadsStore S.Store connection.old connection.new result }
 {
     let mut granted = Granted { month, pages: 0 };
@@ -118,8 +126,15 @@ fn walk_grants<S: Alter>(
     name: Name,
     granted: &mut Granted,
 ) -> Result<(), TableFault>
-    ensures gathers { OnOk result (HasGathered (λ first row last. (last.month ≡ first.month) × AddsGrant first.month first.pages row last.pages) granted.old granted.new) }
-    ensures walks { WalksStore (λ first row last. (last.month ≡ first.month) × AddsGrant first.month first.pages row last.pages) (λ first row. refuses_grant first.month first.pages row) S.Store connection.old connection.new (λ db. IsPermutation (map granted_cells (grant_rows db name))) granted.old granted.new result }
+    ensures gathers { OnOk result (HasGathered
+        (λ first row last. (last.month ≡ first.month)
+        × AddsGrant first.month first.pages row last.pages) granted.old granted.new) }
+    ensures walks { WalksStore
+        (λ first row last. (last.month ≡ first.month)
+        × AddsGrant first.month first.pages row last.pages)
+        (λ first row. refuses_grant first.month first.pages row) S.Store
+        connection.old connection.new (λ db. IsPermutation (map granted_cells (grant_rows db name)))
+        granted.old granted.new result }
     ensures going { GoesOn S.Store connection.old connection.new result }
 {
     walk(
@@ -137,7 +152,8 @@ pub fn set_grant<S: Alter>(
     month: u32,
     pages: u32,
 ) -> Result<(), Error>
-    ensures sets { Changes S.Store transaction.old.conn.now transaction.new.conn.now result (SetsRow grants_table (grant_cells name month pages)) }
+    ensures sets { Changes S.Store transaction.old.conn.now transaction.new.conn.now result
+        (SetsRow grants_table (grant_cells name month pages)) }
     ensures inside { StaysInside S.Store transaction.old.conn transaction.new.conn result }
 {
     write(

@@ -29,9 +29,13 @@ pub fn find_job<S: Alter>(
     name: Name,
     number: u32,
 ) -> Result<Option<Job>, TableFault>
-    ensures found { OfStore S.Store connection.old connection.new (λ db. IfOk result (λ found. job_at db name (pos number) ≡ option_map (job_cells name) found)) }
+    ensures found { OfStore S.Store connection.old connection.new (λ db.
+        IfOk result (λ found. job_at db name (pos number) ≡ option_map (job_cells name) found)) }
     ensures in_range { IfOk result (λ found. IfSome found (λ job. (job.job ≡ number) × IsJob job)) }
-    ensures damaged { OfStore S.Store connection.old connection.new (λ db. result ≡ Err TableFault.Damaged → IsRowOf (job_cells name) (λ job. (job.job ≡ number) × IsJob job) (job_at db name (pos number)) → ⊥) }
+    ensures damaged { OfStore S.Store connection.old connection.new (λ db.
+        result ≡ Err TableFault.Damaged
+        → IsRowOf (job_cells name) (λ job. (job.job ≡ number) × IsJob job)
+        (job_at db name (pos number)) → ⊥) }
     ensures reads { ReadsStore S.Store connection.old connection.new result }
 {
     match job_row(connection, name, number)? {
@@ -45,7 +49,8 @@ fn job_row<S: Alter>(
     name: Name,
     job: u32,
 ) -> Result<Option<Row>, Error>
-    ensures gets { GetsRow S.Store connection.old connection.new (λ db. job_at db name (pos job)) behind_key result }
+    ensures gets { GetsRow S.Store connection.old connection.new
+        (λ db. job_at db name (pos job)) behind_key result }
     ensures going { GoesOn S.Store connection.old connection.new result }
 {
     find_row(
@@ -60,7 +65,8 @@ pub(crate) fn job_from(row: &Row, number: u32) -> Result<Job, TableFault>
     ensures numbered { IfOk result (λ job. job.job ≡ number) }
     ensures read { IfOk result (ShowsJob row.now) }
     ensures in_range { IfOk result IsJob }
-    ensures damaged { result ≡ Err TableFault.Damaged → (job : JobValue) → IsJob job → ShowsJob row.now job → ⊥ }
+    ensures damaged { result ≡ Err TableFault.Damaged → (job : JobValue) → IsJob job
+        → ShowsJob row.now job → ⊥ }
 {
     let name = bytes_at(row, 0)?;
     let password = bytes_at(row, 1)?;
@@ -80,7 +86,8 @@ pub(crate) fn job_from(row: &Row, number: u32) -> Result<Job, TableFault>
 fn standing_from(row: &Row) -> Result<Standing, TableFault>
     ensures read { IfOk result (ShowsStanding row.now) }
     ensures in_range { IfOk result IsStanding }
-    ensures damaged { result ≡ Err TableFault.Damaged → (s : StandingValue) → IsStanding s → ShowsStanding row.now s → ⊥ }
+    ensures damaged { result ≡ Err TableFault.Damaged → (s : StandingValue) → IsStanding s
+        → ShowsStanding row.now s → ⊥ }
 {
     let standing = columns_from(row)?;
     if !standing.is_in_range() {
@@ -92,7 +99,8 @@ fn standing_from(row: &Row) -> Result<Standing, TableFault>
 fn columns_from(row: &Row) -> Result<Standing, TableFault>
     ensures read { IfOk result (ShowsStanding row.now) }
     ensures named { IfOk result (λ s. IsNameOrNone s.device) }
-    ensures damaged { result ≡ Err TableFault.Damaged → (s : StandingValue) → HasRanges s → IsNameOrNone s.device → ShowsStanding row.now s → ⊥ }
+    ensures damaged { result ≡ Err TableFault.Damaged → (s : StandingValue) → HasRanges s
+        → IsNameOrNone s.device → ShowsStanding row.now s → ⊥ }
 {
     Ok(Standing {
         state: state_at(row, 2)?,
@@ -119,8 +127,10 @@ pub fn add_job<S: Alter>(
     job: &Job,
 ) -> Result<(), TableFault>
     requires { IsStanding job.now.standing }
-    ensures sets { Changes S.Store transaction.old.conn.now transaction.new.conn.now result (SetsRow job_table (job_cells name job.now)) }
-    ensures taken { OfStore S.Store transaction.old.conn.now transaction.new.conn.now (λ db. result ≡ Err TableFault.Damaged → job_at db name (pos job.now.job) ≡ None → ⊥) }
+    ensures sets { Changes S.Store transaction.old.conn.now transaction.new.conn.now result
+        (SetsRow job_table (job_cells name job.now)) }
+    ensures taken { OfStore S.Store transaction.old.conn.now transaction.new.conn.now
+        (λ db. result ≡ Err TableFault.Damaged → job_at db name (pos job.now.job) ≡ None → ⊥) }
     ensures inside { StaysInside S.Store transaction.old.conn transaction.new.conn result }
 {
     let s = &job.standing;
@@ -158,7 +168,9 @@ pub fn set_standing<S: Alter>(
     standing: &Standing,
 ) -> Result<(), Error>
     requires { IsStanding standing.now }
-    ensures sets { Changes S.Store transaction.old.conn.now transaction.new.conn.now result (λ before after. (it : JobValue) → job_at before name (pos job) ≡ Some (job_cells name it) → SetsRow job_table (job_cells name (record it { standing = standing.now })) before after) }
+    ensures sets { Changes S.Store transaction.old.conn.now transaction.new.conn.now result
+        (λ before after. (it : JobValue) → job_at before name (pos job) ≡ Some (job_cells name it)
+        → SetsRow job_table (job_cells name (record it { standing = standing.now })) before after) }
     ensures inside { StaysInside S.Store transaction.old.conn transaction.new.conn result }
 {
     write(

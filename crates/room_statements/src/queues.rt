@@ -30,9 +30,13 @@ pub fn unfinished_jobs<S: Alter>(
     name: Name,
     limit: Option<u32>,
 ) -> Result<List<Job>, TableFault>
-    ensures listed { OfStore S.Store connection.old connection.new (λ db. (room : RoomValue) → HoldsRoom db name room → IfOk result (λ jobs. jobs ≡ at_most limit (not_completed (values room.jobs)))) }
+    ensures listed { OfStore S.Store connection.old connection.new (λ db.
+        (room : RoomValue) → HoldsRoom db name room
+        → IfOk result (λ jobs. jobs ≡ at_most limit (not_completed (values room.jobs)))) }
     ensures numbered { IfOk result (AllByRecursion IsNumbered) }
-    ensures damaged { OfStore S.Store connection.old connection.new (λ db. result ≡ Err TableFault.Damaged → AreRowsOf (job_cells name) IsNumbered (unfinished_rows db name) → ⊥) }
+    ensures damaged { OfStore S.Store connection.old connection.new (λ db.
+        result ≡ Err TableFault.Damaged
+        → AreRowsOf (job_cells name) IsNumbered (unfinished_rows db name) → ⊥) }
     ensures reads { ReadsStore S.Store connection.old connection.new result }
 {
     let mut jobs = List {
@@ -49,7 +53,11 @@ fn walk_unfinished<S: Alter>(
     jobs: &mut List<Job>,
 ) -> Result<(), TableFault>
     ensures gathers { OnOk result (HasGathered ListsJob jobs.old jobs.new) }
-    ensures walks { WalksStore ListsJob (λ _ row. refuses_numbered row) S.Store connection.old connection.new (λ db. AreListed (λ all. at_most limit (not_completed all)) (unfinished_rows db name) db name) jobs.old jobs.new result }
+    ensures walks { WalksStore ListsJob
+        (λ _ row. refuses_numbered row) S.Store connection.old connection.new
+        (λ db. AreListed
+        (λ all. at_most limit (not_completed all)) (unfinished_rows db name) db name)
+        jobs.old jobs.new result }
     ensures going { GoesOn S.Store connection.old connection.new result }
 {
     walk(
@@ -69,9 +77,13 @@ pub fn ended_jobs<S: Alter>(
     name: Name,
     limit: Option<u32>,
 ) -> Result<List<Job>, TableFault>
-    ensures listed { OfStore S.Store connection.old connection.new (λ db. (room : RoomValue) → HoldsRoom db name room → IfOk result (λ jobs. jobs ≡ at_most limit (completed (values room.jobs)))) }
+    ensures listed { OfStore S.Store connection.old connection.new (λ db.
+        (room : RoomValue) → HoldsRoom db name room
+        → IfOk result (λ jobs. jobs ≡ at_most limit (completed (values room.jobs)))) }
     ensures numbered { IfOk result (AllByRecursion IsNumbered) }
-    ensures damaged { OfStore S.Store connection.old connection.new (λ db. result ≡ Err TableFault.Damaged → AreRowsOf (job_cells name) IsNumbered (ended_rows db name) → ⊥) }
+    ensures damaged { OfStore S.Store connection.old connection.new (λ db.
+        result ≡ Err TableFault.Damaged
+        → AreRowsOf (job_cells name) IsNumbered (ended_rows db name) → ⊥) }
     ensures reads { ReadsStore S.Store connection.old connection.new result }
 {
     let mut jobs = List {
@@ -88,7 +100,10 @@ fn walk_ended<S: Alter>(
     jobs: &mut List<Job>,
 ) -> Result<(), TableFault>
     ensures gathers { OnOk result (HasGathered ListsJob jobs.old jobs.new) }
-    ensures walks { WalksStore ListsJob (λ _ row. refuses_numbered row) S.Store connection.old connection.new (λ db. AreListed (λ all. at_most limit (completed all)) (ended_rows db name) db name) jobs.old jobs.new result }
+    ensures walks { WalksStore ListsJob
+        (λ _ row. refuses_numbered row) S.Store connection.old connection.new
+        (λ db. AreListed (λ all. at_most limit (completed all)) (ended_rows db name) db name)
+        jobs.old jobs.new result }
     ensures going { GoesOn S.Store connection.old connection.new result }
 {
     walk(

@@ -23,9 +23,14 @@ pub fn find_rate<S: Alter>(
     connection: &mut Connection<S>,
     name: Name,
 ) -> Result<Option<u32>, TableFault>
-    ensures found { OfStore S.Store connection.old connection.new (λ db. IfOk result (λ found. rate_at db name ≡ option_map (units_cells name) found)) }
-    ensures in_range { IfOk result (λ found. IfSome found (λ units. (1 ≤ units) × (units ≤ most_rate))) }
-    ensures damaged { OfStore S.Store connection.old connection.new (λ db. result ≡ Err TableFault.Damaged → IsRowOf (units_cells name) (λ units. (1 ≤ units) × (units ≤ most_rate)) (rate_at db name) → ⊥) }
+    ensures found { OfStore S.Store connection.old connection.new
+        (λ db. IfOk result (λ found. rate_at db name ≡ option_map (units_cells name) found)) }
+    ensures in_range { IfOk result
+        (λ found. IfSome found (λ units. (1 ≤ units) × (units ≤ most_rate))) }
+    ensures damaged { OfStore S.Store connection.old connection.new (λ db.
+        result ≡ Err TableFault.Damaged
+        → IsRowOf (units_cells name) (λ units. (1 ≤ units) × (units ≤ most_rate)) (rate_at db name)
+        → ⊥) }
     ensures reads { ReadsStore S.Store connection.old connection.new result }
 {
     match rate_row(connection, name)? {
@@ -35,7 +40,8 @@ pub fn find_rate<S: Alter>(
 }
 
 fn rate_row<S: Alter>(connection: &mut Connection<S>, name: Name) -> Result<Option<Row>, Error>
-    ensures gets { GetsRow S.Store connection.old connection.new (λ db. rate_at db name) (λ cells. column cells 1 ∷ []) result }
+    ensures gets { GetsRow S.Store connection.old connection.new (λ db. rate_at db name)
+        (λ cells. column cells 1 ∷ []) result }
     ensures going { GoesOn S.Store connection.old connection.new result }
 {
     find_row(
@@ -48,7 +54,8 @@ fn rate_row<S: Alter>(connection: &mut Connection<S>, name: Name) -> Result<Opti
 fn units_from(row: &Row) -> Result<u32, TableFault>
     ensures read { IfOk result (λ units. column row.now 0 ≡ number units) }
     ensures in_range { IfOk result (λ units. (1 ≤ units) × (units ≤ most_rate)) }
-    ensures damaged { result ≡ Err TableFault.Damaged → (units : ℕ) → 1 ≤ units → units ≤ most_rate → column row.now 0 ≢ number units }
+    ensures damaged { result ≡ Err TableFault.Damaged → (units : ℕ) → 1 ≤ units → units ≤ most_rate
+        → column row.now 0 ≢ number units }
 {
     let units = number_at(row, 0)?;
     if units < 1 || units > MOST_RATE as u64 {
@@ -63,7 +70,8 @@ pub fn set_rate<S: Alter>(
     name: Name,
     units: u32,
 ) -> Result<(), Error>
-    ensures sets { Changes S.Store transaction.old.conn.now transaction.new.conn.now result (SetsRow rates_table (units_cells name units)) }
+    ensures sets { Changes S.Store transaction.old.conn.now transaction.new.conn.now result
+        (SetsRow rates_table (units_cells name units)) }
     ensures name { IsTrue (is_name name) }
     ensures inside { StaysInside S.Store transaction.old.conn transaction.new.conn result }
 {

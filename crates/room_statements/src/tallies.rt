@@ -22,10 +22,13 @@ use sqlite_value::value::ValueRef;
 /// What is counted of all jobs of the account. `Damaged` tells that a row that is there can be none of
 /// sound rows.
 pub fn tally_jobs<S: Alter>(connection: &mut Connection<S>, name: Name) -> Result<Tally, TableFault>
-    ensures counted { OfStore S.Store connection.old connection.new (λ db. (room : RoomValue) → HoldsRoom db name room → IfOk result (λ tally. tally ≡ tally_of (values room.jobs))) }
+    ensures counted { OfStore S.Store connection.old connection.new (λ db. (room : RoomValue)
+        → HoldsRoom db name room → IfOk result (λ tally. tally ≡ tally_of (values room.jobs))) }
     ensures few { IfOk result (λ tally. tally.unfinished ≤ most_unfinished) }
-    ensures bounds { IfOk result (λ tally. (tally.reserved ≤ most_units) × (tally.charged ≤ most_units)) }
-    ensures damaged { OfStore S.Store connection.old connection.new (λ db. result ≡ Err TableFault.Damaged → CanBeCounted name (job_rows db name) → ⊥) }
+    ensures bounds { IfOk result
+        (λ tally. (tally.reserved ≤ most_units) × (tally.charged ≤ most_units)) }
+    ensures damaged { OfStore S.Store connection.old connection.new
+        (λ db. result ≡ Err TableFault.Damaged → CanBeCounted name (job_rows db name) → ⊥) }
     ensures reads { ReadsStore S.Store connection.old connection.new result }
 {
     let mut tally = Tally::new();
@@ -56,7 +59,8 @@ fn walk_jobs<S: Alter>(
     tally: &mut Tally,
 ) -> Result<(), TableFault>
     ensures gathers { OnOk result (HasGathered CountsJob tally.old tally.new) }
-    ensures walks { WalksStore CountsJob refuses_job S.Store connection.old connection.new (λ db. IsPermutation (map counted_cells (job_rows db name))) tally.old tally.new result }
+    ensures walks { WalksStore CountsJob refuses_job S.Store connection.old connection.new
+        (λ db. IsPermutation (map counted_cells (job_rows db name))) tally.old tally.new result }
     ensures going { GoesOn S.Store connection.old connection.new result }
 {
     walk(

@@ -27,11 +27,17 @@ pub fn tally_unfinished<S: Alter>(
     connection: &mut Connection<S>,
     name: Name,
 ) -> Result<Tally, TableFault>
-    ensures counted { OfStore S.Store connection.old connection.new (λ db. (room : RoomValue) → HoldsRoom db name room → IfOk result (λ tally. tally ≡ tally_of (not_completed (values room.jobs)))) }
-    ensures queue { OfStore S.Store connection.old connection.new (λ db. (room : RoomValue) → HoldsRoom db name room → IfOk result (λ tally. (tally.unfinished ≡ unfinished_count room) × (tally.is_processing ≡ has_processing room))) }
+    ensures counted { OfStore S.Store connection.old connection.new (λ db.
+        (room : RoomValue) → HoldsRoom db name room
+        → IfOk result (λ tally. tally ≡ tally_of (not_completed (values room.jobs)))) }
+    ensures queue { OfStore S.Store connection.old connection.new (λ db.
+        (room : RoomValue) → HoldsRoom db name room → IfOk result (λ tally.
+        (tally.unfinished ≡ unfinished_count room) × (tally.is_processing ≡ has_processing room))) }
     ensures few { IfOk result (λ tally. tally.unfinished ≤ most_unfinished) }
-    ensures bounds { IfOk result (λ tally. (tally.reserved ≤ most_units) × (tally.charged ≤ most_units)) }
-    ensures damaged { OfStore S.Store connection.old connection.new (λ db. result ≡ Err TableFault.Damaged → CanBeCounted name (unfinished_rows db name) → ⊥) }
+    ensures bounds { IfOk result
+        (λ tally. (tally.reserved ≤ most_units) × (tally.charged ≤ most_units)) }
+    ensures damaged { OfStore S.Store connection.old connection.new
+        (λ db. result ≡ Err TableFault.Damaged → CanBeCounted name (unfinished_rows db name) → ⊥) }
     ensures reads { ReadsStore S.Store connection.old connection.new result }
 {
     let mut tally = Tally::new();
@@ -45,7 +51,9 @@ fn walk_queued<S: Alter>(
     tally: &mut Tally,
 ) -> Result<(), TableFault>
     ensures gathers { OnOk result (HasGathered CountsJob tally.old tally.new) }
-    ensures walks { WalksStore CountsJob refuses_job S.Store connection.old connection.new (λ db. IsPermutation (map counted_cells (unfinished_rows db name))) tally.old tally.new result }
+    ensures walks { WalksStore CountsJob refuses_job S.Store connection.old connection.new
+        (λ db. IsPermutation (map counted_cells (unfinished_rows db name)))
+        tally.old tally.new result }
     ensures going { GoesOn S.Store connection.old connection.new result }
 {
     walk(

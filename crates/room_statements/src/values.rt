@@ -48,7 +48,8 @@ pub(crate) fn format_text(format: Format) -> ValueRef<'static>
 /// The format whose media type is in a column. Anything else there is `Damaged`.
 pub(crate) fn format_at(row: &Row, at: usize) -> Result<Format, TableFault>
     ensures read { IfOk result (λ format. column row.now at ≡ Text (media_type format)) }
-    ensures damaged { result ≡ Err TableFault.Damaged → (format : FormatValue) → column row.now at ≢ Text (media_type format) }
+    ensures damaged { result ≡ Err TableFault.Damaged
+        → (format : FormatValue) → column row.now at ≢ Text (media_type format) }
 {
     match row.get_ref(at) {
         Ok(ValueRef::Text(bytes)) => format_of(bytes),
@@ -58,7 +59,8 @@ pub(crate) fn format_at(row: &Row, at: usize) -> Result<Format, TableFault>
 
 fn format_of(bytes: &[u8]) -> Result<Format, TableFault>
     ensures read { IfOk result (λ format. bytes.now ≡ media_type format) }
-    ensures damaged { IfErr result (λ fault. (format : FormatValue) → bytes.now ≢ media_type format) }
+    ensures damaged { IfErr result
+        (λ fault. (format : FormatValue) → bytes.now ≢ media_type format) }
 {
     Format::of_media_type(bytes).ok_or(TableFault::Damaged)
 }
@@ -123,7 +125,8 @@ pub(crate) fn device_text(device: &Option<Name>) -> ValueRef<'_>
 /// A number of 32 bits in a column. Anything else there is `Damaged`.
 pub(crate) fn short_at(row: &Row, at: usize) -> Result<u32, TableFault>
     ensures read { IfOk result (λ n. column row.now at ≡ number n) }
-    ensures damaged { result ≡ Err TableFault.Damaged → (n : ℕ) → n < 2 ^ 32 → column row.now at ≢ number n }
+    ensures damaged { result ≡ Err TableFault.Damaged → (n : ℕ) → n < 2 ^ 32
+        → column row.now at ≢ number n }
 {
     let n = number_at(row, at)?;
     if n > u32::MAX as u64 {
@@ -135,7 +138,8 @@ pub(crate) fn short_at(row: &Row, at: usize) -> Result<u32, TableFault>
 /// The state whose number is in a column. Anything else there is `Damaged`.
 pub(crate) fn state_at(row: &Row, at: usize) -> Result<JobState, TableFault>
     ensures read { IfOk result (λ found. column row.now at ≡ number (state_number found)) }
-    ensures damaged { result ≡ Err TableFault.Damaged → (found : JobStateValue) → column row.now at ≢ number (state_number found) }
+    ensures damaged { result ≡ Err TableFault.Damaged
+        → (found : JobStateValue) → column row.now at ≢ number (state_number found) }
 {
     JobState::of_number(number_at(row, at)?).ok_or(TableFault::Damaged)
 }
@@ -143,7 +147,8 @@ pub(crate) fn state_at(row: &Row, at: usize) -> Result<JobState, TableFault>
 /// The moment in a column, or that there is none. Anything else there is `Damaged`.
 pub(crate) fn moment_at(row: &Row, at: usize) -> Result<Option<u64>, TableFault>
     ensures read { IfOk result (λ found. column row.now at ≡ moment found) }
-    ensures damaged { result ≡ Err TableFault.Damaged → (found : Option ℕ) → column row.now at ≢ moment found }
+    ensures damaged { result ≡ Err TableFault.Damaged
+        → (found : Option ℕ) → column row.now at ≢ moment found }
 {
     match row.get_ref(at) {
         Ok(ValueRef::Int(n)) => moment_of(n),
@@ -165,7 +170,8 @@ fn moment_of(n: i64) -> Result<Option<u64>, TableFault>
 pub(crate) fn device_at(row: &Row, at: usize) -> Result<Option<Name>, TableFault>
     ensures read { IfOk result (λ found. column row.now at ≡ device_text found) }
     ensures named { IfOk result IsNameOrNone }
-    ensures damaged { result ≡ Err TableFault.Damaged → (found : Option (List ℕ)) → IsNameOrNone found → column row.now at ≢ device_text found }
+    ensures damaged { result ≡ Err TableFault.Damaged
+        → (found : Option (List ℕ)) → IsNameOrNone found → column row.now at ≢ device_text found }
 {
     match row.get_ref(at) {
         Ok(ValueRef::Text(bytes)) => device_of(bytes),
@@ -176,7 +182,8 @@ pub(crate) fn device_at(row: &Row, at: usize) -> Result<Option<Name>, TableFault
 fn device_of(bytes: &[u8]) -> Result<Option<Name>, TableFault>
     ensures read { IfOk result (λ found. bytes.now ≡ device_name found) }
     ensures named { IfOk result IsNameOrNone }
-    ensures damaged { IfErr result (λ fault. (found : Option (List ℕ)) → IsNameOrNone found → bytes.now ≢ device_name found) }
+    ensures damaged { IfErr result
+        (λ fault. (found : Option (List ℕ)) → IsNameOrNone found → bytes.now ≢ device_name found) }
 {
     if bytes.is_empty() {
         return Ok(None);
@@ -190,7 +197,8 @@ fn device_of(bytes: &[u8]) -> Result<Option<Name>, TableFault>
 /// The bytes in a column, in a copy. Anything else there is `Damaged`.
 pub(crate) fn bytes_at(row: &Row, at: usize) -> Result<Bytes<u8>, TableFault>
     ensures read { IfOk result (λ bytes. column row.now at ≡ Blob bytes) }
-    ensures damaged { result ≡ Err TableFault.Damaged → (bytes : List ℕ) → column row.now at ≢ Blob bytes }
+    ensures damaged { result ≡ Err TableFault.Damaged
+        → (bytes : List ℕ) → column row.now at ≢ Blob bytes }
 {
     match row.get(at) {
         Ok(items) => Ok(Bytes { items }),

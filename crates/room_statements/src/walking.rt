@@ -35,7 +35,9 @@ pub(crate) fn walk<S: Alter, G: Gather>(
     gathered: &mut G,
 ) -> Result<(), TableFault>
     ensures gathers { OnOk result (HasGathered G.step gathered.old gathered.new) }
-    ensures walks { HasCleanDisk (state S.Store connection.new) → Walks G.step G.refuses (state S.Store connection.old) (state S.Store connection.new) text.now (bound params.now) gathered.old gathered.new result }
+    ensures walks { HasCleanDisk (state S.Store connection.new)
+        → Walks G.step G.refuses (state S.Store connection.old) (state S.Store connection.new)
+        text.now (bound params.now) gathered.old gathered.new result }
     ensures going { GoesOn S.Store connection.old connection.new result }
 {
     let mut rows = connection.query(text, params)?;
