@@ -20,9 +20,11 @@ pub record Agree (name : List ℕ) (a b : Database) : Type 0 where
 abbrev pub unplaced : Event → Event
 unplaced (event.Open account) = event.Open account
 unplaced (event.Ipp account body) = event.Ipp account (record { ref_ptr = (0, 0); now = body.now })
-unplaced (event.Release device account job password impressions) = event.Release device account job (record { ref_ptr = (0, 0); now = password.now }) impressions
+unplaced (event.Release device account job password impressions) =
+    event.Release device account job (record { ref_ptr = (0, 0); now = password.now }) impressions
 unplaced (event.Start device account job) = event.Start device account job
-unplaced (event.Settle device account job impressions failed) = event.Settle device account job impressions failed
+unplaced (event.Settle device account job impressions failed) =
+    event.Settle device account job impressions failed
 unplaced (event.Grant account month pages) = event.Grant account month pages
 unplaced (event.Device name on) = event.Device name on
 unplaced (event.Rate name units) = event.Rate name units
@@ -37,10 +39,16 @@ HaveSameOwn name first second = map unplaced_at (own name first) ≡ map unplace
 -- ---- what follows
 
 abbrev pub SameAlone : Type 0
-SameAlone = (name : List ℕ) (first second : List Timed) → HaveSameOwn name first second → (room : Option RoomValue) (devices : Devices) → alone room devices (own name first) ≡ alone room devices (own name second)
+SameAlone = (name : List ℕ) (first second : List Timed) → HaveSameOwn name first second
+    → (room : Option RoomValue) (devices : Devices)
+    → alone room devices (own name first) ≡ alone room devices (own name second)
 
 abbrev pub HoldTheSame : Type 0
-HoldTheSame = (name : List ℕ) (a b : Database) → Agree name a b → (room : Option RoomValue) (devices : Devices) → Holds a name room → HoldsDevices a devices → Holds b name room × HoldsDevices b devices
+HoldTheSame = (name : List ℕ) (a b : Database) → Agree name a b
+    → (room : Option RoomValue) (devices : Devices) → Holds a name room → HoldsDevices a devices
+    → Holds b name room × HoldsDevices b devices
 
 abbrev pub AgreeAgain : Type 0
-AgreeAgain = (name : List ℕ) (a b : Database) (room : Option RoomValue) (devices : Devices) → Holds a name room → HoldsDevices a devices → Holds b name room → HoldsDevices b devices → Agree name a b
+AgreeAgain = (name : List ℕ) (a b : Database) (room : Option RoomValue) (devices : Devices)
+    → Holds a name room → HoldsDevices a devices → Holds b name room → HoldsDevices b devices
+    → Agree name a b

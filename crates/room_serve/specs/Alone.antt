@@ -1,4 +1,5 @@
--- One account's machine by itself, and the devices by themselves, from left to right (all this project's own).
+-- One account's machine by itself, and the devices by themselves, from left to right (all this
+-- project's own).
 use Rattle.std.specs.Prelude.{List, [], ◌∷◌, ◌++◌, Option, if◌then◌else◌}
 use Rattle.room_core.specs.DeviceEvents.{device_answered}
 use Rattle.room_core.specs.Machine.{answered}
@@ -18,8 +19,11 @@ pub record Alone : Type 0 where
 -- an event of a device changes the devices, any other is answered to the account
 abbrev pub answer_next : Alone → Timed → Alone
 answer_next so_far e =
-    if is_of_device e.1 then record { replies = so_far.replies; room = so_far.room; devices = (device_answered so_far.devices e.1).devices }
-    else record {
+    if is_of_device e.1 then record {
+      replies = so_far.replies;
+      room = so_far.room;
+      devices = (device_answered so_far.devices e.1).devices;
+    } else record {
       replies = so_far.replies ++ (answered so_far.room so_far.devices e.0 e.1).reply ∷ [];
       room = (answered so_far.room so_far.devices e.0 e.1).room;
       devices = so_far.devices;
@@ -30,7 +34,8 @@ answer_on so_far [] = so_far
 answer_on so_far (e ∷ events) = answer_on (answer_next so_far e) events
 
 abbrev pub alone : Option RoomValue → Devices → List Timed → Alone
-alone room devices events = answer_on (record { replies = []; room = room; devices = devices }) events
+alone room devices events =
+    answer_on (record { replies = []; room = room; devices = devices }) events
 
 -- ---- the devices
 

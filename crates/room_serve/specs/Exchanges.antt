@@ -1,5 +1,5 @@
--- What one message of HTTP comes to: which it was, what was written, and what became of the tables (all this
--- project's own).
+-- What one message of HTTP comes to: which it was, what was written, and what became of the tables
+-- (all this project's own).
 use Rattle.std.specs.Prelude.{◌≡◌, ◌≢◌, ◌↔◌, ◌<◌, ℕ, Bool, true, List, ◌++◌, length, take, if◌then◌else◌, IsTrue, IfOk, IsErrOf, OnErr, OnOk, Option, Result, Ok, Err}
 use Rattle.std.specs.Io.KnownBytes.{Appends}
 use Rattle.sqlite.specs.Held.{Held, state}
@@ -55,41 +55,66 @@ after_telling closes (Err fault) = after_answer closes
 -- ---- what becomes of the tables
 
 -- an account sends a message
-abbrev pub sends : List ℕ → List ℕ → Event
+abbrev pub sends : (account body : List ℕ) → Event
 sends account body = event.Ipp account (record { ref_ptr = (0, 0); now = body })
 
--- One event was applied: the account is answered, and has, what its machine gives, and nobody else's rows have
--- changed; or it failed, and nothing has.
-pub record Applies {S : Type 0} (store : Ghosts S) (now : ℕ) (account body : List ℕ) (old new : Held S) (told : Result Reply StoreFault) : Type 0 where
-  pub reply : OfStore store old new (λ db. IfOk told (λ reply. (room : Option RoomValue) (devices : Devices) → Holds db account room → HoldsDevices db devices → reply ≡ (answered room devices now (sends account body)).reply))
-  pub rows : OfStore store old new (λ db. OnOk told ((room : Option RoomValue) (devices : Devices) → Holds db account room → HoldsDevices db devices → Holds (state store new).now account (answered room devices now (sends account body)).room))
-  pub others : OfStore store old new (λ db. OnOk told ((name : List ℕ) → account ≢ name → AgreeOnRows name db (state store new).now))
+-- One event was applied: the account is answered, and has, what its machine gives, and nobody
+-- else's rows have changed; or it failed, and nothing has.
+pub record Applies {S : Type 0} (store : Ghosts S) (now : ℕ) (account body : List ℕ)
+    (old new : Held S) (told : Result Reply StoreFault) : Type 0 where
+  pub reply : OfStore store old new (λ db. IfOk told (λ reply.
+      (room : Option RoomValue) (devices : Devices) → Holds db account room
+      → HoldsDevices db devices → reply ≡ (answered room devices now (sends account body)).reply))
+  pub rows : OfStore store old new (λ db. OnOk told ((room : Option RoomValue) (devices : Devices)
+      → Holds db account room → HoldsDevices db devices
+      → Holds (state store new).now account (answered room devices now (sends account body)).room))
+  pub others : OfStore store old new (λ db.
+      OnOk told ((name : List ℕ) → account ≢ name → AgreeOnRows name db (state store new).now))
   pub devices : OfStore store old new (λ db. OnOk told (AgreeOnDevices db (state store new).now))
-  pub version : OfStore store old new (λ db. OnOk told ((state store new).now.trees meta.tree ≡ db.trees meta.tree))
+  pub version : OfStore store old new
+      (λ db. OnOk told ((state store new).now.trees meta.tree ≡ db.trees meta.tree))
   pub schema : OfStore store old new (λ db. OnOk told (HasSchema (state store new).now))
-  pub unchanged : OfStore store old new (λ db. OnErr told (IsTrue (state store new).is_open → (state store new).now ≡ db))
+  pub unchanged : OfStore store old new
+      (λ db. OnErr told (IsTrue (state store new).is_open → (state store new).now ≡ db))
   pub moment : IsErrOf told Moment ↔ (last_moment < now)
 
 -- ---- both, with what was taken of the input
 
 -- a text, and a front of another behind it that is not all of that
-abbrev pub AppendsBehind : Option (List ℕ) → Option (List ℕ) → List ℕ → List ℕ → Type 0
-AppendsBehind given given2 first text = (n : ℕ) × (n < length text) × Appends given given2 (first ++ take n text)
+abbrev pub AppendsBehind : (given given2 : Option (List ℕ)) (first text : List ℕ) → Type 0
+AppendsBehind given given2 first text =
+    (n : ℕ) × (n < length text) × Appends given given2 (first ++ take n text)
 
-module _ {S : Type 0} (store : Ghosts S) (now : ℕ) (before after : List ℕ → Type 0) (given given2 : Option (List ℕ)) (old new : Held S) where
+module _ {S : Type 0} (store : Ghosts S) (now : ℕ) (before after : List ℕ → Type 0)
+    (given given2 : Option (List ℕ)) (old new : Held S) where
   -- the message was answered
   pub data Answers : After → Type 0 where
-    has_nothing : Takes before after (λ b rest. Http b Nothing) → given2 ≡ given → new ≡ old → Answers Close
-    has_refused : (interim : Bool) (why : Refusal) → Takes before after (λ b rest. Http b (Refused interim why)) → Appends given given2 (interim_text interim ++ refusal_text why) → new ≡ old → Answers Close
-    has_carried : (order : Order) (body : List ℕ) (told : Result Reply StoreFault) → Takes before after (λ b rest. Http b (Carried order body rest)) → Applies store now order.account body old new told
-        → Appends given given2 (interim_text order.expects ++ text_told body order.closes told) → Answers (after_telling order.closes told)
+    has_nothing : Takes before after (λ b rest. Http b Nothing) → given2 ≡ given
+        → new ≡ old → Answers Close
+    has_refused : (interim : Bool) (why : Refusal)
+        → Takes before after (λ b rest. Http b (Refused interim why))
+        → Appends given given2 (interim_text interim ++ refusal_text why)
+        → new ≡ old → Answers Close
+    has_carried : (order : Order) (body : List ℕ) (told : Result Reply StoreFault)
+        → Takes before after (λ b rest. Http b (Carried order body rest))
+        → Applies store now order.account body old new told
+        → Appends given given2 (interim_text order.expects ++ text_told body order.closes told)
+        → Answers (after_telling order.closes told)
 
   -- a front of the answer was written that is not all of it
   pub data IsBroken : Type 0 where
-    in_interim : (order : Order) → TakesHead before after order → order.expects ≡ true → AppendsFront given given2 (interim_text true) → new ≡ old → IsBroken
-    in_refusal : (interim : Bool) (why : Refusal) → Takes before after (λ b rest. Http b (Refused interim why)) → AppendsBehind given given2 (interim_text interim) (refusal_text why) → new ≡ old → IsBroken
-    in_answer : (order : Order) (body : List ℕ) (told : Result Reply StoreFault) → Takes before after (λ b rest. Http b (Carried order body rest)) → Applies store now order.account body old new told
-        → AppendsBehind given given2 (interim_text order.expects) (text_told body order.closes told) → IsBroken
+    in_interim : (order : Order) → TakesHead before after order → order.expects ≡ true
+        → AppendsFront given given2 (interim_text true) → new ≡ old → IsBroken
+    in_refusal : (interim : Bool) (why : Refusal)
+        → Takes before after (λ b rest. Http b (Refused interim why))
+        → AppendsBehind given given2 (interim_text interim) (refusal_text why)
+        → new ≡ old → IsBroken
+    in_answer : (order : Order) (body : List ℕ) (told : Result Reply StoreFault)
+        → Takes before after (λ b rest. Http b (Carried order body rest))
+        → Applies store now order.account body old new told
+        → AppendsBehind given given2 (interim_text order.expects)
+        (text_told body order.closes told)
+        → IsBroken
 
   -- nothing of the message was applied, and nothing or the 100 text was written
   abbrev pub IsUnfinished : Type 0

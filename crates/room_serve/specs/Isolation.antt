@@ -10,19 +10,23 @@ use Rattle.room_serve.specs.Runs.{RunsAlone}
 use Rattle.room_serve.specs.Agreement.{Agree, HaveSameOwn}
 
 -- a list of events, what each came to, and what became of the database, as `run_events` has it
-pub record IsRun (events : List Timed) (outcomes : List Outcome) (old : Database) (is_open : Bool) (new : Database) : Type 0 where
+pub record IsRun (events : List Timed) (outcomes : List Outcome) (old : Database) (is_open : Bool)
+    (new : Database) : Type 0 where
   pub each : length outcomes ≡ length events
   pub alone : RunsAlone events outcomes old is_open new
 
 -- the account was told the same in both, and where both can still be seen they agree again
-pub record AreTheSame (name : List ℕ) (first second : List Timed) (firsts seconds : List Outcome) (a_open b_open : Bool) (a b : Database) : Type 0 where
+pub record AreTheSame (name : List ℕ) (first second : List Timed) (firsts seconds : List Outcome)
+    (a_open b_open : Bool) (a b : Database) : Type 0 where
   pub replies : replies_to (is_of name) first firsts ≡ replies_to (is_of name) second seconds
   pub agree : IsTrue a_open → IsTrue b_open → Agree name a b
 
 abbrev pub Isolation : Type 0
 Isolation =
-    (first second : List Timed) (firsts seconds : List Outcome) (a b a_new b_new : Database) (a_open b_open : Bool)
+    (first second : List Timed) (firsts seconds : List Outcome)
+    (a b a_new b_new : Database) (a_open b_open : Bool)
     → IsRun first firsts a a_open a_new → IsRun second seconds b b_open b_new
-    → (name : List ℕ) → IsSound a name → AreSoundDevices a → Agree name a b → HaveSameOwn name first second
+    → (name : List ℕ) → IsSound a name → AreSoundDevices a
+    → Agree name a b → HaveSameOwn name first second
     → NoneFailed name first firsts → NoneFailed name second seconds
     → AreTheSame name first second firsts seconds a_open b_open a_new b_new

@@ -1,4 +1,5 @@
--- Which events of a list were answered, which failed, and what was answered (all this project's own).
+-- Which events of a list were answered, which failed, and what was answered (all this project's
+-- own).
 use Rattle.std.specs.Prelude.{◌≡◌, ℕ, Bool, List, [], ◌∷◌, Result, Ok, Err, if◌then◌else◌}
 use Rattle.room_core.specs.declared.event.Event.{Event}
 use Rattle.room_core.specs.declared.event.Reply.{Reply}
@@ -25,7 +26,8 @@ failed_of _ _ = []
 
 -- what was answered to the events of a kind, in order
 abbrev pub replies_to : (Event → Bool) → List Timed → List Outcome → List Reply
-replies_to kind (e ∷ events) (Answered reply ∷ outcomes) = if kind e.1 then reply ∷ replies_to kind events outcomes else replies_to kind events outcomes
+replies_to kind (e ∷ events) (Answered reply ∷ outcomes) =
+    if kind e.1 then reply ∷ replies_to kind events outcomes else replies_to kind events outcomes
 replies_to kind (e ∷ events) (Failed fault ∷ outcomes) = replies_to kind events outcomes
 replies_to kind _ _ = []
 

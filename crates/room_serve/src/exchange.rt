@@ -32,12 +32,19 @@ pub fn serve_one<S: Alter, R: Source, W: Sink>(
 ) -> Result<After, WireFault>
     requires reads { has_ended wire.old ≡ false → R.failures (reader_of wire.old) < 2 ^ 64 - 1 }
     requires writes { has_ended wire.old ≡ false → W.failures (writer_of wire.old) < 2 ^ 64 - 1 }
-    ensures exchange { IfOk result (Answers S.Store now (R.left (reader_of wire.old)) (R.left (reader_of wire.new)) (W.given (writer_of wire.old)) (W.given (writer_of wire.new)) store.old store.new) }
-    ensures fault { has_ended wire.old ≡ false → IfErr result (Breaks S.Store now (R.left (reader_of wire.old)) (R.left (reader_of wire.new)) (W.given (writer_of wire.old)) (W.given (writer_of wire.new)) store.old store.new) }
-    ensures ended { has_ended wire.old ≡ true → (result ≡ Err WireFault.Ended) × (wire.new ≡ wire.old) × (store.new ≡ store.old) }
+    ensures exchange { IfOk result
+        (Answers S.Store now (R.left (reader_of wire.old)) (R.left (reader_of wire.new))
+        (W.given (writer_of wire.old)) (W.given (writer_of wire.new)) store.old store.new) }
+    ensures fault { has_ended wire.old ≡ false → IfErr result (Breaks S.Store now
+        (R.left (reader_of wire.old)) (R.left (reader_of wire.new))
+        (W.given (writer_of wire.old)) (W.given (writer_of wire.new)) store.old store.new) }
+    ensures ended { has_ended wire.old ≡ true
+        → (result ≡ Err WireFault.Ended) × (wire.new ≡ wire.old) × (store.new ≡ store.old) }
     ensures goes_on { has_ended wire.new ≡ false ↔ (result ≡ Ok After.Again) }
-    ensures reads { R.failures (reader_of wire.new) ≡ R.failures (reader_of wire.old) + read_faults result }
-    ensures writes { W.failures (writer_of wire.new) ≡ W.failures (writer_of wire.old) + write_faults result }
+    ensures reads { R.failures (reader_of wire.new)
+        ≡ R.failures (reader_of wire.old) + read_faults result }
+    ensures writes { W.failures (writer_of wire.new)
+        ≡ W.failures (writer_of wire.old) + write_faults result }
     ensures goes { Goes (state S.Store store.old) (state S.Store store.new) }
 {
     if wire.has_ended {
@@ -58,8 +65,10 @@ fn exchange<S: Alter, R: Source, W: Sink>(
 ) -> Result<After, WireFault>
     requires reads { R.failures reader.old < 2 ^ 64 - 1 }
     requires writes { W.failures writer.old < 2 ^ 64 - 1 }
-    ensures exchange { IfOk result (Answers S.Store now (R.left reader.old) (R.left reader.new) (W.given writer.old) (W.given writer.new) store.old store.new) }
-    ensures fault { IfErr result (Breaks S.Store now (R.left reader.old) (R.left reader.new) (W.given writer.old) (W.given writer.new) store.old store.new) }
+    ensures exchange { IfOk result (Answers S.Store now (R.left reader.old) (R.left reader.new)
+        (W.given writer.old) (W.given writer.new) store.old store.new) }
+    ensures fault { IfErr result (Breaks S.Store now (R.left reader.old) (R.left reader.new)
+        (W.given writer.old) (W.given writer.new) store.old store.new) }
     ensures reads { R.failures reader.new ≡ R.failures reader.old + read_faults result }
     ensures writes { W.failures writer.new ≡ W.failures writer.old + write_faults result }
     ensures goes { Goes (state S.Store store.old) (state S.Store store.new) }
@@ -89,8 +98,14 @@ fn carry_out<S: Alter, W: Sink>(
 ) -> Result<After, WireFault>
     requires writes { W.failures writer.old < 2 ^ 64 - 1 }
     requires long { 8 ≤ length body.now }
-    ensures told { IfOk result (λ after. (told : Result ToldReply ToldFault) × Applies S.Store now order.account body.now store.old store.new told × Appends (W.given writer.old) (W.given writer.new) (text_told body.now order.closes told) × (after ≡ after_telling order.closes told)) }
-    ensures front { OnErr result ((told : Result ToldReply ToldFault) × Applies S.Store now order.account body.now store.old store.new told × AppendsFront (W.given writer.old) (W.given writer.new) (text_told body.now order.closes told)) }
+    ensures told { IfOk result (λ after. (told : Result ToldReply ToldFault)
+        × Applies S.Store now order.account body.now store.old store.new told
+        × Appends (W.given writer.old) (W.given writer.new) (text_told body.now order.closes told)
+        × (after ≡ after_telling order.closes told)) }
+    ensures front { OnErr result ((told : Result ToldReply ToldFault)
+        × Applies S.Store now order.account body.now store.old store.new told
+        × AppendsFront (W.given writer.old) (W.given writer.new)
+        (text_told body.now order.closes told)) }
     ensures cause { IfErr result (λ fault. fault ≡ WireFault.Write) }
     ensures count { W.failures writer.new ≡ W.failures writer.old + write_faults result }
     ensures goes { Goes (state S.Store store.old) (state S.Store store.new) }
@@ -112,8 +127,10 @@ fn tell<W: Sink>(
 ) -> Result<After, WireFault>
     requires writes { W.failures writer.old < 2 ^ 64 - 1 }
     requires long { 8 ≤ length body.now }
-    ensures sent { OnOk result (Appends (W.given writer.old) (W.given writer.new) (text_told body.now closes told.now)) }
-    ensures front { OnErr result (AppendsFront (W.given writer.old) (W.given writer.new) (text_told body.now closes told.now)) }
+    ensures sent { OnOk result
+        (Appends (W.given writer.old) (W.given writer.new) (text_told body.now closes told.now)) }
+    ensures front { OnErr result (AppendsFront (W.given writer.old) (W.given writer.new)
+        (text_told body.now closes told.now)) }
     ensures after { IfOk result (λ after. after ≡ after_telling closes told.now) }
     ensures cause { IfErr result (λ fault. fault ≡ WireFault.Write) }
     ensures count { W.failures writer.new ≡ W.failures writer.old + write_faults result }
@@ -140,8 +157,10 @@ fn tell_internal_error<W: Sink>(
 ) -> Result<After, WireFault>
     requires writes { W.failures writer.old < 2 ^ 64 - 1 }
     requires long { 8 ≤ length body.now }
-    ensures sent { OnOk result (Appends (W.given writer.old) (W.given writer.new) (internal_error body.now closes)) }
-    ensures front { OnErr result (AppendsFront (W.given writer.old) (W.given writer.new) (internal_error body.now closes)) }
+    ensures sent { OnOk result
+        (Appends (W.given writer.old) (W.given writer.new) (internal_error body.now closes)) }
+    ensures front { OnErr result
+        (AppendsFront (W.given writer.old) (W.given writer.new) (internal_error body.now closes)) }
     ensures after { IfOk result (λ after. after ≡ after_answer closes) }
     ensures cause { IfErr result (λ fault. fault ≡ WireFault.Write) }
     ensures count { W.failures writer.new ≡ W.failures writer.old + write_faults result }

@@ -25,9 +25,14 @@ pub fn run_events<S: Alter>(
 ) -> Result<Vec<Outcome>, RunFault>
     requires fit { All (λ e. IsTrue (fits e.1)) events.now }
     ensures each { IfOk result (λ outcomes. length outcomes.items ≡ length events.now) }
-    ensures alone { OfStore S.Store store.old store.new (λ db. IfOk result (λ outcomes. RunsAlone events.now outcomes.items db (state S.Store store.new).is_open (state S.Store store.new).now)) }
-    ensures devices { OfStore S.Store store.old store.new (λ db. IfOk result (λ outcomes. RunsDevices events.now outcomes.items db (state S.Store store.new).is_open (state S.Store store.new).now)) }
-    ensures schema { OfStore S.Store store.old store.new (λ db. IsTrue (state S.Store store.new).is_open → HasSchema (state S.Store store.new).now) }
+    ensures alone { OfStore S.Store store.old store.new (λ db. IfOk result (λ outcomes.
+        RunsAlone events.now outcomes.items db (state S.Store store.new).is_open
+        (state S.Store store.new).now)) }
+    ensures devices { OfStore S.Store store.old store.new (λ db. IfOk result (λ outcomes.
+        RunsDevices events.now outcomes.items db (state S.Store store.new).is_open
+        (state S.Store store.new).now)) }
+    ensures schema { OfStore S.Store store.old store.new (λ db.
+        IsTrue (state S.Store store.new).is_open → HasSchema (state S.Store store.new).now) }
     ensures unchanged { OnErr result (store.new ≡ store.old) }
     ensures goes { Goes (state S.Store store.old) (state S.Store store.new) }
 {

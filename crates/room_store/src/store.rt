@@ -59,11 +59,16 @@ impl<S: Alter> Store<S> {
     /// Makes the tables, in one transaction. `Storage` tells also that the database has some table
     /// already, or that the connection is in a transaction.
     pub fn create(mut connection: Connection<S>) -> Result<Store<S>, Refused<S>>
-        ensures made { IfOk result (λ store. OnDisk S.Store connection store (λ db. (db.schema ≡ no_schema) × IsNew (state S.Store store).now)) }
-        ensures fault { IfErr result (λ refused. (refused.fault ≡ OpenFault.Storage) ⊎ (refused.fault ≡ OpenFault.Memory)) }
-        ensures taken { ((state S.Store connection).now.schema ≡ no_schema → ⊥) → IsErrAnd result (λ refused. refused.fault ≡ OpenFault.Storage) }
+        ensures made { IfOk result (λ store. OnDisk S.Store connection store
+            (λ db. (db.schema ≡ no_schema) × IsNew (state S.Store store).now)) }
+        ensures fault { IfErr result
+            (λ refused. (refused.fault ≡ OpenFault.Storage) ⊎ (refused.fault ≡ OpenFault.Memory)) }
+        ensures taken { ((state S.Store connection).now.schema ≡ no_schema → ⊥)
+            → IsErrAnd result (λ refused. refused.fault ≡ OpenFault.Storage) }
         ensures unchanged { IfErr result (λ refused. IsLeft S.Store connection refused.connection) }
-        ensures goes { MatchResult result (λ store. Goes (state S.Store connection) (state S.Store store)) (λ refused. Goes (state S.Store connection) (state S.Store refused.connection)) }
+        ensures goes { MatchResult result
+            (λ store. Goes (state S.Store connection) (state S.Store store))
+            (λ refused. Goes (state S.Store connection) (state S.Store refused.connection)) }
     {
         if !connection.is_autocommit() || !is_blank(connection.schema()) {
             return Err(Refused {
@@ -85,11 +90,16 @@ impl<S: Alter> Store<S> {
     /// `NotOurs` that none can be read, or that it is 2 over other tables. `Storage` tells also that the
     /// connection is in a transaction.
     pub fn open(mut connection: Connection<S>) -> Result<Store<S>, Refused<S>>
-        ensures opened { IfOk result (λ store. OnDisk S.Store connection store (λ db. IsOpened db × IsSame (state S.Store connection) (state S.Store store))) }
-        ensures has_schema { IfOk result (λ store. OnDisk S.Store connection store (λ db. AreNumbered db.schema.tables db → HasSchema (state S.Store store).now)) }
-        ensures fault { IfErr result (λ refused. OnDisk S.Store connection refused.connection (λ db. IsOpenFault db refused.fault)) }
+        ensures opened { IfOk result (λ store. OnDisk S.Store connection store
+            (λ db. IsOpened db × IsSame (state S.Store connection) (state S.Store store))) }
+        ensures has_schema { IfOk result (λ store. OnDisk S.Store connection store
+            (λ db. AreNumbered db.schema.tables db → HasSchema (state S.Store store).now)) }
+        ensures fault { IfErr result (λ refused.
+            OnDisk S.Store connection refused.connection (λ db. IsOpenFault db refused.fault)) }
         ensures unchanged { IfErr result (λ refused. IsLeft S.Store connection refused.connection) }
-        ensures goes { MatchResult result (λ store. Goes (state S.Store connection) (state S.Store store)) (λ refused. Goes (state S.Store connection) (state S.Store refused.connection)) }
+        ensures goes { MatchResult result
+            (λ store. Goes (state S.Store connection) (state S.Store store))
+            (λ refused. Goes (state S.Store connection) (state S.Store refused.connection)) }
     {
         if !connection.is_autocommit() {
             return Err(Refused {
@@ -109,14 +119,25 @@ impl<S: Alter> Store<S> {
     /// `Storage` tells also that a database of version 1 has the tables of version 2, among them the table
     /// `rates` that would be made, or that the connection is in a transaction.
     pub fn migrate(mut connection: Connection<S>) -> Result<Store<S>, Refused<S>>
-        ensures migrated { IfOk result (λ store. OnDisk S.Store connection store (λ db. (IsOpened db × IsSame (state S.Store connection) (state S.Store store)) ⊎ IsMigrated db (state S.Store store).now)) }
-        ensures has_schema { IfOk result (λ store. OnDisk S.Store connection store (λ db. AreNumbered db.schema.tables db → HasSchema (state S.Store store).now)) }
-        ensures rows { IfOk result (λ store. OnDisk S.Store connection store (λ db. (name : List ℕ) → AgreeOnRows name db (state S.Store store).now)) }
-        ensures rooms { IfOk result (λ store. OnDisk S.Store connection store (λ db. (name : List ℕ) (room : Option RoomValue) → Holds db name room → Holds (state S.Store store).now name room)) }
-        ensures devices { IfOk result (λ store. OnDisk S.Store connection store (λ db. (devices : Devices) → HoldsFirstDevices db devices → HoldsDevices (state S.Store store).now devices)) }
-        ensures fault { IfErr result (λ refused. OnDisk S.Store connection refused.connection (λ db. IsMigrateFault db refused.fault)) }
+        ensures migrated { IfOk result (λ store. OnDisk S.Store connection store (λ db.
+            (IsOpened db × IsSame (state S.Store connection) (state S.Store store))
+            ⊎ IsMigrated db (state S.Store store).now)) }
+        ensures has_schema { IfOk result (λ store. OnDisk S.Store connection store
+            (λ db. AreNumbered db.schema.tables db → HasSchema (state S.Store store).now)) }
+        ensures rows { IfOk result (λ store. OnDisk S.Store connection store
+            (λ db. (name : List ℕ) → AgreeOnRows name db (state S.Store store).now)) }
+        ensures rooms { IfOk result (λ store. OnDisk S.Store connection store (λ db.
+            (name : List ℕ) (room : Option RoomValue) → Holds db name room
+            → Holds (state S.Store store).now name room)) }
+        ensures devices { IfOk result (λ store. OnDisk S.Store connection store (λ db.
+            (devices : Devices) → HoldsFirstDevices db devices
+            → HoldsDevices (state S.Store store).now devices)) }
+        ensures fault { IfErr result (λ refused.
+            OnDisk S.Store connection refused.connection (λ db. IsMigrateFault db refused.fault)) }
         ensures unchanged { IfErr result (λ refused. IsLeft S.Store connection refused.connection) }
-        ensures goes { MatchResult result (λ store. Goes (state S.Store connection) (state S.Store store)) (λ refused. Goes (state S.Store connection) (state S.Store refused.connection)) }
+        ensures goes { MatchResult result
+            (λ store. Goes (state S.Store connection) (state S.Store store))
+            (λ refused. Goes (state S.Store connection) (state S.Store refused.connection)) }
     {
         if !connection.is_autocommit() {
             return Err(Refused {
@@ -138,21 +159,41 @@ impl<S: Alter> Store<S> {
     /// was wanting. Nothing has changed then.
     pub fn apply(&mut self, alloc: Global, now: u64, e: &Event<'_>) -> Result<Reply, StoreFault>
         requires { IsTrue (fits e.now) }
-        ensures reply { OfStore S.Store self.old self.new (λ db. IfOk result (λ reply. (name : List ℕ) → IsOf e.entry.now name → (room : Option RoomValue) (devices : Devices) → Holds db name room → HoldsDevices db devices → reply ≡ (answered room devices now e.entry.now).reply)) }
-        ensures rows { OfStore S.Store self.old self.new (λ db. OnOk result ((name : List ℕ) → IsOf e.entry.now name → (room : Option RoomValue) (devices : Devices) → Holds db name room → HoldsDevices db devices → Holds (state S.Store self.new).now name (answered room devices now e.entry.now).room)) }
-        ensures device_reply { OfStore S.Store self.old self.new (λ db. IfOk result (λ reply. IsOfNone e.entry.now → (devices : Devices) → HoldsDevices db devices → reply ≡ (device_answered devices e.entry.now).reply)) }
-        ensures device_rows { OfStore S.Store self.old self.new (λ db. OnOk result (IsOfNone e.entry.now → (devices : Devices) → HoldsDevices db devices → HoldsDevices (state S.Store self.new).now (device_answered devices e.entry.now).devices)) }
-        ensures others { OfStore S.Store self.old self.new (λ db. OnOk result ((name : List ℕ) → (IsOf e.entry.now name → ⊥) → AgreeOnRows name db (state S.Store self.new).now)) }
-        ensures devices { OfStore S.Store self.old self.new (λ db. OnOk result ((IsOfNone e.entry.now → ⊥) → AgreeOnDevices db (state S.Store self.new).now)) }
-        ensures version { OfStore S.Store self.old self.new (λ db. OnOk result ((state S.Store self.new).now.trees meta.tree ≡ db.trees meta.tree)) }
-        ensures schema { OfStore S.Store self.old self.new (λ db. OnOk result (HasSchema (state S.Store self.new).now)) }
+        ensures reply { OfStore S.Store self.old self.new (λ db. IfOk result (λ reply.
+            (name : List ℕ) → IsOf e.entry.now name
+            → (room : Option RoomValue) (devices : Devices) → Holds db name room
+            → HoldsDevices db devices → reply ≡ (answered room devices now e.entry.now).reply)) }
+        ensures rows { OfStore S.Store self.old self.new (λ db. OnOk result
+            ((name : List ℕ) → IsOf e.entry.now name → (room : Option RoomValue) (devices : Devices)
+            → Holds db name room → HoldsDevices db devices
+            → Holds (state S.Store self.new).now name
+            (answered room devices now e.entry.now).room)) }
+        ensures device_reply { OfStore S.Store self.old self.new (λ db. IfOk result (λ reply.
+            IsOfNone e.entry.now → (devices : Devices) → HoldsDevices db devices
+            → reply ≡ (device_answered devices e.entry.now).reply)) }
+        ensures device_rows { OfStore S.Store self.old self.new (λ db. OnOk result
+            (IsOfNone e.entry.now → (devices : Devices) → HoldsDevices db devices
+            → HoldsDevices (state S.Store self.new).now
+            (device_answered devices e.entry.now).devices)) }
+        ensures others { OfStore S.Store self.old self.new (λ db. OnOk result ((name : List ℕ)
+            → (IsOf e.entry.now name → ⊥) → AgreeOnRows name db (state S.Store self.new).now)) }
+        ensures devices { OfStore S.Store self.old self.new (λ db. OnOk result
+            ((IsOfNone e.entry.now → ⊥) → AgreeOnDevices db (state S.Store self.new).now)) }
+        ensures version { OfStore S.Store self.old self.new (λ db.
+            OnOk result ((state S.Store self.new).now.trees meta.tree ≡ db.trees meta.tree)) }
+        ensures schema { OfStore S.Store self.old self.new
+            (λ db. OnOk result (HasSchema (state S.Store self.new).now)) }
         ensures moment { IsErrOf result StoreFault.Moment ↔ (last_moment < now) }
-        ensures damaged { OfStore S.Store self.old self.new (λ db. result ≡ Err StoreFault.Damaged → IsDamaged e.entry.now db) }
-        ensures unchanged { OfStore S.Store self.old self.new (λ db. OnErr result (IsTrue (state S.Store self.new).is_open → (state S.Store self.new).now ≡ db)) }
+        ensures damaged { OfStore S.Store self.old self.new
+            (λ db. result ≡ Err StoreFault.Damaged → IsDamaged e.entry.now db) }
+        ensures unchanged { OfStore S.Store self.old self.new (λ db. OnErr result
+            (IsTrue (state S.Store self.new).is_open → (state S.Store self.new).now ≡ db)) }
         ensures goes { Goes (state S.Store self.old) (state S.Store self.new) }
-        ensures opened { HasCleanDisk (state S.Store self.new) → OnOk result (IsTrue (state S.Store self.old).is_open → IsTrue (state S.Store self.new).is_open) }
+        ensures opened { HasCleanDisk (state S.Store self.new) → OnOk result
+            (IsTrue (state S.Store self.old).is_open → IsTrue (state S.Store self.new).is_open) }
         ensures short { IsShort e.entry.now → IfOk result (λ reply. reply ≡ reply_is.Short) }
-        ensures asks { (IsShort e.entry.now → ⊥) → HasCleanDisk (state S.Store self.new) → OnOk result (IsTrue (state S.Store self.old).is_open) }
+        ensures asks { (IsShort e.entry.now → ⊥) → HasCleanDisk (state S.Store self.new)
+            → OnOk result (IsTrue (state S.Store self.old).is_open) }
     {
         if now > LAST_MOMENT {
             return Err(StoreFault::Moment);
