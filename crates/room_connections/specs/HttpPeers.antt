@@ -33,5 +33,5 @@ KeepsLimits before after = config_of (connection_of after) ≡ config_of (connec
 
 module _ {S : Type 0} (store : Ghosts S) where
   -- the further requests are calls of the service, in order, and nothing else became of the rooms
-  abbrev pub MakesCalls : HttpPeer → HttpPeer → Served S → Served S → Type 0
+  abbrev pub MakesCalls : (before after : HttpPeer) (old new : Served S) → Type 0
   MakesCalls before after old new = Calls (Answers store) old new (calls_of before) (calls_of after)

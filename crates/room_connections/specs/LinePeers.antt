@@ -31,10 +31,12 @@ module _ {S : Type 0} (store : Ghosts S) (side : Side) where
   -- each line is applied, once, or is a bad one, which changes nothing, and is told of
   abbrev pub Chain : Served S → List LineCall → Served S → Type 0
   Chain old [] new = new ≡ old
-  Chain old (call ∷ calls) new = (next : Served S) × (Asks store side old call.1 next ⊎ IsBad store old call.1 next) × Chain next calls new
+  Chain old (call ∷ calls) new = (next : Served S)
+      × (Asks store side old call.1 next ⊎ IsBad store old call.1 next) × Chain next calls new
 
 module _ {S : Type 0} (store : Ghosts S) where
-  -- Bytes came, and the lines in them were taken in order; what was told of each waits behind the others, and goes in order.
+  -- Bytes came, and the lines in them were taken in order; what was told of each waits behind the
+  -- others, and goes in order.
   pub record GoesOn (before after : LineConnection) (old new : Served S) : Type 0 where
     pub came : List ℕ
     pub calls : List LineCall
@@ -45,11 +47,14 @@ module _ {S : Type 0} (store : Ghosts S) where
     pub side : side_of after ≡ side_of before
 
   -- a connection that is over may have lost an answer
-  abbrev pub TurnGoesOn : Next → LinePeer → LinePeer → Served S → Served S → Type 0
-  TurnGoesOn next before after old new = next ≢ Close → GoesOn (lines_of before) (lines_of after) old new
+  abbrev pub TurnGoesOn : (next : Next) (before after : LinePeer) (old new : Served S) → Type 0
+  TurnGoesOn next before after old new =
+      next ≢ Close → GoesOn (lines_of before) (lines_of after) old new
 
-  abbrev pub StepGoesOn : Option Next → LinePeer → LinePeer → Served S → Served S → Type 0
-  StepGoesOn next before after old new = next ≢ Some Close → GoesOn (lines_of before) (lines_of after) old new
+  abbrev pub StepGoesOn : (next : Option Next) (before after : LinePeer) (old new : Served S)
+      → Type 0
+  StepGoesOn next before after old new =
+      next ≢ Some Close → GoesOn (lines_of before) (lines_of after) old new
 
 -- each line that came was taken, unless what was told before waits to go
 abbrev pub HasTaken : LineConnection → Type 0

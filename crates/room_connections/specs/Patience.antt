@@ -10,7 +10,8 @@ doing_of patience = patience.doing
 abbrev pub since_of : Patience → ℕ
 since_of patience = patience.since
 
--- a minute where nothing was begun, or for room; 10 seconds for what was begun, or for a piece of it, and to part
+-- a minute where nothing was begun, or for room; 10 seconds for what was begun, or for a piece of
+-- it, and to part
 abbrev pub most_of : Doing → ℕ
 most_of Rests = 60000
 most_of (Moves moved) = 10000
@@ -25,20 +26,22 @@ abbrev pub is_slow : Patience → ℕ → Bool
 is_slow patience now = nat_lt 250 (now - patience.since)
 
 -- so much of a piece has moved: 163840 bytes are a whole one, which gives the time anew
-abbrev pub moving : ℕ → ℕ → ℕ → Patience
-moving since moved now = if nat_lt moved 163840 then record { since = since; doing = Moves moved } else record { since = now; doing = Moves 0 }
+abbrev pub moving : (since moved now : ℕ) → Patience
+moving since moved now =
+    if nat_lt moved 163840 then record { since = since; doing = Moves moved }
+    else record { since = now; doing = Moves 0 }
 
-abbrev pub moving_from : Doing → ℕ → ℕ → ℕ → Patience
+abbrev pub moving_from : (doing : Doing) (since count now : ℕ) → Patience
 moving_from Rests since count now = moving now count now
 moving_from (Moves before) since count now = moving since (before + count) now
 moving_from Holds since count now = moving now count now
 moving_from Parts since count now = record { since = since; doing = Parts }
 
 -- so many bytes more came or went
-abbrev pub after_moving : Patience → ℕ → ℕ → Patience
+abbrev pub after_moving : (patience : Patience) (count now : ℕ) → Patience
 after_moving patience count now = moving_from patience.doing patience.since count now
 
-abbrev pub holding_from : Doing → ℕ → ℕ → Patience
+abbrev pub holding_from : (doing : Doing) (since now : ℕ) → Patience
 holding_from Holds since now = record { since = since; doing = Holds }
 holding_from _ since now = record { since = now; doing = Holds }
 

@@ -117,7 +117,8 @@ impl LinePeer {
 
     fn receive<T: Read>(&mut self, stream: &mut T, turn: Turn) -> Option<Next>
         ensures receives { Receives (lines_of self.old) (lines_of self.new) }
-        ensures waits { result ≡ Some Next.Wait → input_of (lines_of self.new) ≡ input_of (lines_of self.old) }
+        ensures waits { result ≡ Some Next.Wait
+            → input_of (lines_of self.new) ≡ input_of (lines_of self.old) }
     {
         match self.connection.read_from(stream) {
             Ok(0) => {

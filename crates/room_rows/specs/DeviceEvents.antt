@@ -12,6 +12,8 @@ devices_of rooms = device_map rooms.devices.items.items
 
 -- an event of a device is answered so; one of an account is answered by its room
 abbrev pub IsToldOfDevices : Devices → Event → Reply → Type 0
-IsToldOfDevices devices (event.Device name on) told = told ≡ (device_answered devices (event.Device name on)).reply
-IsToldOfDevices devices (event.Rate name units) told = told ≡ (device_answered devices (event.Rate name units)).reply
+IsToldOfDevices devices (event.Device name on) told =
+    told ≡ (device_answered devices (event.Device name on)).reply
+IsToldOfDevices devices (event.Rate name units) told =
+    told ≡ (device_answered devices (event.Rate name units)).reply
 IsToldOfDevices devices _ told = ⊤

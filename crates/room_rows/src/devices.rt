@@ -37,8 +37,10 @@ impl Devices {
     /// What is answered to a `Device` or a `Rate` event. After a fault every device is as before.
     pub fn answer(&mut self, alloc: Global, now: u64, event: &Event<'_>) -> Result<Reply, CoreFault>
         requires { IsTrue (fits event.now) }
-        ensures reply { IfOk result (λ reply. reply ≡ (device_answered (device_map self.old.items.items) event.entry.now).reply) }
-        ensures devices { OnOk result (device_map self.new.items.items ≡ (device_answered (device_map self.old.items.items) event.entry.now).devices) }
+        ensures reply { IfOk result (λ reply.
+            reply ≡ (device_answered (device_map self.old.items.items) event.entry.now).reply) }
+        ensures devices { OnOk result (device_map self.new.items.items
+            ≡ (device_answered (device_map self.old.items.items) event.entry.now).devices) }
         ensures moment { IsErrOf result CoreFault.Moment ↔ (last_moment < now) }
         ensures unchanged { OnErr result (self.new.items.items ≡ self.old.items.items) }
     {

@@ -35,8 +35,10 @@ impl Rooms {
     /// every room and every device is as before.
     pub fn answer(&mut self, now: u64, event: &Event<'_>) -> Result<Reply, CoreFault>
         requires { IsTrue (fits event.now) }
-        ensures told { IfOk result (λ reply. IsToldOfDevices (devices_of self.old) event.entry.now reply) }
-        ensures devices { OnOk result (devices_of self.new ≡ (device_answered (devices_of self.old) event.entry.now).devices) }
+        ensures told { IfOk result
+            (λ reply. IsToldOfDevices (devices_of self.old) event.entry.now reply) }
+        ensures devices { OnOk result (devices_of self.new
+            ≡ (device_answered (devices_of self.old) event.entry.now).devices) }
         ensures unchanged { OnErr result (devices_of self.new ≡ devices_of self.old) }
     {
         match event {

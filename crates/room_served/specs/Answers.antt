@@ -39,11 +39,13 @@ abbrev pub IsRefusal : Refusal → Bool → Response → Type 0
 IsRefusal why closes = IsResponse (status_of why) (refusal_fields why closes) []
 
 -- the answer, 404 where the account is not open, and internal-error for any fault of the store
-abbrev pub IsTold : Header → Bool → Result Reply StoreFault → Response → Type 0
+abbrev pub IsTold : (header : Header) (closes : Bool) (told : Result Reply StoreFault)
+    (response : Response) → Type 0
 IsTold header closes (Ok (reply_is.Ipp answer)) = IsResponse 200 (answer_fields closes) answer
 IsTold header closes (Ok reply_is.NoAccount) = IsRefusal NotFound closes
 IsTold header closes (Ok other) = IsResponse 200 (answer_fields closes) (internal_error_text header)
-IsTold header closes (Err fault) = IsResponse 200 (answer_fields closes) (internal_error_text header)
+IsTold header closes (Err fault) =
+    IsResponse 200 (answer_fields closes) (internal_error_text header)
 
 -- there was no memory for what there was to tell
 abbrev pub IsLost : Response → Type 0
@@ -53,17 +55,24 @@ IsLost = IsResponse 500 [] []
 
 module _ {S : Type 0} (store : Ghosts S) where
   -- the message is applied, once, at the moment, and stands in the journal; what it came to is told
-  pub record Sends (account : List ℕ) (old : Served S) (request : Request (List ℕ)) (response : Response) (new : Served S) : Type 0 where
+  pub record Sends (account : List ℕ) (old : Served S) (request : Request (List ℕ))
+      (response : Response) (new : Served S) : Type 0 where
     pub told : Result Reply StoreFault
-    pub journal : journal new ≡ journal old ++ (entry.Message (moment_of old) account (body_of request), told) ∷ []
-    pub applies : Applies store (entry.Message (moment_of old) account (body_of request)) (store_of old) (store_of new) told
+    pub journal : journal new
+        ≡ journal old ++ (entry.Message (moment_of old) account (body_of request), told) ∷ []
+    pub applies : Applies store (entry.Message (moment_of old) account (body_of request))
+        (store_of old) (store_of new) told
     pub moment : moment_of new ≡ moment_of old
-    pub tells : IsTold (header_in (body_of request)) (has_long_body request) told response ⊎ IsLost response
+    pub tells : IsTold (header_in (body_of request)) (has_long_body request) told response
+        ⊎ IsLost response
 
-  abbrev pub Gives : Result (List ℕ) Refusal → Served S → Request (List ℕ) → Response → Served S → Type 0
+  abbrev pub Gives : (asked : Result (List ℕ) Refusal) (old : Served S) (request : Request (List ℕ))
+      (response : Response) (new : Served S) → Type 0
   Gives (Ok account) old request response new = Sends account old request response new
-  Gives (Err why) old request response new = IsRefusal why (has_long_body request) response × (new ≡ old)
+  Gives (Err why) old request response new =
+      IsRefusal why (has_long_body request) response × (new ≡ old)
 
   -- the one response to a request, and the rooms after it
-  abbrev pub Answers : Served S → Request (List ℕ) → Response → Served S → Type 0
+  abbrev pub Answers : (old : Served S) (request : Request (List ℕ)) (response : Response)
+      (new : Served S) → Type 0
   Answers old request response new = Gives (asked request) old request response new

@@ -9,7 +9,8 @@ use Rattle.room_served.specs.declared.entry.Entry.TheVariants as entry
 
 -- with its bytes at this place
 abbrev pub event_at : ℕ × ℕ → Entry → Event
-event_at at (entry.Message moment account body) = event.Ipp account (record { ref_ptr = at; now = body })
+event_at at (entry.Message moment account body) =
+    event.Ipp account (record { ref_ptr = at; now = body })
 event_at at (entry.Line line) = event_of at line.action
 
 abbrev pub moment_at : Entry → ℕ

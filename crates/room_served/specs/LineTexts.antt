@@ -12,7 +12,8 @@ part_text part = part.line ++ codes "\n" ++ part.bytes ++ codes "\n"
 
 -- how many documents come, and then each
 abbrev pub parts_text : List Part → List ℕ
-parts_text parts = codes "documents " ++ decimal (length parts) ++ codes "\n" ++ flat_map part_text parts
+parts_text parts =
+    codes "documents " ++ decimal (length parts) ++ codes "\n" ++ flat_map part_text parts
 
 abbrev pub line_text : Result Reply StoreFault → List ℕ
 line_text (Ok (reply_is.Line text)) = text ++ codes "\n"

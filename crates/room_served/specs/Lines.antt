@@ -44,19 +44,23 @@ abbrev pub begins_start : List ℕ → Bool
 begins_start input = starts_with (λ a b. a == b) input (codes "start ")
 
 -- so many bytes that a reader had left came behind those that were there
-abbrev pub Comes : Option (List ℕ) → Option (List ℕ) → LineConnection → LineConnection → ℕ → Type 0
-Comes left left2 before after n = (more : List ℕ) × (length more ≡ n) × Consumes left left2 more × (input_of after ≡ input_of before ++ more)
+abbrev pub Comes : (left left2 : Option (List ℕ)) (before after : LineConnection) (n : ℕ) → Type 0
+Comes left left2 before after n = (more : List ℕ) × (length more ≡ n) × Consumes left left2 more
+    × (input_of after ≡ input_of before ++ more)
 
 -- so many of the bytes that waited went to a writer
-abbrev pub Leaves : Option (List ℕ) → Option (List ℕ) → LineConnection → LineConnection → ℕ → Type 0
-Leaves given given2 before after n = Appends given given2 (take n (output_of before)) × (output_of after ≡ drop n (output_of before))
+abbrev pub Leaves : (given given2 : Option (List ℕ)) (before after : LineConnection) (n : ℕ)
+    → Type 0
+Leaves given given2 before after n =
+    Appends given given2 (take n (output_of before)) × (output_of after ≡ drop n (output_of before))
 
 -- it is a line, and one of those of the grammar
 abbrev pub IsAllowedEntry : Grammar → Entry → Type 0
 IsAllowedEntry grammar entry = (line : Line) × (entry ≡ entry_is.Line line) × IsAllowed grammar line
 
 module _ {S : Type 0} (store : Ghosts S) where
-  -- what a line asks for is applied, once, at the moment, and stands in the journal; what it came to is told
+  -- what a line asks for is applied, once, at the moment, and stands in the journal; what it came
+  -- to is told
   pub record Asks (side : Side) (old : Served S) (text : List ℕ) (new : Served S) : Type 0 where
     pub entry : Entry
     pub allowed : IsAllowedEntry (grammar_of side (moment_of old)) entry
@@ -80,7 +84,8 @@ module _ {S : Type 0} (store : Ghosts S) where
     pub gives : Asks (side_of before) old text new ⊎ IsBad old text new
 
 -- no line is whole yet, and nothing has changed
-pub record IsWaiting {S : Type 0} (before after : LineConnection) (old new : Served S) : Type 0 where
+pub record IsWaiting {S : Type 0} (before after : LineConnection) (old new : Served S)
+    : Type 0 where
   pub none : line_end (input_of before) ≡ None
   pub connection : after ≡ before
   pub served : new ≡ old

@@ -1,5 +1,6 @@
--- What a request over HTTP asks for, or the first refusal that applies (all this project's own): another method than
--- POST, a path of no queue, another type of content, a body that ends within the header of its message.
+-- What a request over HTTP asks for, or the first refusal that applies (all this project's own):
+-- another method than POST, a path of no queue, another type of content, a body that ends within
+-- the header of its message.
 use Rattle.std.specs.Prelude.{ℕ, Bool, false, List, Option, Some, None, Result, Ok, Err, bytes_eq, codes, if◌then◌else◌, length, nat_lt}
 use Rattle.http.specs.Request.{body_of, head_of}
 use Rattle.http.specs.declared.request.Request.{Request}
@@ -28,7 +29,9 @@ asked_of_queue request (Some account) =
 -- the account whose queue it is for
 abbrev pub asked : Request (List ℕ) → Result (List ℕ) Refusal
 asked request =
-    if bytes_eq (head_of request).method (codes "POST") then asked_of_queue request (account_of (uri_path (head_of request).uri)) else Err MethodNotAllowed
+    if bytes_eq (head_of request).method (codes "POST")
+    then asked_of_queue request (account_of (uri_path (head_of request).uri))
+    else Err MethodNotAllowed
 
 -- a connection would keep the room that its body took, so it ends with the answer
 abbrev pub has_long_body : Request (List ℕ) → Bool

@@ -68,7 +68,8 @@ impl LineConnection {
 
     /// Reads once. `Ok(0)` tells the end of what comes.
     pub fn read_from<R: Read>(&mut self, reader: &mut R) -> io::Result<usize>
-        ensures came { IfOk result (Comes (R.remaining reader.old) (R.remaining reader.new) self.old self.new) }
+        ensures came { IfOk result
+            (Comes (R.remaining reader.old) (R.remaining reader.new) self.old self.new) }
         ensures nothing { OnErr result (input_of self.new ≡ input_of self.old) }
         ensures output { output_of self.new ≡ output_of self.old }
         ensures side { side_of self.new ≡ side_of self.old }
@@ -109,7 +110,8 @@ impl LineConnection {
     /// Answers what came and is no line as a bad one.
     pub fn refuse_rest(&mut self) -> Result<(), AllocError>
         ensures input { input_of self.new ≡ [] }
-        ensures output { OnOk result (output_of self.new ≡ output_of self.old ++ codes "bad-line\n") }
+        ensures output { OnOk result
+            (output_of self.new ≡ output_of self.old ++ codes "bad-line\n") }
         ensures side { side_of self.new ≡ side_of self.old }
     {
         self.input.clear();
@@ -146,7 +148,8 @@ impl LineConnection {
 
     /// Writes once.
     pub fn write_to<W: Write>(&mut self, writer: &mut W) -> io::Result<usize>
-        ensures went { IfOk result (Leaves (W.contents writer.old) (W.contents writer.new) self.old self.new) }
+        ensures went { IfOk result
+            (Leaves (W.contents writer.old) (W.contents writer.new) self.old self.new) }
         ensures nothing { OnErr result (self.new ≡ self.old) }
         ensures input { input_of self.new ≡ input_of self.old }
         ensures side { side_of self.new ≡ side_of self.old }

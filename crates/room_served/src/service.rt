@@ -45,7 +45,8 @@ impl<S: Alter> Served<S> {
     ) -> Result<(), AllocError>
         requires blank { IsBlank response.old }
         requires long { 8 ≤ length (body_of request.now) }
-        ensures ok { OnOk result (Sends S.Store account self.old request.now response.new self.new) }
+        ensures ok { OnOk result
+            (Sends S.Store account self.old request.now response.new self.new) }
         ensures err { OnErr result (self.new ≡ self.old) }
     {
         let body = request.body().clone()?;
@@ -107,7 +108,8 @@ fn put_internal_error(
     closes: bool,
 ) -> Result<(), AllocError>
     requires { IsBlank response.old }
-    ensures { OnOk result (IsResponse 200 (answer_fields closes) (internal_error_text header) response.new) }
+    ensures { OnOk result
+        (IsResponse 200 (answer_fields closes) (internal_error_text header) response.new) }
 {
     put_head(response, closes)?;
     response.body.put_slice(&internal_error(header))
@@ -126,7 +128,8 @@ fn put_head(response: &mut Response, closes: bool) -> Result<(), AllocError>
 fn put_close(response: &mut Response, closes: bool) -> Result<(), AllocError>
     ensures status { response.new.status ≡ response.old.status }
     ensures body { response.new.body ≡ response.old.body }
-    ensures fields { OnOk result (fields_of response.new ≡ fields_of response.old ++ close_fields closes) }
+    ensures fields { OnOk result
+        (fields_of response.new ≡ fields_of response.old ++ close_fields closes) }
 {
     if closes {
         let close = HeaderValue::from_static("close");

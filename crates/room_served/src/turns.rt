@@ -13,7 +13,8 @@ use sqlite::Alter;
 /// Answers what came on a connection of HTTP, at the moment of what is served. Each request is one call: what it asks for is
 /// applied, once, or it is refused.
 pub fn answer_requests<S: Alter>(connection: &mut Connection, served: &mut Served<S>)
-    ensures calls { Calls (Answers S.Store) served.old served.new (history connection.old).calls (history connection.new).calls }
+    ensures calls { Calls (Answers S.Store) served.old served.new
+        (history connection.old).calls (history connection.new).calls }
     ensures continues { Continues S.Store served.old served.new }
     ensures served { ∥ IsServed (config_of connection.new) (history connection.new) ∥₁ }
     ensures rests { Rests (config_of connection.new) (history connection.new) }
