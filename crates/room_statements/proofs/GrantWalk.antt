@@ -21,7 +21,7 @@ use Rattle.room_tables.specs.Keyed.{HasSchema, rows_under}
 use Rattle.room_tables.specs.Queries.{Means, Takes, of_table, is_given, shown_of}
 use Rattle.room_tables.specs.Cells.{grant_cells}
 use Rattle.room_tables.specs.Accounts.{IsSound}
-use Rattle.room_statements.specs.Totals.{granted_cells, TellsGrant, AddsGrant, refuses_grant}
+use Rattle.room_statements.specs.Totals.{granted_cells, TellsGrant, gathers_grant, refuses_grant}
 use Rattle.room_statements.specs.SoundRows.{grant_rows, CanBeAdded}
 use Rattle.room_statements.specs.Walks.{GathersAll, WalksAll, RefusesOne}
 use Rattle.room_statements.specs.declared.grants.Granted.{Granted}
@@ -66,9 +66,6 @@ pages_on now row = pages_by now (natural_in (integer_in (column row 0)), natural
 pages_told : (now : ℕ) (row : Row) (month pages : ℕ) → TellsGrant row month pages → pages_on now row ≡ pages_by now (month, pages)
 pages_told now row month pages told = λ i. pages_by now (natural_in (integer_in (told.month i)), natural_in (integer_in (told.pages i)))
 
-abbrev pub adds_grant : Granted → Row → Granted → Type 0
-adds_grant first row last = (last.month ≡ first.month) × AddsGrant first.month first.pages row last.pages
-
 abbrev pub refuses_it : Granted → Row → Type 0
 refuses_it first row = refuses_grant first.month first.pages row
 
@@ -76,7 +73,7 @@ record Adds (first : Granted) (rows : List Row) (last : Granted) : Type 0 where
   month : last.month ≡ first.month
   pages : last.pages ≡ first.pages + sum_by (pages_on first.month) rows
 
-adds_up : (first last : Granted) (rows : List Row) → GathersAll adds_grant first rows last → Adds first rows last
+adds_up : (first last : Granted) (rows : List Row) → GathersAll gathers_grant first rows last → Adds first rows last
 adds_up first last [] same = record { month = ap (λ (g : Granted). g.month) (sym same); pages = omega (arith, ap (λ (g : Granted). g.pages) same) }
 adds_up first last (r ∷ rows) (next, step, more) =
     let rest = adds_up next last rows more in
@@ -86,7 +83,7 @@ adds_up first last (r ∷ rows) (next, step, more) =
     record { month = rest.month ∙ step.0; pages = omega (arith, rest.pages, others, added.added, one, sum_by-cons (pages_on first.month) r rows) }
 
 -- whatever the rows, the sum stays within its bound
-pub pages_within : (first last : Granted) (rows : List Row) → GathersAll adds_grant first rows last → first.pages ≤ most_units → last.pages ≤ most_units
+pub pages_within : (first last : Granted) (rows : List Row) → GathersAll gathers_grant first rows last → first.pages ≤ most_units → last.pages ≤ most_units
 pages_within first last [] same within = subst (λ (g : Granted). g.pages ≤ most_units) same within
 pages_within first last (r ∷ rows) (next, step, more) within = pages_within next last rows more (step.1.within within)
 
@@ -111,22 +108,22 @@ module _ (db : Database) (has : HasSchema db) (name : List ℕ) (month : ℕ) wh
     sum_told : sum_by (pages_on month) shown ≡ sum_by (pages_by month) granted
     sum_told = sym (sum_by-IsPermutation (pages_on month) shown (map (told_of name) granted) shown_told) ∙ sum_mapped (told_of name) (pages_on month) granted
 
-    pub pages_granted : (last : Granted) → WalksAll adds_grant refuses_it shown first last → last.pages ≡ sum_by (pages_by month) granted
+    pub pages_granted : (last : Granted) → WalksAll gathers_grant refuses_it shown first last → last.pages ≡ sum_by (pages_by month) granted
     pages_granted last (given, same, gathered) = omega (arith, (adds_up first last given gathered).pages, sum_by-IsPermutation (pages_on month) shown given same, sum_told)
 
     -- a grant of them is never refused where they come to no more than grants can
-    none_refused : sum_by (pages_by month) granted ≤ most_units → RefusesOne adds_grant refuses_it shown first → ⊥
+    none_refused : sum_by (pages_by month) granted ≤ most_units → RefusesOne gathers_grant refuses_it shown first → ⊥
     none_refused bounds it =
-        let there = permuted_has (map (told_of name) granted) shown it.row (IsPermutation-sym _ _ shown_told) (refused_there adds_grant refuses_it shown first it) in
+        let there = permuted_has (map (told_of name) granted) shown it.row (IsPermutation-sym _ _ shown_told) (refused_there gathers_grant refuses_it shown first it) in
         let here = has_mapped (told_of name) granted it.row there in
         let told : TellsGrant it.row here.0.0 here.0.1 = record { month = ap (λ r. column r 0) here.2; pages = ap (λ r. column r 1) here.2 } in
         let adds = adds_up first it.so_far it.given it.gathered in
         let one = pages_told month it.row here.0.0 here.0.1 told in
         let over : most_units < it.so_far.pages + pages_by month (here.0.0, here.0.1) =
         subst (λ now. most_units < it.so_far.pages + pages_by now (here.0.0, here.0.1)) adds.month (it.refused here.0.0 here.0.1 told) in
-        omega (arith, over, one, adds.pages, refused_within adds_grant refuses_it shown first it (pages_on month), sum_told, bounds)
+        omega (arith, over, one, adds.pages, refused_within gathers_grant refuses_it shown first it (pages_on month), sum_told, bounds)
 
-  pub grants_unsound : RefusesOne adds_grant refuses_it shown first → CanBeAdded name month (grant_rows db name) → ⊥
+  pub grants_unsound : RefusesOne gathers_grant refuses_it shown first → CanBeAdded name month (grant_rows db name) → ⊥
   grants_unsound it can = none_refused can.granted can.are_theirs can.in_bounds it
 
   pub grants_added : IsSound db name → CanBeAdded name month (grant_rows db name)

@@ -10,6 +10,7 @@ use Rattle.room_rules.specs.Limits.{longest_document, most_documents}
 use Rattle.room_rules.specs.declared.job.Document.{Document}
 use Rattle.room_tables.specs.Tables.{document as document_table}
 use Rattle.room_tables.specs.Cells.{number}
+use Rattle.room_statements.specs.declared.documents.Found.{Found}
 
 -- the row, its row number first, is of a document of the job
 abbrev pub is_of_job : List ℕ → ℕ → Row → Bool
@@ -43,6 +44,11 @@ pub record GathersDocument (job : ℕ) (first : List (Option Document)) (row : R
   pub told : ShowsDocument row document
   pub in_range : IsDocumentOf job document
   pub put : last ≡ slice_set first (document.number - 1) (Some document)
+
+-- as a walk over the documents gathers it: the job stays
+abbrev pub gathers_document : Found → Row → Found → Type 0
+gathers_document first row last =
+    (last.job ≡ first.job) × GathersDocument first.job first.places row last.places
 
 abbrev pub refuses_document : ℕ → Row → Type 0
 refuses_document job row =

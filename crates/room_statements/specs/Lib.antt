@@ -4,3 +4,4 @@ pub mod Shown
 pub mod Totals
 pub mod Queues
 pub mod SoundRows
+pub mod Updates

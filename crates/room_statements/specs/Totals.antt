@@ -7,6 +7,7 @@ use Rattle.room_state.specs.declared.tally.Tally.{Tally}
 use Rattle.room_state.specs.Tallies.{counted_in_bounds, most_units}
 use Rattle.room_state.specs.Sums.{pages_by}
 use Rattle.room_tables.specs.Cells.{number}
+use Rattle.room_statements.specs.declared.grants.Granted.{Granted}
 
 -- ---- its jobs
 
@@ -50,6 +51,11 @@ pub record AddsGrant (now first : ℕ) (row : Row) (last : ℕ) : Type 0 where
   pub told : TellsGrant row month pages
   pub added : last ≡ first + pages_by now (month, pages)
   pub within : first ≤ most_units → last ≤ most_units
+
+-- as a walk over the grants gathers it: the month stays
+abbrev pub gathers_grant : Granted → Row → Granted → Type 0
+gathers_grant first row last =
+    (last.month ≡ first.month) × AddsGrant first.month first.pages row last.pages
 
 -- it tells none that can be added
 abbrev pub refuses_grant : (now first : ℕ) → Row → Type 0

@@ -9,6 +9,7 @@ ghost use Rattle.room_tables.specs.Cells.{number, account_cells};
 ghost use Rattle.room_tables.specs.Accounts.{account_at, IsAccount};
 ghost use Rattle.room_tables.specs.Calls.{Changes, GetsRow, GoesOn, OfStore, ReadsStore, StaysInside};
 ghost use Rattle.room_statements.specs.SoundRows.{IsRowOf};
+ghost use Rattle.room_statements.specs.Updates.{SetsNextJob};
 
 use crate::values::{number, number_at};
 use room_rules::{Account, LAST_JOB, LAST_MOMENT, Name};
@@ -94,9 +95,7 @@ pub fn set_next_job<S: Alter>(
     next_job: u32,
 ) -> Result<(), Error>
     ensures sets { Changes S.Store transaction.old.conn.now transaction.new.conn.now result
-        (λ before after. (account : AccountValue)
-        → account_at before name ≡ Some (account_cells name account) → SetsRow account_table
-        (account_cells name (record account { next_job = next_job })) before after) }
+        (SetsNextJob name next_job) }
     ensures inside { StaysInside S.Store transaction.old.conn transaction.new.conn result }
 {
     write(

@@ -91,8 +91,9 @@ fn walk_devices<S: Alter>(
     connection: &mut Connection<S>,
     found: &mut AnyOn,
 ) -> Result<(), TableFault>
-    ensures walks { WalksStore (λ first row last. GathersOn first.is_on row last.is_on)
-        (λ first row. refuses_flag row) S.Store connection.old connection.new
+    ensures walks { WalksStore
+        (λ first row last. GathersOn first.is_on row last.is_on) (λ first row. refuses_flag row)
+        S.Store connection.old connection.new
         (λ db. IsPermutation (map (λ row. column row 2 ∷ []) (db.trees device_table.tree)))
         found.old found.new result }
     ensures going { GoesOn S.Store connection.old connection.new result }

@@ -13,7 +13,7 @@ ghost use Rattle.room_tables.specs.Cells.{number, document_cells};
 ghost use Rattle.room_tables.specs.Accounts.{document_at, HoldsRoom};
 ghost use Rattle.room_statements.specs.Walks.{WalksStore};
 ghost use Rattle.room_tables.specs.Calls.{Changes, GoesOn, OfStore, ReadsStore, StaysInside};
-ghost use Rattle.room_statements.specs.Documents.{IsDocumentOf, ShowsDocument, GathersDocument, refuses_document, shown_documents};
+ghost use Rattle.room_statements.specs.Documents.{IsDocumentOf, ShowsDocument, gathers_document, refuses_document, shown_documents};
 ghost use Rattle.room_statements.specs.SoundRows.{document_rows, AreRowsOf};
 
 use crate::values::{bytes_at, format_at, format_text, number, short_at};
@@ -56,10 +56,9 @@ struct Found {
 }
 
 impl Gather for Found {
-    ghost use Rattle.std.specs.Prelude.{◌≡◌};
-    ghost use Rattle.room_statements.specs.Documents.{GathersDocument, refuses_document};
+    ghost use Rattle.room_statements.specs.Documents.{gathers_document, refuses_document};
 
-    ghost step = { λ first row last. (last.job ≡ first.job) × GathersDocument first.job first.places row last.places };
+    ghost step = { gathers_document };
 
     ghost refuses = { λ first row. refuses_document first.job row };
 
@@ -97,10 +96,8 @@ fn walk_documents<S: Alter>(
     name: Name,
     found: &mut Found,
 ) -> Result<(), TableFault>
-    ensures walks { WalksStore
-        (λ first row last. (last.job ≡ first.job)
-        × GathersDocument first.job first.places row last.places)
-        (λ first row. refuses_document first.job row) S.Store connection.old connection.new
+    ensures walks { WalksStore gathers_document (λ first row. refuses_document first.job row)
+        S.Store connection.old connection.new
         (λ db. IsPermutation (shown_documents db name found.old.job)) found.old found.new result }
     ensures going { GoesOn S.Store connection.old connection.new result }
 {

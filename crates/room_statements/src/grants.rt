@@ -10,7 +10,7 @@ ghost use Rattle.room_tables.specs.Tables.{grants as grants_table};
 ghost use Rattle.room_tables.specs.Keyed.{SetsRow};
 ghost use Rattle.room_tables.specs.Cells.{number, grant_cells};
 ghost use Rattle.room_tables.specs.Accounts.{grant_at, HoldsRoom};
-ghost use Rattle.room_statements.specs.Totals.{granted_cells, AddsGrant, refuses_grant};
+ghost use Rattle.room_statements.specs.Totals.{granted_cells, gathers_grant, refuses_grant};
 ghost use Rattle.room_tables.specs.Calls.{Changes, GetsRow, GoesOn, OfStore, ReadsStore, StaysInside};
 ghost use Rattle.room_statements.specs.Walks.{HasGathered, WalksStore};
 ghost use Rattle.room_statements.specs.SoundRows.{grant_rows, CanBeAdded, IsRowOf};
@@ -101,10 +101,9 @@ struct Granted {
 }
 
 impl Gather for Granted {
-    ghost use Rattle.std.specs.Prelude.{◌≡◌};
-    ghost use Rattle.room_statements.specs.Totals.{AddsGrant, refuses_grant};
+    ghost use Rattle.room_statements.specs.Totals.{gathers_grant, refuses_grant};
 
-    ghost step = { λ first row last. (last.month ≡ first.month) × AddsGrant first.month first.pages row last.pages };
+    ghost step = { gathers_grant };
 
     ghost refuses = { λ first row. refuses_grant first.month first.pages row };
 
@@ -126,14 +125,11 @@ fn walk_grants<S: Alter>(
     name: Name,
     granted: &mut Granted,
 ) -> Result<(), TableFault>
-    ensures gathers { OnOk result (HasGathered
-        (λ first row last. (last.month ≡ first.month)
-        × AddsGrant first.month first.pages row last.pages) granted.old granted.new) }
-    ensures walks { WalksStore
-        (λ first row last. (last.month ≡ first.month)
-        × AddsGrant first.month first.pages row last.pages)
-        (λ first row. refuses_grant first.month first.pages row) S.Store
-        connection.old connection.new (λ db. IsPermutation (map granted_cells (grant_rows db name)))
+    ensures gathers { OnOk result (HasGathered gathers_grant granted.old granted.new) }
+    ensures walks { WalksStore gathers_grant
+        (λ first row. refuses_grant first.month first.pages row)
+        S.Store connection.old connection.new
+        (λ db. IsPermutation (map granted_cells (grant_rows db name)))
         granted.old granted.new result }
     ensures going { GoesOn S.Store connection.old connection.new result }
 {

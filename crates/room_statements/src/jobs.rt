@@ -12,6 +12,7 @@ ghost use Rattle.room_tables.specs.Calls.{Changes, GetsRow, GoesOn, OfStore, Rea
 ghost use Rattle.room_rules.specs.Names.{IsNameOrNone};
 ghost use Rattle.room_statements.specs.Shown.{behind_key, ShowsStanding, ShowsJob, IsJob};
 ghost use Rattle.room_statements.specs.SoundRows.{IsRowOf};
+ghost use Rattle.room_statements.specs.Updates.{SetsStanding};
 
 use crate::values::{
     bytes_at, device_at, device_text, flag, flag_at, moment, moment_at, number, number_at,
@@ -169,8 +170,7 @@ pub fn set_standing<S: Alter>(
 ) -> Result<(), Error>
     requires { IsStanding standing.now }
     ensures sets { Changes S.Store transaction.old.conn.now transaction.new.conn.now result
-        (λ before after. (it : JobValue) → job_at before name (pos job) ≡ Some (job_cells name it)
-        → SetsRow job_table (job_cells name (record it { standing = standing.now })) before after) }
+        (SetsStanding name job standing.now) }
     ensures inside { StaysInside S.Store transaction.old.conn transaction.new.conn result }
 {
     write(

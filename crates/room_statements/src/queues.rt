@@ -53,8 +53,8 @@ fn walk_unfinished<S: Alter>(
     jobs: &mut List<Job>,
 ) -> Result<(), TableFault>
     ensures gathers { OnOk result (HasGathered ListsJob jobs.old jobs.new) }
-    ensures walks { WalksStore ListsJob
-        (λ _ row. refuses_numbered row) S.Store connection.old connection.new
+    ensures walks { WalksStore ListsJob (λ _ row. refuses_numbered row)
+        S.Store connection.old connection.new
         (λ db. AreListed
         (λ all. at_most limit (not_completed all)) (unfinished_rows db name) db name)
         jobs.old jobs.new result }
@@ -100,8 +100,8 @@ fn walk_ended<S: Alter>(
     jobs: &mut List<Job>,
 ) -> Result<(), TableFault>
     ensures gathers { OnOk result (HasGathered ListsJob jobs.old jobs.new) }
-    ensures walks { WalksStore ListsJob
-        (λ _ row. refuses_numbered row) S.Store connection.old connection.new
+    ensures walks { WalksStore ListsJob (λ _ row. refuses_numbered row)
+        S.Store connection.old connection.new
         (λ db. AreListed (λ all. at_most limit (completed all)) (ended_rows db name) db name)
         jobs.old jobs.new result }
     ensures going { GoesOn S.Store connection.old connection.new result }
