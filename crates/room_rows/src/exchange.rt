@@ -92,8 +92,8 @@ impl Open {
             None => (end, "1"),
         };
         Ok(Call {
-            read: bytes_of(alloc, self.read.as_str())?,
-            written: bytes_of(alloc, self.written.as_str())?,
+            read: hex::decode(alloc, self.read.as_str().as_bytes())?,
+            written: hex::decode(alloc, self.written.as_str().as_bytes())?,
             end: String::from_str(alloc, end)?,
             times: times.parse()?,
         })
@@ -207,8 +207,4 @@ fn push_line(alloc: Global, digits: &mut String, line: &str) -> Result<(), RowFa
     digits.push_str(hex::encode(alloc, line.as_bytes())?.as_str())?;
     digits.push_str("0d0a")?;
     Ok(())
-}
-
-fn bytes_of(alloc: Global, digits: &str) -> Result<Vec<u8>, RowFault> {
-    Ok(hex::decode(alloc, digits.as_bytes())?)
 }
