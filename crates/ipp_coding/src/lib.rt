@@ -14,6 +14,6 @@ pub use fault::{PutFault, ReadFault};
 pub use law::{reading_is_spelling, spelling_is_unique, text_is_second_part};
 pub use list::List;
 pub use message::{Attribute, Group, Header, Message, Value};
-pub use reading::{read_header, read_message};
+pub use reading::{header_in, read_header, read_message};
 pub use values::{bool_of, int_of, text_of};
 pub use writing::{put_attribute, put_end, put_group, put_header, put_more};

@@ -5,7 +5,7 @@ ghost use Rattle.std.specs.Borrow.{Bor};
 ghost use Rattle.std.specs.List.{flat_map};
 ghost use Rattle.ipp_coding.specs.Plain.{PlainMessage, plain_value, plain_attribute, plain_group, plain_message};
 ghost use Rattle.ipp_coding.specs.Spelling.{Spells, first_spelling};
-ghost use Rattle.ipp_coding.specs.Reading.{ReadsAs, after_those, prefixed_at, field_at, begins_value, begins_further, begins_group, is_group_tag, further_at, first_at, all_further_at, attribute_at, attributes_at, group_at, groups_at, payload_at, header_at, message_of};
+ghost use Rattle.ipp_coding.specs.Reading.{ReadsAs, after_those, header_in, prefixed_at, field_at, begins_value, begins_further, begins_group, is_group_tag, further_at, first_at, all_further_at, attribute_at, attributes_at, group_at, groups_at, payload_at, header_at, message_of};
 ghost use Rattle.ipp_coding.specs.Places.{StandsAt, StandInARow, FurtherStands, FirstStands, ValuesStand, AttributeStands, GroupStands, MessageStands, further_text, attribute_text, group_text};
 
 use crate::fault::ReadFault;
@@ -27,6 +27,19 @@ struct Rest<'a> {
     bytes: &'a [u8],
 }
 
+/// The header in the first 8 bytes.
+pub fn header_in(b: &[u8]) -> Header
+    requires { 8 ≤ length b.now }
+    ensures { result ≡ header_in b.now }
+{
+    Header {
+        major: b[0],
+        minor: b[1],
+        code: BigEndian::read_u16(&b[2..]),
+        request_id: BigEndian::read_u32(&b[4..]),
+    }
+}
+
 /// The header in the first 8 bytes, and None where there are fewer.
 pub fn read_header(b: &[u8]) -> Option<Header>
     ensures header { result ≡ header_at b.now }
@@ -35,12 +48,7 @@ pub fn read_header(b: &[u8]) -> Option<Header>
     if b.len() < HEADER_LENGTH {
         return None;
     }
-    Some(Header {
-        major: b[0],
-        minor: b[1],
-        code: BigEndian::read_u16(&b[2..]),
-        request_id: BigEndian::read_u32(&b[4..]),
-    })
+    Some(header_in(b))
 }
 
 /// The message that the bytes spell, all of them (RFC 8010 section 3). Its names, values and data

@@ -3,7 +3,6 @@
 ghost use Rattle.std.specs.Prelude.{◌≡◌, ◌≤◌, length, map, IfOk, IfErr};
 ghost use Rattle.std.specs.List.{AllByRecursion};
 ghost use Rattle.ipp_coding.specs.Plain.{plain_attribute, plain_group, plain_message};
-ghost use Rattle.ipp_coding.specs.Reading.{header_in};
 ghost use Rattle.ipp_coding.specs.Spelling.{IsGroup};
 ghost use Rattle.room_asks.specs.declared.ask.AskFault.TheVariants.{Memory};
 ghost use Rattle.room_asks.specs.Fields.{wanted};
@@ -20,7 +19,7 @@ use crate::operation::Operation;
 use crate::parts::Parts;
 use crate::template::{Templates, no_attributes};
 use crate::{checks, fields};
-use ipp_coding::{Header, Message, ReadFault, read_header, read_message};
+use ipp_coding::{Header, Message, ReadFault, header_in, read_message};
 use room_rules::{Name, Refusal};
 use std::alloc::Global;
 
@@ -37,7 +36,7 @@ pub fn read_ask<'a>(alloc: Global, body: &'a [u8], account: Name) -> Result<Ask<
     // What is handed on of the request can be spelled in an answer.
     ensures spelled { IfErr result CanBeSpelled }
 {
-    let header = header_of(body);
+    let header = header_in(body);
     let operation = match served(header) {
         Ok(operation) => operation,
         Err(refusal) => return Err(refused(alloc, refusal)),
@@ -142,11 +141,4 @@ fn refused<'a>(alloc: Global, refusal: Refusal) -> AskFault<'a>
         refusal,
         unsupported: no_attributes(alloc),
     }
-}
-
-fn header_of(body: &[u8]) -> Header
-    requires { 8 ≤ length body.now }
-    ensures { result ≡ header_in body.now }
-{
-    read_header(body).unwrap()
 }

@@ -2,7 +2,6 @@
 ghost use Rattle.std.specs.Prelude.{◌≡◌, ◌↔◌, ◌+◌, ◌-◌, ◌^◌, ◌<◌, ◌≤◌, true, false, Err, IfErr, IfOk, IsErr, OnErr, OnOk, Ok, Result, length};
 ghost use Rattle.std.specs.Io.KnownBytes.{Appends};
 ghost use Rattle.sqlite.specs.Held.{state};
-ghost use Rattle.ipp_coding.specs.Reading.{header_in};
 ghost use Rattle.room_core.specs.declared.event.Reply.{Reply as ToldReply};
 ghost use Rattle.room_http.specs.Exchange.{AppendsFront, read_faults, write_faults};
 ghost use Rattle.room_store.specs.declared.fault.StoreFault.{StoreFault as ToldFault};
@@ -11,7 +10,7 @@ ghost use Rattle.room_serve.specs.Wires.{has_ended, reader_of, writer_of};
 ghost use Rattle.room_tables.specs.Calls.{Goes};
 
 use crate::wire::{After, Wire};
-use ipp_coding::{Header, read_header};
+use ipp_coding::header_in;
 use room_core::{Event, Reply, internal_error};
 use room_http::{Order, Received, Refusal, WireFault, receive, send_answer, send_refusal};
 use room_store::{Store, StoreFault};
@@ -165,7 +164,7 @@ fn tell_internal_error<W: Sink>(
     ensures cause { IfErr result (λ fault. fault ≡ WireFault.Write) }
     ensures count { W.failures writer.new ≡ W.failures writer.old + write_faults result }
 {
-    match send_answer(writer, &internal_error(header_of(body)), closes) {
+    match send_answer(writer, &internal_error(header_in(body)), closes) {
         Ok(()) => Ok(after_answer(closes)),
         Err(fault) => Err(fault),
     }
@@ -175,12 +174,4 @@ fn after_answer(closes: bool) -> After
     ensures { result ≡ after_answer closes }
 {
     if closes { After::Close } else { After::Again }
-}
-
-/// The header of a message that has one.
-fn header_of(body: &[u8]) -> Header
-    requires { 8 ≤ length body.now }
-    ensures { result ≡ header_in body.now }
-{
-    read_header(body).unwrap()
 }

@@ -2,7 +2,6 @@
 ghost use Rattle.std.specs.Prelude.{◌≡◌, ◌⊎◌, ◌≤◌, ◌++◌, [], length, OnErr, OnOk};
 ghost use Rattle.http.specs.Request.{body_of};
 ghost use Rattle.http_server.specs.Response.{IsBlank, IsResponse, fields_of};
-ghost use Rattle.ipp_coding.specs.Reading.{header_in};
 ghost use Rattle.room_texts.specs.Replies.{internal_error_text};
 ghost use Rattle.room_served.specs.Answers.{Answers, IsLost, IsRefusal, IsTold, Sends, answer_fields, close_fields};
 
@@ -13,7 +12,7 @@ use crate::shared::shared;
 use bytes::{BufMut, Bytes};
 use http::{HeaderValue, Request, StatusCode, header};
 use http_server::{Response, Service};
-use ipp_coding::{Header, read_header};
+use ipp_coding::{Header, header_in};
 use room_core::{Name, Reply, internal_error};
 use room_http::Refusal;
 use room_store::StoreFault;
@@ -56,7 +55,7 @@ impl<S: Alter> Served<S> {
             body,
         };
         let told = self.apply(&entry);
-        let header = header_of(request.body().as_slice());
+        let header = header_in(request.body().as_slice());
         tell(response, told, header, has_long_body(request));
         Ok(())
     }
@@ -149,12 +148,4 @@ fn refuse(response: &mut Response, refusal: Refusal, closes: bool) -> Result<(),
         response.add_header(header::ALLOW, post)?;
     }
     put_close(response, closes)
-}
-
-/// The header of a message that has one.
-fn header_of(body: &[u8]) -> Header
-    requires { 8 ≤ length body.now }
-    ensures { result ≡ header_in body.now }
-{
-    read_header(body).unwrap()
 }

@@ -6,4 +6,4 @@ use Rattle.room_serve.proofs.exchange.tell_internal_error.Goals as goal
 
 pub returns-in-Err-clause-front : goal.returns-in-Err-clause-front
 returns-in-Err-clause-front g c =
-    subst (λ (text : List ℕ). AppendsFront (g.W.Sink.given c.args.writer.now) (g.W.Sink.given c.send_answer.new.writer) (answer_text text c.args.closes)) (c.internal_error.ensures ∙ ap internal_error_text c.header_of.ensures) c.in-Err.ensures.front
+    subst (λ (text : List ℕ). AppendsFront (g.W.Sink.given c.args.writer.now) (g.W.Sink.given c.send_answer.new.writer) (answer_text text c.args.closes)) (c.internal_error.ensures ∙ ap internal_error_text c.header_in.ensures) c.in-Err.ensures.front
