@@ -50,7 +50,8 @@ message_spelling m =
 abbrev pub Fits : List ℕ → Type 0
 Fits bytes = length bytes ≤ 32767
 
--- value tags are 0x10 and above (RFC 8010 section 3.5.2); they are bytes by their type
+-- value tags are 0x10 to 0xFF (RFC 8010 section 3.5.2): each stands among the bytes that are spelled, so
+-- that no bytes are spelled by a higher one
 pub record IsValue (v : PlainValue) : Type 0 where
   pub tag : 16 ≤ v.tag
   pub bytes : Fits v.bytes

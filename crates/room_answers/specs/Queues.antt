@@ -5,7 +5,7 @@ use Rattle.room_rules.specs.declared.refusal.Refusal.{Refusal}
 use Rattle.room_rules.specs.declared.refusal.Word.TheVariants.{NotAccepting}
 use Rattle.room_texts.specs.declared.printer.PrinterNow.{PrinterNow}
 
--- printer-is-accepting-jobs (RFC 8011 section 5.4.24): an account has few jobs that have not ended,
+-- printer-is-accepting-jobs (RFC 8011 section 5.4.23): an account has few jobs that have not ended,
 -- and after the last number it takes no more (both limits are this project's own)
 abbrev pub is_accepting : (unfinished next : ℕ) → Bool
 is_accepting unfinished next = nat_lt unfinished most_unfinished && nat_lt next last_next_job

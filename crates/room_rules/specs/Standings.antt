@@ -1,6 +1,6 @@
 -- What each job keeps to, beside its texts and documents. The states are those of RFC 8011 section
 -- 5.3.7; the rules are this project's own.
-use Rattle.std.specs.Prelude.{◌≡◌, ℕ, ◌*◌, ◌%◌, ◌≤◌, false, Option, None, IsSome, IsNone, IfSome}
+use Rattle.std.specs.Prelude.{◌≡◌, ℕ, ◌*◌, ◌%◌, ◌≤◌, false, None, IsSome, IsNone, IfSome}
 use Rattle.room_rules.specs.declared.job.JobState.{JobState}
 use Rattle.room_rules.specs.declared.job.JobState.TheVariants.{Held, Pending, Processing, Canceled, Aborted, Completed}
 use Rattle.room_rules.specs.declared.job.Standing.{Standing}

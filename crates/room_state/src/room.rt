@@ -50,13 +50,14 @@ impl Model for Room {
       grants = grant_map room.grants;
     } };
 
-    ghost invariant = { λ room. NumbersRise room.jobs × PlacesOnce room.documents × MonthsOnce room.grants × IsRoom (record {
-      opened = room.account.opened;
-      next = room.account.next_job;
-      jobs = job_map room.jobs;
-      documents = document_map room.documents;
-      grants = grant_map room.grants;
-    }) };
+    ghost invariant = { λ room. NumbersRise room.jobs × PlacesOnce room.documents
+        × MonthsOnce room.grants × IsRoom (record {
+          opened = room.account.opened;
+          next = room.account.next_job;
+          jobs = job_map room.jobs;
+          documents = document_map room.documents;
+          grants = grant_map room.grants;
+        }) };
 }
 
 impl Room {

@@ -1,5 +1,5 @@
--- The attributes that a printer shows (RFC 8011 sections 5.2 and 5.4; those on passwords are this
--- project's own).
+-- The attributes that a printer shows (RFC 8011 sections 5.2 and 5.4; those on passwords are of PWG
+-- 5100.11).
 use Rattle.std.specs.Prelude.{ℕ, true, ◌==◌, if◌then◌else◌, List, [], ◌∷◌, map, Option, codes}
 use Rattle.room_rules.specs.declared.format.Format.{Format}
 use Rattle.room_rules.specs.declared.format.Format.TheVariants.{OctetStream}
