@@ -23,5 +23,6 @@ abbrev pub guests_of : Hall → Slab Guest
 guests_of hall = hall.guests
 
 -- every peer but the one of the key is as it was
-abbrev pub AreOthersKept : ℕ → Hall → Hall → Type 0
-AreOthersKept key old new = (other : ℕ) → other ≢ key → get (guests_of new) other ≡ get (guests_of old) other
+abbrev pub AreOthersKept : (key : ℕ) (old new : Hall) → Type 0
+AreOthersKept key old new =
+    (other : ℕ) → other ≢ key → get (guests_of new) other ≡ get (guests_of old) other

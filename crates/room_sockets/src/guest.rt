@@ -91,12 +91,17 @@ impl Guest {
         self.patience().is_over(now)
     }
 
-    /// Whether it hardly reads a large answer. Of a start's documents it is not asked, since they are sent once.
-    pub(crate) fn reads_slowly(&self, now: u64) -> bool {
+    /// Whether a large answer waits to go. Of a start's documents it is not asked, since they are sent once.
+    pub(crate) fn has_large_answer(&self) -> bool {
         match &self.peer {
-            Peer::Http(peer) => peer.has_large_answer() && peer.patience().is_slow(now),
+            Peer::Http(peer) => peer.has_large_answer(),
             Peer::Lines(_) => false,
         }
+    }
+
+    /// Whether it hardly reads a large answer.
+    pub(crate) fn reads_slowly(&self, now: u64) -> bool {
+        self.has_large_answer() && self.patience().is_slow(now)
     }
 
     /// Whether nothing was begun on it, and it keeps the room of a large request.

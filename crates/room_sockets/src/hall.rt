@@ -170,8 +170,8 @@ impl Hall {
     {
         let timeout = self.timeout();
         self.poll.poll(&mut self.events, timeout)?;
+        self.serve_all(clock, served);
         let now = ticks(clock)?;
-        self.serve_all(clock, served, now);
         self.admit_all(now);
         self.let_on();
         self.sweep(now);
@@ -188,37 +188,51 @@ impl Hall {
     }
 
     /// Serves each of whom the system told.
-    fn serve_all<S: Alter>(&mut self, clock: &impl Clock, served: &mut Served<S>, now: u64)
+    fn serve_all<S: Alter>(&mut self, clock: &impl Clock, served: &mut Served<S>)
         ensures { Continues S.Store served.old served.new }
     {
         for place in 0..self.events.iter().len() {
             let Some(told) = told_at(&self.events, place) else {
                 break;
             };
-            self.serve_event(clock, told, served, now);
+            self.serve_event(clock, told, served);
         }
     }
 
-    fn serve_event<S: Alter>(
-        &mut self,
-        clock: &impl Clock,
-        told: Told,
-        served: &mut Served<S>,
-        now: u64,
-    )
+    fn serve_event<S: Alter>(&mut self, clock: &impl Clock, told: Told, served: &mut Served<S>)
         ensures { Continues S.Store served.old served.new }
     {
         match told.token.0.checked_sub(FIRST_GUEST) {
             Some(key) => {
-                let turn = Turn {
-                    now,
-                    has_room: self.stock.has_room(key),
-                    is_last: told.is_last,
-                };
-                self.serve(clock, key, served, turn);
+                self.serve(clock, key, served, told.is_last);
+                self.relieve(clock, served);
             }
             None => self.knock(told.token.0),
         }
+    }
+
+    /// Where too much is held, has each large answer go on, and drops who hardly reads it, so that one turn of the loop
+    /// gives out few more.
+    fn relieve<S: Alter>(&mut self, clock: &impl Clock, served: &mut Served<S>)
+        ensures { Continues S.Store served.old served.new }
+    {
+        if !self.stock.is_over() {
+            return;
+        }
+        for key in 0..MOST_GUESTS {
+            self.relieve_of(clock, key, served);
+        }
+    }
+
+    /// Has the peer's large answer go on, if it has one, and drops it where it hardly reads it.
+    fn relieve_of<S: Alter>(&mut self, clock: &impl Clock, key: usize, served: &mut Served<S>)
+        ensures { Continues S.Store served.old served.new }
+    {
+        if !self.has_large_answer(key) {
+            return;
+        }
+        self.serve(clock, key, served, true);
+        self.drop_slow(clock, key);
     }
 
     fn knock(&mut self, place: usize) {
@@ -227,22 +241,28 @@ impl Hall {
         }
     }
 
-    /// Lets a peer go on, at the clock's moment, and drops it where it is over. All other peers stay as they are.
+    /// Lets a peer go on, at the clock's moment, and drops it where it is over. All other peers stay as they are. `is_last`:
+    /// the system may have told that the peer sends no more.
     fn serve<S: Alter>(
         &mut self,
         clock: &impl Clock,
         key: usize,
         served: &mut Served<S>,
-        turn: Turn,
+        is_last: bool,
     )
         ensures continues { Continues S.Store served.old served.new }
         ensures others { AreOthersKept key self.old self.new }
     {
-        let Some(moment) = moment(clock) else {
+        let (Some(moment), Ok(now)) = (moment(clock), ticks(clock)) else {
             self.close(key);
             return;
         };
         served.set_moment(moment);
+        let turn = Turn {
+            now,
+            has_room: self.stock.has_room(key),
+            is_last,
+        };
         let Some(guest) = self.guests.get_mut(key) else {
             return;
         };
@@ -259,7 +279,10 @@ impl Hall {
         let keeps = match next {
             Next::Wait | Next::Parted => true,
             Next::Again => self.wake(key),
-            Next::Hold => !self.stock.favours(key) || self.wake(key),
+            Next::Hold => {
+                self.stock.hold();
+                true
+            }
             Next::Part => self.end(key) && self.wake(key),
             Next::Close => false,
         };
@@ -340,15 +363,26 @@ impl Hall {
         }
     }
 
-    /// Where room has come, those who are held back go on.
+    /// Where room has come, those who are held back go on: all of them, or the one that holds least.
     fn let_on(&mut self) {
-        if !self.stock.lets_on() {
-            return;
-        }
-        for key in 0..MOST_GUESTS {
-            if self.is_held_back(key) && !self.wake(key) {
-                self.close(key);
+        if self.stock.lets_all_on() {
+            for key in 0..MOST_GUESTS {
+                if self.is_held_back(key) {
+                    self.let_one_on(key);
+                }
             }
+        } else if self.stock.lets_one_on() {
+            let least = self.least_held_back();
+            self.stock.favour(least);
+            if let Some(key) = least {
+                self.let_one_on(key);
+            }
+        }
+    }
+
+    fn let_one_on(&mut self, key: usize) {
+        if !self.wake(key) {
+            self.close(key);
         }
     }
 
@@ -356,6 +390,31 @@ impl Hall {
         self.guests
             .get(key)
             .is_some_and(|guest| guest.is_held_back())
+    }
+
+    fn least_held_back(&self) -> Option<usize> {
+        (0..MOST_GUESTS)
+            .filter(|key| self.is_held_back(*key))
+            .min_by_key(|key| self.guests.get(*key).map(|guest| guest.held()))
+    }
+
+    fn has_large_answer(&self, key: usize) -> bool {
+        self.guests
+            .get(key)
+            .is_some_and(|guest| guest.has_large_answer())
+    }
+
+    fn drop_slow(&mut self, clock: &impl Clock, key: usize) {
+        let is_slow = match ticks(clock) {
+            Ok(now) => self
+                .guests
+                .get(key)
+                .is_some_and(|guest| guest.reads_slowly(now)),
+            Err(_) => true,
+        };
+        if is_slow {
+            self.close(key);
+        }
     }
 
     /// From time to time drops who took too long, where others wait for room who rests on it, and where too much is held who

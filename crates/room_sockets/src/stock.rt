@@ -40,13 +40,9 @@ impl Stock {
         self.has_plenty() || self.favoured == Some(key)
     }
 
-    /// A peer was held back. Whether it may go on all the same, as the favoured one.
-    pub(crate) fn favours(&mut self, key: usize) -> bool {
-        if self.favoured.is_none() {
-            self.favoured = Some(key);
-        }
+    /// A peer was held back.
+    pub(crate) fn hold(&mut self) {
         self.holds_back = true;
-        self.favoured == Some(key)
     }
 
     /// A peer that held so much holds another sum now, and a large request of it is coming or not.
@@ -67,12 +63,23 @@ impl Stock {
         self.holds_back
     }
 
-    /// Whether those who are held back can be let go on. They are then no longer held back.
-    pub(crate) fn lets_on(&mut self) -> bool {
-        let lets_on = self.holds_back && (self.has_plenty() || self.favoured.is_none());
+    /// Whether all who are held back can go on. They are then no longer held back.
+    pub(crate) fn lets_all_on(&mut self) -> bool {
+        let lets_on = self.holds_back && self.has_plenty();
         if lets_on {
             self.holds_back = false;
         }
         lets_on
+    }
+
+    /// Whether one of those who are held back can go on.
+    pub(crate) fn lets_one_on(&self) -> bool {
+        self.holds_back && self.favoured.is_none()
+    }
+
+    /// The peer can go on, if there is one, and else nobody is held back.
+    pub(crate) fn favour(&mut self, key: Option<usize>) {
+        self.favoured = key;
+        self.holds_back = key.is_some();
     }
 }
