@@ -155,11 +155,10 @@ impl HttpPeer {
         self.patience
     }
 
-    /// How many bytes it holds.
+    /// The bytes for which it has room. The buffer of an answer grows to twice what it has to hold, as that of a request.
     pub fn held(&self) -> usize {
-        self.load
-            .held()
-            .saturating_add(self.connection.output().len())
+        let waiting = self.connection.output().len();
+        self.load.held().saturating_add(waiting.saturating_mul(2))
     }
 
     /// Whether a large answer waits to go.
