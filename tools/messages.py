@@ -7,6 +7,7 @@ TOP = os.path.dirname(os.path.dirname(os.path.abspath(__file__)))
 PROGRAM = os.environ.get('IPP_ROOM', f'{TOP}/ipp-room')
 MOMENT = 1788220800
 PRINT_JOB, VALIDATE_JOB, CREATE_JOB, SEND_DOCUMENT, CANCEL_JOB, GET_JOB, GET_JOBS, GET_PRINTER = 2, 4, 5, 6, 8, 9, 10, 11
+HOLD_JOB, RELEASE_JOB = 12, 13
 OK, INTERNAL_ERROR = 0, 0x0500
 
 
@@ -45,6 +46,11 @@ def in_chunks(account, body, size):
 
 def ask(stream, text):
     """Sends a message, and answers the status of the response of IPP."""
+    return int.from_bytes(answer_to(stream, text)[1][2:4], 'big')
+
+
+def answer_to(stream, text):
+    """Sends a message, and answers the head of what is answered and its body."""
     stream.sendall(text)
     answer, whole = b'', None
     while whole is None or len(answer) < whole:
@@ -55,4 +61,4 @@ def ask(stream, text):
         end = answer.find(b'\r\n\r\n') + 4
         if whole is None and end >= 4:
             whole = end + int(answer[:end].lower().split(b'content-length: ')[1].split(b'\r')[0])
-    return int.from_bytes(answer[end + 2:end + 4], 'big')
+    return answer[:end], answer[end:]
