@@ -1,5 +1,10 @@
 -- The lines that records of grants ask for (all this project's own).
 use Rattle.std.specs.Prelude.{ℕ, ◌+◌, ◌/◌, ◌%◌, List, [], ◌∷◌, ◌++◌, codes, decimal, Option, None, Some}
+use Rattle.std.specs.List.{flat_map}
+use Rattle.std.specs.Io.KnownBytes.{Appends}
+use Rattle.room_grants.specs.Files.{records_of}
+use Rattle.room_grants.specs.Lines.{grant_lines}
+use Rattle.room_client.specs.Sending.{AppendsFront}
 use Rattle.room_grants.specs.declared.line.GrantLine.{GrantLine}
 use Rattle.room_grants.specs.declared.line.GrantLine.TheVariants.{Good, Bad}
 
@@ -19,3 +24,22 @@ grant_line account month pages =
 abbrev pub line_asked : GrantLine → Option (List ℕ)
 line_asked (Good account month pages) = Some (grant_line account month pages)
 line_asked (Bad number) = None
+
+-- a good record asks for a line, with the line feed that ends it
+abbrev pub record_sent : GrantLine → List ℕ
+record_sent (Good account month pages) = grant_line account month pages ++ codes "\n"
+record_sent (Bad number) = []
+
+-- one record after another
+abbrev pub records_sent : List GrantLine → List ℕ
+records_sent records = flat_map record_sent records
+
+-- the lines of all good records of a file that was left were sent
+abbrev pub SendsFile : (left : List ℕ → Type 0) (before after : Option (List ℕ)) → Type 0
+SendsFile left before after = (file : List ℕ) × left file
+    × Appends before after (records_sent (grant_lines (records_of file)))
+
+-- a front of that, or all of it, was sent
+abbrev pub SendsFileFront : (left : List ℕ → Type 0) (before after : Option (List ℕ)) → Type 0
+SendsFileFront left before after = (file : List ℕ) × left file
+    × AppendsFront before after (records_sent (grant_lines (records_of file)))

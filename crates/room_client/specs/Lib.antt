@@ -1,4 +1,10 @@
 pub mod Answers
+pub mod Faults
+pub mod GrantReplies
 pub mod Grants
 pub mod Names
 pub mod Outcomes
+pub mod Peers
+pub mod Replies
+pub mod Sending
+pub mod Taking

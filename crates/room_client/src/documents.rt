@@ -1,5 +1,6 @@
 //! The documents of an answer.
-ghost use Rattle.std.specs.Prelude.{◌≤◌, IfSome};
+ghost use Rattle.std.specs.Prelude.{◌≡◌, ◌≤◌, ℕ, List, IfSome, OnOk};
+ghost use Rattle.room_client.specs.Replies.{TakesDocument, TakesDocuments};
 
 use crate::asked::Asked;
 use crate::fault::ClientFault;
@@ -19,17 +20,43 @@ pub(crate) fn take_documents<R: BufRead, W: Write, K: Keeper, O: Write>(
     count: u8,
     keeper: &mut K,
     output: &mut O,
-) -> Result<(), ClientFault> {
+) -> Result<(), ClientFault>
+    ensures taken { OnOk result ((account : List ℕ) × (job : ℕ)
+        × TakesDocuments (K.shown keeper.old) (R.remaining peer.old.reader)
+        (R.remaining peer.new.reader) (O.contents output.old) (O.contents output.new)
+        account job count) }
+    ensures same { K.shown keeper.new ≡ K.shown keeper.old }
+    ensures writer { peer.new.writer ≡ peer.old.writer }
+{
     let asked = Asked::read(line).ok_or(ClientFault::Broken)?;
     for index in 0..count {
-        let head = peer.hear(alloc)?;
-        let length = length_said(head.as_slice(), asked.job).ok_or(ClientFault::Broken)?;
-        let bytes = peer.hear_bytes(alloc, length)?;
-        output.write_all(head.as_slice())?;
-        output.write_all(b"\n")?;
-        let name = asked.document_name(alloc, index + 1)?;
-        keeper.keep(output, name.as_str(), bytes)?;
+        take_document(alloc, peer, &asked, index + 1, keeper, output)?;
     }
+    Ok(())
+}
+
+/// Takes the document of the number.
+fn take_document<R: BufRead, W: Write, K: Keeper, O: Write>(
+    alloc: Global,
+    peer: &mut Peer<R, W>,
+    asked: &Asked,
+    number: u8,
+    keeper: &mut K,
+    output: &mut O,
+) -> Result<(), ClientFault>
+    ensures taken { OnOk result (TakesDocument (K.shown keeper.old)
+        (R.remaining peer.old.reader) (R.remaining peer.new.reader)
+        (O.contents output.old) (O.contents output.new) asked.now.account asked.now.job number) }
+    ensures same { K.shown keeper.new ≡ K.shown keeper.old }
+    ensures writer { peer.new.writer ≡ peer.old.writer }
+{
+    let head = peer.hear(alloc)?;
+    let length = length_said(head.as_slice(), asked.job).ok_or(ClientFault::Broken)?;
+    let bytes = peer.hear_bytes(alloc, length)?;
+    output.write_all(head.as_slice())?;
+    output.write_all(b"\n")?;
+    let name = asked.document_name(alloc, number)?;
+    keeper.keep(output, name.as_str(), bytes)?;
     Ok(())
 }
 

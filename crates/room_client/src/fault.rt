@@ -1,5 +1,10 @@
 //! Why what was to be sent was not sent to its end.
 
+ghost use Rattle.std.specs.Prelude.{◌≡◌};
+ghost use Rattle.std.specs.IoError.{error_kind};
+ghost use Rattle.room_client.specs.Faults.{grant_fault, io_fault};
+ghost use Rattle.room_client.specs.declared.fault.ClientFault.TheVariants.{Memory};
+
 use room_grants::GrantFault;
 use std::alloc::{AllocError, AllocFailed};
 use std::io;
@@ -23,6 +28,8 @@ pub enum ClientFault {
 }
 
 impl From<io::Error> for ClientFault {
+    ghost from_gives = { λ error fault. fault ≡ io_fault (error_kind error) };
+
     fn from(error: io::Error) -> ClientFault {
         match error.kind() {
             ErrorKind::OutOfMemory => ClientFault::Memory,
@@ -32,18 +39,24 @@ impl From<io::Error> for ClientFault {
 }
 
 impl From<AllocError> for ClientFault {
+    ghost from_gives = { λ _ fault. fault ≡ Memory };
+
     fn from(_error: AllocError) -> ClientFault {
         ClientFault::Memory
     }
 }
 
 impl<T: Drop> From<AllocFailed<T>> for ClientFault {
+    ghost from_gives = { λ _ fault. fault ≡ Memory };
+
     fn from(_error: AllocFailed<T>) -> ClientFault {
         ClientFault::Memory
     }
 }
 
 impl From<GrantFault> for ClientFault {
+    ghost from_gives = { λ error fault. fault ≡ grant_fault error };
+
     fn from(fault: GrantFault) -> ClientFault {
         match fault {
             GrantFault::Read => ClientFault::Io,

@@ -1,6 +1,11 @@
 //! Files of grants that are sent record by record.
-ghost use Rattle.std.specs.Prelude.{◌≡◌, ◌-◌, ◌^◌, ◌<◌, ◌≤◌, IfOk, option_map};
-ghost use Rattle.room_client.specs.Grants.{grant_line, line_asked};
+ghost use Rattle.std.specs.Prelude.{◌≡◌, ◌-◌, ◌^◌, ◌<◌, ◌≤◌, ◌++◌, All, IfOk, OnErr, OnOk, Some, codes, decimal, option_map};
+ghost use Rattle.std.specs.Io.KnownBytes.{Appends};
+ghost use Rattle.room_client.specs.Answers.{answer_said};
+ghost use Rattle.room_client.specs.Grants.{SendsFile, SendsFileFront, grant_line, line_asked, record_sent, records_sent};
+ghost use Rattle.room_client.specs.GrantReplies.{FileAnswered, GrantAnswered, GrantsAnswered, HearsResult};
+ghost use Rattle.room_client.specs.Peers.{reader_of, writer_of};
+ghost use Rattle.room_client.specs.Sending.{AppendsFront};
 ghost use Rattle.room_grants.specs.Lines.{IsInRange};
 
 use crate::answer::Answer;
@@ -23,18 +28,43 @@ pub fn send_grants<S: Source, R: BufRead, W: Write, O: Write>(
     output: &mut O,
 ) -> Result<Outcome, ClientFault>
     requires { S.failures input.old < 2 ^ 64 - 1 }
+    ensures sent { OnOk result (SendsFile (S.left input.old)
+        (W.contents (writer_of peer.old)) (W.contents (writer_of peer.new))) }
+    ensures front { OnErr result (SendsFileFront (S.left input.old)
+        (W.contents (writer_of peer.old)) (W.contents (writer_of peer.new))) }
+    ensures answered { IfOk result (FileAnswered (S.left input.old)
+        (R.remaining (reader_of peer.old)) (R.remaining (reader_of peer.new))
+        (O.contents output.old) (O.contents output.new)) }
 {
     let records = read_grants(alloc, input)?;
+    send_records(alloc, peer, records.as_slice(), output)
+}
+
+fn send_records<R: BufRead, W: Write, O: Write>(
+    alloc: Global,
+    peer: &mut Peer<R, W>,
+    records: &[GrantLine],
+    output: &mut O,
+) -> Result<Outcome, ClientFault>
+    requires { All IsInRange records.now }
+    ensures sent { OnOk result (Appends (W.contents peer.old.writer) (W.contents peer.new.writer)
+        (records_sent records.now)) }
+    ensures front { AppendsFront (W.contents peer.old.writer) (W.contents peer.new.writer)
+        (records_sent records.now) }
+    ensures answered { IfOk result (GrantsAnswered records.now
+        (R.remaining peer.old.reader) (R.remaining peer.new.reader)
+        (O.contents output.old) (O.contents output.new)) }
+{
     let mut outcome = Outcome::Fine;
-    for (index, line) in records.iter().enumerate() {
+    for (index, record) in records.iter().enumerate() {
         let number = index + 1;
-        let answer = send_record(alloc, peer, number, line, output)?;
-        output.flush()?;
+        let answer = send_record(alloc, peer, number, record, output)?;
         outcome = outcome.after(number, answer);
     }
     Ok(outcome)
 }
 
+/// Sends the line of a record, where it has one, and prints its number and its answer.
 fn send_record<R: BufRead, W: Write, O: Write>(
     alloc: Global,
     peer: &mut Peer<R, W>,
@@ -43,21 +73,66 @@ fn send_record<R: BufRead, W: Write, O: Write>(
     output: &mut O,
 ) -> Result<Answer, ClientFault>
     requires { IsInRange said.now }
+    ensures sent { OnOk result (Appends (W.contents peer.old.writer) (W.contents peer.new.writer)
+        (record_sent said.now)) }
+    ensures front { AppendsFront (W.contents peer.old.writer) (W.contents peer.new.writer)
+        (record_sent said.now) }
+    ensures answered { IfOk result (GrantAnswered said.now number
+        (R.remaining peer.old.reader) (R.remaining peer.new.reader)
+        (O.contents output.old) (O.contents output.new)) }
 {
     let Some(line) = line_of(alloc, said)? else {
-        writeln!(output, "{number} bad")?;
+        print_bad(number, output)?;
         return Ok(Answer::Told);
     };
     peer.say(line.as_slice())?;
+    take_result(alloc, peer, number, output)
+}
+
+fn print_bad<O: Write>(number: usize, output: &mut O) -> Result<(), ClientFault>
+    ensures { OnOk result (Appends (O.contents output.old) (O.contents output.new)
+        (decimal number ++ codes " bad\n")) }
+{
+    writeln!(output, "{number} bad")?;
+    Ok(output.flush()?)
+}
+
+fn print_number<O: Write>(number: usize, output: &mut O) -> Result<(), ClientFault>
+    ensures { OnOk result (Appends (O.contents output.old) (O.contents output.new)
+        (decimal number ++ codes " ")) }
+{
+    Ok(write!(output, "{number} ")?)
+}
+
+/// Takes the answer to the line of the record of the number and prints it.
+fn take_result<R: BufRead, W: Write, O: Write>(
+    alloc: Global,
+    peer: &mut Peer<R, W>,
+    number: usize,
+    output: &mut O,
+) -> Result<Answer, ClientFault>
+    ensures heard { IfOk result (HearsResult number
+        (R.remaining peer.old.reader) (R.remaining peer.new.reader)
+        (O.contents output.old) (O.contents output.new)) }
+    ensures writer { peer.new.writer ≡ peer.old.writer }
+{
     let text = peer.hear(alloc)?;
-    let answer = match Answer::read(text.as_slice()) {
-        None | Some(Answer::Documents(_)) => return Err(ClientFault::Broken),
-        Some(answer) => answer,
-    };
-    write!(output, "{number} ")?;
+    let answer = result_said(text.as_slice())?;
+    print_number(number, output)?;
     output.write_all(text.as_slice())?;
     output.write_all(b"\n")?;
+    output.flush()?;
     Ok(answer)
+}
+
+/// What answers a grant: no documents.
+fn result_said(text: &[u8]) -> Result<Answer, ClientFault>
+    ensures { IfOk result (λ answer. answer_said text.now ≡ Some answer) }
+{
+    match Answer::read(text) {
+        None | Some(Answer::Documents(_)) => Err(ClientFault::Broken),
+        Some(answer) => Ok(answer),
+    }
 }
 
 /// The line that a record asks for, which is none where it is a bad one.

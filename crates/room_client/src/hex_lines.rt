@@ -1,5 +1,7 @@
 //! Documents that are printed and not kept.
-ghost use Rattle.std.specs.Prelude.{◌≤◌, ◌*◌, length};
+ghost use Rattle.hex.specs.Hex.{encode_lower};
+ghost use Rattle.std.specs.Io.KnownBytes.{Appends};
+ghost use Rattle.std.specs.Prelude.{◌≤◌, ◌*◌, ◌++◌, OnOk, Some, codes, length};
 
 use crate::keeper::Keeper;
 use std::io;
@@ -15,16 +17,32 @@ const DIGITS: usize = 2 * CHUNK;
 pub struct HexLines;
 
 impl Keeper for HexLines {
+    ghost shown = { λ _ _ bytes. Some (encode_lower bytes ++ codes "\n") };
+
     fn keep<O: Write>(&mut self, output: &mut O, _name: &str, bytes: Vec<u8>) -> io::Result<()> {
-        for chunk in bytes.as_slice().chunks(CHUNK) {
-            print_chunk(output, chunk)?;
-        }
+        print_digits(output, bytes.as_slice())?;
         output.write_all(b"\n")
     }
 }
 
+/// Prints two digits of each byte.
+fn print_digits<O: Write>(output: &mut O, bytes: &[u8]) -> io::Result<()>
+    ensures { OnOk result
+        (Appends (O.contents output.old) (O.contents output.new) (encode_lower bytes.now)) }
+{
+    let mut rest = bytes;
+    while !rest.is_empty() {
+        let (chunk, more) = rest.split_at(rest.len().min(CHUNK));
+        print_chunk(output, chunk)?;
+        rest = more;
+    }
+    Ok(())
+}
+
 fn print_chunk<O: Write>(output: &mut O, chunk: &[u8]) -> io::Result<()>
     requires { length chunk.now ≤ CHUNK }
+    ensures { OnOk result
+        (Appends (O.contents output.old) (O.contents output.new) (encode_lower chunk.now)) }
 {
     let mut buffer = [0; DIGITS];
     let digits = &mut buffer[..2 * chunk.len()];

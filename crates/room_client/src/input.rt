@@ -1,27 +1,41 @@
 //! The lines of an input, one at a time.
 
+ghost use Rattle.std.specs.Prelude.{◌≡◌, ◌<◌, IfOk, IfSome, IfNone, IsErrOf, [], length};
+ghost use Rattle.room_client.specs.Taking.{IsLine, TakesAll, TakesLine, TakesTooMany};
+
 use crate::fault::ClientFault;
-use crate::peer::MOST_LINE;
+use crate::line::{Taken, take_line};
 use std::alloc::Global;
-use std::io::{BufRead, Read};
+use std::io::BufRead;
 
 /// The next line without the line feed that ends it, or `None` at the end. The last line may have none.
 pub(crate) fn next_line<I: BufRead>(
     alloc: Global,
     input: &mut I,
-) -> Result<Option<Vec<u8>>, ClientFault> {
-    let mut line = Vec::new(alloc);
-    input
-        .by_ref()
-        .take(MOST_LINE + 1)
-        .read_until(b'\n', &mut line)?;
+) -> Result<Option<Vec<u8>>, ClientFault>
+    ensures taken { IfOk result (λ found. IfSome found
+        (λ line. TakesLine (I.remaining input.old) (I.remaining input.new) line.items)) }
+    ensures line { IfOk result (λ found. IfSome found (λ line. IsLine line.items)) }
+    ensures end { IfOk result
+        (λ found. IfNone found (TakesAll (I.remaining input.old) (I.remaining input.new) [])) }
+    ensures long { IsErrOf result ClientFault.TooLong
+        → TakesTooMany (I.remaining input.old) (I.remaining input.new) }
+{
+    match take_line(alloc, input)? {
+        Taken::Line(line) => Ok(Some(line)),
+        Taken::Last(line) => Ok(found(line)),
+        Taken::Long => Err(ClientFault::TooLong),
+    }
+}
+
+/// What is left where no line feed is: a line, or nothing.
+fn found(line: Vec<u8>) -> Option<Vec<u8>>
+    ensures some { IfSome result (λ found. found ≡ line) }
+    ensures not_empty { IfSome result (λ found. 0 < length found.items) }
+    ensures none { IfNone result (line.items ≡ []) }
+{
     if line.is_empty() {
-        return Ok(None);
+        return None;
     }
-    if line.last() == Some(&b'\n') {
-        line.pop();
-    } else if line.len() as u64 > MOST_LINE {
-        return Err(ClientFault::TooLong);
-    }
-    Ok(Some(line))
+    Some(line)
 }

@@ -4,16 +4,19 @@
 
 mod answer;
 mod asked;
+mod bytes;
 mod documents;
 mod fault;
 mod grants;
 mod hex_lines;
 mod input;
 mod keeper;
+mod line;
 mod lines;
 mod month;
 mod outcome;
 mod peer;
+mod sent;
 
 pub use fault::ClientFault;
 pub use grants::send_grants;

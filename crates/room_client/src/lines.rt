@@ -1,5 +1,11 @@
 //! Lines that are sent one after another.
 
+ghost use Rattle.std.specs.Prelude.{◌≡◌, IfOk, IfSome, IfNone, OnOk, OnErr};
+ghost use Rattle.room_client.specs.Replies.{Answered, AnsweredOnce, PrintsAnswer};
+ghost use Rattle.room_client.specs.Sending.{SendsAll, SendsFront, SendsOn};
+ghost use Rattle.room_client.specs.Taking.{IsAtKnownEnd};
+ghost use Rattle.room_client.specs.Peers.{reader_of, writer_of};
+
 use crate::answer::Answer;
 use crate::documents::take_documents;
 use crate::fault::ClientFault;
@@ -18,18 +24,56 @@ pub fn send_lines<I: BufRead, R: BufRead, W: Write, K: Keeper, O: Write>(
     peer: &mut Peer<R, W>,
     keeper: &mut K,
     output: &mut O,
-) -> Result<Outcome, ClientFault> {
+) -> Result<Outcome, ClientFault>
+    ensures sent { OnOk result (SendsAll (I.remaining input.old)
+        (W.contents (writer_of peer.old)) (W.contents (writer_of peer.new))) }
+    ensures front { OnErr result (SendsFront (I.remaining input.old)
+        (W.contents (writer_of peer.old)) (W.contents (writer_of peer.new))) }
+    ensures end { OnOk result
+        (IsAtKnownEnd (I.remaining input.old) (I.remaining input.new)) }
+    ensures answered { IfOk result (Answered (K.shown keeper.old)
+        (R.remaining (reader_of peer.old)) (R.remaining (reader_of peer.new))
+        (O.contents output.old) (O.contents output.new)) }
+{
     let mut outcome = Outcome::Fine;
     for number in 1..usize::MAX {
-        let Some(line) = next_line(alloc, input)? else {
-            break;
+        let Some(answer) = send_next(alloc, input, peer, keeper, output)? else {
+            return Ok(outcome);
         };
-        peer.say(line.as_slice())?;
-        let answer = take_answer(alloc, peer, line.as_slice(), keeper, output)?;
-        output.flush()?;
         outcome = outcome.after(number, answer);
     }
-    Ok(outcome)
+    // More lines than any input has.
+    Err(ClientFault::TooLong)
+}
+
+/// Sends the next line of the input and prints its answer. It is `None` at the end of the input.
+fn send_next<I: BufRead, R: BufRead, W: Write, K: Keeper, O: Write>(
+    alloc: Global,
+    input: &mut I,
+    peer: &mut Peer<R, W>,
+    keeper: &mut K,
+    output: &mut O,
+) -> Result<Option<Answer>, ClientFault>
+    ensures sent { OnOk result (SendsOn (I.remaining input.old) (I.remaining input.new)
+        (W.contents peer.old.writer) (W.contents peer.new.writer)) }
+    ensures front { OnErr result (SendsFront (I.remaining input.old)
+        (W.contents peer.old.writer) (W.contents peer.new.writer)) }
+    ensures end { IfOk result (λ answer. IfNone answer
+        (IsAtKnownEnd (I.remaining input.old) (I.remaining input.new))) }
+    ensures answered { IfOk result (λ answer. IfSome answer (AnsweredOnce (K.shown keeper.old)
+        (R.remaining peer.old.reader) (R.remaining peer.new.reader)
+        (O.contents output.old) (O.contents output.new))) }
+    ensures unheard { IfOk result (λ answer. IfNone answer (peer.new ≡ peer.old)) }
+    ensures unprinted { IfOk result (λ answer. IfNone answer (output.new ≡ output.old)) }
+    ensures same { K.shown keeper.new ≡ K.shown keeper.old }
+{
+    let Some(line) = next_line(alloc, input)? else {
+        return Ok(None);
+    };
+    peer.say(line.as_slice())?;
+    let answer = take_answer(alloc, peer, line.as_slice(), keeper, output)?;
+    output.flush()?;
+    Ok(Some(answer))
 }
 
 /// Takes the answer to the line and prints it.
@@ -39,14 +83,39 @@ fn take_answer<R: BufRead, W: Write, K: Keeper, O: Write>(
     line: &[u8],
     keeper: &mut K,
     output: &mut O,
-) -> Result<Answer, ClientFault> {
+) -> Result<Answer, ClientFault>
+    ensures answered { IfOk result (AnsweredOnce (K.shown keeper.old)
+        (R.remaining peer.old.reader) (R.remaining peer.new.reader)
+        (O.contents output.old) (O.contents output.new)) }
+    ensures same { K.shown keeper.new ≡ K.shown keeper.old }
+    ensures writer { peer.new.writer ≡ peer.old.writer }
+{
     let text = peer.hear(alloc)?;
     let answer = Answer::read(text.as_slice()).ok_or(ClientFault::Broken)?;
-    if let Answer::Documents(count) = answer {
-        take_documents(alloc, peer, line, count, keeper, output)?;
-    } else {
-        output.write_all(text.as_slice())?;
-        output.write_all(b"\n")?;
-    }
+    print_answer(alloc, peer, line, text.as_slice(), answer, keeper, output)?;
     Ok(answer)
+}
+
+/// Prints an answer to the line: what it says, or the documents that follow.
+fn print_answer<R: BufRead, W: Write, K: Keeper, O: Write>(
+    alloc: Global,
+    peer: &mut Peer<R, W>,
+    line: &[u8],
+    text: &[u8],
+    answer: Answer,
+    keeper: &mut K,
+    output: &mut O,
+) -> Result<(), ClientFault>
+    ensures printed { OnOk result (PrintsAnswer (K.shown keeper.old)
+        (R.remaining peer.old.reader) (R.remaining peer.new.reader)
+        (O.contents output.old) (O.contents output.new) text.now answer) }
+    ensures same { K.shown keeper.new ≡ K.shown keeper.old }
+    ensures writer { peer.new.writer ≡ peer.old.writer }
+{
+    if let Answer::Documents(count) = answer {
+        return take_documents(alloc, peer, line, count, keeper, output);
+    }
+    output.write_all(text)?;
+    output.write_all(b"\n")?;
+    Ok(())
 }

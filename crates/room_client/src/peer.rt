@@ -1,15 +1,16 @@
 //! A connection to what serves rooms: a line goes there, and its answer comes from there.
 ghost use Rattle.std.specs.Prelude.{◌≡◌, ◌++◌, codes, length, IfOk, IsTrue, OnOk};
-ghost use Rattle.std.specs.Io.KnownBytes.{Appends};
+ghost use Rattle.std.specs.Io.KnownBytes.{Appends, Consumes};
 ghost use Rattle.room_client.specs.Answers.{is_text};
+ghost use Rattle.room_client.specs.Sending.{AppendsFront};
 
 use crate::answer::is_text;
+use crate::bytes::{take_bytes, take_feed};
 use crate::fault::ClientFault;
+use crate::line::{Taken, take_line};
+use crate::sent::put;
 use std::alloc::Global;
-use std::io::{BufRead, Read, Write};
-
-/// The most bytes of a line, one way or the other, without the line feed that ends it.
-pub(crate) const MOST_LINE: u64 = 65_536;
+use std::io::{BufRead, Write};
 
 /// The two ways of a connection.
 #[derive(Drop)]
@@ -19,48 +20,61 @@ pub struct Peer<R, W> {
 }
 
 impl<R: BufRead, W: Write> Peer<R, W> {
+    ghost use Rattle.room_client.specs.Peers.{reader_of, writer_of};
+
     /// Nothing was sent yet, and nothing has come.
-    pub fn new(reader: R, writer: W) -> Peer<R, W> {
+    pub fn new(reader: R, writer: W) -> Peer<R, W>
+        ensures reader { reader_of result ≡ reader }
+        ensures writer { writer_of result ≡ writer }
+    {
         Peer { reader, writer }
     }
 
     /// Sends a line, with the line feed that ends it.
     pub(crate) fn say(&mut self, line: &[u8]) -> Result<(), ClientFault>
-        ensures { OnOk result (Appends (W.contents self.old.writer) (W.contents self.new.writer)
-            (line.now ++ codes "\n")) }
+        ensures sent { OnOk result (Appends (W.contents self.old.writer)
+            (W.contents self.new.writer) (line.now ++ codes "\n")) }
+        ensures front { AppendsFront (W.contents self.old.writer) (W.contents self.new.writer)
+            (line.now ++ codes "\n") }
+        ensures reader { self.new.reader ≡ self.old.reader }
     {
-        self.writer.write_all(line)?;
-        self.writer.write_all(b"\n")?;
+        put(&mut self.writer, line)?;
+        put(&mut self.writer, b"\n")?;
         Ok(self.writer.flush()?)
     }
 
     /// The next line that comes, without the line feed that ends it. No more is read of one that is too long.
     pub(crate) fn hear(&mut self, alloc: Global) -> Result<Vec<u8>, ClientFault>
-        ensures { IfOk result (λ line. IsTrue (is_text line.items)) }
+        ensures line { IfOk result (λ line. Consumes (R.remaining self.old.reader)
+            (R.remaining self.new.reader) (line.items ++ codes "\n")) }
+        ensures text { IfOk result (λ line. IsTrue (is_text line.items)) }
+        ensures writer { self.new.writer ≡ self.old.writer }
     {
-        let mut line = Vec::new(alloc);
-        self.reader
-            .by_ref()
-            .take(MOST_LINE + 1)
-            .read_until(b'\n', &mut line)?;
-        if line.pop() == Some(b'\n') && is_text(line.as_slice()) {
-            return Ok(line);
+        match take_line(alloc, &mut self.reader)? {
+            Taken::Line(line) => text_of(line),
+            Taken::Last(_) | Taken::Long => Err(ClientFault::Broken),
         }
-        Err(ClientFault::Broken)
     }
 
     /// The bytes that come next, so many, which a line feed has to follow. Memory is taken as they come.
     pub(crate) fn hear_bytes(&mut self, alloc: Global, count: u32) -> Result<Vec<u8>, ClientFault>
-        ensures { IfOk result (λ bytes. length bytes.items ≡ count) }
+        ensures bytes { IfOk result (λ bytes. Consumes (R.remaining self.old.reader)
+            (R.remaining self.new.reader) (bytes.items ++ codes "\n")) }
+        ensures count { IfOk result (λ bytes. length bytes.items ≡ count) }
+        ensures writer { self.new.writer ≡ self.old.writer }
     {
-        let mut bytes = Vec::new(alloc);
-        self.reader
-            .by_ref()
-            .take(u64::from(count) + 1)
-            .read_to_end(&mut bytes)?;
-        if bytes.pop() == Some(b'\n') && bytes.len() == count as usize {
-            return Ok(bytes);
-        }
-        Err(ClientFault::Broken)
+        let bytes = take_bytes(alloc, &mut self.reader, count as usize)?;
+        take_feed(&mut self.reader)?;
+        Ok(bytes)
     }
+}
+
+fn text_of(line: Vec<u8>) -> Result<Vec<u8>, ClientFault>
+    ensures same { IfOk result (λ text. text ≡ line) }
+    ensures text { IfOk result (λ text. IsTrue (is_text text.items)) }
+{
+    if is_text(line.as_slice()) {
+        return Ok(line);
+    }
+    Err(ClientFault::Broken)
 }

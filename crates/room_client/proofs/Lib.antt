@@ -1,0 +1,7 @@
+pub mod Digits
+pub mod Fronts
+pub mod Printed
+pub mod PrintedGrants
+pub mod Refused
+pub mod SentLines
+pub mod SentRecords

@@ -1,0 +1,194 @@
+-- What was printed of answers, one after another.
+use Rattle.std.proofs.Common.{◌≡◌, ℕ, ◌+◌, All, List, [], ◌∷◌, ◌++◌, codes, length, refl, ap, sym, subst, ◌∙◌, append_assoc, append-nil, add-zero, arith, length-append}
+use Rattle.std.specs.Prelude.{None, Some, IfSome}
+use Rattle.std.specs.List.{flat_map}
+use Rattle.std.specs.Io.KnownBytes.{Appends, Consumes, prepend_known}
+use Rattle.std.proofs.KnownBytes.{Appends-nil, Appends-trans, Consumes-nil, Consumes-trans}
+use Rattle.std.proofs.lemmas.Grind.{flat_map-append}
+use Rattle.std.proofs.lemmas.List.Elements.{All-append, All-cons, All-nil}
+use Rattle.std.specs.Fmt.{option_append}
+use Rattle.room_client.specs.declared.answer.Answer.{Answer}
+use Rattle.room_client.specs.declared.answer.Answer.TheVariants as answer_is
+use Rattle.room_client.specs.declared.outcome.Outcome.{Outcome}
+use Rattle.room_client.specs.declared.outcome.Outcome.TheVariants.{Fine}
+use Rattle.room_client.specs.Answers.{answer_said}
+use Rattle.room_client.specs.Outcomes.{outcome_after}
+use Rattle.room_client.specs.Replies.{Answered, AnsweredOnce, Document, IsReply, Known, PrintsAnswer, Reply, Shows, TakesDocument, TakesDocuments, all_printed, document_heard, document_printed, documents_printed, documents_said, heard, outcome_from, printed, printed_as}
+
+-- a line that was printed, and then what is shown behind it
+pub printed-shown : (a b c d : Known) (head : List ℕ) (known : Known) → Appends a b head
+    → Appends b c (codes "\n") → IfSome known (Appends c d)
+    → IfSome (prepend_known (head ++ codes "\n") known) (Appends a d)
+printed-shown a b c d head None first feed then = tt
+printed-shown a b c d head (Some text) first feed then =
+    Appends-trans a c d (head ++ codes "\n") text (Appends-trans a b c head (codes "\n") first feed) then
+
+printed-both : (a b c : Known) (known more : Known) → IfSome known (Appends a b)
+    → IfSome more (Appends b c) → IfSome (option_append known more) (Appends a c)
+printed-both a b c None more first second = tt
+printed-both a b c (Some x) None first second = tt
+printed-both a b c (Some x) (Some y) first second = Appends-trans a b c x y first second
+
+option_append-nil : (known : Known) → option_append known (Some []) ≡ option_append (Some []) known
+option_append-nil None = refl
+option_append-nil (Some text) = ap Some (append-nil text)
+
+option_append-assoc : (a b c : Known)
+    → option_append (option_append a b) c ≡ option_append a (option_append b c)
+option_append-assoc None b c = refl
+option_append-assoc (Some x) None c = refl
+option_append-assoc (Some x) (Some y) None = refl
+option_append-assoc (Some x) (Some y) (Some z) = ap Some (append_assoc x y z)
+
+flat_map-more : {X : Type 0} (f : X → List ℕ) (xs : List X) (last : X)
+    → flat_map f (xs ++ last ∷ []) ≡ flat_map f xs ++ f last
+flat_map-more f xs last =
+    flat_map-append f xs (last ∷ []) ∙ ap (λ l. flat_map f xs ++ l) (append-nil (f last))
+
+documents_printed-more : (shown : Shows) (account : List ℕ) (job number : ℕ)
+    → (documents : List Document) (last : Document)
+    → documents_printed shown account job number (documents ++ last ∷ [])
+    ≡ option_append (documents_printed shown account job number documents)
+    (document_printed shown account job (number + length documents) last)
+documents_printed-more shown account job number [] last =
+    option_append-nil (document_printed shown account job number last)
+    ∙ ap (λ n. option_append (Some []) (document_printed shown account job n last)) (sym (add-zero number))
+documents_printed-more shown account job number (first ∷ rest) last =
+    let same : (number + 1) + length rest ≡ number + length (first ∷ rest) = omega arith in
+    ap (option_append (document_printed shown account job number first))
+    (documents_printed-more shown account job (number + 1) rest last
+    ∙ ap (λ n. option_append (documents_printed shown account job (number + 1) rest)
+    (document_printed shown account job n last)) same)
+    ∙ sym (option_append-assoc (document_printed shown account job number first)
+    (documents_printed shown account job (number + 1) rest)
+    (document_printed shown account job (number + length (first ∷ rest)) last))
+
+pub TakesDocuments-none : (shown : Shows) (a p : Known) (account : List ℕ) (job : ℕ)
+    → TakesDocuments shown a a p p account job 0
+TakesDocuments-none shown a p account job = ([], refl, Consumes-nil a, Appends-nil p)
+
+pub TakesDocuments-more : (shown : Shows) (ha hb hc pa pb pc : Known) (account : List ℕ)
+    → (job count : ℕ) → TakesDocuments shown ha hb pa pb account job count
+    → (now : Shows) → now ≡ shown → TakesDocument now hb hc pb pc account job (count + 1)
+    → TakesDocuments shown ha hc pa pc account job (count + 1)
+TakesDocuments-more shown ha hb hc pa pb pc account job count done now same taken =
+    let next = subst (λ s. TakesDocument s hb hc pb pc account job (count + 1)) same taken in
+    let documents = done.0 in
+    let last = next.0 in
+    let long : length (documents ++ last ∷ []) ≡ count + 1 =
+    length-append documents (last ∷ []) ∙ ap (λ n. n + 1) done.1 in
+    let number : count + 1 ≡ 1 + length documents = omega (arith, done.1) in
+    let more = documents_printed-more shown account job 1 documents last in
+    let shows = subst (λ n. IfSome (document_printed shown account job n last) (Appends pb pc)) number next.2 in (
+      documents ++ last ∷ [],
+      long,
+      subst (Consumes ha hc) (sym (flat_map-more document_heard documents last))
+          (Consumes-trans ha hb hc (flat_map document_heard documents) (document_heard last) done.2 next.1),
+      subst (λ o. IfSome o (Appends pa pc)) (sym more)
+          (printed-both pa pb pc (documents_printed shown account job 1 documents)
+          (document_printed shown account job (1 + length documents) last) done.3 shows),
+    )
+
+-- an answer that is no documents is its line
+pub printed_as-line : (says : Answer) (documents line : Known)
+    → ((count : ℕ) → says ≡ answer_is.Documents count → ⊥) → printed_as says documents line ≡ line
+printed_as-line answer_is.Failed documents line other = refl
+printed_as-line answer_is.BadLine documents line other = refl
+printed_as-line (answer_is.Documents count) documents line other = absurd (other count refl)
+printed_as-line answer_is.Told documents line other = refl
+
+pub documents_said-none : (says : Answer)
+    → ((count : ℕ) → says ≡ answer_is.Documents count → ⊥) → 0 ≡ documents_said says
+documents_said-none answer_is.Failed other = refl
+documents_said-none answer_is.BadLine other = refl
+documents_said-none (answer_is.Documents count) other = absurd (other count refl)
+documents_said-none answer_is.Told other = refl
+
+all_printed-more : (shown : Shows) (replies : List Reply) (last : Reply)
+    → all_printed shown (replies ++ last ∷ [])
+    ≡ option_append (all_printed shown replies) (printed shown last)
+all_printed-more shown [] last = option_append-nil (printed shown last)
+all_printed-more shown (first ∷ rest) last =
+    ap (option_append (printed shown first)) (all_printed-more shown rest last)
+    ∙ sym (option_append-assoc (printed shown first) (all_printed shown rest) (printed shown last))
+
+outcome_from-more : (number : ℕ) (outcome : Outcome) (replies : List Reply) (last : Reply)
+    → outcome_from number outcome (replies ++ last ∷ [])
+    ≡ outcome_after (outcome_from number outcome replies) (number + length replies) last.says
+outcome_from-more number outcome [] last =
+    ap (λ n. outcome_after outcome n last.says) (sym (add-zero number))
+outcome_from-more number outcome (first ∷ rest) last =
+    let same : (number + 1) + length rest ≡ number + length (first ∷ rest) = omega arith in
+    outcome_from-more (number + 1) (outcome_after outcome number first.says) rest last
+    ∙ ap (λ n. outcome_after (outcome_from (number + 1) (outcome_after outcome number first.says) rest)
+    n last.says) same
+
+pub Answered-none : (shown : Shows) (h p : Known)
+    → (none : Answered shown h h p p Fine) × (1 ≡ length none.replies + 1)
+Answered-none shown h p =
+    let none : Answered shown h h p p Fine = record {
+      replies = [];
+      said = All-nil IsReply;
+      heard_all = Consumes-nil h;
+      printed_all = Appends-nil p;
+      came_to = refl;
+    } in
+    (none, refl)
+
+pub Answered-more : (shown : Shows) (ha hb hc pa pb pc : Known) (outcome : Outcome) (answer : Answer)
+    → (number : ℕ) (done : Answered shown ha hb pa pb outcome) → number ≡ length done.replies + 1
+    → (now : Shows) → now ≡ shown → AnsweredOnce now hb hc pb pc answer
+    → (after : Outcome) → after ≡ outcome_after outcome number answer
+    → (more : Answered shown ha hc pa pc after)
+    × (number + 1 ≡ length more.replies + 1)
+Answered-more shown ha hb hc pa pb pc outcome answer number done count now same answered after is =
+    let next = subst (λ s. AnsweredOnce s hb hc pb pc answer) same answered in
+    let replies = done.replies in
+    let last = next.reply in
+    let place : number ≡ 1 + length replies = omega (arith, count) in
+    let one : All IsReply (last ∷ []) = All-cons IsReply last [] next.said (All-nil IsReply) in
+    let more : Answered shown ha hc pa pc after = record {
+      replies = replies ++ last ∷ [];
+      said = All-append IsReply replies (last ∷ []) done.said one;
+      heard_all = subst (Consumes ha hc) (sym (flat_map-more heard replies last))
+          (Consumes-trans ha hb hc (flat_map heard replies) (heard last) done.heard_all next.heard_whole);
+      printed_all = subst (λ o. IfSome o (Appends pa pc)) (sym (all_printed-more shown replies last))
+          (printed-both pa pb pc (all_printed shown replies) (printed shown last) done.printed_all next.printed_whole);
+      came_to = is ∙ ap (λ o. outcome_after o number answer) done.came_to
+          ∙ ap (outcome_after (outcome_from 1 Fine replies) number) next.came_to
+          ∙ ap (λ n. outcome_after (outcome_from 1 Fine replies) n last.says) place
+          ∙ sym (outcome_from-more 1 Fine replies last);
+    } in
+    let long : length (replies ++ last ∷ []) ≡ length replies + 1 = length-append replies (last ∷ []) in
+    (more, omega (arith, count, long))
+
+pub PrintsAnswer-line : (shown : Shows) (h pa pb pc : Known) (text : List ℕ) (says : Answer)
+    → ((count : ℕ) → says ≡ answer_is.Documents count → ⊥) → Appends pa pb text
+    → Appends pb pc (codes "\n") → PrintsAnswer shown h h pa pc text says
+PrintsAnswer-line shown h pa pb pc text says other first feed = (
+  [],
+  0,
+  [],
+  documents_said-none says other,
+  Consumes-nil h,
+  subst (λ o. IfSome o (Appends pa pc))
+      (sym (printed_as-line says (documents_printed shown [] 0 1 []) (Some (text ++ codes "\n")) other))
+      (Appends-trans pa pb pc text (codes "\n") first feed),
+)
+
+pub AnsweredOnce-of : (shown : Shows) (ha hb hc pa pb : Known) (line : List ℕ) (says : Answer)
+    → answer_said line ≡ Some says → Consumes ha hb (line ++ codes "\n")
+    → PrintsAnswer shown hb hc pa pb line says → AnsweredOnce shown ha hc pa pb says
+AnsweredOnce-of shown ha hb hc pa pb line says said first prints = record {
+  reply = record {
+    line = line;
+    says = says;
+    account = prints.0;
+    job = prints.1;
+    documents = prints.2;
+  };
+  said = (said, prints.3);
+  heard_whole = Consumes-trans ha hb hc (line ++ codes "\n") (flat_map document_heard prints.2) first prints.4;
+  printed_whole = prints.5;
+  came_to = refl;
+}

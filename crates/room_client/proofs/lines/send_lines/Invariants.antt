@@ -1,0 +1,13 @@
+use Rattle.std.proofs.Common.{◌≡◌, ◌+◌, length}
+use Rattle.room_client.specs.Replies.{Answered}
+use Rattle.room_client.specs.Sending.{SendsOn}
+use Rattle.room_client.proofs.lines.send_lines.Given as goal
+
+abbrev pub invariant-loop-number : goal.invariant-loop-number
+invariant-loop-number g l = SendsOn (g.I.Read.remaining l.initial.input) (g.I.Read.remaining l.input)
+    (g.W.Write.contents l.initial.peer.writer) (g.W.Write.contents l.peer.writer)
+    × ((done : Answered (g.K.Keeper.shown l.initial.keeper)
+    (g.R.Read.remaining l.initial.peer.reader) (g.R.Read.remaining l.peer.reader)
+    (g.O.Write.contents l.initial.output) (g.O.Write.contents l.output) l.outcome)
+    × (l.number ≡ length done.replies + 1))
+    × (g.K.Keeper.shown l.keeper ≡ g.K.Keeper.shown l.initial.keeper)

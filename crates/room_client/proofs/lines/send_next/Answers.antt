@@ -1,0 +1,35 @@
+use Rattle.std.proofs.Common.{◌++◌, codes}
+use Rattle.room_client.proofs.Fronts.{AppendsFront-whole}
+use Rattle.room_client.proofs.Refused.{OnErr-of}
+use Rattle.room_client.proofs.SentLines.{SendsFront-line, SendsOn-line}
+use Rattle.room_client.proofs.lines.send_next.Goals as goal
+
+pub returns-in_err-say-clause-front : goal.returns-in_err-say-clause-front
+returns-in_err-say-clause-front g c =
+    let found = rw c.in-Some.is at c.in_ok-line.ensures.taken in
+    let short = rw c.in-Some.is at c.in_ok-line.ensures.line in
+    let front = rw c.as_slice.ensures.value at c.in_err-say.ensures.front in
+    OnErr-of _ _ (SendsFront-line _ _ _ _ c.in-Some.line.items found short front)
+
+pub returns-in_err-answer-clause-front : goal.returns-in_err-answer-clause-front
+returns-in_err-answer-clause-front g c =
+    let found = rw c.in-Some.is at c.in_ok-line.ensures.taken in
+    let short = rw c.in-Some.is at c.in_ok-line.ensures.line in
+    let sent = rw (c.as_slice.ensures.value, ← c.in_err-answer.ensures.writer) at c.in_ok-say.ensures.sent in
+    OnErr-of _ _ (SendsFront-line _ _ _ _ c.in-Some.line.items found short
+    (AppendsFront-whole _ _ (c.in-Some.line.items ++ codes "\n") sent))
+
+pub returns-in_err-flush-clause-front : goal.returns-in_err-flush-clause-front
+returns-in_err-flush-clause-front g c =
+    let found = rw c.in-Some.is at c.in_ok-line.ensures.taken in
+    let short = rw c.in-Some.is at c.in_ok-line.ensures.line in
+    let sent = rw (c.as_slice.ensures.value, ← c.in_ok-answer.ensures.writer) at c.in_ok-say.ensures.sent in
+    OnErr-of _ _ (SendsFront-line _ _ _ _ c.in-Some.line.items found short
+    (AppendsFront-whole _ _ (c.in-Some.line.items ++ codes "\n") sent))
+
+pub returns-clause-sent : goal.returns-clause-sent
+returns-clause-sent g c =
+    let found = rw c.in-Some.is at c.in_ok-line.ensures.taken in
+    let short = rw c.in-Some.is at c.in_ok-line.ensures.line in
+    let sent = rw (c.as_slice.ensures.value, ← c.in_ok-answer.ensures.writer) at c.in_ok-say.ensures.sent in
+    SendsOn-line _ _ _ _ c.in-Some.line.items found short sent

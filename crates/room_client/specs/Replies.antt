@@ -1,0 +1,135 @@
+-- What answers lines, what is printed of it, and what it comes to (all this project's own).
+use Rattle.std.specs.Prelude.{All, ◌≡◌, ℕ, ◌+◌, List, [], ◌∷◌, ◌++◌, codes, length, Option, Some, IfSome}
+use Rattle.std.specs.List.{flat_map}
+use Rattle.std.specs.Io.KnownBytes.{Appends, Consumes, prepend_known}
+use Rattle.std.specs.Fmt.{option_append}
+use Rattle.room_client.specs.declared.answer.Answer.{Answer}
+use Rattle.room_client.specs.declared.answer.Answer.TheVariants as answer_is
+use Rattle.room_client.specs.declared.outcome.Outcome.{Outcome}
+use Rattle.room_client.specs.declared.outcome.Outcome.TheVariants.{Fine}
+use Rattle.room_client.specs.Answers.{answer_said}
+use Rattle.room_client.specs.Names.{document_name}
+use Rattle.room_client.specs.Outcomes.{outcome_after}
+
+-- bytes that may be known
+abbrev pub Known : Type 0
+Known = Option (List ℕ)
+
+-- what a keeper prints of a document of the name and the bytes
+abbrev pub Shows : Type 0
+Shows = (name bytes : List ℕ) → Known
+
+-- a document of an answer: its line, and its bytes
+pub record Document : Type 0 where
+  pub head : List ℕ
+  pub bytes : List ℕ
+
+-- an answer: its first line with what that says, and the documents behind it, which are those of
+-- one job of an account
+pub record Reply : Type 0 where
+  pub line : List ℕ
+  pub says : Answer
+  pub account : List ℕ
+  pub job : ℕ
+  pub documents : List Document
+
+abbrev pub document_heard : Document → List ℕ
+document_heard document = (document.head ++ codes "\n") ++ (document.bytes ++ codes "\n")
+
+-- the bytes of an answer, as they come
+abbrev pub heard : Reply → List ℕ
+heard reply = (reply.line ++ codes "\n") ++ flat_map document_heard reply.documents
+
+-- the line of a document, and what the keeper shows of it
+abbrev pub document_printed : (shown : Shows)
+    → (account : List ℕ) (job number : ℕ) → Document → Known
+document_printed shown account job number document = prepend_known (document.head ++ codes "\n")
+    (shown (document_name account job number) document.bytes)
+
+-- the documents from this number on
+abbrev pub documents_printed : (shown : Shows)
+    → (account : List ℕ) (job number : ℕ) → List Document → Known
+documents_printed shown account job number [] = Some []
+documents_printed shown account job number (first ∷ rest) =
+    option_append (document_printed shown account job number first)
+    (documents_printed shown account job (number + 1) rest)
+
+-- the documents, or the line where it is another answer
+abbrev pub printed_as : Answer → (documents line : Known) → Known
+printed_as (answer_is.Documents count) documents line = documents
+printed_as answer_is.Failed documents line = line
+printed_as answer_is.BadLine documents line = line
+printed_as answer_is.Told documents line = line
+
+-- what is printed of an answer, where it is known what the keeper shows
+abbrev pub printed : (shown : Shows) → Reply → Known
+printed shown reply = printed_as reply.says
+    (documents_printed shown reply.account reply.job 1 reply.documents)
+    (Some (reply.line ++ codes "\n"))
+
+-- of one answer after another
+abbrev pub all_printed : (shown : Shows) → List Reply → Known
+all_printed shown [] = Some []
+all_printed shown (first ∷ rest) = option_append (printed shown first) (all_printed shown rest)
+
+abbrev pub documents_said : Answer → ℕ
+documents_said (answer_is.Documents count) = count
+documents_said answer_is.Failed = 0
+documents_said answer_is.BadLine = 0
+documents_said answer_is.Told = 0
+
+-- the line says so, and as many documents follow as it says
+abbrev pub IsReply : Reply → Type 0
+IsReply reply = (answer_said reply.line ≡ Some reply.says)
+    × (length reply.documents ≡ documents_said reply.says)
+
+-- what answers to lines come to, the first of which has this number
+abbrev pub outcome_from : ℕ → Outcome → List Reply → Outcome
+outcome_from number outcome [] = outcome
+outcome_from number outcome (first ∷ rest) =
+    outcome_from (number + 1) (outcome_after outcome number first.says) rest
+
+-- answers were heard one after another and printed, and came to the outcome
+pub record Answered (shown : Shows) (heard_before heard_after : Known)
+    (printed_before printed_after : Known) (outcome : Outcome) : Type 0 where
+  pub replies : List Reply
+  pub said : All IsReply replies
+  pub heard_all : Consumes heard_before heard_after (flat_map heard replies)
+  pub printed_all : IfSome (all_printed shown replies) (Appends printed_before printed_after)
+  pub came_to : outcome ≡ outcome_from 1 Fine replies
+
+-- the same of one answer
+pub record AnsweredOnce (shown : Shows) (heard_before heard_after : Known)
+    (printed_before printed_after : Known) (answer : Answer) : Type 0 where
+  pub reply : Reply
+  pub said : IsReply reply
+  pub heard_whole : Consumes heard_before heard_after (heard reply)
+  pub printed_whole : IfSome (printed shown reply) (Appends printed_before printed_after)
+  pub came_to : answer ≡ reply.says
+
+-- so many documents of the job were heard and printed
+abbrev pub TakesDocuments : (shown : Shows) (heard_before heard_after : Known)
+    → (printed_before printed_after : Known) (account : List ℕ) (job count : ℕ) → Type 0
+TakesDocuments shown heard_before heard_after printed_before printed_after account job count =
+    (documents : List Document) × (length documents ≡ count)
+    × Consumes heard_before heard_after (flat_map document_heard documents)
+    × IfSome (documents_printed shown account job 1 documents)
+    (Appends printed_before printed_after)
+
+-- the document of the number was
+abbrev pub TakesDocument : (shown : Shows) (heard_before heard_after : Known)
+    → (printed_before printed_after : Known) (account : List ℕ) (job number : ℕ) → Type 0
+TakesDocument shown heard_before heard_after printed_before printed_after account job number =
+    (document : Document) × Consumes heard_before heard_after (document_heard document)
+    × IfSome (document_printed shown account job number document)
+    (Appends printed_before printed_after)
+
+-- the answer of the text was printed, and its documents heard
+abbrev pub PrintsAnswer : (shown : Shows) (heard_before heard_after : Known)
+    → (printed_before printed_after : Known) (text : List ℕ) → Answer → Type 0
+PrintsAnswer shown heard_before heard_after printed_before printed_after text says =
+    (account : List ℕ) × (job : ℕ) × (documents : List Document)
+    × (length documents ≡ documents_said says)
+    × Consumes heard_before heard_after (flat_map document_heard documents)
+    × IfSome (printed_as says (documents_printed shown account job 1 documents)
+    (Some (text ++ codes "\n"))) (Appends printed_before printed_after)

@@ -1,0 +1,28 @@
+-- What is sent (all this project's own).
+use Rattle.std.specs.Prelude.{◌≡◌, ℕ, ◌==◌, if◌then◌else◌, List, [], ◌∷◌, ◌++◌, codes, Option, Some, IfSome}
+use Rattle.std.specs.Io.KnownBytes.{Appends}
+
+-- a text as whole lines: a line feed comes behind the last byte, where that is none
+abbrev pub as_lines : (text : List ℕ) → List ℕ
+as_lines [] = []
+as_lines (last ∷ []) = if last == 10 then last ∷ [] else last ∷ codes "\n"
+as_lines (byte ∷ next ∷ rest) = byte ∷ as_lines (next ∷ rest)
+
+-- a front of the bytes, or all of them, were written behind what was there
+abbrev pub AppendsFront : (before after : Option (List ℕ)) (bytes : List ℕ) → Type 0
+AppendsFront before after bytes = (front : List ℕ) × (rest : List ℕ) × (bytes ≡ front ++ rest)
+    × Appends before after front
+
+-- what was taken of the input so far was sent as whole lines
+abbrev pub SendsOn : (input_before input_after before after : Option (List ℕ)) → Type 0
+SendsOn input_before input_after before after = IfSome input_before
+    (λ text. (rest : List ℕ) × (input_after ≡ Some rest)
+    × (sent : List ℕ) × (as_lines text ≡ sent ++ as_lines rest) × Appends before after sent)
+
+-- the whole input was sent, each line with the line feed that ends it
+abbrev pub SendsAll : (input before after : Option (List ℕ)) → Type 0
+SendsAll input before after = IfSome input (λ text. Appends before after (as_lines text))
+
+-- a front of that, or all of it, was sent
+abbrev pub SendsFront : (input before after : Option (List ℕ)) → Type 0
+SendsFront input before after = IfSome input (λ text. AppendsFront before after (as_lines text))
