@@ -6,6 +6,7 @@ use Rattle.room_commands.specs.declared.command.Command.TheVariants as command
 
 abbrev pub is_rated_in_range : Command → Bool
 is_rated_in_range (command.Help text) = true
+is_rated_in_range command.Explain = true
 is_rated_in_range (command.Create database) = true
 is_rated_in_range (command.Open database account) = true
 is_rated_in_range (command.Migrate database) = true

@@ -8,7 +8,8 @@ use crate::listening::Listening;
 use crate::sending::Sending;
 use crate::serving::Serving;
 use crate::words::{
-    ADDRESS, DATABASE, FOLDER, GRANTS, LISTEN, OPERATORS, PORT, SEND, SERVE, STATIONS, program,
+    ADDRESS, DATABASE, EXPLAIN, FOLDER, GRANTS, LISTEN, OPERATORS, PORT, SEND, SERVE, STATIONS,
+    program,
 };
 use clap::ArgMatches;
 use clap::error::ErrorKind;
@@ -23,10 +24,12 @@ const MOST_CONNECTIONS: u32 = 1_000_000;
 /// A command line of the program. `database` is the path of a file, or `:memory:`.
 #[derive(Debug, Drop)]
 pub enum Command<'a> {
-    /// Prints the parser's help.
+    /// Prints the parser's help, or the version.
     Help {
         text: String,
     },
+    /// Explains the messages of standard input.
+    Explain,
     /// Makes the tables of a database.
     Create {
         database: &'a str,
@@ -136,6 +139,9 @@ fn of_matches<'a>(matches: &ArgMatches<'a>) -> Result<Command<'a>, Unfit>
     };
     if command == SEND {
         return Ok(Command::Send(sending(words)?));
+    }
+    if command == EXPLAIN {
+        return Ok(Command::Explain);
     }
     let database = word(words, DATABASE)?;
     match command {

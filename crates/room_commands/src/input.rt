@@ -18,8 +18,13 @@ pub fn read_lines<R: Read + Drop>(
     input: R,
     grammar: Grammar,
 ) -> Result<Vec<Line>, Fault> {
-    let text = read_whole(alloc, &mut Counted::new(input), MOST_BYTES)?;
+    let text = read_text(alloc, input)?;
     Ok(grammar.read(alloc, text.as_slice())?)
+}
+
+/// All of the input, whatever lines it has.
+pub fn read_text<R: Read + Drop>(alloc: Global, input: R) -> Result<Vec<u8>, Fault> {
+    Ok(read_whole(alloc, &mut Counted::new(input), MOST_BYTES)?)
 }
 
 /// The records of a file of grants, good and bad.

@@ -3,12 +3,19 @@
 use room_grants::GrantLine;
 use room_lines::print_answer;
 use room_serve::Outcome;
+use std::alloc::Global;
 use std::io;
 use std::io::Write;
 
 /// A text as it is.
 pub fn print_text<W: Write>(output: &mut W, text: &str) -> io::Result<()> {
     output.write_all(text.as_bytes())?;
+    output.flush()
+}
+
+/// The lines of a text, of which those with a message are explained.
+pub fn print_explained<W: Write>(alloc: Global, output: &mut W, text: &[u8]) -> io::Result<()> {
+    ipp_notation::explain(alloc, text, output)?;
     output.flush()
 }
 

@@ -5,9 +5,9 @@ ghost use Rattle.room_lines.specs.Actions.{is_in_range};
 use crate::command::Command;
 use crate::fault::Fault;
 use crate::grants::grants_of;
-use crate::input::{read_lines, read_records};
+use crate::input::{read_lines, read_records, read_text};
 use crate::opener::Opener;
-use crate::printing::{print_grants, print_outcomes, print_text};
+use crate::printing::{print_explained, print_grants, print_outcomes, print_text};
 use crate::tables::{Begin, first_failure, outcomes_of, prepare};
 use room_lines::{Action, Grammar, Line, events_of};
 use sqlite::{Alter, Connection};
@@ -21,8 +21,9 @@ use std::io::{Read, Write};
 /// store, writing. Where the status is not 0, `errors` gets the fault's text.
 ///
 /// `opener` is asked for the database once nothing else can be wrong, and gets it back before anything is
-/// printed. In `:memory:` each run makes tables of its own. Of `listen`, `serve` and `send` it answers `Io` with nothing run,
-/// since it has no sockets (`Listening`, `Serving` and `Sending` say what their words ask for).
+/// printed. In `:memory:` each run makes tables of its own. `explain` asks for none, and none of its lines is wrong. Of
+/// `listen`, `serve` and `send` it answers `Io` with nothing run, since it has no sockets (`Listening`, `Serving` and
+/// `Sending` say what their words ask for).
 pub fn run<S, F, R, W, E>(
     alloc: Global,
     words: &[&str],
@@ -65,6 +66,10 @@ where
 {
     match Command::read(alloc, words)? {
         Command::Help { text } => Ok(print_text(output, text.as_str())?),
+        Command::Explain => {
+            let text = read_text(alloc, input)?;
+            Ok(print_explained(alloc, output, text.as_slice())?)
+        }
         Command::Create { database } => {
             prepare(opener, database, Begin::Create)?;
             Ok(print_text(output, "ok\n")?)

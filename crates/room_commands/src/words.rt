@@ -6,6 +6,10 @@ use std::alloc::{AllocError, Global};
 
 const PROGRAM: &str = "ipp-room";
 
+const VERSION: &str = "1.0.0";
+
+pub(crate) const EXPLAIN: &str = "explain";
+
 pub(crate) const LISTEN: &str = "listen";
 
 pub(crate) const SERVE: &str = "serve";
@@ -32,6 +36,7 @@ pub(crate) const FOLDER: &str = "FOLDER";
 pub(crate) fn program<'a>(alloc: Global) -> Result<clap::Command<'a>, AllocError> {
     clap::Command::new(alloc, PROGRAM)
         .about("Keeps IPP printers whose jobs wait until they are released")
+        .version(VERSION)
         .no_binary_name(true)
         .bin_name(PROGRAM)?
         .subcommand_required(true)
@@ -45,7 +50,8 @@ pub(crate) fn program<'a>(alloc: Global) -> Result<clap::Command<'a>, AllocError
         .subcommand(on_database(alloc, "script", "Runs lines that have moments")?)?
         .subcommand(listen(alloc)?)?
         .subcommand(serve(alloc)?)?
-        .subcommand(send(alloc)?)
+        .subcommand(send(alloc)?)?
+        .subcommand(explain(alloc))
 }
 
 fn open<'a>(alloc: Global) -> Result<clap::Command<'a>, AllocError> {
@@ -93,6 +99,11 @@ fn send<'a>(alloc: Global) -> Result<clap::Command<'a>, AllocError> {
         .arg(required(alloc, ADDRESS).help("A port, or the path of a socket"))?
         .arg(grants)?
         .arg(folder)
+}
+
+fn explain<'a>(alloc: Global) -> clap::Command<'a> {
+    let about = "Prints the IPP messages of standard input as people read them";
+    clap::Command::new(alloc, EXPLAIN).about(about)
 }
 
 fn on_database<'a>(

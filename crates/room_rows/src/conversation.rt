@@ -1,8 +1,8 @@
 //! A conversation with the print room: what is handed in, line by line, and what is printed of the answers.
 
 use crate::fault::RowFault;
-use crate::notation::spell;
 use crate::step::Step;
+use ipp_notation::spell;
 use std::alloc::{AllocError, Global};
 
 /// The moment of a line that names none, in seconds since 1970-01-01T00:00:00Z.
@@ -85,10 +85,10 @@ impl Conversation {
         }
         let line = line.trim();
         if self.is_answer {
-            return spell(alloc, &mut self.printed, line);
+            return Ok(spell(alloc, &mut self.printed, line)?);
         }
         match self.asked.last_mut() {
-            Some(asked) => spell(alloc, &mut asked.text, line),
+            Some(asked) => Ok(spell(alloc, &mut asked.text, line)?),
             None => Err(RowFault::Message),
         }
     }

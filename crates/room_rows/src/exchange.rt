@@ -1,7 +1,7 @@
 //! An exchange over one connection of HTTP, in a notation that a person can read:
 //!
 //! - `> TEXT` is sent with CR LF behind it, and `< TEXT` is written so. The lines under each spell further bytes
-//!   (`notation` says how).
+//!   (`ipp_notation` says how).
 //! - `= END` ends what one call of `serve_one` reads and writes, and says what it answers; `= END N times` says that
 //!   this comes so often.
 //! - `refused STATUS PHRASE` is what is written of a refusal, and the end of the call that answers `close`.
@@ -11,7 +11,7 @@
 //! An empty line, and one that begins with `-- `, say nothing.
 
 use crate::fault::RowFault;
-use crate::notation::spell;
+use ipp_notation::spell;
 use std::alloc::{AllocError, Global};
 
 /// The moment of calls where none is named, in seconds since 1970-01-01T00:00:00Z.
@@ -68,9 +68,11 @@ impl Open {
             return push_line(alloc, &mut self.written, text.trim_start());
         }
         if self.is_written {
-            return spell(alloc, &mut self.written, line.trim());
+            spell(alloc, &mut self.written, line.trim())?;
+        } else {
+            spell(alloc, &mut self.read, line.trim())?;
         }
-        spell(alloc, &mut self.read, line.trim())
+        Ok(())
     }
 
     fn refuse(&mut self, alloc: Global, status: &str) -> Result<(), RowFault> {

@@ -1,6 +1,7 @@
 //! Why a conversation is none, or an answer is not told.
 
 use hex::FromHexError;
+use ipp_notation::NotationFault;
 use room_lines::LineFault;
 use std::alloc::{AllocError, AllocFailed};
 use std::io;
@@ -12,10 +13,6 @@ use thiserror::Error;
 pub enum RowFault {
     #[error("a message has no line")]
     Message,
-    #[error("a job has four words")]
-    Job,
-    #[error("a refusal has three words")]
-    Refusal,
     #[error("a line is empty")]
     Line,
     #[error("a next job has an account and a number")]
@@ -38,6 +35,9 @@ pub enum RowFault {
     Digits,
     #[error("a line that the notation does not have: {0}")]
     Unknown(String),
+    /// A line of a message that the notation of messages does not have.
+    #[error("{0}")]
+    Notation(NotationFault),
     /// A line that no script has.
     #[error("script: {0}")]
     Script(LineFault),
@@ -71,6 +71,15 @@ impl From<FromHexError> for RowFault {
 impl From<ParseIntError> for RowFault {
     fn from(_error: ParseIntError) -> RowFault {
         RowFault::Number
+    }
+}
+
+impl From<NotationFault> for RowFault {
+    fn from(fault: NotationFault) -> RowFault {
+        match fault {
+            NotationFault::Memory => RowFault::Memory,
+            fault => RowFault::Notation(fault),
+        }
     }
 }
 

@@ -10,7 +10,6 @@ mod exchange;
 mod fault;
 mod http;
 mod listing;
-mod notation;
 mod reached;
 mod rooms;
 mod run;

@@ -3,6 +3,7 @@
 use crate::fault::RowFault;
 use crate::rooms::Rooms;
 use ipp_coding::{List, read_header, read_message};
+use ipp_notation::Operation;
 use room_core::{Event, Job, JobState, LAST_JOB, Name, Part, Reply, Room, read_ask};
 use std::alloc::Global;
 
@@ -132,23 +133,11 @@ fn has_password(job: Option<&Job>) -> bool {
     }
 }
 
-/// The operation that a request names (RFC 8011 section 5.4.15).
+/// The operation that a request names, `ipp` where it is none of RFC 8011.
 fn operation(body: &[u8]) -> &'static str {
-    let Some(header) = read_header(body) else {
-        return "ipp";
-    };
-    match header.code {
-        0x0002 => "Print-Job",
-        0x0004 => "Validate-Job",
-        0x0005 => "Create-Job",
-        0x0006 => "Send-Document",
-        0x0008 => "Cancel-Job",
-        0x0009 => "Get-Job-Attributes",
-        0x000a => "Get-Jobs",
-        0x000b => "Get-Printer-Attributes",
-        0x000c => "Hold-Job",
-        0x000d => "Release-Job",
-        _ => "ipp",
+    match read_header(body) {
+        Some(header) => Operation(header.code).name().unwrap_or("ipp"),
+        None => "ipp",
     }
 }
 

@@ -13,7 +13,11 @@ mod events;
 #[cfg(test)]
 mod examples;
 #[cfg(test)]
+mod explained;
+#[cfg(test)]
 mod memory;
+#[cfg(test)]
+mod notation;
 #[cfg(test)]
 mod rules;
 #[cfg(test)]

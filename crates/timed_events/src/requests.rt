@@ -39,17 +39,11 @@ impl Operation {
 
     pub fn name(self) -> &'static str {
         match self {
-            Operation::PrintJob => "Print-Job",
-            Operation::ValidateJob => "Validate-Job",
-            Operation::CreateJob => "Create-Job",
-            Operation::SendDocument => "Send-Document",
-            Operation::CancelJob => "Cancel-Job",
-            Operation::GetJobAttributes => "Get-Job-Attributes",
             Operation::GetJobs => "Get-Jobs, 12 not completed",
             Operation::GetCompletedJobs => "Get-Jobs, the last 10 completed",
-            Operation::GetPrinterAttributes => "Get-Printer-Attributes",
-            Operation::HoldJob => "Hold-Job",
-            Operation::ReleaseJob => "Release-Job",
+            other => ipp_notation::Operation(other.id())
+                .name()
+                .unwrap_or("a request"),
         }
     }
 }

@@ -1,4 +1,4 @@
-//! The notation of messages, in which a person can read them. Each line of it stands for hexadecimal digits:
+//! The notation of messages, in which a person can read and write them. Each line of it stands for hexadecimal digits:
 //!
 //! - words of hexadecimal digits stand for themselves, each as often as `*N` behind it says, `C` for the charset and the language, `U(alice)` for
 //!   the printer-uri `ipp://localhost/ipp/print/alice`;
@@ -7,15 +7,21 @@
 //! - `job ACCOUNT N STATE REASON` is the group of job N as it is answered to the request that made it;
 //! - `refused STATUS ID WORD` is the whole answer to a refused request of version 1.1;
 //! - another line with a text in double quotes is a value by itself.
+//!
+//! What stands behind `#` is a comment and stands for nothing, where two spaces stand before the `#` or nothing does.
 
-use crate::fault::RowFault;
+use crate::fault::NotationFault;
 use std::alloc::Global;
+
+/// What begins a comment behind something.
+pub(crate) const COMMENT: &str = "  #";
 
 const CHARSET_AND_LANGUAGE: &str =
     "470012617474726962757465732d6368617273657400057574662d3848001b617474726962757465732d6e61747572616c2d6c616e67756167650002656e";
 
 /// Puts the digits of a line of the notation behind the text.
-pub fn spell(alloc: Global, text: &mut String, line: &str) -> Result<(), RowFault> {
+pub fn spell(alloc: Global, text: &mut String, line: &str) -> Result<(), NotationFault> {
+    let line = without_comment(line);
     if let Some(job) = line.strip_prefix("job ") {
         return spell_job(alloc, text, job);
     }
@@ -32,10 +38,20 @@ pub fn spell(alloc: Global, text: &mut String, line: &str) -> Result<(), RowFaul
     }
 }
 
-fn spell_job(alloc: Global, text: &mut String, job: &str) -> Result<(), RowFault> {
+fn without_comment(line: &str) -> &str {
+    if line.starts_with('#') {
+        return "";
+    }
+    match line.split_once(COMMENT) {
+        Some((said, _)) => said.trim_end(),
+        None => line,
+    }
+}
+
+fn spell_job(alloc: Global, text: &mut String, job: &str) -> Result<(), NotationFault> {
     let words: Vec<&str> = job.split(' ').collect(alloc)?;
     let [account, number, state, reason] = words.as_slice() else {
-        return Err(RowFault::Job);
+        return Err(NotationFault::Job);
     };
     let uri = format!(in alloc; "\"ipp://localhost/ipp/print/{account}/{number}\"")?;
     let number: u32 = number.parse()?;
@@ -49,10 +65,10 @@ fn spell_job(alloc: Global, text: &mut String, job: &str) -> Result<(), RowFault
     spell_attribute(alloc, text, "44 job-state-reasons", reason.as_str())
 }
 
-fn spell_refusal(alloc: Global, text: &mut String, refusal: &str) -> Result<(), RowFault> {
+fn spell_refusal(alloc: Global, text: &mut String, refusal: &str) -> Result<(), NotationFault> {
     let words: Vec<&str> = refusal.split(' ').collect(alloc)?;
     let [status, id, word] = words.as_slice() else {
-        return Err(RowFault::Refusal);
+        return Err(NotationFault::Refusal);
     };
     let header = format!(in alloc; "0101{status}{id}01{CHARSET_AND_LANGUAGE}")?;
     let word = format!(in alloc; "\"{word}\"")?;
@@ -62,7 +78,7 @@ fn spell_refusal(alloc: Global, text: &mut String, refusal: &str) -> Result<(), 
     Ok(())
 }
 
-fn spell_words(alloc: Global, text: &mut String, line: &str) -> Result<(), RowFault> {
+fn spell_words(alloc: Global, text: &mut String, line: &str) -> Result<(), NotationFault> {
     for word in line.split(' ') {
         if word == "C" {
             text.push_str(CHARSET_AND_LANGUAGE)?;
@@ -77,7 +93,7 @@ fn spell_words(alloc: Global, text: &mut String, line: &str) -> Result<(), RowFa
 }
 
 /// The digits of a word, as often as `*N` behind them says.
-fn push_times(text: &mut String, word: &str) -> Result<(), RowFault> {
+fn push_times(text: &mut String, word: &str) -> Result<(), NotationFault> {
     let (digits, times) = word.split_once('*').unwrap_or((word, "1"));
     let times: u32 = times.parse()?;
     for _ in 0..times {
@@ -95,7 +111,7 @@ fn spell_attribute(
     text: &mut String,
     tag_and_name: &str,
     value: &str,
-) -> Result<(), RowFault> {
+) -> Result<(), NotationFault> {
     let (tag, name) = tag_and_name.split_once(' ').unwrap_or((tag_and_name, ""));
     text.push_str(tag)?;
     spell_field(alloc, text, hex::encode(alloc, name.as_bytes())?.as_str())?;
@@ -103,7 +119,7 @@ fn spell_attribute(
 }
 
 /// The digits of a value's parts, each as often as it is to stand.
-fn digits_of(alloc: Global, value: &str) -> Result<String, RowFault> {
+fn digits_of(alloc: Global, value: &str) -> Result<String, NotationFault> {
     let mut digits = String::new(alloc);
     let mut part = String::new(alloc);
     let mut is_text = false;
@@ -130,7 +146,7 @@ fn digits_of(alloc: Global, value: &str) -> Result<String, RowFault> {
 }
 
 /// A length in two bytes, and the bytes.
-fn spell_field(alloc: Global, text: &mut String, digits: &str) -> Result<(), RowFault> {
+fn spell_field(alloc: Global, text: &mut String, digits: &str) -> Result<(), NotationFault> {
     let length = format!(in alloc; "{:04x}", digits.len() / 2)?;
     text.push_str(length.as_str())?;
     text.push_str(digits)?;

@@ -1,0 +1,2 @@
+mod Parted
+mod Words
