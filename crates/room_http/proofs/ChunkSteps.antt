@@ -43,19 +43,20 @@ pub chunk_too_long : (before after : List ℕ → Type 0) (size : ℕ) (line : C
     → Takes before after (λ b rest. IsTooLongWith size b)
 chunk_too_long before after size line is_line gave large = (print_chunk_line line, gave, λ rest h. (line, rest, is_line, refl, large))
 
-pub chunk_cut : (before between after : List ℕ → Type 0) (line : ChunkLine) (bytes : List ℕ) → IsSizeLine line → Yields before between (print_chunk_line line) → Yields between after bytes → IsSpent after
-    → length bytes < chunk_size line → Takes before after (λ b rest. IsNoChunk b)
-chunk_cut before between after line bytes is_line told gave end short =
+pub chunk_cut : (before between after : List ℕ → Type 0) (size : ℕ) (line : ChunkLine) (bytes : List ℕ) → IsSizeLine line → size + chunk_size line ≤ 16842752 → Yields before between (print_chunk_line line)
+    → Yields between after bytes → IsSpent after → length bytes < chunk_size line → Takes before after (λ b rest. IsNoChunk size b)
+chunk_cut before between after size line bytes is_line fits told gave end short =
     let text = print_chunk_line line ++ bytes in
-    (text, Yields_more before between after (print_chunk_line line) bytes told gave, λ rest h. is_cut line bytes is_line (ap (λ s. text ++ s) (end rest h) ∙ append-nil text) short)
+    (text, Yields_more before between after (print_chunk_line line) bytes told gave, λ rest h. is_cut line bytes is_line fits (ap (λ s. text ++ s) (end rest h) ∙ append-nil text) short)
 
-pub chunk_not_ended : (before told_at read_at after : List ℕ → Type 0) (line : ChunkLine) (bytes : List ℕ) → IsSizeLine line → 0 < chunk_size line → chunk_size line ≡ length bytes
-    → Yields before told_at (print_chunk_line line) → Yields told_at read_at bytes → Takes read_at after (λ b rest. HasNoLineEnd b) → Takes before after (λ b rest. IsNoChunk b)
-chunk_not_ended before told_at read_at after line bytes is_line some size told gave took =
+pub chunk_not_ended : (before told_at read_at after : List ℕ → Type 0) (size : ℕ) (line : ChunkLine) (bytes : List ℕ) → IsSizeLine line → 0 < chunk_size line → size + chunk_size line ≤ 16842752
+    → chunk_size line ≡ length bytes → Yields before told_at (print_chunk_line line) → Yields told_at read_at bytes → Takes read_at after (λ b rest. HasNoLineEnd b)
+    → Takes before after (λ b rest. IsNoChunk size b)
+chunk_not_ended before told_at read_at after size line bytes is_line some fits sized told gave took =
     let text = print_chunk_line line ++ bytes in (
       text ++ took.0,
       Yields_more before read_at after text took.0 (Yields_more before told_at read_at (print_chunk_line line) bytes told gave) took.1,
-      λ rest h. has_no_end line bytes (took.0 ++ rest) is_line some size (append_assoc text took.0 rest) (took.2 rest h),
+      λ rest h. has_no_end line bytes (took.0 ++ rest) is_line some fits sized (append_assoc text took.0 rest) (took.2 rest h),
     )
 
 -- a chunk was read

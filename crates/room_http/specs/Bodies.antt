@@ -36,7 +36,8 @@ EndsBadly b = (last : ChunkLine) × (rest : List ℕ) × IsLast last
 -- something that is no body: the end, or chunks that are none
 pub data IsNoBody (b : List ℕ) : Framing → Type 0 where
   is_short : (n : ℕ) → length b < n → IsNoBody b (Length n)
-  has_no_chunk : HasBehindChunks b (λ body behind. IsNoChunk behind) → IsNoBody b Chunked
+  has_no_chunk : HasBehindChunks b (λ body behind. IsNoChunk (length body) behind)
+      → IsNoBody b Chunked
   has_no_trailers : HasBehindChunks b (λ body behind. EndsBadly behind) → IsNoBody b Chunked
 
 -- chunks that make it too long

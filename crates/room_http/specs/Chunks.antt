@@ -38,21 +38,21 @@ HasNoSizeLine b =
 abbrev pub HasNoLineEnd : List ℕ → Type 0
 HasNoLineEnd b = (rest : List ℕ) → b ≡ crlf_bytes ++ rest → ⊥
 
--- ---- after chunks of so many bytes that were read
+-- ---- after chunks of so many bytes that were read: the line of the next one is judged before its bytes
 
 -- in the place of the next chunk
-pub data IsNoChunk (b : List ℕ) : Type 0 where
-  has_no_line : HasNoSizeLine b → IsNoChunk b
+pub data IsNoChunk (size : ℕ) (b : List ℕ) : Type 0 where
+  has_no_line : HasNoSizeLine b → IsNoChunk size b
   -- the line, and fewer bytes than it tells
-  is_cut : (line : ChunkLine) (bytes : List ℕ) → IsSizeLine line
-      → b ≡ print_chunk_line line ++ bytes → length bytes < chunk_size line → IsNoChunk b
+  is_cut : (line : ChunkLine) (bytes : List ℕ) → IsSizeLine line → size + chunk_size line ≤ 16842752
+      → b ≡ print_chunk_line line ++ bytes → length bytes < chunk_size line → IsNoChunk size b
   -- the line, the bytes that it tells, and something else than CR LF
   has_no_end : (line : ChunkLine) (bytes rest : List ℕ) → IsSizeLine line → 0 < chunk_size line
-      → chunk_size line ≡ length bytes → b ≡ print_chunk_line line ++ bytes ++ rest
-      → HasNoLineEnd rest → IsNoChunk b
+      → size + chunk_size line ≤ 16842752 → chunk_size line ≡ length bytes
+      → b ≡ print_chunk_line line ++ bytes ++ rest → HasNoLineEnd rest → IsNoChunk size b
 
 -- a chunk that makes a body of more than 16842752 bytes
-abbrev pub IsTooLongWith : ℕ → List ℕ → Type 0
+abbrev pub IsTooLongWith : (size : ℕ) (b : List ℕ) → Type 0
 IsTooLongWith size b = (line : ChunkLine) × (rest : List ℕ) × IsSizeLine line
     × (b ≡ print_chunk_line line ++ rest) × (16842752 < size + chunk_size line)
 

@@ -80,7 +80,8 @@ EndsChunks before after body =
 abbrev pub ChunksAre : (before after : List ℕ → Type 0) (body : List ℕ) (chunks : Chunks) → Type 0
 ChunksAre before after body chunks_are.Whole = EndsChunks before after body
 ChunksAre before after body chunks_are.Invalid =
-    Takes before after (λ b rest. HasBehindChunks b (λ bytes behind. IsNoChunk behind))
+    Takes before after
+        (λ b rest. HasBehindChunks b (λ bytes behind. IsNoChunk (length bytes) behind))
 ChunksAre before after body chunks_are.TooLong = Takes before after (λ b rest. IsTooLongBody b)
 
 -- ---- trailers

@@ -1,3 +1,4 @@
+use Rattle.std.proofs.Common.{length}
 use Rattle.room_http.specs.Bodies.{HasBehindChunks, IsNoBody, has_no_chunk}
 use Rattle.room_http.specs.Chunks.{IsNoChunk}
 use Rattle.room_http.specs.declared.framing.Framing.TheVariants.{Chunked}
@@ -7,7 +8,7 @@ use Rattle.room_http.proofs.body.read_chunked.Goals as goal
 pub returns-in-Invalid-clause-is : goal.returns-in-Invalid-clause-is
 returns-in-Invalid-clause-is g c =
     let left = g.R.Source.left in
-    takes_so (left c.args.reader.now) (left c.read_chunks.new.reader) (λ b rest. HasBehindChunks b (λ bytes behind. IsNoChunk behind)) (λ b rest. IsNoBody b Chunked) (λ b rest h. has_no_chunk h)
+    takes_so (left c.args.reader.now) (left c.read_chunks.new.reader) (λ b rest. HasBehindChunks b (λ bytes behind. IsNoChunk (length bytes) behind)) (λ b rest. IsNoBody b Chunked) (λ b rest h. has_no_chunk h)
     (rw c.in-Invalid.is at c.in_ok-read_chunks.ensures.is)
 
 pub returns-then-not-branch-clause-is : goal.returns-then-not-branch-clause-is

@@ -11,7 +11,7 @@ returns-in-Invalid-clause-is g c =
     let left = g.R.Source.left in
     let so_far = c.chunks.invariant in
     let line = rw c.in-Invalid.is at c.in_ok-read_size_line.ensures.is in
-    takes_behind (left c.args.reader.now) (left c.chunks.reader) (left c.read_size_line.new.reader) so_far.0 so_far.1 c.chunks.body.items (λ body behind. IsNoChunk behind) so_far.2 so_far.4 so_far.3
+    takes_behind (left c.args.reader.now) (left c.chunks.reader) (left c.read_size_line.new.reader) so_far.0 so_far.1 c.chunks.body.items (λ body behind. IsNoChunk (length body) behind) so_far.2 so_far.4 so_far.3
     (line.0, line.1, λ rest h. has_no_line (line.2 rest h))
 
 pub returns-then-size-len-clause-is : goal.returns-then-size-len-clause-is
@@ -31,9 +31,11 @@ returns-then-not-branch-clause-is g c =
     let so_far = c.chunks.invariant in
     let line = rw c.in-Size.is at c.in_ok-read_size_line.ensures.is in
     let bulk = rw c.if-not-branch.true at c.in_ok-read_into-in-Size.ensures.is in
+    let body = c.chunks.body.items in
     let told : c.in-Size.size ≡ chunk_size line.0 = line.3 in
-    takes_behind (left c.args.reader.now) (left c.chunks.reader) (left c.read_into.new.reader) so_far.0 so_far.1 c.chunks.body.items (λ body behind. IsNoChunk behind) so_far.2 so_far.4 so_far.3
-    (chunk_cut (left c.chunks.reader) (left c.read_size_line.new.reader) (left c.read_into.new.reader) line.0 bulk.0 line.1 line.2 bulk.3 bulk.4 (omega (arith, told, bulk.1)))
+    let fits : length body + c.in-Size.size ≤ 16842752 = search rules in
+    takes_behind (left c.args.reader.now) (left c.chunks.reader) (left c.read_into.new.reader) so_far.0 so_far.1 c.chunks.body.items (λ body behind. IsNoChunk (length body) behind) so_far.2 so_far.4 so_far.3
+    (chunk_cut (left c.chunks.reader) (left c.read_size_line.new.reader) (left c.read_into.new.reader) (length body) line.0 bulk.0 line.1 (omega (arith, told, fits)) line.2 bulk.3 bulk.4 (omega (arith, told, bulk.1)))
 
 pub returns-then-not-branch-2-clause-is : goal.returns-then-not-branch-2-clause-is
 returns-then-not-branch-2-clause-is g c =
@@ -44,8 +46,10 @@ returns-then-not-branch-2-clause-is g c =
     let end = rw c.if-not-branch-2.true at c.in_ok-read_line_end-in-Size.ensures.is in
     let told : c.in-Size.size ≡ chunk_size line.0 = line.3 in
     let some : 0 < chunk_size line.0 = omega (arith, c.in-Size.size-test.1, told) in
-    takes_behind (left c.args.reader.now) (left c.chunks.reader) (left c.read_line_end.new.reader) so_far.0 so_far.1 c.chunks.body.items (λ body behind. IsNoChunk behind) so_far.2 so_far.4 so_far.3
-    (chunk_not_ended (left c.chunks.reader) (left c.read_size_line.new.reader) (left c.read_into.new.reader) (left c.read_line_end.new.reader) line.0 bulk.0 line.1 some (omega (arith, told, bulk.1)) line.2 bulk.3 end)
+    let body = c.chunks.body.items in
+    let fits : length body + c.in-Size.size ≤ 16842752 = search rules in
+    takes_behind (left c.args.reader.now) (left c.chunks.reader) (left c.read_line_end.new.reader) so_far.0 so_far.1 c.chunks.body.items (λ body behind. IsNoChunk (length body) behind) so_far.2 so_far.4 so_far.3
+    (chunk_not_ended (left c.chunks.reader) (left c.read_size_line.new.reader) (left c.read_into.new.reader) (left c.read_line_end.new.reader) (length body) line.0 bulk.0 line.1 some (omega (arith, told, fits)) (omega (arith, told, bulk.1)) line.2 bulk.3 end)
 
 pub chunks-preserved : goal.chunks-preserved
 chunks-preserved g c =
