@@ -2,7 +2,7 @@
 
 use crate::fault::RowFault;
 use crate::step::Step;
-use ipp_notation::spell;
+use ipp_notation::{explain, spell};
 use std::alloc::{AllocError, Global};
 
 /// The moment of a line that names none, in seconds since 1970-01-01T00:00:00Z.
@@ -134,6 +134,27 @@ impl Conversation {
         Ok(Some(script))
     }
 
+    /// The conversation that is read of what `explain` prints of its lines: the same one, if both have one notation.
+    pub fn explained(&self, alloc: Global) -> Result<Conversation, RowFault> {
+        let mut lines = String::new(alloc);
+        for asked in self.asked.as_slice() {
+            add_explained(alloc, &mut lines, "> ", asked.text.as_str())?;
+        }
+        add_explained(alloc, &mut lines, "< ", self.printed.as_str())?;
+        Conversation::read(alloc, lines.as_str())
+    }
+
+    /// All that is handed in, and behind it all that should be printed.
+    pub fn said(&self, alloc: Global) -> Result<String, AllocError> {
+        let mut said = String::new(alloc);
+        for asked in self.asked.as_slice() {
+            said.push_str(asked.text.as_str())?;
+            said.push_str("\n")?;
+        }
+        said.push_str(self.printed.as_str())?;
+        Ok(said)
+    }
+
     pub fn is_reopened(&self) -> bool {
         self.is_reopened
     }
@@ -149,6 +170,27 @@ fn add_words(text: &mut String, line: &str) -> Result<(), AllocError> {
     text.push_str(line)?;
     if line.split(' ').any(|word| word == "ipp") {
         text.push_str(" ")?;
+    }
+    Ok(())
+}
+
+/// Adds what `explain` prints of the text. What it prints of a message stands behind two spaces, and each other line gets
+/// the mark before it.
+fn add_explained(
+    alloc: Global,
+    lines: &mut String,
+    mark: &str,
+    text: &str,
+) -> Result<(), RowFault> {
+    let mut explained = Vec::new(alloc);
+    explain(alloc, text.as_bytes(), &mut explained)?;
+    let explained = String::from_utf8(explained).map_err(|_| RowFault::Text)?;
+    for line in explained.as_str().lines() {
+        if !line.starts_with("  ") {
+            lines.push_str(mark)?;
+        }
+        lines.push_str(line.trim_end())?;
+        lines.push_str("\n")?;
     }
     Ok(())
 }

@@ -79,7 +79,17 @@ fn conversation_differs(rt: &HostRuntime, lines: &str) -> Result<Option<String>,
             return Ok(Some(told(rt, way.name(), answered, expected)?));
         }
     }
-    Ok(None)
+    explained_differs(rt, &talk)
+}
+
+/// Where what `explain` prints of a conversation, read again, is another one.
+fn explained_differs(rt: &HostRuntime, talk: &Conversation) -> Result<Option<String>, Fault> {
+    let again = talk.explained(rt.alloc())?.said(rt.alloc())?;
+    let due = talk.said(rt.alloc())?;
+    match difference(again.as_str(), due.as_str()) {
+        Some((answered, expected)) => Ok(Some(told(rt, "explained", answered, expected)?)),
+        None => Ok(None),
+    }
 }
 
 /// Where an exchange does not hold: `serve_one` has to answer what the row says, also where each read and each write is
