@@ -81,7 +81,7 @@ abbrev pub ChunksAre : (before after : List ℕ → Type 0) (body : List ℕ) (c
 ChunksAre before after body chunks_are.Whole = EndsChunks before after body
 ChunksAre before after body chunks_are.Invalid =
     Takes before after
-        (λ b rest. HasBehindChunks b (λ bytes behind. IsNoChunk (length bytes) behind))
+    (λ b rest. HasBehindChunks b (λ bytes behind. IsNoChunk (length bytes) behind))
 ChunksAre before after body chunks_are.TooLong = Takes before after (λ b rest. IsTooLongBody b)
 
 -- ---- trailers
