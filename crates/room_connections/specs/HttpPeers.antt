@@ -25,10 +25,10 @@ abbrev pub IsAtRest : HttpPeer → Type 0
 IsAtRest peer = Rests (config_of (connection_of peer)) (history (connection_of peer))
 
 -- nothing came, nothing was answered and nothing went
-abbrev pub IsStill : HttpPeer → HttpPeer → Type 0
+abbrev pub IsStill : (before after : HttpPeer) → Type 0
 IsStill before after = history (connection_of after) ≡ history (connection_of before)
 
-abbrev pub KeepsLimits : HttpPeer → HttpPeer → Type 0
+abbrev pub KeepsLimits : (before after : HttpPeer) → Type 0
 KeepsLimits before after = config_of (connection_of after) ≡ config_of (connection_of before)
 
 module _ {S : Type 0} (store : Ghosts S) where

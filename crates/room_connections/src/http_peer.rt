@@ -1,6 +1,6 @@
 //! A connection of HTTP: where it stands, how long it may take, and how much it holds.
 
-ghost use Rattle.std.specs.Prelude.{◌≡◌, ◌≢◌, Some};
+ghost use Rattle.std.specs.Prelude.{◌≡◌, ◌≢◌, IsFalse, Some};
 ghost use Rattle.http_server.specs.Connection.{config_of, history};
 ghost use Rattle.http_server.specs.History.{new_history};
 ghost use Rattle.room_served.specs.Journals.{Continues};
@@ -14,6 +14,9 @@ use sqlite::Alter;
 use std::alloc::Global;
 use std::hash::RandomState;
 use std::io::{Read, Write};
+
+/// What begins the text that asks a client for the body of its request.
+const INVITATION: &[u8] = b"HTTP/1.1 100 ";
 
 /// A peer that speaks HTTP.
 #[derive(Drop)]
@@ -35,7 +38,7 @@ impl HttpPeer {
         ensures history { history (connection_of result) ≡ new_history }
         ensures head { (config_of (connection_of result)).limits.max_head_len ≡ 16384 }
         ensures body { (config_of (connection_of result)).max_body_len ≡ 16842752 }
-        ensures pending { (config_of (connection_of result)).max_pending ≡ 1024 }
+        ensures pending { (config_of (connection_of result)).max_pending ≡ 0 }
     {
         HttpPeer {
             connection: Connection::new(alloc, keys, connection_config()),
@@ -57,6 +60,7 @@ impl HttpPeer {
         ensures calls { MakesCalls S.Store self.old self.new served.old served.new }
         ensures continues { Continues S.Store served.old served.new }
         ensures rests { result ≡ Next.Wait → IsAtRest self.new }
+        ensures holds { result ≡ Next.Hold → IsFalse turn.has_room }
         ensures limits { KeepsLimits self.old self.new }
     {
         if self.parts {
@@ -76,6 +80,7 @@ impl HttpPeer {
     fn step<T: Read + Write>(&mut self, stream: &mut T, turn: Turn) -> Option<Next>
         ensures calls { calls_of self.new ≡ calls_of self.old }
         ensures waits { result ≡ Some Next.Wait → IsStill self.old self.new }
+        ensures holds { result ≡ Some Next.Hold → IsFalse turn.has_room }
         ensures limits { KeepsLimits self.old self.new }
     {
         if self.connection.is_done() {
@@ -101,15 +106,21 @@ impl HttpPeer {
     fn send<T: Write>(&mut self, stream: &mut T, now: u64) -> Option<Next>
         ensures calls { calls_of self.new ≡ calls_of self.old }
         ensures waits { result ≡ Some Next.Wait → IsStill self.old self.new }
+        ensures moves { result ≢ Some Next.Hold }
         ensures limits { KeepsLimits self.old self.new }
     {
         self.load.answered();
+        let invites = self.connection.output().starts_with(INVITATION);
         match self.connection.write_to(stream) {
             Ok(0) => Some(Next::Close),
             Ok(count) => {
                 self.patience.moved(count, now);
                 if !self.connection.wants_write() {
                     self.patience.rested(now);
+                    // The body of what was begun is to come.
+                    if invites {
+                        self.patience.moved(0, now);
+                    }
                 }
                 None
             }
@@ -120,6 +131,7 @@ impl HttpPeer {
     fn receive<T: Read>(&mut self, stream: &mut T, turn: Turn) -> Option<Next>
         ensures calls { calls_of self.new ≡ calls_of self.old }
         ensures waits { result ≡ Some Next.Wait → IsStill self.old self.new }
+        ensures moves { result ≢ Some Next.Hold }
         ensures limits { KeepsLimits self.old self.new }
     {
         match self.connection.read_from(stream) {
@@ -137,6 +149,7 @@ impl HttpPeer {
     fn finish(&mut self, now: u64) -> Next
         ensures connection { connection_of self.new ≡ connection_of self.old }
         ensures ends { result ≢ Next.Wait }
+        ensures moves { result ≢ Next.Hold }
     {
         match self.connection.state() {
             State::Closing(Reason::EndOfInput) | State::Aborted => Next::Close,

@@ -1,6 +1,6 @@
 //! A connection of lines: where it stands, and how long it may take.
 
-ghost use Rattle.std.specs.Prelude.{◌≡◌, ◌≢◌, [], Some};
+ghost use Rattle.std.specs.Prelude.{◌≡◌, ◌≢◌, [], IsFalse, Some};
 ghost use Rattle.room_served.specs.Journals.{Continues};
 ghost use Rattle.room_served.specs.Lines.{input_of, output_of, side_of};
 
@@ -53,6 +53,7 @@ impl LinePeer {
         ensures goes_on { TurnGoesOn S.Store result self.old self.new served.old served.new }
         ensures continues { Continues S.Store served.old served.new }
         ensures rests { result ≡ Next.Wait → HasTaken (lines_of self.new) }
+        ensures holds { result ≡ Next.Hold → IsFalse turn.has_room }
     {
         if self.parts {
             return drain(stream);
@@ -77,6 +78,7 @@ impl LinePeer {
         ensures goes_on { StepGoesOn S.Store result self.old self.new served.old served.new }
         ensures continues { Continues S.Store served.old served.new }
         ensures rests { result ≡ Some Next.Wait → HasTaken (lines_of self.new) }
+        ensures holds { result ≡ Some Next.Hold → IsFalse turn.has_room }
     {
         if self.connection.wants_write() {
             return self.send(stream, turn.now);
@@ -84,6 +86,10 @@ impl LinePeer {
         if !turn.has_room && self.connection.begins_start() {
             self.patience.held_back(turn.now);
             return Some(Next::Hold);
+        }
+        if self.patience.is_held_back() {
+            // It is let on, and has its time anew.
+            self.patience.moved(0, turn.now);
         }
         match self.connection.answer(served) {
             Ok(true) => None,
@@ -97,6 +103,7 @@ impl LinePeer {
     fn send<T: Write>(&mut self, stream: &mut T, now: u64) -> Option<Next>
         ensures sends { Sends (lines_of self.old) (lines_of self.new) }
         ensures waits { result ≡ Some Next.Wait → lines_of self.new ≡ lines_of self.old }
+        ensures moves { result ≢ Some Next.Hold }
     {
         match self.connection.write_to(stream) {
             Ok(0) => Some(Next::Close),
@@ -119,6 +126,7 @@ impl LinePeer {
         ensures receives { Receives (lines_of self.old) (lines_of self.new) }
         ensures waits { result ≡ Some Next.Wait
             → input_of (lines_of self.new) ≡ input_of (lines_of self.old) }
+        ensures moves { result ≢ Some Next.Hold }
     {
         match self.connection.read_from(stream) {
             Ok(0) => {
@@ -138,6 +146,7 @@ impl LinePeer {
     fn end(&mut self, now: u64) -> Option<Next>
         ensures ended { result ≢ Some Next.Close → IsEnded (lines_of self.old) (lines_of self.new) }
         ensures waits { result ≢ Some Next.Wait }
+        ensures moves { result ≢ Some Next.Hold }
     {
         self.has_ended = true;
         if self.connection.has_rest() {

@@ -1,5 +1,5 @@
 //! What a turn of a connection is told, and what it comes to.
-ghost use Rattle.std.specs.Prelude.{◌≢◌};
+ghost use Rattle.std.specs.Prelude.{◌≢◌, Some};
 
 use std::io;
 use std::io::{ErrorKind, Read};
@@ -48,7 +48,9 @@ pub(crate) fn was_all(count: usize, turn: Turn) -> bool {
 }
 
 /// What follows an error of a read or a write.
-pub(crate) fn after(error: &io::Error) -> Option<Next> {
+pub(crate) fn after(error: &io::Error) -> Option<Next>
+    ensures { result ≢ Some Next.Hold }
+{
     match error.kind() {
         ErrorKind::WouldBlock => Some(Next::Wait),
         ErrorKind::Interrupted => None,
@@ -59,7 +61,8 @@ pub(crate) fn after(error: &io::Error) -> Option<Next> {
 /// Reads and drops what still comes. Were a connection closed over bytes that nobody read, the system would take back the
 /// last answer.
 pub(crate) fn drain<T: Read>(stream: &mut T) -> Next
-    ensures { result ≢ Next.Wait }
+    ensures waits { result ≢ Next.Wait }
+    ensures holds { result ≢ Next.Hold }
 {
     let mut dropped = [0; DROPPED];
     for _ in 0..STEPS {

@@ -11,16 +11,16 @@ const HEAD_LIMIT: usize = 16_384;
 /// The most bytes of trailers, likewise.
 const TRAILERS_LIMIT: usize = 4_096;
 
-/// While more bytes than this wait to go, no request is answered, so that no peer has more than a few at a time.
-const MOST_PENDING: usize = 1_024;
+/// While more bytes than this wait to go, no request is answered.
+const MOST_PENDING: usize = 0;
 
-/// The limits of heads, bodies and trailers. A further request is answered only where nearly nothing waits to go, so that
-/// no peer has more than a few answered at a time.
+/// The limits of heads, bodies and trailers. A further request is answered only once the answer before it has gone, so that
+/// no peer has more than one answered at a time.
 pub fn connection_config() -> Config
     ensures head { result.limits.max_head_len ≡ 16384 }
     ensures trailers { result.limits.max_trailers_len ≡ 4096 }
     ensures body { result.max_body_len ≡ 16842752 }
-    ensures pending { result.max_pending ≡ 1024 }
+    ensures pending { result.max_pending ≡ 0 }
 {
     Config {
         limits: Limits {

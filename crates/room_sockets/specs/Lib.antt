@@ -1,1 +1,3 @@
 pub mod Halls
+pub mod Paces
+pub mod Stocks

@@ -1,11 +1,13 @@
 //! The peers of all doors, and the loop that waits for them.
 
+ghost use Rattle.std.specs.Prelude.{◌≡◌};
 ghost use Rattle.room_served.specs.Journals.{Continues};
-ghost use Rattle.room_sockets.specs.Halls.{AreOthersKept};
+ghost use Rattle.room_sockets.specs.Halls.{AreOthersKept, guests_of};
 
 use crate::clock::{moment, ticks};
 use crate::door::Door;
 use crate::guest::{Guest, Peer};
+use crate::pace::Pace;
 use crate::stock::Stock;
 use crate::stream::Stream;
 use mio::{Events, Interest, Poll, Token};
@@ -116,6 +118,7 @@ pub struct Hall {
     entrances: Vec<Entrance>,
     guests: Slab<Guest>,
     stock: Stock,
+    pace: Pace,
     /// When the deadlines were looked at last.
     swept: u64,
 }
@@ -150,7 +153,8 @@ impl Hall {
             entrances,
             guests: Slab::with_capacity(alloc, MOST_GUESTS)?,
             stock: Stock::new(),
-            swept: ticks(rt)?,
+            pace: Pace::new(ticks(rt)?),
+            swept: 0,
         })
     }
 
@@ -171,11 +175,18 @@ impl Hall {
         let timeout = self.timeout();
         self.poll.poll(&mut self.events, timeout)?;
         self.serve_all(clock, served);
-        let now = ticks(clock)?;
+        let now = self.now(clock)?;
         self.admit_all(now);
         self.let_on();
         self.sweep(now);
         Ok(())
+    }
+
+    /// The moment that deadlines go by.
+    fn now(&mut self, clock: &impl Clock) -> io::Result<u64>
+        ensures { guests_of self.new ≡ guests_of self.old }
+    {
+        Ok(self.pace.look(ticks(clock)?))
     }
 
     /// Where nobody is there, nothing but what comes is waited for.
@@ -253,7 +264,7 @@ impl Hall {
         ensures continues { Continues S.Store served.old served.new }
         ensures others { AreOthersKept key self.old self.new }
     {
-        let (Some(moment), Ok(now)) = (moment(clock), ticks(clock)) else {
+        let (Some(moment), Ok(now)) = (moment(clock), self.now(clock)) else {
             self.close(key);
             return;
         };
@@ -405,7 +416,7 @@ impl Hall {
     }
 
     fn drop_slow(&mut self, clock: &impl Clock, key: usize) {
-        let is_slow = match ticks(clock) {
+        let is_slow = match self.now(clock) {
             Ok(now) => self
                 .guests
                 .get(key)

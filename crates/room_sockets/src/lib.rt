@@ -6,6 +6,7 @@ mod clock;
 mod door;
 mod guest;
 mod hall;
+mod pace;
 mod stock;
 mod stream;
 

@@ -102,7 +102,7 @@ fn copies(rt: &HostRuntime, text: &[u8], count: u32) -> Result<Vec<u8>, Fail> {
     Ok(all)
 }
 
-/// A flood of requests is answered a few at a time, in order, and all of them in the end.
+/// A flood of requests is answered four at a time at most, in order, and all of them in the end.
 #[test]
 fn a_few_requests_a_turn(rt: HostRuntime) -> Result<(), Fail> {
     let mut rooms = open_rooms(&rt)?;
@@ -112,7 +112,7 @@ fn a_few_requests_a_turn(rt: HostRuntime) -> Result<(), Fail> {
     let mut next = peer.drive(&mut tape, &mut rooms, ROOM);
     assert_eq!(rt; next, Next::Again);
     assert!(rt; !tape.went.is_empty());
-    assert!(rt; tape.went.len() <= 32 * VALID.len());
+    assert!(rt; tape.went.len() <= 4 * VALID.len());
     for _ in 0..MANY {
         if next != Next::Again {
             break;
@@ -164,6 +164,31 @@ fn a_large_request_waits_for_room(rt: HostRuntime) -> Result<(), Fail> {
     Ok(())
 }
 
+/// A client that was asked for its body has as long for it as for the rest of what it began.
+#[test]
+fn a_body_that_was_asked_for(rt: HostRuntime) -> Result<(), Fail> {
+    let mut rooms = open_rooms(&rt)?;
+    let mut tape = Tape::of(
+        &rt,
+        b"POST /ipp/print/alice HTTP/1.1\r\nHost: localhost\r\nContent-Type: application/ipp\r\nContent-Length: 119\r\n\
+        Expect: 100-continue\r\n\r\n",
+    );
+    let mut peer = client(&rt)?;
+    assert_eq!(rt; peer.drive(&mut tape, &mut rooms, ROOM), Next::Wait);
+    assert_eq!(rt;
+        tape.went.as_slice(),
+        b"HTTP/1.1 100 Continue\r\n\r\n".as_slice()
+    );
+    assert!(rt; !peer.patience().rests());
+    assert!(rt; !peer.patience().is_over(10_000));
+    assert!(rt; peer.patience().is_over(10_001));
+    let mut tape = Tape::of(&rt, &VALIDATE[VALIDATE.len() - 119..]);
+    assert_eq!(rt; peer.drive(&mut tape, &mut rooms, ROOM), Next::Wait);
+    assert_eq!(rt; tape.went.as_slice(), VALID);
+    assert!(rt; peer.patience().rests());
+    Ok(())
+}
+
 /// How a connection ends: with its input, within a request, and with a refusal, behind which nothing more is answered.
 #[test]
 fn ends(rt: HostRuntime) -> Result<(), Fail> {
@@ -210,6 +235,12 @@ fn lines_in_turns(rt: HostRuntime) -> Result<(), Fail> {
     assert_eq!(rt; peer.drive(&mut tape, &mut rooms, ROOM), Next::Wait);
     assert_eq!(rt; tape.went.as_slice(), b"no-device\nno-device\n".as_slice());
     assert!(rt; !peer.patience().rests());
+    let mut tape = Tape::of(&rt, b" 4 done\nstart ");
+    assert_eq!(rt; peer.drive(&mut tape, &mut rooms, NO_ROOM), Next::Hold);
+    assert_eq!(rt; tape.went.as_slice(), b"no-device\n".as_slice());
+    assert!(rt; peer.patience().is_held_back());
+    assert_eq!(rt; peer.drive(&mut tape, &mut rooms, ROOM), Next::Wait);
+    assert!(rt; !peer.patience().is_held_back());
     let mut line = Vec::new(rt.alloc());
     line.resize(MOST_LINE, b'a')?;
     let mut tape = Tape::of(&rt, line.as_slice());
