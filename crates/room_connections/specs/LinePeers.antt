@@ -28,11 +28,13 @@ abbrev pub told : List LineCall → List ℕ
 told calls = flat_map (λ (call : LineCall). call.1) calls
 
 module _ {S : Type 0} (store : Ghosts S) (side : Side) where
-  -- each line is applied, once, or is a bad one, which changes nothing, and is told of
+  -- what each line says is applied, once, and told, or it is a bad one, which changes nothing, and
+  -- is told of
   abbrev pub Chain : Served S → List LineCall → Served S → Type 0
   Chain old [] new = new ≡ old
   Chain old (call ∷ calls) new = (next : Served S)
-      × (Asks store side old call.1 next ⊎ IsBad store old call.1 next) × Chain next calls new
+      × (Asks store side call.0 old call.1 next ⊎ IsBad store old call.1 next)
+      × Chain next calls new
 
 module _ {S : Type 0} (store : Ghosts S) where
   -- Bytes came, and the lines in them were taken in order; what was told of each waits behind the
@@ -83,5 +85,5 @@ pub record Refuses (before after : LineConnection) : Type 0 where
   pub side : side_of after ≡ side_of before
 
 -- no more comes: all was said, or what is left is told to be no line
-abbrev pub IsEnded : LineConnection → LineConnection → Type 0
+abbrev pub IsEnded : (before after : LineConnection) → Type 0
 IsEnded before after = (after ≡ before) ⊎ Refuses before after

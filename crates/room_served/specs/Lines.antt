@@ -5,6 +5,7 @@ use Rattle.std.specs.List.{position, starts_with}
 use Rattle.sqlite_trees.specs.declared.store.Store.{Ghosts}
 use Rattle.room_core.specs.declared.event.Reply.{Reply}
 use Rattle.room_lines.specs.Lines.{IsAllowed}
+use Rattle.room_lines.specs.Saying.{IsLineOf}
 use Rattle.room_lines.specs.declared.lines.Grammar.{Grammar}
 use Rattle.room_lines.specs.declared.lines.Grammar.TheVariants as grammar_is
 use Rattle.room_lines.specs.declared.line.Line.{Line}
@@ -54,16 +55,20 @@ abbrev pub Leaves : (given given2 : Option (List ℕ)) (before after : LineConne
 Leaves given given2 before after n =
     Appends given given2 (take n (output_of before)) × (output_of after ≡ drop n (output_of before))
 
--- it is a line, and one of those of the grammar
-abbrev pub IsAllowedEntry : Grammar → Entry → Type 0
-IsAllowedEntry grammar entry = (line : Line) × (entry ≡ entry_is.Line line) × IsAllowed grammar line
+-- it is the line that the text says, and one of those of the grammar
+abbrev pub IsEntryOf : (grammar : Grammar) (text : List ℕ) (entry : Entry) → Type 0
+IsEntryOf grammar text entry = (line : Line) × (entry ≡ entry_is.Line line)
+    × IsAllowed grammar line × IsLineOf grammar text line
 
 module _ {S : Type 0} (store : Ghosts S) where
-  -- what a line asks for is applied, once, at the moment, and stands in the journal; what it came
-  -- to is told
-  pub record Asks (side : Side) (old : Served S) (text : List ℕ) (new : Served S) : Type 0 where
+  -- what a line that came asks for is applied, once, at the moment, and stands in the journal; what
+  -- it came to is told
+  pub record Asks (side : Side) (came : List ℕ) (old : Served S) (text : List ℕ) (new : Served S)
+      : Type 0 where
+    pub line : List ℕ
+    pub ended : came ≡ line ++ 10 ∷ []
     pub entry : Entry
-    pub allowed : IsAllowedEntry (grammar_of side (moment_of old)) entry
+    pub said : IsEntryOf (grammar_of side (moment_of old)) line entry
     pub told : Result Reply StoreFault
     pub journal : journal new ≡ journal old ++ (entry, told) ∷ []
     pub applies : Applies store entry (store_of old) (store_of new) told
@@ -81,7 +86,8 @@ module _ {S : Type 0} (store : Ghosts S) where
     pub rest : input_of after ≡ drop (end + 1) (input_of before)
     pub text : List ℕ
     pub output : output_of after ≡ output_of before ++ text
-    pub gives : Asks (side_of before) old text new ⊎ IsBad old text new
+    pub gives : Asks (side_of before) (take (end + 1) (input_of before)) old text new
+        ⊎ IsBad old text new
 
 -- no line is whole yet, and nothing has changed
 pub record IsWaiting {S : Type 0} (before after : LineConnection) (old new : Served S)

@@ -1,7 +1,7 @@
 //! A connection of lines: what came and is no whole line yet, and answers that wait to go.
 ghost use Rattle.std.specs.Prelude.{◌≡◌, ◌<◌, ◌≤◌, ◌+◌, ◌++◌, [], codes, length, nat_lt, false, true, IfOk, IfSome, OnErr, OnOk, Ok};
 ghost use Rattle.room_served.specs.Journals.{Continues};
-ghost use Rattle.room_served.specs.Lines.{Comes, IsAllowedEntry, IsWaiting, Leaves, Takes, begins_start, grammar_of, input_of, line_end, output_of, side_of};
+ghost use Rattle.room_served.specs.Lines.{Comes, IsEntryOf, IsWaiting, Leaves, Takes, begins_start, grammar_of, input_of, line_end, output_of, side_of};
 
 use crate::entry::Entry;
 use crate::line_text::{put_bad, put_told};
@@ -170,7 +170,7 @@ fn line_end(input: &[u8]) -> Option<usize>
 
 /// What a line asks for, or `None` where it is a bad one.
 fn entry_of(alloc: Global, grammar: Grammar, line: &[u8]) -> Result<Option<Entry>, AllocError>
-    ensures { IfOk result (λ entry. IfSome entry (λ entry. IsAllowedEntry grammar entry)) }
+    ensures { IfOk result (λ entry. IfSome entry (IsEntryOf grammar line.now)) }
 {
     if line.len() > MOST_LINE {
         return Ok(None);
