@@ -1,6 +1,6 @@
 -- Which events of a list were answered, which failed, and what was answered (all this project's
 -- own).
-use Rattle.std.specs.Prelude.{◌≡◌, ℕ, Bool, List, [], ◌∷◌, Result, Ok, Err, if◌then◌else◌}
+use Rattle.std.specs.Prelude.{◌≡◌, ℕ, Bool, List, [], ◌∷◌, Option, Some, None, Result, Ok, Err, if◌then◌else◌}
 use Rattle.room_core.specs.declared.event.Event.{Event}
 use Rattle.room_core.specs.declared.event.Reply.{Reply}
 use Rattle.room_store.specs.declared.fault.StoreFault.{StoreFault}
@@ -11,6 +11,10 @@ use Rattle.room_serve.specs.Own.{Timed, own}
 abbrev pub outcome_of : Result Reply StoreFault → Outcome
 outcome_of (Ok reply) = Answered reply
 outcome_of (Err fault) = Failed fault
+
+abbrev pub reply_of : Outcome → Option Reply
+reply_of (Answered reply) = Some reply
+reply_of (Failed fault) = None
 
 -- the events that were answered, in order
 abbrev pub answered_of : List Timed → List Outcome → List Timed

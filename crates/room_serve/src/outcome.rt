@@ -1,7 +1,7 @@
 //! What an event of a list came to.
 
-ghost use Rattle.std.specs.Prelude.{◌≡◌};
-ghost use Rattle.room_serve.specs.Outcomes.{outcome_of};
+ghost use Rattle.std.specs.Prelude.{◌≡◌, option_copied};
+ghost use Rattle.room_serve.specs.Outcomes.{outcome_of, reply_of};
 
 use room_core::Reply;
 use room_store::StoreFault;
@@ -16,7 +16,9 @@ pub enum Outcome {
 
 impl Outcome {
     /// What was answered, if it was.
-    pub fn reply(&self) -> Option<&Reply> {
+    pub fn reply(&self) -> Option<&Reply>
+        ensures { option_copied result ≡ reply_of self.now }
+    {
         match self {
             Outcome::Answered(reply) => Some(reply),
             Outcome::Failed(_) => None,
