@@ -1,3 +1,4 @@
+pub mod Limits
 pub mod Plain
 pub mod Spelling
 pub mod Reading

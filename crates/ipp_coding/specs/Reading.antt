@@ -2,6 +2,7 @@
 -- law: `reading_is_spelling`.)
 use Rattle.std.specs.Prelude.{◌≡◌, ℕ, zero, suc, List, [], ◌∷◌, ◌++◌, length, take, drop, slice_index, Bool, false, ◌&&◌, not, Option, Some, None, Result, Ok, Err, nat_lt, nat_le, ◌==◌, if◌then◌else◌}
 use Rattle.byteorder.specs.Endian.{big_number}
+use Rattle.ipp_coding.specs.Limits.{longest_field}
 use Rattle.ipp_coding.specs.declared.message.Header.{Header}
 use Rattle.ipp_coding.specs.declared.fault.ReadFault.{ReadFault}
 use Rattle.ipp_coding.specs.declared.fault.ReadFault.TheVariants.{Malformed, Memory}
@@ -50,7 +51,7 @@ prefixed_at bytes =
 unfoldable pub field_at : List ℕ → Option (List ℕ × List ℕ)
 field_at bytes = do
   field ← prefixed_at bytes
-  if nat_lt 32767 (length field.0) then None else Some field
+  if nat_lt longest_field (length field.0) then None else Some field
 
 abbrev pub begins_value : List ℕ → Bool
 begins_value [] = false

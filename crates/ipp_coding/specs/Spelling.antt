@@ -2,6 +2,7 @@
 use Rattle.std.specs.Prelude.{◌≡◌, ◌≢◌, ℕ, ◌<◌, ◌≤◌, ◌^◌, List, [], ◌∷◌, ◌++◌, length}
 use Rattle.std.specs.List.{flat_map, AllByRecursion}
 use Rattle.byteorder.specs.Endian.{big_bytes}
+use Rattle.ipp_coding.specs.Limits.{longest_field}
 use Rattle.ipp_coding.specs.declared.message.Header.{Header}
 use Rattle.ipp_coding.specs.Plain.{PlainValue, PlainAttribute, PlainGroup, PlainMessage}
 
@@ -45,13 +46,12 @@ message_spelling m =
 
 -- ---- which parts have a spelling
 
--- a name or a value has at most 32767 bytes (this project's bound: of the two bytes of a length the
--- top bit stays clear)
+-- a name or a value
 abbrev pub Fits : List ℕ → Type 0
-Fits bytes = length bytes ≤ 32767
+Fits bytes = length bytes ≤ longest_field
 
--- value tags are 0x10 to 0xFF (RFC 8010 section 3.5.2): each stands among the bytes that are spelled, so
--- that no bytes are spelled by a higher one
+-- value tags are 0x10 to 0xFF (RFC 8010 section 3.5.2): each stands among the bytes that are
+-- spelled, so that no bytes are spelled by a higher one
 pub record IsValue (v : PlainValue) : Type 0 where
   pub tag : 16 ≤ v.tag
   pub bytes : Fits v.bytes

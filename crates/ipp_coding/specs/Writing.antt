@@ -2,10 +2,11 @@
 use Rattle.std.specs.Prelude.{◌≡◌, ℕ, List, length, Option, Some, None, Result, Ok, Err, nat_lt, nat_le, Bool, ◌==◌, if◌then◌else◌}
 use Rattle.ipp_coding.specs.declared.fault.PutFault.{PutFault}
 use Rattle.ipp_coding.specs.declared.fault.PutFault.TheVariants.{TooLong, EmptyName, BadTag, Memory}
+use Rattle.ipp_coding.specs.Limits.{longest_field}
 use Rattle.ipp_coding.specs.Reading.{is_group_tag}
 
 abbrev pub is_too_long : List ℕ → Bool
-is_too_long bytes = nat_lt 32767 (length bytes)
+is_too_long bytes = nat_lt longest_field (length bytes)
 
 -- value tags begin at 0x10
 abbrev pub is_value_tag : ℕ → Bool

@@ -34,8 +34,8 @@ pub struct Group<'a> {
     pub attributes: List<Attribute<'a>>,
 }
 
-/// An attribute: its name and its values, of which it has at least one. A collection is the flat
-/// list of its tagged values.
+/// An attribute: its name and its values, of which it has at least one. The values of a
+/// collection stand among them as they come.
 #[derive(Debug, Drop)]
 pub struct Attribute<'a> {
     pub name: &'a [u8],

@@ -17,9 +17,6 @@ mod syntaxes;
 mod value_tag;
 
 pub use fault::NotationFault;
-pub use group_tag::GroupTag;
 pub use lines::explain;
 pub use operation::Operation;
 pub use spelling::spell;
-pub use status::Status;
-pub use value_tag::ValueTag;

@@ -14,6 +14,6 @@ pub use accepting::{check_accepting, is_accepting, printer_now};
 pub use as_job::AsJob;
 pub use granting::check_grant;
 pub use part::{Part, handed};
-pub use response::{begun, done, ended, refused, with_job, with_jobs, with_printer};
+pub use response::{done, refused, with_job, with_jobs, with_printer};
 pub use station::{check_on, known_device, left_after, ready_device};
 pub use text::{line, success};

@@ -7,7 +7,7 @@ use Rattle.ipp_coding.specs.Spelling.{IsAttribute, IsGroup, IsValue}
 use Rattle.room_asks.specs.declared.operation.Operation.{Operation}
 use Rattle.room_asks.specs.Operations.{makes_job}
 use Rattle.room_asks.specs.Requests.{is_named, job_group}
-use Rattle.room_asks.specs.Templates.{template_attributes, is_known, unknown, returned, is_supported, firsts, unsupported}
+use Rattle.room_asks.specs.Templates.{template_attributes, is_known, unsupported_values, returned, is_supported, firsts, unsupported}
 
 abbrev pub AreSpelled : List PlainAttribute → Type 0
 AreSpelled attributes = AllByRecursion IsAttribute attributes
@@ -37,7 +37,7 @@ templates_spelled operation m all = where_read (makes_job operation) (unwrap_or 
 unknown_spelled : IsValue (record { tag = 0x10; bytes = [] })
 unknown_spelled = record { tag = lit≤ tt; bytes = lit≤ tt }
 
-known_or_unknown : (known : Bool) (attribute : PlainAttribute) → IsAttribute attribute → IsAttribute (if known then attribute else record { name = attribute.name; values = unknown })
+known_or_unknown : (known : Bool) (attribute : PlainAttribute) → IsAttribute attribute → IsAttribute (if known then attribute else record { name = attribute.name; values = unsupported_values })
 known_or_unknown true attribute spelled = spelled
 known_or_unknown false attribute spelled = record { named = spelled.named; name = spelled.name; values = (unknown_spelled, tt) }
 

@@ -42,8 +42,8 @@ is_supported attribute =
     else false
 
 -- the value of an attribute that is not known at all: unsupported 0x10 (RFC 8011 section 4.1.7)
-abbrev pub unknown : List PlainValue
-unknown = record { tag = 0x10; bytes = [] } ∷ []
+abbrev pub unsupported_values : List PlainValue
+unsupported_values = record { tag = 0x10; bytes = [] } ∷ []
 
 abbrev pub is_known : PlainAttribute → Bool
 is_known attribute =
@@ -54,7 +54,7 @@ abbrev pub returned : PlainAttribute → PlainAttribute
 returned attribute =
     if is_known attribute
     then attribute
-    else record { name = attribute.name; values = unknown }
+    else record { name = attribute.name; values = unsupported_values }
 
 -- the first attribute of each name, in the order of the request: of several with one name the first
 -- counts (this project's rule)

@@ -5,7 +5,7 @@ ghost use Rattle.ipp_coding.specs.Plain.{plain_value, plain_attribute, plain_mes
 ghost use Rattle.room_rules.specs.Limits.{most_copies};
 ghost use Rattle.room_asks.specs.declared.ask.AskFault.TheVariants.{Memory};
 ghost use Rattle.room_asks.specs.Requests.{lone_value};
-ghost use Rattle.room_asks.specs.Templates.{template_attributes, up_to_most, copies_said, copies, is_indefinite, holds_for_good, is_supported, is_known, unknown, returned, unsupported};
+ghost use Rattle.room_asks.specs.Templates.{template_attributes, up_to_most, copies_said, copies, is_indefinite, holds_for_good, is_supported, is_known, unsupported_values, returned, unsupported};
 
 use crate::ask::AskFault;
 use crate::firsts::firsts_in;

@@ -15,7 +15,8 @@ use Rattle.room_tables.specs.Tables.{account as account_table, grants as grants_
 use Rattle.room_tables.specs.Keyed.{SetsRow}
 use Rattle.room_tables.specs.Cells.{account_cells, job_cells, grant_cells}
 use Rattle.room_tables.specs.Accounts.{job_at, account_of, HoldsRows, HoldsRoom, HoldsNothing}
-use Rattle.room_changes.specs.Rows.{SetsStanding, AddsJob, Restands, EndsJob}
+use Rattle.room_changes.specs.Rows.{AddsJob, Restands, EndsJob}
+use Rattle.room_statements.specs.Updates.{SetsStanding}
 use Rattle.room_changes.proofs.OwnRows.{account_held, job_held, documents_removed, grant_held, added_document_held, opened_held}
 
 pub opened_room : (name : List ℕ) (old new : Database) (now : ℕ) → now ≤ last_moment → SetsRow account_table (account_cells name (record { opened = now; next_job = 1 })) old new → HoldsNothing old name → HoldsRoom new name (empty_room now)

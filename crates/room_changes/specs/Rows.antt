@@ -3,14 +3,14 @@
 use Rattle.std.specs.Prelude.{◌≡◌, ℕ, ◌+◌, Bool, true, false, pos, ⊤, List, [], ◌∷◌, Option, Some, None}
 use Rattle.sqlite_value.specs.declared.value.Value.TheVariants.{Text}
 use Rattle.sqlite.specs.Effect.{Database}
-use Rattle.room_rules.specs.declared.account.Account.{Account}
 use Rattle.room_rules.specs.declared.job.Document.{Document}
 use Rattle.room_rules.specs.declared.job.Job.{Job}
 use Rattle.room_rules.specs.declared.job.Standing.{Standing}
-use Rattle.room_tables.specs.Tables.{account as account_table, job as job_table, document as document_table, device as device_table, rates as rates_table}
+use Rattle.room_statements.specs.Updates.{SetsNextJob, SetsStanding}
+use Rattle.room_tables.specs.Tables.{job as job_table, document as document_table, device as device_table, rates as rates_table}
 use Rattle.room_tables.specs.Keyed.{SetsRow, RemovesRows}
-use Rattle.room_tables.specs.Cells.{number, account_cells, job_cells, document_cells, on_cells, units_cells}
-use Rattle.room_tables.specs.Accounts.{account_at, job_at, document_at}
+use Rattle.room_tables.specs.Cells.{number, job_cells, document_cells, on_cells, units_cells}
+use Rattle.room_tables.specs.Accounts.{document_at}
 
 -- one document more, if there is one
 abbrev pub AddsDocument : (name : List ℕ) (first : Option Document) (old new : Database) → Type 0
@@ -22,20 +22,6 @@ abbrev pub IsFree : (name : List ℕ) (first : Option Document) (db : Database) 
 IsFree name None db = ⊤
 IsFree name (Some it) db = document_at db name (pos it.job) (pos it.number) ≡ None
 
--- the standing of a job that is there
-abbrev pub SetsStanding :
-    (name : List ℕ) (number : ℕ) (standing : Standing) (old new : Database) →
-    Type 0
-SetsStanding name number standing old new =
-    (it : Job) → job_at old name (pos number) ≡ Some (job_cells name it) →
-    SetsRow job_table (job_cells name (record it { standing = standing })) old new
-
--- the next number of an account that is there
-abbrev pub SetsNext : (name : List ℕ) (next : ℕ) (old new : Database) → Type 0
-SetsNext name next old new =
-    (it : Account) → account_at old name ≡ Some (account_cells name it) →
-    SetsRow account_table (account_cells name (record it { next_job = next })) old new
-
 -- a job with its first document or with none, and the number after it
 pub record AddsJob
     (name : List ℕ) (it : Job) (first : Option Document) (old new : Database) : Type 0 where
@@ -43,7 +29,7 @@ pub record AddsJob
   pub with_document : Database
   pub job_row : SetsRow job_table (job_cells name it) old with_job
   pub document_row : AddsDocument name first with_job with_document
-  pub account_row : SetsNext name (it.job + 1) with_document new
+  pub account_row : SetsNextJob name (it.job + 1) with_document new
 
 -- a job takes its next document or none, and stands otherwise
 pub record Restands

@@ -13,7 +13,8 @@ ghost use Rattle.room_tables.specs.Calls.{Changes, IsWhole, OfStore, StaysInside
 ghost use Rattle.room_tables.specs.Cells.{account_cells, job_cells};
 ghost use Rattle.room_changes.specs.Alone.{OnlyAccount};
 ghost use Rattle.room_changes.specs.NewDocuments.{document_of, first_of};
-ghost use Rattle.room_changes.specs.Rows.{AddsJob, EndsJob, IsFree, Restands, SetsNext};
+ghost use Rattle.room_changes.specs.Rows.{AddsJob, EndsJob, IsFree, Restands};
+ghost use Rattle.room_statements.specs.Updates.{SetsNextJob};
 
 use crate::document::NewDocument;
 use room_rules::{Job, Name, Standing};
@@ -143,7 +144,7 @@ fn count_on<S: Alter>(
 ) -> Result<(), TableFault>
     requires { job.now.job < last_next_job }
     ensures counts { Changes S.Store transaction.old.conn.now transaction.new.conn.now result
-        (SetsNext name (job.now.job + 1)) }
+        (SetsNextJob name (job.now.job + 1)) }
     ensures undamaged { result ≡ Err TableFault.Damaged → ⊥ }
     ensures inside { StaysInside S.Store transaction.old.conn transaction.new.conn result }
 {

@@ -4,9 +4,9 @@ use Rattle.std.specs.Prelude.{Option, None, Some}
 use Rattle.std.specs.Io.KnownBytes.{Appends, IsAtEnd}
 use Rattle.std.proofs.KnownBytes.{Appends-nil, Appends-trans}
 use Rattle.std.proofs.lemmas.List.Elements.{All-head, All-tail}
-use Rattle.room_client.specs.Sending.{AppendsFront, SendsAll, SendsFront, SendsOn, as_lines}
+use Rattle.room_client.specs.Sending.{AppendsUpTo, SendsAll, SendsFront, SendsOn, as_lines}
 use Rattle.room_client.specs.Taking.{HasNoFeed, IsAtKnownEnd, IsLine, TakesLine}
-use Rattle.room_client.proofs.Fronts.{AppendsFront-behind, AppendsFront-longer}
+use Rattle.room_client.proofs.Fronts.{AppendsUpTo-behind, AppendsUpTo-longer}
 
 pub as_lines-line : (line rest : List ℕ) → as_lines (line ++ 10 ∷ rest) ≡ line ++ 10 ∷ as_lines rest
 as_lines-line [] [] = refl
@@ -52,12 +52,12 @@ SendsOn-line (Some text) input_after before after line taken short sent =
 
 pub SendsFront-line : (input_before input_after before after : Option (List ℕ)) (line : List ℕ)
     → TakesLine input_before input_after line → IsLine line
-    → AppendsFront before after (line ++ codes "\n") → SendsFront input_before before after
+    → AppendsUpTo before after (line ++ codes "\n") → SendsFront input_before before after
 SendsFront-line None input_after before after line taken short sent = tt
 SendsFront-line (Some text) input_after before after line taken short sent =
     let first = line_first text input_after line taken short in
-    subst (AppendsFront before after) (sym first.2)
-    (AppendsFront-longer before after (line ++ codes "\n") (as_lines first.0) sent)
+    subst (AppendsUpTo before after) (sym first.2)
+    (AppendsUpTo-longer before after (line ++ codes "\n") (as_lines first.0) sent)
 
 pub SendsOn-trans : (a b c before between after : Option (List ℕ))
     → SendsOn a b before between → SendsOn b c between after → SendsOn a c before after
@@ -76,8 +76,8 @@ pub SendsFront-behind : (a b before between after : Option (List ℕ))
 SendsFront-behind None b before between after first second = tt
 SendsFront-behind (Some text) b before between after first second =
     let next = subst (λ o. SendsFront o between after) first.1 second in
-    subst (AppendsFront before after) (sym first.3)
-    (AppendsFront-behind before between after first.2 (as_lines first.0) first.4 next)
+    subst (AppendsUpTo before after) (sym first.3)
+    (AppendsUpTo-behind before between after first.2 (as_lines first.0) first.4 next)
 
 -- nothing is left
 pub SendsAll-end : (a b before after : Option (List ℕ)) → SendsOn a b before after

@@ -4,7 +4,7 @@ use Rattle.std.specs.List.{flat_map}
 use Rattle.std.specs.Io.KnownBytes.{Appends}
 use Rattle.room_grants.specs.Files.{records_of}
 use Rattle.room_grants.specs.Lines.{grant_lines}
-use Rattle.room_client.specs.Sending.{AppendsFront}
+use Rattle.room_client.specs.Sending.{AppendsUpTo}
 use Rattle.room_grants.specs.declared.line.GrantLine.{GrantLine}
 use Rattle.room_grants.specs.declared.line.GrantLine.TheVariants.{Good, Bad}
 
@@ -16,18 +16,18 @@ abbrev pub month_text : ℕ → List ℕ
 month_text month = two_digits (month / 12 / 100) ++ two_digits (month / 12 % 100) ++ codes "-"
     ++ two_digits (month % 12 + 1)
 
-abbrev pub grant_line : (account : List ℕ) (month pages : ℕ) → List ℕ
-grant_line account month pages =
+abbrev pub grant_text : (account : List ℕ) (month pages : ℕ) → List ℕ
+grant_text account month pages =
     codes "grant " ++ account ++ codes " " ++ month_text month ++ codes " " ++ decimal pages
 
 -- a bad record asks for none
 abbrev pub line_asked : GrantLine → Option (List ℕ)
-line_asked (Good account month pages) = Some (grant_line account month pages)
+line_asked (Good account month pages) = Some (grant_text account month pages)
 line_asked (Bad number) = None
 
 -- a good record asks for a line, with the line feed that ends it
 abbrev pub record_sent : GrantLine → List ℕ
-record_sent (Good account month pages) = grant_line account month pages ++ codes "\n"
+record_sent (Good account month pages) = grant_text account month pages ++ codes "\n"
 record_sent (Bad number) = []
 
 -- one record after another
@@ -42,4 +42,4 @@ SendsFile left before after = (file : List ℕ) × left file
 -- a front of that, or all of it, was sent
 abbrev pub SendsFileFront : (left : List ℕ → Type 0) (before after : Option (List ℕ)) → Type 0
 SendsFileFront left before after = (file : List ℕ) × left file
-    × AppendsFront before after (records_sent (grant_lines (records_of file)))
+    × AppendsUpTo before after (records_sent (grant_lines (records_of file)))

@@ -9,8 +9,8 @@ as_lines (last ∷ []) = if last == 10 then last ∷ [] else last ∷ codes "\n"
 as_lines (byte ∷ next ∷ rest) = byte ∷ as_lines (next ∷ rest)
 
 -- a front of the bytes, or all of them, were written behind what was there
-abbrev pub AppendsFront : (before after : Option (List ℕ)) (bytes : List ℕ) → Type 0
-AppendsFront before after bytes = (front : List ℕ) × (rest : List ℕ) × (bytes ≡ front ++ rest)
+abbrev pub AppendsUpTo : (before after : Option (List ℕ)) (bytes : List ℕ) → Type 0
+AppendsUpTo before after bytes = (front : List ℕ) × (rest : List ℕ) × (bytes ≡ front ++ rest)
     × Appends before after front
 
 -- what was taken of the input so far was sent as whole lines
@@ -25,4 +25,4 @@ SendsAll input before after = IfSome input (λ text. Appends before after (as_li
 
 -- a front of that, or all of it, was sent
 abbrev pub SendsFront : (input before after : Option (List ℕ)) → Type 0
-SendsFront input before after = IfSome input (λ text. AppendsFront before after (as_lines text))
+SendsFront input before after = IfSome input (λ text. AppendsUpTo before after (as_lines text))

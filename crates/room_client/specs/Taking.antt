@@ -1,4 +1,5 @@
--- What is taken of a reader, a line at a time (all this project's own).
+-- What is taken of a reader, a line at a time (all this project's own); for the proof of the code
+-- alone but for `HasNoFeed`.
 use Rattle.std.specs.Prelude.{◌≡◌, ◌≢◌, ℕ, ◌<◌, ◌≤◌, All, List, [], ◌++◌, codes, length, Option, OnSome, ◌⊎◌}
 use Rattle.std.specs.Io.KnownBytes.{Consumes, IsAtEnd}
 use Rattle.room_client.specs.declared.line.Taken.{Taken}

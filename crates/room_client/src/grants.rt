@@ -1,11 +1,12 @@
 //! Files of grants that are sent record by record.
 ghost use Rattle.std.specs.Prelude.{◌≡◌, ◌-◌, ◌^◌, ◌<◌, ◌≤◌, ◌++◌, All, IfOk, OnErr, OnOk, Some, codes, decimal, option_map};
 ghost use Rattle.std.specs.Io.KnownBytes.{Appends};
+ghost use Rattle.room_rules.specs.Limits.{first_month, last_month};
 ghost use Rattle.room_client.specs.Answers.{answer_said};
-ghost use Rattle.room_client.specs.Grants.{SendsFile, SendsFileFront, grant_line, line_asked, record_sent, records_sent};
+ghost use Rattle.room_client.specs.Grants.{SendsFile, SendsFileFront, grant_text, line_asked, record_sent, records_sent};
 ghost use Rattle.room_client.specs.GrantReplies.{FileAnswered, GrantAnswered, GrantsAnswered, HearsResult};
 ghost use Rattle.room_client.specs.Peers.{reader_of, writer_of};
-ghost use Rattle.room_client.specs.Sending.{AppendsFront};
+ghost use Rattle.room_client.specs.Sending.{AppendsUpTo};
 ghost use Rattle.room_grants.specs.Lines.{IsInRange};
 
 use crate::answer::Answer;
@@ -49,7 +50,7 @@ fn send_records<R: BufRead, W: Write, O: Write>(
     requires { All IsInRange records.now }
     ensures sent { OnOk result (Appends (W.contents peer.old.writer) (W.contents peer.new.writer)
         (records_sent records.now)) }
-    ensures front { AppendsFront (W.contents peer.old.writer) (W.contents peer.new.writer)
+    ensures front { AppendsUpTo (W.contents peer.old.writer) (W.contents peer.new.writer)
         (records_sent records.now) }
     ensures answered { IfOk result (GrantsAnswered records.now
         (R.remaining peer.old.reader) (R.remaining peer.new.reader)
@@ -75,7 +76,7 @@ fn send_record<R: BufRead, W: Write, O: Write>(
     requires { IsInRange said.now }
     ensures sent { OnOk result (Appends (W.contents peer.old.writer) (W.contents peer.new.writer)
         (record_sent said.now)) }
-    ensures front { AppendsFront (W.contents peer.old.writer) (W.contents peer.new.writer)
+    ensures front { AppendsUpTo (W.contents peer.old.writer) (W.contents peer.new.writer)
         (record_sent said.now) }
     ensures answered { IfOk result (GrantAnswered said.now number
         (R.remaining peer.old.reader) (R.remaining peer.new.reader)
@@ -145,15 +146,15 @@ fn line_of(alloc: Global, said: &GrantLine) -> Result<Option<Vec<u8>>, AllocErro
             account,
             month,
             pages,
-        } => Ok(Some(grant_line(alloc, &account, month, pages)?)),
+        } => Ok(Some(grant_text(alloc, &account, month, pages)?)),
         GrantLine::Bad(_) => Ok(None),
     }
 }
 
-fn grant_line(alloc: Global, account: &Name, month: u32, pages: u32) -> Result<Vec<u8>, AllocError>
-    requires first { 23640 ≤ month }
-    requires last { month ≤ 25199 }
-    ensures { IfOk result (λ line. line.items ≡ grant_line account.now month pages) }
+fn grant_text(alloc: Global, account: &Name, month: u32, pages: u32) -> Result<Vec<u8>, AllocError>
+    requires first { first_month ≤ month }
+    requires last { month ≤ last_month }
+    ensures { IfOk result (λ line. line.items ≡ grant_text account.now month pages) }
 {
     let mut line = Vec::new(alloc);
     line.extend_from_slice(b"grant ")?;

@@ -1,12 +1,13 @@
 //! Months as lines write them.
 ghost use Rattle.std.specs.Prelude.{◌≡◌, ◌+◌, ◌<◌, ◌≤◌, slice_index};
 ghost use Rattle.room_fields.specs.Fields.{digit_said, month_said, two_digits_said};
+ghost use Rattle.room_rules.specs.Limits.{first_month, last_month};
 ghost use Rattle.room_client.specs.Grants.{month_text, two_digits};
 
 /// The month of the number, twelve times the year and 0 for January to 11 for December, as `YYYY-MM`.
 pub(crate) fn month_text(month: u32) -> [u8; 7]
-    requires first { 23640 ≤ month }
-    requires last { month ≤ 25199 }
+    requires first { first_month ≤ month }
+    requires last { month ≤ last_month }
     ensures text { result ≡ month_text month }
     ensures reads { month_said result ≡ Some month }
 {

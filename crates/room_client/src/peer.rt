@@ -2,7 +2,7 @@
 ghost use Rattle.std.specs.Prelude.{◌≡◌, ◌++◌, codes, length, IfOk, IsTrue, OnOk};
 ghost use Rattle.std.specs.Io.KnownBytes.{Appends, Consumes};
 ghost use Rattle.room_client.specs.Answers.{is_text};
-ghost use Rattle.room_client.specs.Sending.{AppendsFront};
+ghost use Rattle.room_client.specs.Sending.{AppendsUpTo};
 
 use crate::answer::is_text;
 use crate::bytes::{take_bytes, take_feed};
@@ -34,7 +34,7 @@ impl<R: BufRead, W: Write> Peer<R, W> {
     pub(crate) fn say(&mut self, line: &[u8]) -> Result<(), ClientFault>
         ensures sent { OnOk result (Appends (W.contents self.old.writer)
             (W.contents self.new.writer) (line.now ++ codes "\n")) }
-        ensures front { AppendsFront (W.contents self.old.writer) (W.contents self.new.writer)
+        ensures front { AppendsUpTo (W.contents self.old.writer) (W.contents self.new.writer)
             (line.now ++ codes "\n") }
         ensures reader { self.new.reader ≡ self.old.reader }
     {

@@ -2,7 +2,7 @@
 
 ghost use Rattle.std.specs.Prelude.{◌≡◌, ◌≤◌, ◌++◌, ℕ, List, [], IfOk, OnOk, OnErr, length, take};
 ghost use Rattle.std.specs.Io.KnownBytes.{Appends};
-ghost use Rattle.room_client.specs.Sending.{AppendsFront};
+ghost use Rattle.room_client.specs.Sending.{AppendsUpTo};
 
 use crate::fault::ClientFault;
 use std::io;
@@ -12,7 +12,7 @@ use std::io::{ErrorKind, Write};
 pub(crate) fn put<W: Write>(writer: &mut W, bytes: &[u8]) -> Result<(), ClientFault>
     ensures whole { OnOk result
         (Appends (W.contents writer.old) (W.contents writer.new) bytes.now) }
-    ensures front { AppendsFront (W.contents writer.old) (W.contents writer.new) bytes.now }
+    ensures front { AppendsUpTo (W.contents writer.old) (W.contents writer.new) bytes.now }
 {
     let mut rest = bytes;
     for _ in 0..u64::MAX {

@@ -30,8 +30,8 @@ pub use queue::jobs_told;
 pub use quota::left_with;
 pub use respond::{asked_at, made_names, no_job, wanted_names};
 pub use room_answers::{
-    Part, begun, check_accepting, check_grant, check_on, done, ended, handed, known_device,
-    left_after, line, printer_now, refused, success, with_job, with_printer,
+    Part, check_accepting, check_grant, check_on, done, handed, known_device, left_after, line,
+    printer_now, refused, success, with_job, with_printer,
 };
 pub use room_asks::{Ask, AskFault, Operation, Which, new_job, read_ask};
 pub use room_rules::{

@@ -25,7 +25,7 @@ use Rattle.room_texts.specs.Words.{word_text}
 use Rattle.room_events.specs.Events.{IsLine}
 use Rattle.room_changes.proofs.LeftAlone.{same_rows}
 use Rattle.room_events.specs.Known.{IsOpen}
-use Rattle.room_events.specs.Serving.{Answers, GoesFrom, IsHeld, MayBeHeld, Serves}
+use Rattle.room_events.specs.Serving.{Answers, GoesFrom, RowsHold, MayBeHeld, Serves}
 use Rattle.room_events.proofs.ServingLemmas.{Passed, says, serves_after_so, serves_as}
 
 module _ {S : Type 0} (store : Ghosts S) (name : List ℕ) (answered : Option RoomValue → Devices → Answer) where
@@ -34,7 +34,7 @@ module _ {S : Type 0} (store : Ghosts S) (name : List ℕ) (answered : Option Ro
       (told : RoomValue → Devices → Reply) (left : RoomValue → Devices → RoomValue)
       (is : (room : RoomValue) (devices : Devices) → (told room devices ≡ (answered (Some room) devices).reply) × (Some (left room devices) ≡ (answered (Some room) devices).room)) where
     is_that : IsOpen name account (state store old).now → (of : Option RoomValue × Devices) → MayBeHeld name of (state store old).now
-        → (one : RoomValue × Devices) × IsHeld name one (state store old).now × (told one.0 one.1 ≡ (answered of.0 of.1).reply) × (HoldsRoom (state store new).now name (left one.0 one.1) → Holds (state store new).now name (answered of.0 of.1).room)
+        → (one : RoomValue × Devices) × RowsHold name one (state store old).now × (told one.0 one.1 ≡ (answered of.0 of.1).reply) × (HoldsRoom (state store new).now name (left one.0 one.1) → Holds (state store new).now name (answered of.0 of.1).room)
     is_that found (None, devices) held = let same = sym held.room.no_account ∙ found in let no : ⊥ = cc in absurd no
     is_that found (Some room, devices) held =
         ((room, devices), record { room = held.room; devices = held.devices }, (is room devices).0, λ holds. subst (Holds (state store new).now name) (is room devices).1 holds)

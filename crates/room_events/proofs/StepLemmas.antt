@@ -16,13 +16,13 @@ use Rattle.room_tables.specs.declared.fault.TableFault.{TableFault}
 use Rattle.room_tables.specs.declared.fault.TableFault.TheVariants as fault
 use Rattle.room_texts.specs.Words.{word_text}
 use Rattle.room_changes.proofs.LeftAlone.{same_rows}
-use Rattle.room_events.specs.Serving.{IsHeld, ServesResponse, ServesStep}
+use Rattle.room_events.specs.Serving.{RowsHold, ServesResponse, ServesStep}
 use Rattle.room_events.proofs.ServingLemmas.{Passed, says, serves_as}
 
 module _ {S : Type 0} (store : Ghosts S) (old new : Held S) (name : List ℕ) where
   -- the step is that of what was found
   pub steps_as : (found step : RoomValue → Devices → Step) (r : Result Reply TableFault)
-      → (HasCleanDisk (state store new) → HasSchema (state store old).now → (of : RoomValue × Devices) → IsHeld name of (state store old).now → found of.0 of.1 ≡ step of.0 of.1)
+      → (HasCleanDisk (state store new) → HasSchema (state store old).now → (of : RoomValue × Devices) → RowsHold name of (state store old).now → found of.0 of.1 ≡ step of.0 of.1)
       → ServesStep store old new name found r
       → ServesStep store old new name step r
   steps_as found step r same serves =
@@ -30,7 +30,7 @@ module _ {S : Type 0} (store : Ghosts S) (old new : Held S) (name : List ℕ) wh
       (λ clean has of held. (of, held, ap (λ (s : Step). s.reply) (same clean has of held), λ holds. subst (λ (s : Step). HoldsRoom (state store new).now name s.room) (same clean has of held) holds)) serves
 
   pub responds_as : (found step : RoomValue → Devices → Response) (r : Result (List ℕ) TableFault)
-      → (HasCleanDisk (state store new) → HasSchema (state store old).now → (of : RoomValue × Devices) → IsHeld name of (state store old).now → found of.0 of.1 ≡ step of.0 of.1)
+      → (HasCleanDisk (state store new) → HasSchema (state store old).now → (of : RoomValue × Devices) → RowsHold name of (state store old).now → found of.0 of.1 ≡ step of.0 of.1)
       → ServesResponse store old new name found r
       → ServesResponse store old new name step r
   responds_as found step r same serves =
@@ -39,7 +39,7 @@ module _ {S : Type 0} (store : Ghosts S) (old new : Held S) (name : List ℕ) wh
 
   -- it is a refusal
   pub refuses_as : Passed (state store old) (state store new) → (step : RoomValue → Devices → Step) (word : Word) (r : Result Reply TableFault) → IfOk r (λ it. it ≡ reply.Line (word_text word)) → IfErr r (λ e. e ≡ fault.Memory)
-      → (HasCleanDisk (state store new) → HasSchema (state store old).now → (of : RoomValue × Devices) → IsHeld name of (state store old).now → step of.0 of.1 ≡ refusing of.0 word)
+      → (HasCleanDisk (state store new) → HasSchema (state store old).now → (of : RoomValue × Devices) → RowsHold name of (state store old).now → step of.0 of.1 ≡ refusing of.0 word)
       → ServesStep store old new name step r
   refuses_as passed step word r line memory is =
       says _ _ _ _ store old new passed (same_rows name) (reply.Line (word_text word)) r line memory

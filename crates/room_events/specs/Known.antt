@@ -1,4 +1,4 @@
--- What earlier reads have shown of an account.
+-- For the proof of the code alone: what earlier reads have shown of an account.
 use Rattle.std.specs.Prelude.{◌≡◌, ℕ, ◌+◌, pos, Bool, true, if◌then◌else◌, List, Option, Some, Result, Ok}
 use Rattle.sqlite.specs.Effect.{Database}
 use Rattle.room_rules.specs.JobStates.{is_unfinished}

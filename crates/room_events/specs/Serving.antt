@@ -21,7 +21,7 @@ use Rattle.room_tables.specs.declared.fault.TableFault.TheVariants.{Damaged}
 use Rattle.room_changes.specs.Alone.{OnlyAccount, OnlyDevices}
 
 -- the rows of the account are those of the room, and the devices' those of the map
-pub record IsHeld (name : List ℕ) (of : RoomValue × Devices) (db : Database) : Type 0 where
+pub record RowsHold (name : List ℕ) (of : RoomValue × Devices) (db : Database) : Type 0 where
   pub room : HoldsRoom db name of.0
   pub devices : HoldsDevices db of.1
 
@@ -73,7 +73,7 @@ module _ {S : Type 0} (store : Ghosts S) (old new : Held S) where
       (left : RoomValue → Devices → RoomValue) (result : Result T TableFault) →
       Type 0
   Serves name told left result =
-      ComesTo (IsHeld name) (OnlyAccount name) (λ of. told of.0 of.1)
+      ComesTo (RowsHold name) (OnlyAccount name) (λ of. told of.0 of.1)
       (λ of db. HoldsRoom db name (left of.0 of.1)) result
 
   -- by the step that an event comes to

@@ -1,4 +1,4 @@
-//! Lines as replies, and the responses to requests that show no job.
+//! Lines as replies, and the responses to requests.
 
 ghost use Rattle.std.specs.Prelude.{◌≡◌, [], ◌∷◌, IfOk, IfErr};
 ghost use Rattle.std.specs.List.{AllByRecursion};

@@ -3,6 +3,7 @@
 ghost use Rattle.std.specs.Prelude.{◌≡◌, ◌≤◌, IfSome};
 ghost use Rattle.csv.specs.Records.{fields_of};
 ghost use Rattle.room_fields.specs.Fields.{month_said};
+ghost use Rattle.room_rules.specs.Limits.{most_pages};
 ghost use Rattle.room_grants.specs.Lines.{IsInRange, good_line, grant_line, name_said, pages_said};
 
 use csv::ByteRecord;
@@ -54,7 +55,7 @@ fn good_line(account: &[u8], month_text: &[u8], pages: &[u8]) -> Option<GrantLin
 
 fn pages_in(text: &[u8]) -> Option<u32>
     ensures said { result ≡ pages_said text.now }
-    ensures most { IfSome result (λ pages. pages ≤ 1000000000) }
+    ensures most { IfSome result (λ pages. pages ≤ most_pages) }
 {
     number(text, 0, MOST_PAGES)
 }

@@ -6,6 +6,10 @@ use Rattle.std.specs.Prelude.{ℕ, ◌+◌, ◌≤◌, Bool, ◌&&◌, nat_le, n
 abbrev pub greatest_integer : ℕ
 greatest_integer = 2147483647
 
+-- bytes of the name of an account or a device
+abbrev pub longest_name : ℕ
+longest_name = 32
+
 -- bytes of a uri (RFC 8011 section 5.1.6)
 abbrev pub longest_uri : ℕ
 longest_uri = 1023

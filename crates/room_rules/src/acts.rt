@@ -66,7 +66,8 @@ pub fn hold(s: Standing) -> Result<Standing, Refusal>
 /// Release-Job (RFC 8011 section 4.3.6): releases a held job to any device of rate 1, where what it
 /// needs is within the units that are left. Nothing happens to a job that is released or processing.
 /// Refused in this order: `Incomplete` (open, or without a document), `Password` (it has one),
-/// `ImpressionsUnknown`, `Quota`; and as `Ended`.
+/// `ImpressionsUnknown`, `Quota`; and as `Ended`. The quota comes last, since only where all else lets
+/// the job go are the sums over the account's jobs read.
 pub fn release_by_owner(s: Standing, has_password: bool, left: i64) -> Result<Standing, Refusal>
     requires { IsStanding s }
     ensures moved { result ≡ move (ReleaseJob has_password left) s }
@@ -85,7 +86,8 @@ pub fn release_by_owner(s: Standing, has_password: bool, left: i64) -> Result<St
 /// rate now is `rate` units an impression, where what it needs is within the units that are left.
 /// `kept` is the job's password, empty where it has none. Impressions above 0 stand in for the job's
 /// own. Refused as `NotHeld`, and then in this order: `Incomplete` (open, or without a document),
-/// `Password` (it has one that is not the one given), `ImpressionsUnknown`, `Quota`.
+/// `Password` (it has one that is not the one given), `ImpressionsUnknown`, `Quota`, for the reason
+/// above.
 pub fn release_at_station(
     s: Standing,
     kept: &[u8],

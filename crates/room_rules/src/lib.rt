@@ -34,5 +34,5 @@ pub use limits::{
 };
 pub use month::month_of;
 pub use name::Name;
-pub use quota::{ENOUGH_LEFT, exceeds, left, need, within_quota};
+pub use quota::{ENOUGH_LEFT, left, within_quota};
 pub use refusal::{Refusal, Word};

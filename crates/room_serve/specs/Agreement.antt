@@ -33,7 +33,7 @@ abbrev pub unplaced_at : Timed → Timed
 unplaced_at e = (e.0, unplaced e.1)
 
 -- the two lists have the same events of the account and of devices, at the same moments
-abbrev pub HaveSameOwn : List ℕ → List Timed → List Timed → Type 0
+abbrev pub HaveSameOwn : (name : List ℕ) (first second : List Timed) → Type 0
 HaveSameOwn name first second = map unplaced_at (own name first) ≡ map unplaced_at (own name second)
 
 -- ---- what follows

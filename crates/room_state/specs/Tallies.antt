@@ -1,5 +1,5 @@
--- For the proof of the code alone: what is counted of jobs, one after another, and within what
--- bounds (all this project's own). What the sums of a room are stands in Sums.
+-- What is counted of jobs, one after another, and within what bounds (all this project's own). What
+-- the sums of a room are stands in Sums.
 use Rattle.std.specs.Prelude.{ℕ, ◌+◌, Bool, ◌&&◌, ◌||◌, nat_le, if◌then◌else◌, List, count_by, Option, Some, None}
 use Rattle.std.specs.List.{sum_by, list_any}
 use Rattle.room_rules.specs.JobStates.{is_unfinished, is_processing}

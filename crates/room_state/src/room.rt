@@ -35,7 +35,8 @@ impl Model for Room {
     ghost use Rattle.room_rules.specs.contracts.job.Job as job_type;
     ghost use Rattle.room_rules.specs.contracts.job.Document as document_type;
     ghost use Rattle.room_state.specs.Rooms.{RoomValue};
-    ghost use Rattle.room_state.specs.RoomLists.{job_map, document_map, grant_map, PlacesOnce, MonthsOnce};
+    ghost use Rattle.room_state.specs.RoomLists.{job_map, document_map, grant_map};
+    ghost use Rattle.room_state.specs.RoomLists.{PlacesOnce, MonthsOnce};
     ghost use Rattle.room_state.specs.RoomRules.{IsRoom, NumbersRise};
 
     ghost Value = { RoomValue };

@@ -1,4 +1,5 @@
--- What a walk over the rows of a query gathers (all this project's own).
+-- For the proof of the code alone: what a walk over the rows of a query gathers (all this project's
+-- own).
 use Rattle.std.specs.Prelude.{◌≡◌, ℕ, List, [], ◌∷◌, ◌++◌, IsPermutation, Result, Err, OnOk}
 use Rattle.sqlite_value.specs.Order.{Row}
 use Rattle.sqlite_sql.specs.Query.{Query}

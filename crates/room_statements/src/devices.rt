@@ -50,7 +50,8 @@ fn device_row<S: Alter>(connection: &mut Connection<S>, name: Name) -> Result<Op
     )
 }
 
-/// Whether some device takes jobs now, of the rows or, where they are sound, of the map that they are. `Damaged` tells that a row that is there can be none of sound rows.
+/// Whether some device takes jobs now, of the rows or, where they are sound, of the map that they are. `Damaged` tells that
+/// a row that is there can be none of sound rows.
 pub fn is_device_on<S: Alter>(connection: &mut Connection<S>) -> Result<bool, TableFault>
     ensures found { OfStore S.Store connection.old connection.new (λ db. IfOk result
         (λ on. IsTrue on ↔ ((name : List ℕ) × (device_at db name ≡ Some (on_cells name true))))) }

@@ -29,11 +29,11 @@ pub record Goes (old new : State) : Type 0 where
       → IsTrue new.is_open ⊎ MoreFaults old.faults new.faults
 
 -- outside a transaction, where what is seen is what was committed, the tables are as they were
-abbrev pub Stays : State → State → Type 0
+abbrev pub Stays : (old new : State) → Type 0
 Stays old new = IsTrue new.is_open → old.now ≡ old.committed
     → (new.now ≡ old.now) × (new.committed ≡ old.committed)
 
-abbrev pub IsSame : State → State → Type 0
+abbrev pub IsSame : (old new : State) → Type 0
 IsSame old new = (new.now ≡ old.now) × (new.committed ≡ old.committed)
 
 -- a read by a key: what is shown of the row that is there, and nothing is changed

@@ -19,6 +19,8 @@ number n = Int (pos n)
 abbrev pub flag : Bool → Value
 flag on = number (if on then 1 else 0)
 
+-- -1 is before every moment and stands for none, so that the column has a number in each row and its
+-- index finds the jobs that have not ended
 abbrev pub moment_number : Option ℕ → ℤ
 moment_number None = negsuc 0
 moment_number (Some at) = pos at

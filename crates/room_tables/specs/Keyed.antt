@@ -13,10 +13,10 @@ use Rattle.sqlite.specs.Effect.{Database, IsDatabase}
 use Rattle.room_tables.specs.Tables.{room_schema}
 
 -- the row, its row number first, has this key in the table
-abbrev pub has_key : Table → Row → Row → Bool
+abbrev pub has_key : (table : Table) (key row : Row) → Bool
 has_key table key row = agree plain table.primary row table.primary (Null ∷ key)
 
-abbrev pub row_at : Table → Row → Database → Option Row
+abbrev pub row_at : (table : Table) (key : Row) (db : Database) → Option Row
 row_at table key db = option_map (drop 1) (find (has_key table key) (db.trees table.tree))
 
 -- the rows whose cells at the places are these, which begin a key
@@ -37,7 +37,7 @@ pub record HasSchema (db : Database) : Type 0 where
   pub numbered : AreNumbered room_schema.tables db
 
 -- each table but this one is as it was
-abbrev pub OnlyChanges : Table → Database → Database → Type 0
+abbrev pub OnlyChanges : (table : Table) (old new : Database) → Type 0
 OnlyChanges table old new =
     AllByRecursion (λ other. other.tree ≢ table.tree → new.trees other.tree ≡ old.trees other.tree)
     room_schema.tables

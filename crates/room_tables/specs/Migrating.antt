@@ -37,7 +37,7 @@ AreRatedOne db =
     (name : List ℕ) → rate_at db name ≡ option_map (λ row. units_cells name 1) (device_at db name)
 
 -- each table of version 1 but that of the version is as it was
-abbrev pub KeepsFirst : Database → Database → Type 0
+abbrev pub KeepsFirst : (old new : Database) → Type 0
 KeepsFirst old new =
     AllByRecursion (λ table. table.tree ≢ meta.tree → new.trees table.tree ≡ old.trees table.tree)
     first_schema.tables

@@ -84,10 +84,10 @@ pub record HasNoSums (query : Query) : Type 0 where
 abbrev pub IsShownBy : (query : Query) (trees : Trees) (params : Row) (rows : List Row) → Type 0
 IsShownBy query trees params rows = IsAnswer query (overlay trees []) params rows
 
-abbrev pub passes : List Term → Row → Row → Bool
+abbrev pub passes : (tests : List Term) (params row : Row) → Bool
 passes tests params row = list_all (holds (params ∷ row ∷ [])) tests
 
-abbrev pub shows_of : List Term → Row → Row → Row
+abbrev pub shows_of : (shows : List Term) (params row : Row) → Row
 shows_of shows params row = eval_all shows (params ∷ row ∷ [])
 
 abbrev pub shown_of : (tree : ℕ) (tests shows : List Term) (params : Row) (trees : Trees) → List Row
@@ -101,7 +101,7 @@ IsFirst rows (Some row) = (others : List Row) × IsPermutation rows (row ∷ oth
 
 -- Want of memory, the disk or an earlier failure ended the read, and with it a transaction. Or a
 -- limit on steps did, and nothing has changed.
-abbrev pub FailsToRead : State → State → Error → Type 0
+abbrev pub FailsToRead : (old new : State) (error : Error) → Type 0
 FailsToRead old new error = Fails old new ⊥ error
     ⊎ ((error ≡ SqliteFailure OperationInterrupted) × IsSome old.step_limit × IsUnchanged old new)
 

@@ -13,15 +13,15 @@ use Rattle.room_texts.specs.Tables.{Row, shown}
 
 -- job-state-reasons (RFC 8011 section 5.3.8), of a job in the state, open or not, to be stopped or
 -- not
-abbrev pub state_reason : JobState → (is_open stopping : Bool) → List ℕ
-state_reason Held is_open stopping =
+abbrev pub job_state_reason : JobState → (is_open stopping : Bool) → List ℕ
+job_state_reason Held is_open stopping =
     if is_open then codes "job-incoming" else codes "job-hold-until-specified"
-state_reason Pending is_open stopping = codes "none"
-state_reason Processing is_open stopping =
+job_state_reason Pending is_open stopping = codes "none"
+job_state_reason Processing is_open stopping =
     if stopping then codes "processing-to-stop-point" else codes "job-printing"
-state_reason Canceled is_open stopping = codes "job-canceled-by-user"
-state_reason Aborted is_open stopping = codes "aborted-by-system"
-state_reason Completed is_open stopping = codes "job-completed-successfully"
+job_state_reason Canceled is_open stopping = codes "job-canceled-by-user"
+job_state_reason Aborted is_open stopping = codes "aborted-by-system"
+job_state_reason Completed is_open stopping = codes "job-completed-successfully"
 
 -- 0 impressions are not known (this project's own)
 abbrev pub impressions_values : ℕ → List PlainValue
@@ -30,7 +30,7 @@ impressions_values impressions =
 
 abbrev pub reason_values : Standing → List PlainValue
 reason_values standing =
-    keyword (state_reason standing.state standing.is_open standing.stopping)
+    keyword (job_state_reason standing.state standing.is_open standing.stopping)
 
 -- the units charged, at so many an impression (RFC 8011 section 5.3.18.2)
 abbrev pub completed_values : Standing → List PlainValue

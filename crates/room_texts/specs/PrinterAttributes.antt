@@ -27,8 +27,8 @@ abbrev pub format_values : List PlainValue
 format_values = map (λ (format : Format). value_with 0x49 (media_type format)) formats
 
 -- printer-state-reasons (RFC 8011 section 5.4.12): a printer is stopped for another reason
-abbrev pub state_reason : ℕ → List ℕ
-state_reason state = if state == 5 then codes "other" else codes "none"
+abbrev pub printer_state_reason : ℕ → List ℕ
+printer_state_reason state = if state == 5 then codes "other" else codes "none"
 
 abbrev pub described : List ℕ → (PlainPlace → PrinterNow → List PlainValue) → Row PrinterNow
 described name values = record { name = name; group = codes "printer-description"; values = values }
@@ -44,7 +44,8 @@ printer_attributes =
     ∷ described (codes "uri-security-supported") (λ at printer. keyword (codes "none"))
     ∷ described (codes "printer-name") (λ at printer. plain_name at.name)
     ∷ described (codes "printer-state") (λ at printer. enum printer.state)
-    ∷ described (codes "printer-state-reasons") (λ at printer. keyword (state_reason printer.state))
+    ∷ described (codes "printer-state-reasons")
+    (λ at printer. keyword (printer_state_reason printer.state))
     ∷ described (codes "ipp-versions-supported") (λ at printer. version_values)
     ∷ described (codes "operations-supported") (λ at printer. operation_values)
     ∷ described (codes "charset-configured") (λ at printer. charset (codes "utf-8"))

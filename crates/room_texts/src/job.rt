@@ -6,7 +6,7 @@ ghost use Rattle.room_rules.specs.Limits.{greatest_integer, last_job, most_impre
 ghost use Rattle.room_texts.specs.Appends.{Appends};
 ghost use Rattle.room_texts.specs.Attributes.{attribute_of, attribute_with};
 ghost use Rattle.room_texts.specs.Limits.{IsAttributeName, IsPlace, IsShowable};
-ghost use Rattle.room_texts.specs.JobAttributes.{job_group, impressions_values, state_reason};
+ghost use Rattle.room_texts.specs.JobAttributes.{job_group, impressions_values, job_state_reason};
 ghost use Rattle.room_texts.specs.JobPlaces.{selected_group, job_row, picked_text};
 ghost use Rattle.room_texts.specs.Places.{plain_place, job_uri};
 ghost use Rattle.room_texts.specs.Tables.{asked_names, row_attribute};
@@ -249,7 +249,7 @@ fn put_job_attribute(
 
 fn state_reason(standing: &Standing) -> &'static [u8]
     ensures reason { result.now
-        ≡ state_reason standing.now.state standing.now.is_open standing.now.stopping }
+        ≡ job_state_reason standing.now.state standing.now.is_open standing.now.stopping }
     ensures fits { Fits result.now }
 {
     match standing.state {

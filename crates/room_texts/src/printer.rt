@@ -9,7 +9,7 @@ ghost use Rattle.room_texts.specs.Attributes.{attribute_of, value_with};
 ghost use Rattle.room_texts.specs.Limits.{IsAttributeName, IsPlace, IsPrinter};
 ghost use Rattle.room_rules.specs.Formats.{media_type};
 ghost use Rattle.room_texts.specs.Places.{plain_place};
-ghost use Rattle.room_texts.specs.PrinterAttributes.{operation_values, version_values, format_values, state_reason, printer_group};
+ghost use Rattle.room_texts.specs.PrinterAttributes.{operation_values, version_values, format_values, printer_group, printer_state_reason};
 ghost use Rattle.room_texts.specs.PrinterPlaces.{printer_row};
 ghost use Rattle.room_texts.specs.Tables.{asked_names, row_attribute};
 ghost use Rattle.room_texts.specs.RowTexts.{row_text};
@@ -290,7 +290,7 @@ fn put_printer_attribute(
 }
 
 fn state_reason(state: u32) -> &'static [u8]
-    ensures reason { result.now ≡ state_reason state }
+    ensures reason { result.now ≡ printer_state_reason state }
     ensures fits { Fits result.now }
 {
     if state == 5 { b"other" } else { b"none" }

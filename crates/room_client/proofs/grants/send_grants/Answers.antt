@@ -1,5 +1,5 @@
 use Rattle.room_client.specs.Grants.{SendsFileFront}
-use Rattle.room_client.proofs.Fronts.{AppendsFront-none}
+use Rattle.room_client.proofs.Fronts.{AppendsUpTo-none}
 use Rattle.room_client.proofs.Refused.{OnErr-of}
 use Rattle.room_client.proofs.grants.send_grants.Goals as goal
 
@@ -8,5 +8,5 @@ returns-in_err-records-clause-front g c =
     let file = g.met.S.Source.some_left c.args.input.now in
     let sent = g.W.Write.contents c.args.peer.now.writer in
     let none : SendsFileFront (g.S.Source.left c.args.input.now) sent sent =
-    (file.0, file.1, AppendsFront-none _ _) in
+    (file.0, file.1, AppendsUpTo-none _ _) in
     OnErr-of _ _ none

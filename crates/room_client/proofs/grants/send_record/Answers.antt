@@ -1,6 +1,6 @@
 use Rattle.std.proofs.Common.{◌++◌, codes, sym, subst}
-use Rattle.room_client.specs.Sending.{AppendsFront}
-use Rattle.room_client.proofs.Fronts.{AppendsFront-whole}
+use Rattle.room_client.specs.Sending.{AppendsUpTo}
+use Rattle.room_client.proofs.Fronts.{AppendsUpTo-whole}
 use Rattle.room_client.proofs.PrintedGrants.{GrantAnswered-bad, GrantAnswered-good}
 use Rattle.room_client.proofs.Refused.{IfOk-map}
 use Rattle.room_client.proofs.SentRecords.{record_sent-line}
@@ -10,14 +10,14 @@ pub returns-in_err-say-clause-front : goal.returns-in_err-say-clause-front
 returns-in_err-say-clause-front g c =
     let asked = rw c.in-Some.is at c.in_ok-line.ensures in
     let front = rw c.as_slice.ensures.value at c.in_err-say.ensures.front in
-    subst (AppendsFront _ _) (sym (record_sent-line c.args.said.now c.in-Some.line.items asked)) front
+    subst (AppendsUpTo _ _) (sym (record_sent-line c.args.said.now c.in-Some.line.items asked)) front
 
 pub returns-clause-front : goal.returns-clause-front
 returns-clause-front g c =
     let asked = rw c.in-Some.is at c.in_ok-line.ensures in
     let sent = rw (c.as_slice.ensures.value, ← c.take_result.ensures.writer) at c.in_ok-say.ensures.sent in
-    subst (AppendsFront _ _) (sym (record_sent-line c.args.said.now c.in-Some.line.items asked))
-    (AppendsFront-whole _ _ (c.in-Some.line.items ++ codes "\n") sent)
+    subst (AppendsUpTo _ _) (sym (record_sent-line c.args.said.now c.in-Some.line.items asked))
+    (AppendsUpTo-whole _ _ (c.in-Some.line.items ++ codes "\n") sent)
 
 pub returns-in_default-clause-answered : goal.returns-in_default-clause-answered
 returns-in_default-clause-answered g c =

@@ -3,8 +3,8 @@ use Rattle.std.specs.Io.KnownBytes.{Appends}
 use Rattle.std.proofs.KnownBytes.{Appends-nil, Appends-trans}
 use Rattle.room_client.proofs.PrintedGrants.{GrantsAnswered-more, GrantsAnswered-none}
 use Rattle.room_client.specs.Grants.{record_sent, records_sent}
-use Rattle.room_client.specs.Sending.{AppendsFront}
-use Rattle.room_client.proofs.Fronts.{AppendsFront-behind, AppendsFront-longer}
+use Rattle.room_client.specs.Sending.{AppendsUpTo}
+use Rattle.room_client.proofs.Fronts.{AppendsUpTo-behind, AppendsUpTo-longer}
 use Rattle.room_client.proofs.SentRecords.{records_sent-at, records_sent-more, take_one}
 use Rattle.room_client.proofs.grants.send_records.Goals as goal
 
@@ -13,10 +13,10 @@ returns-in_err-answer-clause-front g c =
     let records = c.args.records.now in
     let index = c.loop-index.index in
     let one = c.index-records-index.result in
-    subst (AppendsFront _ _)
+    subst (AppendsUpTo _ _)
     (sym (records_sent-at records index one (search rules) c.index-records-index.is))
-    (AppendsFront-longer _ _ _ (records_sent (drop (suc index) records))
-    (AppendsFront-behind _ _ _ (records_sent (take index records)) (record_sent one)
+    (AppendsUpTo-longer _ _ _ (records_sent (drop (suc index) records))
+    (AppendsUpTo-behind _ _ _ (records_sent (take index records)) (record_sent one)
     c.loop-index.invariant.0 c.in_err-answer.ensures.front))
 
 pub loop-index-init : goal.loop-index-init

@@ -1,5 +1,5 @@
 use Rattle.std.proofs.Common.{◌++◌, codes}
-use Rattle.room_client.proofs.Fronts.{AppendsFront-whole}
+use Rattle.room_client.proofs.Fronts.{AppendsUpTo-whole}
 use Rattle.room_client.proofs.Refused.{OnErr-of}
 use Rattle.room_client.proofs.SentLines.{SendsFront-line, SendsOn-line}
 use Rattle.room_client.proofs.lines.send_next.Goals as goal
@@ -17,7 +17,7 @@ returns-in_err-answer-clause-front g c =
     let short = rw c.in-Some.is at c.in_ok-line.ensures.line in
     let sent = rw (c.as_slice.ensures.value, ← c.in_err-answer.ensures.writer) at c.in_ok-say.ensures.sent in
     OnErr-of _ _ (SendsFront-line _ _ _ _ c.in-Some.line.items found short
-    (AppendsFront-whole _ _ (c.in-Some.line.items ++ codes "\n") sent))
+    (AppendsUpTo-whole _ _ (c.in-Some.line.items ++ codes "\n") sent))
 
 pub returns-in_err-flush-clause-front : goal.returns-in_err-flush-clause-front
 returns-in_err-flush-clause-front g c =
@@ -25,7 +25,7 @@ returns-in_err-flush-clause-front g c =
     let short = rw c.in-Some.is at c.in_ok-line.ensures.line in
     let sent = rw (c.as_slice.ensures.value, ← c.in_ok-answer.ensures.writer) at c.in_ok-say.ensures.sent in
     OnErr-of _ _ (SendsFront-line _ _ _ _ c.in-Some.line.items found short
-    (AppendsFront-whole _ _ (c.in-Some.line.items ++ codes "\n") sent))
+    (AppendsUpTo-whole _ _ (c.in-Some.line.items ++ codes "\n") sent))
 
 pub returns-clause-sent : goal.returns-clause-sent
 returns-clause-sent g c =
