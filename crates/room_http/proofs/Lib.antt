@@ -1,4 +1,5 @@
 pub mod Streams
+pub mod Taking
 pub mod Completing
 pub mod Heads
 pub mod Parts

@@ -1,5 +1,5 @@
 -- What a call takes of an input, and writes.
-use Rattle.std.specs.Prelude.{◌≡◌, ℕ, ◌<◌, ◌≤◌, ⊤, Bool, true, List, ◌++◌, length, take, Option, Result, Ok, Err}
+use Rattle.std.specs.Prelude.{◌≡◌, ℕ, ◌+◌, ◌*◌, ◌<◌, ◌≤◌, ⊤, Bool, true, List, ◌++◌, length, take, Option, Result, Ok, Err}
 use Rattle.std.specs.Io.KnownBytes.{Appends}
 use Rattle.room_streams.specs.Streams.{Yields}
 use Rattle.room_http.specs.Http.{Http, Nothing, Orders, Refused, Carried}
@@ -40,6 +40,26 @@ pub record TakesHead (before after : List ℕ → Type 0) (order : Order) : Type
   pub taken : List ℕ
   pub yields : Yields before after taken
   pub orders : (rest : List ℕ) → Orders (taken ++ rest) order rest
+
+-- Some bytes were taken, and no more than so many.
+pub record TakesAtMost (most : ℕ) (before after : List ℕ → Type 0) : Type 0 where
+  pub taken : List ℕ
+  pub yields : Yields before after taken
+  pub short : length taken ≤ most
+
+-- The most bytes of chunks with the line of size 0 behind them: a body has at most 16842752 bytes,
+-- and each stands at worst in a chunk of its own, of a line of 256 bytes, the byte, and CR LF; the
+-- line of size 0 has 256 more. What ends within a chunk, or is none, has no more.
+abbrev pub most_of_chunks : ℕ
+most_of_chunks = 259 * 16842752 + 256
+
+-- The most bytes of a body: chunks, and trailers of 4096 bytes. One by length has fewer.
+abbrev pub most_of_body : ℕ
+most_of_body = most_of_chunks + 4096
+
+-- The most bytes that are taken for one message: a head of 16384 bytes, and a body.
+abbrev pub most_taken : ℕ
+most_taken = 16384 + most_of_body
 
 -- what was received, by what the whole input is, and what was written
 abbrev pub ReceivedIs : (before after : List ℕ → Type 0) (old new : Option (List ℕ))

@@ -1,6 +1,6 @@
 //! Reading the body of a message, and nothing behind it.
 ghost use Rattle.std.specs.Prelude.{◌≡◌, ◌+◌, ◌-◌, ◌^◌, ◌<◌, IfErr, IfOk, length};
-ghost use Rattle.room_http.specs.Exchange.{read_faults};
+ghost use Rattle.room_http.specs.Exchange.{TakesAtMost, most_of_body, read_faults};
 ghost use Rattle.room_http.specs.Judging.{FitsLimit};
 ghost use Rattle.room_http.specs.Reading.{BodyIs, IsReading, ReadsInto};
 
@@ -36,6 +36,7 @@ pub(crate) fn read_into<R: Source>(
     requires piece { 0 < length piece.old }
     ensures is { IfOk result
         (ReadsInto (R.left reader.old) (R.left reader.new) body.old.items body.new.items count) }
+    ensures bounded { TakesAtMost count (R.left reader.old) (R.left reader.new) }
     ensures count { R.failures reader.new ≡ R.failures reader.old + read_faults result }
     ensures cause { IfErr result IsReading }
     ensures piece { length piece.new ≡ length piece.old }
@@ -64,6 +65,7 @@ pub(crate) fn read_body<R: Source>(
     requires ready { R.failures reader.old < 2 ^ 64 - 1 }
     requires fits { FitsLimit framing }
     ensures is { IfOk result (BodyIs framing (R.left reader.old) (R.left reader.new)) }
+    ensures bounded { TakesAtMost most_of_body (R.left reader.old) (R.left reader.new) }
     ensures count { R.failures reader.new ≡ R.failures reader.old + read_faults result }
     ensures cause { IfErr result IsReading }
 {
@@ -77,6 +79,7 @@ fn read_sized<R: Source>(alloc: Global, reader: &mut R, size: usize) -> Result<B
     requires ready { R.failures reader.old < 2 ^ 64 - 1 }
     ensures is { IfOk result
         (BodyIs (Framing.Length size) (R.left reader.old) (R.left reader.new)) }
+    ensures bounded { TakesAtMost size (R.left reader.old) (R.left reader.new) }
     ensures count { R.failures reader.new ≡ R.failures reader.old + read_faults result }
     ensures cause { IfErr result IsReading }
 {
@@ -91,6 +94,7 @@ fn read_sized<R: Source>(alloc: Global, reader: &mut R, size: usize) -> Result<B
 fn read_chunked<R: Source>(alloc: Global, reader: &mut R) -> Result<Body, WireFault>
     requires ready { R.failures reader.old < 2 ^ 64 - 1 }
     ensures is { IfOk result (BodyIs Framing.Chunked (R.left reader.old) (R.left reader.new)) }
+    ensures bounded { TakesAtMost most_of_body (R.left reader.old) (R.left reader.new) }
     ensures count { R.failures reader.new ≡ R.failures reader.old + read_faults result }
     ensures cause { IfErr result IsReading }
 {

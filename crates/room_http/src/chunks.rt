@@ -1,6 +1,6 @@
 //! Reading the chunks of a body, and nothing behind them.
 ghost use Rattle.std.specs.Prelude.{◌≡◌, ◌+◌, ◌-◌, ◌^◌, ◌<◌, ◌≤◌, ℕ, List, [], IfErr, IfOk, length};
-ghost use Rattle.room_http.specs.Exchange.{read_faults};
+ghost use Rattle.room_http.specs.Exchange.{TakesAtMost, most_of_chunks, read_faults};
 ghost use Rattle.room_http.specs.Reading.{ChunksAre, IsReading, LineEndIs, SizeLineIs};
 
 use crate::body::{PIECE, read_into};
@@ -37,6 +37,7 @@ pub(crate) enum Chunks {
 pub(crate) fn read_size_line<R: Source>(reader: &mut R) -> Result<SizeLine, WireFault>
     requires { R.failures reader.old < 2 ^ 64 - 1 }
     ensures is { IfOk result (SizeLineIs (R.left reader.old) (R.left reader.new)) }
+    ensures bounded { TakesAtMost LINE_LIMIT (R.left reader.old) (R.left reader.new) }
     ensures count { R.failures reader.new ≡ R.failures reader.old + read_faults result }
     ensures cause { IfErr result IsReading }
 {
@@ -62,6 +63,7 @@ pub(crate) fn read_size_line<R: Source>(reader: &mut R) -> Result<SizeLine, Wire
 pub(crate) fn read_line_end<R: Source>(reader: &mut R) -> Result<bool, WireFault>
     requires { R.failures reader.old < 2 ^ 64 - 1 }
     ensures is { IfOk result (LineEndIs (R.left reader.old) (R.left reader.new)) }
+    ensures bounded { TakesAtMost 2 (R.left reader.old) (R.left reader.new) }
     ensures count { R.failures reader.new ≡ R.failures reader.old + read_faults result }
     ensures cause { IfErr result IsReading }
 {
@@ -88,6 +90,7 @@ pub(crate) fn read_chunks<R: Source>(
     requires ready { R.failures reader.old < 2 ^ 64 - 1 }
     requires empty { body.old.items ≡ [] }
     ensures is { IfOk result (ChunksAre (R.left reader.old) (R.left reader.new) body.new.items) }
+    ensures bounded { TakesAtMost most_of_chunks (R.left reader.old) (R.left reader.new) }
     ensures count { R.failures reader.new ≡ R.failures reader.old + read_faults result }
     ensures cause { IfErr result IsReading }
 {

@@ -2,7 +2,7 @@
 ghost use Rattle.std.specs.Prelude.{◌≡◌, ◌+◌, ◌-◌, ◌^◌, ◌<◌, ◌≤◌, ◌&&◌, [], length, IfErr, IfOk, IfNone, OnOk};
 ghost use Rattle.room_http.specs.Kinds.{ends_empty_line};
 ghost use Rattle.room_streams.specs.Streams.{IsSpent, Yields};
-ghost use Rattle.room_http.specs.Exchange.{read_faults};
+ghost use Rattle.room_http.specs.Exchange.{TakesAtMost, read_faults};
 ghost use Rattle.room_http.specs.Reading.{HeadIs, IsReading, byte_list};
 
 use crate::fault::WireFault;
@@ -36,6 +36,7 @@ pub(crate) fn read_byte<R: Source>(reader: &mut R) -> Result<Option<u8>, WireFau
     ensures took { IfOk result
         (λ byte. Yields (R.left reader.old) (R.left reader.new) (byte_list byte)) }
     ensures end { IfOk result (λ byte. IfNone byte (IsSpent (R.left reader.new))) }
+    ensures bounded { TakesAtMost 1 (R.left reader.old) (R.left reader.new) }
     ensures count { R.failures reader.new ≡ R.failures reader.old + read_faults result }
     ensures cause { IfErr result IsReading }
 {
@@ -62,6 +63,7 @@ pub(crate) fn read_head<R: Source>(
     ensures short { length text.new.items ≤ HEAD_LIMIT }
     ensures is { IfOk result
         (HeadIs (length headers.old) (R.left reader.new) text.new.items headers.new) }
+    ensures bounded { TakesAtMost HEAD_LIMIT (R.left reader.old) (R.left reader.new) }
     ensures count { R.failures reader.new ≡ R.failures reader.old + read_faults result }
     ensures cause { IfErr result IsReading }
 {

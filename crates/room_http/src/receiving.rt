@@ -2,7 +2,7 @@
 ghost use Rattle.std.specs.Prelude.{◌≡◌, ◌+◌, ◌-◌, ◌^◌, ◌<◌, ◌≤◌, All, IfErr, IfOk, length, map};
 ghost use Rattle.httparse.specs.Grammar.{RequestHead};
 ghost use Rattle.httparse.specs.Spans.{IsHeaderWithin, IsRequestAt, IsRequestWithin, header_bytes};
-ghost use Rattle.room_http.specs.Exchange.{FailedReceiving, HasHeader, ReceivedIs, read_faults, write_faults};
+ghost use Rattle.room_http.specs.Exchange.{FailedReceiving, HasHeader, ReceivedIs, TakesAtMost, most_taken, read_faults, write_faults};
 ghost use Rattle.room_http.specs.Fields.{plain_field};
 ghost use Rattle.room_http.specs.Judging.{FitsLimit, judged, said_by};
 ghost use Rattle.room_http.specs.Reading.{IsReading, OpeningIs};
@@ -48,7 +48,8 @@ pub(crate) enum Opening {
 /// head and body.
 ///
 /// `Read`, `Write` or `Memory` where that failed; nothing but the 100 text, or a front of it, was written then. Where
-/// it is due, that text is written before anything behind the head is read.
+/// it is due, that text is written before anything behind the head is read. However a call ends, it has read at most
+/// `most_taken` bytes.
 pub fn receive<R: Source, W: Sink>(
     alloc: Global,
     reader: &mut R,
@@ -58,6 +59,7 @@ pub fn receive<R: Source, W: Sink>(
     requires writes { W.failures writer.old < 2 ^ 64 - 1 }
     ensures received { IfOk result (ReceivedIs (R.left reader.old) (R.left reader.new)
         (W.given writer.old) (W.given writer.new)) }
+    ensures bounded { TakesAtMost most_taken (R.left reader.old) (R.left reader.new) }
     ensures header { IfOk result HasHeader }
     ensures fault { IfErr result (FailedReceiving (R.left reader.old) (R.left reader.new)
         (W.given writer.old) (W.given writer.new)) }
@@ -86,6 +88,7 @@ pub fn receive<R: Source, W: Sink>(
 pub(crate) fn read_order<R: Source>(alloc: Global, reader: &mut R) -> Result<Opening, WireFault>
     requires { R.failures reader.old < 2 ^ 64 - 1 }
     ensures is { IfOk result (OpeningIs (R.left reader.old) (R.left reader.new)) }
+    ensures bounded { TakesAtMost 16384 (R.left reader.old) (R.left reader.new) }
     ensures count { R.failures reader.new ≡ R.failures reader.old + read_faults result }
     ensures cause { IfErr result IsReading }
 {

@@ -1,7 +1,7 @@
 //! What follows the last chunk of a body.
 
 ghost use Rattle.std.specs.Prelude.{◌≡◌, ◌+◌, ◌-◌, ◌^◌, ◌<◌, IfErr, IfOk};
-ghost use Rattle.room_http.specs.Exchange.{read_faults};
+ghost use Rattle.room_http.specs.Exchange.{TakesAtMost, read_faults};
 ghost use Rattle.room_http.specs.Reading.{IsReading, TrailersAre};
 
 use crate::fault::WireFault;
@@ -21,6 +21,7 @@ const MOST_TRAILERS: usize = 64;
 pub(crate) fn read_trailers<R: Source>(reader: &mut R) -> Result<bool, WireFault>
     requires { R.failures reader.old < 2 ^ 64 - 1 }
     ensures is { IfOk result (TrailersAre (R.left reader.old) (R.left reader.new)) }
+    ensures bounded { TakesAtMost TRAILERS_LIMIT (R.left reader.old) (R.left reader.new) }
     ensures count { R.failures reader.new ≡ R.failures reader.old + read_faults result }
     ensures cause { IfErr result IsReading }
 {

@@ -1,8 +1,9 @@
-use Rattle.std.proofs.Common.{length}
+use Rattle.std.proofs.Common.{length, arith}
 use Rattle.room_http.specs.Bodies.{HasBehindChunks, IsNoBody, has_no_chunk}
 use Rattle.room_http.specs.Chunks.{IsNoChunk}
 use Rattle.room_http.specs.declared.framing.Framing.TheVariants.{Chunked}
 use Rattle.room_http.proofs.ChunkSteps.{body_taken, takes_so, trailers_missing}
+use Rattle.room_http.proofs.Taking.{takes_both}
 use Rattle.room_http.proofs.body.read_chunked.Goals as goal
 
 pub returns-in-Invalid-clause-is : goal.returns-in-Invalid-clause-is
@@ -24,3 +25,12 @@ returns-clause-is g c =
     let ended = rw c.in-Whole.is at c.in_ok-read_chunks.ensures.is in
     let section = rw c.if-not-branch.false at c.in_ok-read_trailers.ensures.is in
     body_taken (left c.args.reader.now) (left c.read_chunks.new.reader) (left c.read_trailers.new.reader) c.read_chunks.new.body.items section.0 ended section.1 section.2
+
+pub returns-in_err-read_trailers-clause-bounded : goal.returns-in_err-read_trailers-clause-bounded
+returns-in_err-read_trailers-clause-bounded g c = takes_both c.read_chunks.ensures.bounded c.read_trailers.ensures.bounded (omega arith)
+
+pub returns-then-not-branch-clause-bounded : goal.returns-then-not-branch-clause-bounded
+returns-then-not-branch-clause-bounded g c = takes_both c.read_chunks.ensures.bounded c.read_trailers.ensures.bounded (omega arith)
+
+pub returns-clause-bounded : goal.returns-clause-bounded
+returns-clause-bounded g c = takes_both c.read_chunks.ensures.bounded c.read_trailers.ensures.bounded (omega arith)

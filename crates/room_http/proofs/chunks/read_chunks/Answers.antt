@@ -1,9 +1,11 @@
-use Rattle.std.proofs.Common.{◌≡◌, ◌+◌, ◌<◌, ◌≤◌, ◌++◌, [], ◌∷◌, length, rules, arith}
+use Rattle.std.proofs.Common.{◌≡◌, ◌+◌, ◌*◌, ◌<◌, ◌≤◌, ◌++◌, [], ◌∷◌, length, rules, arith}
 use Rattle.httparse.specs.Ascii.{crlf_bytes}
 use Rattle.httparse.specs.Grammar.{chunk_size, print_chunk_line}
 use Rattle.room_http.specs.Chunks.{Chunk, IsNoChunk, IsTooLongWith, has_no_line}
+use Rattle.room_http.specs.Exchange.{most_of_chunks}
 use Rattle.room_http.proofs.ChunkSteps.{chunk_cut, chunk_not_ended, chunk_taken, chunk_too_long, longer_by, one_more, takes_behind}
 use Rattle.room_http.proofs.Streams.{Yields_more}
+use Rattle.room_http.proofs.Taking.{takes_behind_chunks, takes_both}
 use Rattle.room_http.proofs.chunks.read_chunks.Goals as goal
 
 pub returns-in-Invalid-clause-is : goal.returns-in-Invalid-clause-is
@@ -76,3 +78,73 @@ chunks-preserved g c =
       fits,
       count,
     )
+
+pub returns-in_err-read_size_line-clause-bounded : goal.returns-in_err-read_size_line-clause-bounded
+returns-in_err-read_size_line-clause-bounded g c =
+    let left = g.R.Source.left in
+    let so_far = c.chunks.invariant in
+    let body = c.chunks.body.items in
+    let fits : 259 * length body + 256 ≤ most_of_chunks = omega (arith, so_far.4) in
+    takes_behind_chunks (left c.args.reader.now) (left c.chunks.reader) (left c.read_size_line.new.reader) so_far.0 so_far.1 body 256 so_far.2 so_far.3 c.read_size_line.ensures.bounded fits
+
+pub returns-in-Size-eq0-clause-bounded : goal.returns-in-Size-eq0-clause-bounded
+returns-in-Size-eq0-clause-bounded g c =
+    let left = g.R.Source.left in
+    let so_far = c.chunks.invariant in
+    let body = c.chunks.body.items in
+    let fits : 259 * length body + 256 ≤ most_of_chunks = omega (arith, so_far.4) in
+    takes_behind_chunks (left c.args.reader.now) (left c.chunks.reader) (left c.read_size_line.new.reader) so_far.0 so_far.1 body 256 so_far.2 so_far.3 c.read_size_line.ensures.bounded fits
+
+pub returns-then-size-len-clause-bounded : goal.returns-then-size-len-clause-bounded
+returns-then-size-len-clause-bounded g c =
+    let left = g.R.Source.left in
+    let so_far = c.chunks.invariant in
+    let body = c.chunks.body.items in
+    let fits : 259 * length body + 256 ≤ most_of_chunks = omega (arith, so_far.4) in
+    takes_behind_chunks (left c.args.reader.now) (left c.chunks.reader) (left c.read_size_line.new.reader) so_far.0 so_far.1 body 256 so_far.2 so_far.3 c.read_size_line.ensures.bounded fits
+
+pub returns-in-Invalid-clause-bounded : goal.returns-in-Invalid-clause-bounded
+returns-in-Invalid-clause-bounded g c =
+    let left = g.R.Source.left in
+    let so_far = c.chunks.invariant in
+    let body = c.chunks.body.items in
+    let fits : 259 * length body + 256 ≤ most_of_chunks = omega (arith, so_far.4) in
+    takes_behind_chunks (left c.args.reader.now) (left c.chunks.reader) (left c.read_size_line.new.reader) so_far.0 so_far.1 body 256 so_far.2 so_far.3 c.read_size_line.ensures.bounded fits
+
+pub returns-in_err-read_into-in-Size-clause-bounded : goal.returns-in_err-read_into-in-Size-clause-bounded
+returns-in_err-read_into-in-Size-clause-bounded g c =
+    let left = g.R.Source.left in
+    let so_far = c.chunks.invariant in
+    let body = c.chunks.body.items in
+    let limit : length body + c.in-Size.size ≤ 16842752 = search rules in
+    let fits : 259 * length body + (256 + c.in-Size.size) ≤ most_of_chunks = omega (arith, limit) in
+    takes_behind_chunks (left c.args.reader.now) (left c.chunks.reader) (left c.read_into.new.reader) so_far.0 so_far.1 body (256 + c.in-Size.size) so_far.2 so_far.3 (takes_both c.read_size_line.ensures.bounded c.read_into.ensures.bounded (omega arith)) fits
+
+pub returns-then-not-branch-clause-bounded : goal.returns-then-not-branch-clause-bounded
+returns-then-not-branch-clause-bounded g c =
+    let left = g.R.Source.left in
+    let so_far = c.chunks.invariant in
+    let body = c.chunks.body.items in
+    let limit : length body + c.in-Size.size ≤ 16842752 = search rules in
+    let fits : 259 * length body + (256 + c.in-Size.size) ≤ most_of_chunks = omega (arith, limit) in
+    takes_behind_chunks (left c.args.reader.now) (left c.chunks.reader) (left c.read_into.new.reader) so_far.0 so_far.1 body (256 + c.in-Size.size) so_far.2 so_far.3 (takes_both c.read_size_line.ensures.bounded c.read_into.ensures.bounded (omega arith)) fits
+
+pub returns-in_err-read_line_end-in-Size-clause-bounded : goal.returns-in_err-read_line_end-in-Size-clause-bounded
+returns-in_err-read_line_end-in-Size-clause-bounded g c =
+    let left = g.R.Source.left in
+    let so_far = c.chunks.invariant in
+    let body = c.chunks.body.items in
+    let limit : length body + c.in-Size.size ≤ 16842752 = search rules in
+    let some : 0 < c.in-Size.size = omega (arith, c.in-Size.size-test.1) in
+    let fits : 259 * length body + (256 + c.in-Size.size + 2) ≤ most_of_chunks = omega (arith, limit, some) in
+    takes_behind_chunks (left c.args.reader.now) (left c.chunks.reader) (left c.read_line_end.new.reader) so_far.0 so_far.1 body (256 + c.in-Size.size + 2) so_far.2 so_far.3 (takes_both (takes_both {most = 256 + c.in-Size.size} c.read_size_line.ensures.bounded c.read_into.ensures.bounded (omega arith)) c.read_line_end.ensures.bounded (omega arith)) fits
+
+pub returns-then-not-branch-2-clause-bounded : goal.returns-then-not-branch-2-clause-bounded
+returns-then-not-branch-2-clause-bounded g c =
+    let left = g.R.Source.left in
+    let so_far = c.chunks.invariant in
+    let body = c.chunks.body.items in
+    let limit : length body + c.in-Size.size ≤ 16842752 = search rules in
+    let some : 0 < c.in-Size.size = omega (arith, c.in-Size.size-test.1) in
+    let fits : 259 * length body + (256 + c.in-Size.size + 2) ≤ most_of_chunks = omega (arith, limit, some) in
+    takes_behind_chunks (left c.args.reader.now) (left c.chunks.reader) (left c.read_line_end.new.reader) so_far.0 so_far.1 body (256 + c.in-Size.size + 2) so_far.2 so_far.3 (takes_both (takes_both {most = 256 + c.in-Size.size} c.read_size_line.ensures.bounded c.read_into.ensures.bounded (omega arith)) c.read_line_end.ensures.bounded (omega arith)) fits

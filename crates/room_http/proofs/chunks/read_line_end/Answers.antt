@@ -1,5 +1,6 @@
-use Rattle.std.proofs.Common.{◌≡◌, ℕ, List, [], ◌∷◌, get_or, drop, ap}
+use Rattle.std.proofs.Common.{◌≡◌, ℕ, List, [], ◌∷◌, get_or, drop, ap, arith}
 use Rattle.room_http.proofs.Streams.{Yields_more}
+use Rattle.room_http.proofs.Taking.{takes_both}
 use Rattle.room_http.proofs.chunks.read_line_end.Goals as goal
 
 pub returns-then-first-ne13-clause-is : goal.returns-then-first-ne13-clause-is
@@ -29,3 +30,12 @@ returns-then-second-ne10-clause-is g c =
       Yields_more (left c.args.reader.now) (left c.read_byte.new.reader) (left c.read_byte-2.new.reader) (c.in-Some.first ∷ []) (c.in-Some-2.second ∷ []) one two,
       λ rest h after e. c.if-second-ne10.true (ap (λ (s : List ℕ). get_or s 1 0) e),
     )
+
+pub returns-in_err-second-clause-bounded : goal.returns-in_err-second-clause-bounded
+returns-in_err-second-clause-bounded g c = takes_both c.read_byte.ensures.bounded c.read_byte-2.ensures.bounded (omega arith)
+
+pub returns-then-second-ne10-clause-bounded : goal.returns-then-second-ne10-clause-bounded
+returns-then-second-ne10-clause-bounded g c = takes_both c.read_byte.ensures.bounded c.read_byte-2.ensures.bounded (omega arith)
+
+pub returns-clause-bounded : goal.returns-clause-bounded
+returns-clause-bounded g c = takes_both c.read_byte.ensures.bounded c.read_byte-2.ensures.bounded (omega arith)

@@ -1,4 +1,4 @@
-use Rattle.std.proofs.Common.{◌≡◌, ℕ, ◌≤◌, ◌++◌, ◌∙◌, [], ◌∷◌, length, rules, sym, Ok, subst}
+use Rattle.std.proofs.Common.{◌≡◌, ℕ, ◌+◌, ◌≤◌, ◌++◌, ◌∙◌, [], ◌∷◌, length, rules, sym, Ok, subst}
 use Rattle.httparse.specs.Grammar.{ChunkLine}
 use Rattle.httparse.specs.Outcome.{IfComplete}
 use Rattle.httparse.specs.Spans.{IsChunkLineAt}
@@ -7,6 +7,7 @@ use Rattle.httparse.specs.declared.Status.{Status}
 use Rattle.room_streams.specs.Streams.{Yields}
 use Rattle.room_http.proofs.Lines.{line_cut, line_refused, line_too_long, no_line_in_nothing, no_line_with_byte, size_line_found}
 use Rattle.room_http.proofs.Streams.{Yields_more}
+use Rattle.room_http.proofs.Taking.{takes_more}
 use Rattle.room_http.proofs.chunks.read_size_line.Goals as goal
 
 pub bytes-init : goal.bytes-init
@@ -64,3 +65,17 @@ pub returns-clause-is : goal.returns-clause-is
 returns-clause-is g c =
     let long : 256 ≤ length c.bytes.line.items = search rules in
     (c.bytes.line.items, c.bytes.invariant.took, λ rest h. line_too_long c.bytes.line.items long c.bytes.invariant.none rest)
+
+pub returns-in_err-byte-clause-bounded : goal.returns-in_err-byte-clause-bounded
+returns-in_err-byte-clause-bounded g c =
+    let left = g.R.Source.left in
+    let before = c.bytes.line.items in
+    let short : length before + 1 ≤ 256 = search rules in
+    takes_more (left c.args.reader.now) (left c.bytes.reader) (left c.read_byte.new.reader) before 1 256 c.bytes.invariant.took c.read_byte.ensures.bounded short
+
+pub returns-in-Ok-Complete-clause-bounded : goal.returns-in-Ok-Complete-clause-bounded
+returns-in-Ok-Complete-clause-bounded g c =
+    let left = g.R.Source.left in
+    let before = c.bytes.line.items in
+    let short : length before + 1 ≤ 256 = search rules in
+    takes_more (left c.args.reader.now) (left c.bytes.reader) (left c.read_byte.new.reader) before 1 256 c.bytes.invariant.took c.read_byte.ensures.bounded short

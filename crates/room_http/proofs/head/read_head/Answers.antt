@@ -1,8 +1,9 @@
-use Rattle.std.proofs.Common.{rules, ◌≡◌, ◌==◌, ◌&&◌, ◌||◌, ◌++◌, ◌∷◌, false, [], refl, sym, ap, arith, ◌∙◌, subst}
+use Rattle.std.proofs.Common.{rules, ◌≡◌, ◌+◌, ◌≤◌, length, ◌==◌, ◌&&◌, ◌||◌, ◌++◌, ◌∷◌, false, [], refl, sym, ap, arith, ◌∙◌, subst}
 use Rattle.httparse.specs.Grammar.{HasNoRequest}
 use Rattle.room_http.specs.Kinds.{ends_empty_line, has_space, may_end_head}
 use Rattle.room_http.proofs.Heads.{no_head_in_nothing, no_head_with_byte, space_with_byte}
 use Rattle.room_http.proofs.Streams.{Yields_more}
+use Rattle.room_http.proofs.Taking.{takes_more}
 use Rattle.room_http.proofs.head.read_head.Goals as goal
 
 pub bytes-init : goal.bytes-init
@@ -34,3 +35,22 @@ bytes-preserved g c =
       took = rw items (Yields_more (left c.args.reader.now) (left c.bytes.reader) (left c.read_byte.new.reader) old (byte ∷ []) c.bytes.invariant.took (rw c.in-Some.is at c.in_ok-byte.ensures.took));
       count = search rules;
     }
+
+pub returns-in-Ok-Complete-clause-took : goal.returns-in-Ok-Complete-clause-took
+returns-in-Ok-Complete-clause-took g c =
+    let left = g.R.Source.left in
+    rw c.in_ok-push.ensures.items (Yields_more (left c.args.reader.now) (left c.bytes.reader) (left c.read_byte.new.reader) c.bytes.text.items (c.in-Some.byte ∷ []) c.bytes.invariant.took (rw c.in-Some.is at c.in_ok-byte.ensures.took))
+
+pub returns-in_err-byte-clause-bounded : goal.returns-in_err-byte-clause-bounded
+returns-in_err-byte-clause-bounded g c =
+    let left = g.R.Source.left in
+    let before = c.bytes.text.items in
+    let short : length before + 1 ≤ 16384 = search rules in
+    takes_more (left c.args.reader.now) (left c.bytes.reader) (left c.read_byte.new.reader) before 1 16384 c.bytes.invariant.took c.read_byte.ensures.bounded short
+
+pub returns-in-Ok-Complete-clause-bounded : goal.returns-in-Ok-Complete-clause-bounded
+returns-in-Ok-Complete-clause-bounded g c =
+    let left = g.R.Source.left in
+    let before = c.bytes.text.items in
+    let short : length before + 1 ≤ 16384 = search rules in
+    takes_more (left c.args.reader.now) (left c.bytes.reader) (left c.read_byte.new.reader) before 1 16384 c.bytes.invariant.took c.read_byte.ensures.bounded short

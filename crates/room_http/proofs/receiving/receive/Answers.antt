@@ -1,8 +1,9 @@
-use Rattle.std.proofs.Common.{rules, ◌<◌, ◌≤◌, length}
+use Rattle.std.proofs.Common.{rules, ◌<◌, ◌≤◌, length, arith}
 use Rattle.room_http.specs.Bodies.{HasBody, IsNoBody, IsTooLongBody}
 use Rattle.room_http.specs.Http.{Http, Carried, Refused, has_long_body, has_message, has_no_body, has_short_body}
 use Rattle.room_http.specs.declared.refusal.Refusal.TheVariants.{BadRequest, PayloadTooLarge}
 use Rattle.room_http.proofs.Openings.{behind_head}
+use Rattle.room_http.proofs.Taking.{takes_both}
 use Rattle.room_http.proofs.receiving.receive.Goals as goal
 
 pub returns-then-len-lt-SHORTEST_BODY-clause-received :
@@ -57,3 +58,18 @@ returns-in-TooLong-clause-received g c =
           (λ whole behind rest orders long. has_long_body order behind orders read.0 long),
       c.in_ok-send_interim.ensures.sent,
     )
+
+pub returns-in_err-body-clause-bounded : goal.returns-in_err-body-clause-bounded
+returns-in_err-body-clause-bounded g c = takes_both c.read_order.ensures.bounded c.read_body.ensures.bounded (omega arith)
+
+pub returns-then-len-lt-SHORTEST_BODY-clause-bounded : goal.returns-then-len-lt-SHORTEST_BODY-clause-bounded
+returns-then-len-lt-SHORTEST_BODY-clause-bounded g c = takes_both c.read_order.ensures.bounded c.read_body.ensures.bounded (omega arith)
+
+pub returns-else-len-lt-SHORTEST_BODY-clause-bounded : goal.returns-else-len-lt-SHORTEST_BODY-clause-bounded
+returns-else-len-lt-SHORTEST_BODY-clause-bounded g c = takes_both c.read_order.ensures.bounded c.read_body.ensures.bounded (omega arith)
+
+pub returns-in-Bad-clause-bounded : goal.returns-in-Bad-clause-bounded
+returns-in-Bad-clause-bounded g c = takes_both c.read_order.ensures.bounded c.read_body.ensures.bounded (omega arith)
+
+pub returns-in-TooLong-clause-bounded : goal.returns-in-TooLong-clause-bounded
+returns-in-TooLong-clause-bounded g c = takes_both c.read_order.ensures.bounded c.read_body.ensures.bounded (omega arith)

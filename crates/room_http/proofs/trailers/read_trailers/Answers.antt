@@ -1,4 +1,4 @@
-use Rattle.std.proofs.Common.{◌≡◌, ℕ, ◌≤◌, ◌++◌, ◌∙◌, [], ◌∷◌, length, rules, sym, Ok, subst}
+use Rattle.std.proofs.Common.{◌+◌, ◌≡◌, ℕ, ◌≤◌, ◌++◌, ◌∙◌, [], ◌∷◌, length, rules, sym, Ok, subst}
 use Rattle.httparse.specs.Outcome.{IfComplete}
 use Rattle.httparse.specs.Spans.{IsSectionOf, IsSectionWithin}
 use Rattle.httparse.specs.declared.Error.{Error}
@@ -6,6 +6,7 @@ use Rattle.httparse.specs.declared.Status.{Status}
 use Rattle.room_streams.specs.Streams.{Yields}
 use Rattle.room_http.proofs.Sections.{no_section_in_nothing, no_section_with_byte, trailers_cut, trailers_found, trailers_refused, trailers_too_long}
 use Rattle.room_http.proofs.Streams.{Yields_more}
+use Rattle.room_http.proofs.Taking.{takes_more}
 use Rattle.room_http.proofs.trailers.read_trailers.Goals as goal
 
 pub bytes-init : goal.bytes-init
@@ -67,3 +68,10 @@ pub returns-clause-is : goal.returns-clause-is
 returns-clause-is g c =
     let long : 4096 ≤ length c.bytes.text.items = search rules in
     (c.bytes.text.items, c.bytes.invariant.took, λ rest h. trailers_too_long c.bytes.text.items long c.bytes.invariant.none rest)
+
+pub returns-in_err-byte-clause-bounded : goal.returns-in_err-byte-clause-bounded
+returns-in_err-byte-clause-bounded g c =
+    let left = g.R.Source.left in
+    let before = c.bytes.text.items in
+    let short : length before + 1 ≤ 4096 = search rules in
+    takes_more (left c.args.reader.now) (left c.bytes.reader) (left c.read_byte.new.reader) before 1 4096 c.bytes.invariant.took c.read_byte.ensures.bounded short
