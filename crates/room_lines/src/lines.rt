@@ -1,9 +1,11 @@
 //! The grammar of lines: fields parted by one space, lines ended by a line feed, the last of which may
 //! be missing. Nothing is trimmed, so a carriage return, a tab or a further space makes a line bad.
-ghost use Rattle.std.specs.Prelude.{◌≤◌, All, IfOk, IsTrue};
+ghost use Rattle.std.specs.Prelude.{◌≡◌, ◌==◌, ◌∷◌, ◌≤◌, ◌<◌, None, All, IfOk, IfSome, IsTrue, OnOk, length, position};
 ghost use Rattle.room_rules.specs.Limits.{first_month, last_month};
 ghost use Rattle.room_lines.specs.Actions.{are_impressions, is_in_range, is_of_operator, is_of_station};
 ghost use Rattle.room_lines.specs.Lines.{IsAllowed};
+ghost use Rattle.room_lines.specs.Saying.{AreLinesOf, IsLineOf, Says, SaysBytes, SaysImpressions, SaysMonth, SaysNumber, SaysPassword, SaysWord};
+ghost use Rattle.room_lines.specs.Taking.{TakesField, TakesOne, TakesSome, left};
 
 use crate::action::Action;
 use crate::fault::LineFault;
@@ -28,6 +30,7 @@ impl Grammar {
     /// no lines.
     pub fn read(self, alloc: Global, input: &[u8]) -> Result<Vec<Line>, LineFault>
         ensures allowed { IfOk result (λ lines. All (IsAllowed self) lines.items) }
+        ensures said { IfOk result (λ lines. AreLinesOf self input.now lines.items) }
     {
         let mut lines = Vec::new(alloc);
         if input.is_empty() {
@@ -47,6 +50,7 @@ impl Grammar {
     /// One line, without what ends it. `Malformed` where it is none of the grammar's.
     pub fn read_line(self, alloc: Global, line: &[u8]) -> Result<Line, FieldFault>
         ensures allowed { IfOk result (IsAllowed self) }
+        ensures said { IfOk result (IsLineOf self line.now) }
     {
         let mut fields = Fields { rest: Some(line) };
         let line = match self {
@@ -71,7 +75,9 @@ impl Grammar {
 }
 
 fn script_action(alloc: Global, fields: &mut Fields<'_>) -> Result<Action, FieldFault>
-    ensures { IfOk result (λ action. IsTrue (is_in_range action)) }
+    ensures range { IfOk result (λ action. IsTrue (is_in_range action)) }
+    ensures said { IfOk result
+        (λ action. TakesSome (left fields.old) (left fields.new) (λ taken. Says taken action)) }
 {
     match fields.take()? {
         b"ipp" => Ok(Action::Ipp {
@@ -86,6 +92,8 @@ fn script_action(alloc: Global, fields: &mut Fields<'_>) -> Result<Action, Field
 fn operator_action(kind: &[u8], fields: &mut Fields<'_>) -> Result<Action, FieldFault>
     ensures range { IfOk result (λ action. IsTrue (is_in_range action)) }
     ensures kind { IfOk result (λ action. IsTrue (is_of_operator action)) }
+    ensures said { IfOk result (λ action. TakesSome (left fields.old) (left fields.new)
+        (λ taken. Says (kind.now ∷ taken) action)) }
 {
     match kind {
         b"open" => Ok(Action::Open {
@@ -111,6 +119,8 @@ fn operator_action(kind: &[u8], fields: &mut Fields<'_>) -> Result<Action, Field
 fn station_action(alloc: Global, kind: &[u8], fields: &mut Fields<'_>) -> Result<Action, FieldFault>
     ensures range { IfOk result (λ action. IsTrue (is_in_range action)) }
     ensures kind { IfOk result (λ action. IsTrue (is_of_station action)) }
+    ensures said { IfOk result (λ action. TakesSome (left fields.old) (left fields.new)
+        (λ taken. Says (kind.now ∷ taken) action)) }
 {
     match kind {
         b"release" => Ok(Action::Release {
@@ -143,9 +153,11 @@ struct Fields<'a> {
 }
 
 impl<'a> Fields<'a> {
-    fn take(&mut self) -> Result<&'a [u8], FieldFault> {
+    fn take(&mut self) -> Result<&'a [u8], FieldFault>
+        ensures took { IfOk result (λ field. TakesField (left self.old) (left self.new) field.now) }
+    {
         let rest = self.rest.ok_or(FieldFault::Malformed)?;
-        match rest.iter().position(|byte| *byte == b' ') {
+        match first_space(rest) {
             Some(end) => {
                 self.rest = Some(&rest[end + 1..]);
                 Ok(&rest[..end])
@@ -157,7 +169,9 @@ impl<'a> Fields<'a> {
         }
     }
 
-    fn end(&self) -> Result<(), FieldFault> {
+    fn end(&self) -> Result<(), FieldFault>
+        ensures none_left { OnOk result (left self.now ≡ None) }
+    {
         match self.rest {
             None => Ok(()),
             Some(_) => Err(FieldFault::Malformed),
@@ -165,7 +179,9 @@ impl<'a> Fields<'a> {
     }
 
     fn moment(&mut self) -> Result<u64, FieldFault>
-        ensures { IfOk result (λ moment. moment ≤ 4102444799) }
+        ensures range { IfOk result (λ moment. moment ≤ 4102444799) }
+        ensures said { IfOk result (λ moment.
+            TakesOne (left self.old) (left self.new) (λ field. SaysNumber field moment)) }
     {
         match room_fields::decimal(self.take()?) {
             Some(moment) if moment <= LAST_MOMENT => Ok(moment),
@@ -173,31 +189,46 @@ impl<'a> Fields<'a> {
         }
     }
 
-    fn name(&mut self) -> Result<Name, FieldFault> {
+    fn name(&mut self) -> Result<Name, FieldFault>
+        ensures said { IfOk result (λ name. TakesField (left self.old) (left self.new) name) }
+    {
         Name::read(self.take()?).ok_or(FieldFault::Malformed)
     }
 
     fn number(&mut self, least: u32, most: u32) -> Result<u32, FieldFault>
-        ensures { IfOk result (λ number. (least ≤ number) × (number ≤ most)) }
+        ensures range { IfOk result (λ number. (least ≤ number) × (number ≤ most)) }
+        ensures said { IfOk result (λ number.
+            TakesOne (left self.old) (left self.new) (λ field. SaysNumber field number)) }
     {
         room_fields::number(self.take()?, least, most).ok_or(FieldFault::Malformed)
     }
 
     fn month(&mut self) -> Result<u32, FieldFault>
-        ensures { IfOk result (λ month. (first_month ≤ month) × (month ≤ last_month)) }
+        ensures range { IfOk result (λ month. (first_month ≤ month) × (month ≤ last_month)) }
+        ensures said { IfOk result (λ month.
+            TakesOne (left self.old) (left self.new) (λ field. SaysMonth field month)) }
     {
         room_fields::month(self.take()?).ok_or(FieldFault::Malformed)
     }
 
-    fn choice(&mut self, yes: &[u8], no: &[u8]) -> Result<bool, FieldFault> {
+    fn choice(&mut self, yes: &[u8], no: &[u8]) -> Result<bool, FieldFault>
+        ensures said { IfOk result (λ it.
+            TakesOne (left self.old) (left self.new) (λ field. SaysWord yes.now no.now field it)) }
+    {
         room_fields::choice(self.take()?, yes, no).ok_or(FieldFault::Malformed)
     }
 
-    fn bytes(&mut self, alloc: Global) -> Result<Vec<u8>, FieldFault> {
+    fn bytes(&mut self, alloc: Global) -> Result<Vec<u8>, FieldFault>
+        ensures said { IfOk result (λ bytes.
+            TakesOne (left self.old) (left self.new) (λ field. SaysBytes field bytes.items)) }
+    {
         room_fields::bytes(alloc, self.take()?)
     }
 
-    fn password(&mut self, alloc: Global) -> Result<Vec<u8>, FieldFault> {
+    fn password(&mut self, alloc: Global) -> Result<Vec<u8>, FieldFault>
+        ensures said { IfOk result (λ password.
+            TakesOne (left self.old) (left self.new) (λ field. SaysPassword field password.items)) }
+    {
         match self.take()? {
             b"-" => Ok(Vec::new(alloc)),
             digits => room_fields::bytes(alloc, digits),
@@ -205,7 +236,9 @@ impl<'a> Fields<'a> {
     }
 
     fn impressions(&mut self) -> Result<Option<u32>, FieldFault>
-        ensures { IfOk result (λ impressions. IsTrue (are_impressions impressions)) }
+        ensures range { IfOk result (λ impressions. IsTrue (are_impressions impressions)) }
+        ensures said { IfOk result (λ impressions.
+            TakesOne (left self.old) (left self.new) (λ field. SaysImpressions field impressions)) }
     {
         match self.take()? {
             b"-" => Ok(None),
@@ -215,4 +248,11 @@ impl<'a> Fields<'a> {
             },
         }
     }
+}
+
+fn first_space(text: &[u8]) -> Option<usize>
+    ensures place { result ≡ position (λ b. b == 32) text.now }
+    ensures within { IfSome result (λ end. end < length text.now) }
+{
+    text.iter().position(|byte| *byte == b' ')
 }
