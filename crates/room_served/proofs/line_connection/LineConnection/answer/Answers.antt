@@ -20,26 +20,26 @@ returns-in_err-put_bad-in-None-clause-continues g c = stays g.S.Store c.args.ser
 
 pub returns-in_ok-put_told-in-Some-entry-clause-taken : goal.returns-in_ok-put_told-in-Some-entry-clause-taken
 returns-in_ok-put_told-in-Some-entry-clause-taken g c = λ _.
-  let input = input_of c.args.self.now in
-  let first : line_end input ≡ Some c.in-Some.end = ap line_end (sym c.as_slice.ensures) ∙ sym c.in-Some.ensures.place in
-  record {
-  end = c.in-Some.end;
-  first = first;
-  rest = c.advance.ensures.items;
-  text = line_text c.apply.result;
-  output = c.in_ok-put_told-in-Some-entry.ensures;
-  gives = inl (record {
-    line = take c.in-Some.end input;
-    ended = ends_with_feed input c.in-Some.end first;
-    entry = c.in-Some-entry.entry;
-    said = subst (λ (grammar : Grammar). IsEntryOf grammar (take c.in-Some.end input) c.in-Some-entry.entry) c.grammar-grammar.ensures (rw c.in-Some-entry.is at c.in_ok-entry.ensures);
-    told = c.apply.result;
-    journal = c.apply.ensures.journal;
-    applies = c.apply.ensures.applies;
-    moment = c.apply.ensures.moment;
-    says = refl;
-  });
-}
+    let input = input_of c.args.self.now in
+    let first : line_end input ≡ Some c.in-Some.end = ap line_end (sym c.as_slice.ensures) ∙ sym c.in-Some.ensures.place in
+    record {
+      end = c.in-Some.end;
+      first = first;
+      rest = c.advance.ensures.items;
+      text = line_text c.apply.result;
+      output = c.in_ok-put_told-in-Some-entry.ensures;
+      gives = inl (record {
+        line = take c.in-Some.end input;
+        ended = ends_with_feed input c.in-Some.end first;
+        entry = c.in-Some-entry.entry;
+        said = subst (λ (grammar : Grammar). IsEntryOf grammar (take c.in-Some.end input) c.in-Some-entry.entry) c.grammar-grammar.ensures (rw c.in-Some-entry.is at c.in_ok-entry.ensures);
+        told = c.apply.result;
+        journal = c.apply.ensures.journal;
+        applies = c.apply.ensures.applies;
+        moment = c.apply.ensures.moment;
+        says = refl;
+      });
+    }
 
 pub returns-in_ok-put_told-in-Some-entry-clause-continues : goal.returns-in_ok-put_told-in-Some-entry-clause-continues
 returns-in_ok-put_told-in-Some-entry-clause-continues g c = c.apply.ensures.continues
