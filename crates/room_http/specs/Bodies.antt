@@ -1,6 +1,7 @@
 -- What stands behind a head in the place of its body.
 use Rattle.std.specs.Prelude.{◌≡◌, ℕ, ◌<◌, ◌≤◌, List, ◌++◌, length}
 use Rattle.httparse.specs.Grammar.{ChunkLine, print_chunk_line}
+use Rattle.room_http.specs.Limits.{longest_body}
 use Rattle.room_http.specs.Chunks.{Chunk, AreChunks, IsLast, IsNoChunk, IsTooLongWith}
 use Rattle.room_http.specs.Trailers.{Section, AreTrailers, HasNoTrailers, print_trailers}
 use Rattle.room_http.specs.declared.framing.Framing.{Framing}
@@ -15,7 +16,7 @@ pub record IsChunkedBody (b body rest : List ℕ) : Type 0 where
   pub are_chunks : AreChunks chunks text body
   pub is_last : IsLast last
   pub are_trailers : AreTrailers trailers
-  pub fits : length body ≤ 16842752
+  pub fits : length body ≤ longest_body
   pub spelled : b ≡ (text ++ print_chunk_line last) ++ print_trailers trailers ++ rest
 
 -- the body, and what follows it
@@ -26,7 +27,7 @@ HasBody Chunked b body rest = IsChunkedBody b body rest
 -- chunks, and something behind them
 abbrev pub HasBehindChunks : List ℕ → (List ℕ → List ℕ → Type 0) → Type 0
 HasBehindChunks b P = (chunks : List Chunk) × (text : List ℕ) × (body : List ℕ) × (behind : List ℕ)
-    × AreChunks chunks text body × (length body ≤ 16842752) × (b ≡ text ++ behind) × P body behind
+    × AreChunks chunks text body × (length body ≤ longest_body) × (b ≡ text ++ behind) × P body behind
 
 -- the line of size 0, and then no trailers
 abbrev pub EndsBadly : List ℕ → Type 0

@@ -4,11 +4,11 @@ use Rattle.std.specs.Prelude.{◌≡◌, ℕ, ◌+◌, ◌<◌, ◌≤◌, List,
 use Rattle.std.specs.List.{flat_map, AllByRecursion}
 use Rattle.httparse.specs.Ascii.{crlf_bytes}
 use Rattle.httparse.specs.Grammar.{ChunkLine, IsChunkLine, print_chunk_line, chunk_size}
+use Rattle.room_http.specs.Limits.{longest_body, longest_size_line}
 
--- a line of 256 bytes at most, its end among them (this project's limit)
 pub record IsSizeLine (line : ChunkLine) : Type 0 where
   pub is_line : IsChunkLine line
-  pub short : length (print_chunk_line line) ≤ 256
+  pub short : length (print_chunk_line line) ≤ longest_size_line
 
 pub record Chunk : Type 0 where
   pub line : ChunkLine
@@ -38,23 +38,23 @@ HasNoSizeLine b =
 abbrev pub HasNoLineEnd : List ℕ → Type 0
 HasNoLineEnd b = (rest : List ℕ) → b ≡ crlf_bytes ++ rest → ⊥
 
--- ---- after chunks of so many bytes that were read: the line of the next one is judged before its bytes
+-- ---- after chunks of so many bytes that were read; the next one's line is judged before its bytes
 
 -- in the place of the next chunk
 pub data IsNoChunk (size : ℕ) (b : List ℕ) : Type 0 where
   has_no_line : HasNoSizeLine b → IsNoChunk size b
   -- the line, and fewer bytes than it tells
-  is_cut : (line : ChunkLine) (bytes : List ℕ) → IsSizeLine line → size + chunk_size line ≤ 16842752
-      → b ≡ print_chunk_line line ++ bytes → length bytes < chunk_size line → IsNoChunk size b
+  is_cut : (line : ChunkLine) (bytes : List ℕ) → IsSizeLine line
+      → size + chunk_size line ≤ longest_body → b ≡ print_chunk_line line ++ bytes → length bytes < chunk_size line → IsNoChunk size b
   -- the line, the bytes that it tells, and something else than CR LF
   has_no_end : (line : ChunkLine) (bytes rest : List ℕ) → IsSizeLine line → 0 < chunk_size line
-      → size + chunk_size line ≤ 16842752 → chunk_size line ≡ length bytes
+      → size + chunk_size line ≤ longest_body → chunk_size line ≡ length bytes
       → b ≡ print_chunk_line line ++ bytes ++ rest → HasNoLineEnd rest → IsNoChunk size b
 
--- a chunk that makes a body of more than 16842752 bytes
+-- a chunk that makes the body too long
 abbrev pub IsTooLongWith : (size : ℕ) (b : List ℕ) → Type 0
 IsTooLongWith size b = (line : ChunkLine) × (rest : List ℕ) × IsSizeLine line
-    × (b ≡ print_chunk_line line ++ rest) × (16842752 < size + chunk_size line)
+    × (b ≡ print_chunk_line line ++ rest) × (longest_body < size + chunk_size line)
 
 -- the line of size 0, which ends the chunks
 abbrev pub IsLast : ChunkLine → Type 0

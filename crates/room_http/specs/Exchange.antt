@@ -1,6 +1,7 @@
 -- What a call takes of an input, and writes.
 use Rattle.std.specs.Prelude.{◌≡◌, ℕ, ◌+◌, ◌*◌, ◌<◌, ◌≤◌, ⊤, Bool, true, List, ◌++◌, length, take, Option, Result, Ok, Err}
 use Rattle.std.specs.Io.KnownBytes.{Appends}
+use Rattle.room_http.specs.Limits.{longest_body, longest_head, longest_size_line, longest_trailers}
 use Rattle.room_streams.specs.Streams.{Yields}
 use Rattle.room_http.specs.Http.{Http, Nothing, Orders, Refused, Carried}
 use Rattle.room_http.specs.Texts.{interim_text}
@@ -47,19 +48,19 @@ pub record TakesAtMost (most : ℕ) (before after : List ℕ → Type 0) : Type 
   pub yields : Yields before after taken
   pub short : length taken ≤ most
 
--- The most bytes of chunks with the line of size 0 behind them: a body has at most 16842752 bytes,
--- and each stands at worst in a chunk of its own, of a line of 256 bytes, the byte, and CR LF; the
--- line of size 0 has 256 more. What ends within a chunk, or is none, has no more.
+-- The most bytes of chunks with the line of size 0 behind them: each byte of the body stands at worst
+-- in a chunk of its own, of a line, the byte, and CR LF. What ends within a chunk, or is none, has no
+-- more.
 abbrev pub most_of_chunks : ℕ
-most_of_chunks = 259 * 16842752 + 256
+most_of_chunks = (longest_size_line + 3) * longest_body + longest_size_line
 
--- The most bytes of a body: chunks, and trailers of 4096 bytes. One by length has fewer.
+-- The most bytes of a body: chunks, and trailers. One by length has fewer.
 abbrev pub most_of_body : ℕ
-most_of_body = most_of_chunks + 4096
+most_of_body = most_of_chunks + longest_trailers
 
--- The most bytes that are taken for one message: a head of 16384 bytes, and a body.
+-- The most bytes that are taken for one message: a head, and a body: 4362293504.
 abbrev pub most_taken : ℕ
-most_taken = 16384 + most_of_body
+most_taken = longest_head + most_of_body
 
 -- what was received, by what the whole input is, and what was written
 abbrev pub ReceivedIs : (before after : List ℕ → Type 0) (old new : Option (List ℕ))

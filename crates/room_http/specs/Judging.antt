@@ -7,6 +7,7 @@ use Rattle.std.specs.List.{list_all, list_any, starts_with}
 use Rattle.httparse.specs.Grammar.{RequestHead}
 use Rattle.httparse.specs.Spans.{name_and_value}
 use Rattle.room_rules.specs.Names.{is_name}
+use Rattle.room_http.specs.Limits.{longest_body}
 use Rattle.room_http.specs.Fields.{NameAndValue, is_named, plain_field, values_named}
 use Rattle.room_http.specs.Framing.{framing_of}
 use Rattle.room_http.specs.Words.{before, is_same_word, lists, without_margin}
@@ -76,11 +77,11 @@ is_ipp [] = false
 is_ipp (value ∷ values) = is_ipp_type value
 
 abbrev pub is_too_long : Framing → Bool
-is_too_long (Length n) = nat_lt 16842752 n
+is_too_long (Length n) = nat_lt longest_body n
 is_too_long Chunked = false
 
 abbrev pub FitsLimit : Framing → Type 0
-FitsLimit (Length n) = n ≤ 16842752
+FitsLimit (Length n) = n ≤ longest_body
 FitsLimit Chunked = ⊤
 
 -- ---- what it asks of the connection

@@ -4,6 +4,7 @@ use Rattle.httparse.specs.Grammar.{HasNoRequest, MayBecomeRequest, NeverHasReque
 use Rattle.httparse.specs.Ascii.{crlf_bytes}
 use Rattle.httparse.specs.Spans.{IsRequestOf, IsRequestWithin, RequestExceeds, RequestOverflows}
 use Rattle.httparse.specs.declared.spans.HeaderSpan.{HeaderSpan}
+use Rattle.room_http.specs.Limits.{longest_body, longest_head}
 use Rattle.room_streams.specs.Streams.{IsSpent, Yields}
 use Rattle.room_http.specs.Bodies.{HasBody, IsNoBody, IsTooLongBody, HasBehindChunks}
 use Rattle.room_http.specs.Chunks.{AreChunks, Chunk, HasNoLineEnd, HasNoSizeLine, IsLast, IsNoChunk, IsSizeLine}
@@ -43,12 +44,12 @@ HeadIs room left text headers (head_is.Whole spans) =
     IsRequestOf text headers spans × IsRequestWithin text headers spans × (spans.len ≡ length text)
 HeadIs room left text headers head_is.Absent = (text ≡ []) × IsSpent left
 HeadIs room left text headers head_is.Cut =
-    (text ≢ []) × (length text < 16384) × IsSpent left × HasNoRequest text
+    (text ≢ []) × (length text < longest_head) × IsSpent left × HasNoRequest text
 HeadIs room left text headers head_is.Invalid = NeverHasRequest text
 HeadIs room left text headers head_is.TooMany =
     RequestExceeds room text × RequestOverflows room text
 HeadIs room left text headers head_is.TooLong =
-    (length text ≡ 16384) × HasNoRequest text × MayBecomeRequest text
+    (length text ≡ longest_head) × HasNoRequest text × MayBecomeRequest text
 
 -- ---- so many bytes
 
@@ -75,7 +76,7 @@ LineEndIs before after false = Takes before after (λ b rest. HasNoLineEnd b)
 abbrev pub EndsChunks : (List ℕ → Type 0) → (List ℕ → Type 0) → List ℕ → Type 0
 EndsChunks before after body =
     (chunks : List Chunk) × (text : List ℕ) × (last : ChunkLine) × AreChunks chunks text body
-    × IsLast last × (length body ≤ 16842752) × Yields before after (text ++ print_chunk_line last)
+    × IsLast last × (length body ≤ longest_body) × Yields before after (text ++ print_chunk_line last)
 
 abbrev pub ChunksAre : (before after : List ℕ → Type 0) (body : List ℕ) (chunks : Chunks) → Type 0
 ChunksAre before after body chunks_are.Whole = EndsChunks before after body

@@ -2,6 +2,7 @@
 -- with the empty line behind them (this project's limits). What they say is ignored.
 use Rattle.std.specs.Prelude.{◌≡◌, ℕ, ◌≤◌, List, ◌++◌, length, All}
 use Rattle.httparse.specs.Grammar.{Field, IsField, LineEnd, print_section}
+use Rattle.room_http.specs.Limits.{longest_trailers, most_fields}
 
 -- fields, and how the empty line ends
 pub record Section : Type 0 where
@@ -13,8 +14,8 @@ print_trailers section = print_section section.fields section.last
 
 pub record AreTrailers (section : Section) : Type 0 where
   pub each : All IsField section.fields
-  pub few : length section.fields ≤ 64
-  pub short : length (print_trailers section) ≤ 4096
+  pub few : length section.fields ≤ most_fields
+  pub short : length (print_trailers section) ≤ longest_trailers
 
 -- none are at the front
 abbrev pub HasNoTrailers : List ℕ → Type 0

@@ -5,6 +5,7 @@ ghost use Rattle.httparse.specs.Spans.{IsHeaderWithin, IsRequestAt, IsRequestWit
 ghost use Rattle.room_http.specs.Exchange.{FailedReceiving, HasHeader, ReceivedIs, TakesAtMost, most_taken, read_faults, write_faults};
 ghost use Rattle.room_http.specs.Fields.{plain_field};
 ghost use Rattle.room_http.specs.Judging.{FitsLimit, judged, said_by};
+ghost use Rattle.room_http.specs.Limits.{longest_head};
 ghost use Rattle.room_http.specs.Reading.{IsReading, OpeningIs};
 
 use crate::body::{Body, read_body};
@@ -88,7 +89,7 @@ pub fn receive<R: Source, W: Sink>(
 pub(crate) fn read_order<R: Source>(alloc: Global, reader: &mut R) -> Result<Opening, WireFault>
     requires { R.failures reader.old < 2 ^ 64 - 1 }
     ensures is { IfOk result (OpeningIs (R.left reader.old) (R.left reader.new)) }
-    ensures bounded { TakesAtMost 16384 (R.left reader.old) (R.left reader.new) }
+    ensures bounded { TakesAtMost longest_head (R.left reader.old) (R.left reader.new) }
     ensures count { R.failures reader.new ≡ R.failures reader.old + read_faults result }
     ensures cause { IfErr result IsReading }
 {
