@@ -27,7 +27,8 @@ HasBody Chunked b body rest = IsChunkedBody b body rest
 -- chunks, and something behind them
 abbrev pub HasBehindChunks : List ℕ → (List ℕ → List ℕ → Type 0) → Type 0
 HasBehindChunks b P = (chunks : List Chunk) × (text : List ℕ) × (body : List ℕ) × (behind : List ℕ)
-    × AreChunks chunks text body × (length body ≤ longest_body) × (b ≡ text ++ behind) × P body behind
+    × AreChunks chunks text body × (length body ≤ longest_body)
+    × (b ≡ text ++ behind) × P body behind
 
 -- the line of size 0, and then no trailers
 abbrev pub EndsBadly : List ℕ → Type 0

@@ -45,7 +45,8 @@ pub data IsNoChunk (size : ℕ) (b : List ℕ) : Type 0 where
   has_no_line : HasNoSizeLine b → IsNoChunk size b
   -- the line, and fewer bytes than it tells
   is_cut : (line : ChunkLine) (bytes : List ℕ) → IsSizeLine line
-      → size + chunk_size line ≤ longest_body → b ≡ print_chunk_line line ++ bytes → length bytes < chunk_size line → IsNoChunk size b
+      → size + chunk_size line ≤ longest_body → b ≡ print_chunk_line line ++ bytes
+      → length bytes < chunk_size line → IsNoChunk size b
   -- the line, the bytes that it tells, and something else than CR LF
   has_no_end : (line : ChunkLine) (bytes rest : List ℕ) → IsSizeLine line → 0 < chunk_size line
       → size + chunk_size line ≤ longest_body → chunk_size line ≡ length bytes

@@ -48,9 +48,9 @@ pub record TakesAtMost (most : ℕ) (before after : List ℕ → Type 0) : Type 
   pub yields : Yields before after taken
   pub short : length taken ≤ most
 
--- The most bytes of chunks with the line of size 0 behind them: each byte of the body stands at worst
--- in a chunk of its own, of a line, the byte, and CR LF. What ends within a chunk, or is none, has no
--- more.
+-- The most bytes of chunks with the line of size 0 behind them: each byte of the body stands at
+-- worst in a chunk of its own, of a line, the byte, and CR LF. What ends within a chunk, or is none,
+-- has no more.
 abbrev pub most_of_chunks : ℕ
 most_of_chunks = (longest_size_line + 3) * longest_body + longest_size_line
 

@@ -14,8 +14,8 @@ pub record Opens (b : List ℕ) (h : RequestHead) (behind : List ℕ) : Type 0 w
 
 -- as many bytes as a head may have are there, which hold no whole head and are not refused
 abbrev pub IsTooLong : List ℕ → Type 0
-IsTooLong b = (front : List ℕ) × (rest : List ℕ) × (b ≡ front ++ rest) × (length front ≡ longest_head)
-    × HasNoRequest front × MayBecomeRequest front
+IsTooLong b = (front : List ℕ) × (rest : List ℕ) × (b ≡ front ++ rest)
+    × (length front ≡ longest_head) × HasNoRequest front × MayBecomeRequest front
 
 -- in its place
 

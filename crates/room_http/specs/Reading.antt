@@ -76,7 +76,8 @@ LineEndIs before after false = Takes before after (λ b rest. HasNoLineEnd b)
 abbrev pub EndsChunks : (List ℕ → Type 0) → (List ℕ → Type 0) → List ℕ → Type 0
 EndsChunks before after body =
     (chunks : List Chunk) × (text : List ℕ) × (last : ChunkLine) × AreChunks chunks text body
-    × IsLast last × (length body ≤ longest_body) × Yields before after (text ++ print_chunk_line last)
+    × IsLast last × (length body ≤ longest_body)
+    × Yields before after (text ++ print_chunk_line last)
 
 abbrev pub ChunksAre : (before after : List ℕ → Type 0) (body : List ℕ) (chunks : Chunks) → Type 0
 ChunksAre before after body chunks_are.Whole = EndsChunks before after body
