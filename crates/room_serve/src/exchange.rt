@@ -3,7 +3,7 @@ ghost use Rattle.std.specs.Prelude.{◌≡◌, ◌↔◌, ◌+◌, ◌-◌, ◌^
 ghost use Rattle.std.specs.Io.KnownBytes.{Appends};
 ghost use Rattle.sqlite.specs.Held.{state};
 ghost use Rattle.room_core.specs.declared.event.Reply.{Reply as ToldReply};
-ghost use Rattle.room_http.specs.Exchange.{AppendsFront, read_faults, write_faults};
+ghost use Rattle.room_http.specs.Exchange.{AppendsFront, TakesAtMost, most_taken, read_faults, write_faults};
 ghost use Rattle.room_store.specs.declared.fault.StoreFault.{StoreFault as ToldFault};
 ghost use Rattle.room_serve.specs.Exchanges.{Answers, Applies, Breaks, after_answer, after_telling, internal_error, text_told};
 ghost use Rattle.room_serve.specs.Wires.{has_ended, reader_of, writer_of};
@@ -22,7 +22,8 @@ use std::alloc::Global;
 /// read. The message is one event of the account in its path; a fault of the store is told as internal-error.
 ///
 /// `Read`, `Write` and `Memory` end the connection, as `Close` does: every later call answers `Ended`, and reads and
-/// writes nothing. From the event on no memory is taken but by the store.
+/// writes nothing. However a call ends, it has read at most `most_taken` bytes. From the event on no memory is taken
+/// but by the store.
 pub fn serve_one<S: Alter, R: Source, W: Sink>(
     alloc: Global,
     store: &mut Store<S>,
@@ -37,6 +38,8 @@ pub fn serve_one<S: Alter, R: Source, W: Sink>(
     ensures fault { has_ended wire.old ≡ false → IfErr result (Breaks S.Store now
         (R.left (reader_of wire.old)) (R.left (reader_of wire.new))
         (W.given (writer_of wire.old)) (W.given (writer_of wire.new)) store.old store.new) }
+    ensures bounded { TakesAtMost most_taken (R.left (reader_of wire.old))
+        (R.left (reader_of wire.new)) }
     ensures ended { has_ended wire.old ≡ true
         → (result ≡ Err WireFault.Ended) × (wire.new ≡ wire.old) × (store.new ≡ store.old) }
     ensures goes_on { has_ended wire.new ≡ false ↔ (result ≡ Ok After.Again) }
@@ -68,6 +71,7 @@ fn exchange<S: Alter, R: Source, W: Sink>(
         (W.given writer.old) (W.given writer.new) store.old store.new) }
     ensures fault { IfErr result (Breaks S.Store now (R.left reader.old) (R.left reader.new)
         (W.given writer.old) (W.given writer.new) store.old store.new) }
+    ensures bounded { TakesAtMost most_taken (R.left reader.old) (R.left reader.new) }
     ensures reads { R.failures reader.new ≡ R.failures reader.old + read_faults result }
     ensures writes { W.failures writer.new ≡ W.failures writer.old + write_faults result }
     ensures goes { Goes (state S.Store store.old) (state S.Store store.new) }
