@@ -1,6 +1,6 @@
 -- The numbers that a line may say, whose lines they are, and the events that they ask for (this
 -- project's own).
-use Rattle.std.specs.Prelude.{ℕ, Bool, true, false, ◌&&◌, nat_le, Option, Some, None, unwrap_or}
+use Rattle.std.specs.Prelude.{◌≡◌, ℕ, Bool, true, false, ◌&&◌, nat_le, Option, Some, None, unwrap_or}
 use Rattle.room_core.specs.declared.event.Event.{Event}
 use Rattle.room_core.specs.declared.event.Event.TheVariants as event
 use Rattle.room_rules.specs.Limits.{most_impressions, first_month, last_month, most_pages, most_rate}
@@ -53,3 +53,9 @@ event_of at (action.Release device account job password impressions) = event.Rel
 event_of at (action.Start device account job) = event.Start device account job
 event_of at (action.Settle device account job impressions failed) =
     event.Settle device account job impressions failed
+
+-- the event of an action at its moment, with its bytes at some place
+pub record IsEventOf (moment : ℕ) (action : Action) (event : ℕ × Event) : Type 0 where
+  pub at : ℕ × ℕ
+  pub timed : event.0 ≡ moment
+  pub same : event.1 ≡ event_of at action

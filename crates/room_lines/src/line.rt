@@ -1,7 +1,7 @@
 //! A line that was read.
-ghost use Rattle.std.specs.Prelude.{◌≡◌, ℕ, All, IfOk, IsTrue};
+ghost use Rattle.std.specs.Prelude.{◌≡◌, ℕ, All, IfOk, IfSome, IsTrue, length, slice_get, vec_len};
 ghost use Rattle.room_core.specs.Fits.{fits};
-ghost use Rattle.room_lines.specs.Actions.{event_of, is_in_range};
+ghost use Rattle.room_lines.specs.Actions.{IsEventOf, event_of, is_in_range};
 
 use crate::action::Action;
 use room_core::Event;
@@ -28,12 +28,16 @@ impl Line {
 /// The events that the lines ask for, each at its moment, in order.
 pub fn events_of(alloc: Global, lines: &[Line]) -> Result<Vec<(u64, Event<'_>)>, AllocError>
     ensures fit { IfOk result (λ events. All (λ e. IsTrue (fits e.1)) events.items) }
+    ensures count { IfOk result (λ events. vec_len events ≡ length lines.now) }
+    ensures each { IfOk result (λ events. (k : ℕ) → IfSome (slice_get lines.now k)
+        (λ line. IfSome (slice_get events.items k) (IsEventOf line.moment line.action))) }
 {
     lines.iter().map(timed).collect(alloc)
 }
 
 fn timed(line: &Line) -> (u64, Event<'_>)
-    ensures { IsTrue (fits result.1) }
+    ensures fit { IsTrue (fits result.1) }
+    ensures of_line { IsEventOf line.now.moment line.now.action result }
 {
     (line.moment, line.event())
 }

@@ -1,9 +1,10 @@
-use Rattle.std.proofs.Common.{◌≡◌, Some, take, refl, sym, ap, ◌∙◌, subst, inl}
+use Rattle.std.proofs.Common.{◌≡◌, ℕ, List, Some, take, refl, sym, ap, ◌∙◌, subst, inl}
 use Rattle.room_lines.specs.declared.lines.Grammar.{Grammar}
 use Rattle.room_served.proofs.Journaling.{stays}
 use Rattle.room_served.specs.LineTexts.{line_text}
 use Rattle.room_served.proofs.LineEnds.{ends_with_feed}
-use Rattle.room_served.specs.Lines.{IsEntryOf, input_of, line_end}
+use Rattle.room_served.specs.Journals.{moment_of}
+use Rattle.room_served.specs.Lines.{IsEntryOf, grammar_of, input_of, line_end}
 use Rattle.room_served.proofs.line_connection.LineConnection.answer.Goals as goal
 
 pub returns-in_default-clause-continues : goal.returns-in_default-clause-continues
@@ -32,7 +33,7 @@ returns-in_ok-put_told-in-Some-entry-clause-taken g c = λ _.
         line = take c.in-Some.end input;
         ended = ends_with_feed input c.in-Some.end first;
         entry = c.in-Some-entry.entry;
-        said = subst (λ (grammar : Grammar). IsEntryOf grammar (take c.in-Some.end input) c.in-Some-entry.entry) c.grammar-grammar.ensures (rw c.in-Some-entry.is at c.in_ok-entry.ensures);
+        said = subst (λ (text : List ℕ). IsEntryOf (grammar_of c.args.self.now.side (moment_of c.args.served.now)) (take c.in-Some.end text) c.in-Some-entry.entry) c.as_slice-2.ensures (subst (λ (grammar : Grammar). IsEntryOf grammar (take c.in-Some.end c.as_slice-2.result.now) c.in-Some-entry.entry) c.grammar-grammar.ensures (rw c.in-Some-entry.is at c.in_ok-entry.ensures));
         told = c.apply.result;
         journal = c.apply.ensures.journal;
         applies = c.apply.ensures.applies;
