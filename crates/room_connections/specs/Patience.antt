@@ -48,3 +48,11 @@ holding_from _ since now = record { since = now; doing = Holds }
 -- it waits for room, since it first had to
 abbrev pub after_holding : Patience → ℕ → Patience
 after_holding patience now = holding_from patience.doing patience.since now
+
+abbrev pub letting_on_from : (doing : Doing) (since now : ℕ) → Patience
+letting_on_from Holds since now = record { since = now; doing = Moves 0 }
+letting_on_from doing since now = record { since = since; doing = doing }
+
+-- what waited for room goes on, and has its time anew
+abbrev pub after_letting_on : (patience : Patience) (now : ℕ) → Patience
+after_letting_on patience now = letting_on_from patience.doing patience.since now

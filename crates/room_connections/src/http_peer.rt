@@ -96,10 +96,7 @@ impl HttpPeer {
         if self.has_all {
             return Some(Next::Wait);
         }
-        if self.patience.is_held_back() {
-            // It is let on, and has its time anew.
-            self.patience.moved(0, turn.now);
-        }
+        self.patience.let_on(turn.now);
         self.receive(stream, turn)
     }
 

@@ -87,10 +87,7 @@ impl LinePeer {
             self.patience.held_back(turn.now);
             return Some(Next::Hold);
         }
-        if self.patience.is_held_back() {
-            // It is let on, and has its time anew.
-            self.patience.moved(0, turn.now);
-        }
+        self.patience.let_on(turn.now);
         match self.connection.answer(served) {
             Ok(true) => None,
             Ok(false) if self.has_ended || self.connection.is_too_long() => self.end(turn.now),

@@ -1,6 +1,6 @@
 //! How long a connection may take.
 ghost use Rattle.std.specs.Prelude.{◌≡◌, ◌↔◌, IsTrue};
-ghost use Rattle.room_connections.specs.Patience.{after_holding, after_moving, doing_of, is_over, is_slow, moving, since_of};
+ghost use Rattle.room_connections.specs.Patience.{after_holding, after_letting_on, after_moving, doing_of, is_over, is_slow, moving, since_of};
 ghost use Rattle.room_connections.specs.declared.patience.Doing.TheVariants.{Holds, Parts, Rests};
 
 /// How many milliseconds a connection may rest on which nothing was begun.
@@ -83,6 +83,15 @@ impl Patience {
                 since: now,
                 doing: Doing::Holds,
             };
+        }
+    }
+
+    /// What had to wait for room goes on, and has its time anew.
+    pub fn let_on(&mut self, now: u64)
+        ensures { self.new ≡ after_letting_on self.old now }
+    {
+        if self.is_held_back() {
+            *self = moving(now, 0, now);
         }
     }
 
