@@ -74,8 +74,8 @@ impl Stock {
         ensures holds_back { holds_back_of self.new ≡ holds_back_of self.old }
     {
         self.held = self.held.saturating_sub(before).saturating_add(after);
-        if !is_large && self.favoured == Some(key) {
-            self.favoured = None;
+        if !is_large {
+            self.unfavour(key);
         }
     }
 
@@ -87,7 +87,21 @@ impl Stock {
             → favoured_of self.new ≡ favoured_of self.old }
         ensures holds_back { holds_back_of self.new ≡ holds_back_of self.old }
     {
-        self.changed(key, held, 0, false);
+        self.held = self.held.saturating_sub(held);
+        self.unfavour(key);
+    }
+
+    /// The peer is the favoured one no more.
+    fn unfavour(&mut self, key: usize)
+        ensures ends { favoured_of self.new ≢ Some key }
+        ensures others { favoured_of self.old ≢ Some key
+            → favoured_of self.new ≡ favoured_of self.old }
+        ensures held { held_of self.new ≡ held_of self.old }
+        ensures holds_back { holds_back_of self.new ≡ holds_back_of self.old }
+    {
+        if self.favoured == Some(key) {
+            self.favoured = None;
+        }
     }
 
     /// Whether somebody is held back.
