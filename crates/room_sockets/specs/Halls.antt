@@ -1,5 +1,5 @@
 -- What a clause reads of a hall.
-use Rattle.std.specs.Prelude.{◌≡◌, ◌≢◌, ⊤, ℕ}
+use Rattle.std.specs.Prelude.{◌≡◌, ◌≢◌, ⊤, ℕ, None}
 use Rattle.slab.specs.Slab.{Slab, get}
 use Rattle.room_served.specs.Lines.{side_of}
 use Rattle.room_served.specs.declared.line_connection.Side.TheVariants as side_is
@@ -21,6 +21,10 @@ IsOf _ _ = ⊥
 -- the peers that are there, each with its socket and its connection, by their keys
 abbrev pub guests_of : Hall → Slab Guest
 guests_of hall = hall.guests
+
+-- nobody is there
+abbrev pub IsEmpty : Hall → Type 0
+IsEmpty hall = (key : ℕ) → get (guests_of hall) key ≡ None
 
 -- every peer but the one of the key is as it was
 abbrev pub AreOthersKept : (key : ℕ) (old new : Hall) → Type 0

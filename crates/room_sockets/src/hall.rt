@@ -1,8 +1,8 @@
 //! The peers of all doors, and the loop that waits for them.
 
-ghost use Rattle.std.specs.Prelude.{◌≡◌};
+ghost use Rattle.std.specs.Prelude.{◌≡◌, IfOk};
 ghost use Rattle.room_served.specs.Journals.{Continues};
-ghost use Rattle.room_sockets.specs.Halls.{AreOthersKept, guests_of};
+ghost use Rattle.room_sockets.specs.Halls.{AreOthersKept, IsEmpty, guests_of};
 
 use crate::clock::{moment, ticks};
 use crate::door::Door;
@@ -129,7 +129,9 @@ impl Hall {
         rt: &R,
         doors: Doors,
         keys: RandomState,
-    ) -> io::Result<Hall> {
+    ) -> io::Result<Hall>
+        ensures { IfOk result IsEmpty }
+    {
         let alloc = rt.alloc();
         let poll = Poll::new(rt)?;
         let Doors {
