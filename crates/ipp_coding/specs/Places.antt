@@ -6,6 +6,7 @@ use Rattle.ipp_coding.specs.declared.message.Value.{Value}
 use Rattle.ipp_coding.specs.declared.message.Attribute.{Attribute}
 use Rattle.ipp_coding.specs.declared.message.Group.{Group}
 use Rattle.ipp_coding.specs.declared.message.Message.{Message}
+use Rattle.ipp_coding.specs.Limits.{header_length}
 use Rattle.ipp_coding.specs.Plain.{plain_value, plain_attribute, plain_group}
 use Rattle.ipp_coding.specs.Spelling.{further_spelling, attribute_spelling, group_spelling}
 
@@ -22,7 +23,7 @@ StandInARow Stands spelling n (x ∷ xs) =
     Stands n x × StandInARow Stands spelling (n + length (spelling x)) xs
 
 -- behind the tag, the two bytes of an empty name and the value-length
-abbrev pub FurtherStands : Bor (List ℕ) → ℕ → Value → Type 0
+abbrev pub FurtherStands : (b : Bor (List ℕ)) (n : ℕ) (v : Value) → Type 0
 FurtherStands b n v = StandsAt b (n + 5) v.bytes
 
 -- the name behind the tag and the name-length, the value behind the name and the value-length
@@ -41,20 +42,20 @@ ValuesStand b n name (first ∷ further) =
     × StandInARow (FurtherStands b) further_text
     (n + 5 + length name.now + length first.bytes.now) further
 
-abbrev pub AttributeStands : Bor (List ℕ) → ℕ → Attribute → Type 0
+abbrev pub AttributeStands : (b : Bor (List ℕ)) (n : ℕ) (a : Attribute) → Type 0
 AttributeStands b n a = ValuesStand b n a.name a.values
 
 abbrev pub attribute_text : Attribute → List ℕ
 attribute_text a = attribute_spelling (plain_attribute a)
 
 -- behind the tag of the group
-abbrev pub GroupStands : Bor (List ℕ) → ℕ → Group → Type 0
+abbrev pub GroupStands : (b : Bor (List ℕ)) (n : ℕ) (g : Group) → Type 0
 GroupStands b n g = StandInARow (AttributeStands b) attribute_text (n + 1) g.attributes
 
 abbrev pub group_text : Group → List ℕ
 group_text g = group_spelling (plain_group g)
 
--- the groups behind the 8 bytes of the header, the data behind the groups and the end tag
+-- the groups behind the header, the data behind the groups and the end tag
 pub record MessageStands (b : Bor (List ℕ)) (m : Message) : Type 0 where
-  pub groups : StandInARow (GroupStands b) group_text 8 m.groups
-  pub payload : StandsAt b (9 + length (flat_map group_text m.groups)) m.payload
+  pub groups : StandInARow (GroupStands b) group_text header_length m.groups
+  pub payload : StandsAt b (header_length + 1 + length (flat_map group_text m.groups)) m.payload

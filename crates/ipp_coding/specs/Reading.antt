@@ -1,8 +1,9 @@
 -- The message that bytes spell, found from left to right. (That it is the one that spells them is a
 -- law: `reading_is_spelling`.)
 use Rattle.std.specs.Prelude.{◌≡◌, ℕ, zero, suc, List, [], ◌∷◌, ◌++◌, length, take, drop, slice_index, Bool, false, ◌&&◌, not, Option, Some, None, Result, Ok, Err, nat_lt, nat_le, ◌==◌, if◌then◌else◌}
+use Rattle.ipp_coding.specs.Tags.{first_value_tag, end_tag}
 use Rattle.byteorder.specs.Endian.{big_number}
-use Rattle.ipp_coding.specs.Limits.{longest_field}
+use Rattle.ipp_coding.specs.Limits.{longest_field, header_length}
 use Rattle.ipp_coding.specs.declared.message.Header.{Header}
 use Rattle.ipp_coding.specs.declared.fault.ReadFault.{ReadFault}
 use Rattle.ipp_coding.specs.declared.fault.ReadFault.TheVariants.{Malformed, Memory}
@@ -34,12 +35,13 @@ series begins one (suc most) bytes =
     else Some ([], bytes)
 
 -- what was read before, and what is still read
-abbrev pub after_those : {A : Type 0} → List A → Option (List A × List ℕ) → Option (List A × List ℕ)
+abbrev pub after_those : {A : Type 0} → (front : List A) (read : Option (List A × List ℕ))
+    → Option (List A × List ℕ)
 after_those front read = read >>= λ x. Some (front ++ x.0, x.1)
 
 -- ---- the parts of a message, each with what is left behind it
 
-abbrev pub sized : ℕ → List ℕ → Option (List ℕ × List ℕ)
+abbrev pub sized : (n : ℕ) (rest : List ℕ) → Option (List ℕ × List ℕ)
 sized n rest = if nat_lt (length rest) n then None else Some (take n rest, drop n rest)
 
 -- a length in two bytes, then that many bytes
@@ -55,17 +57,18 @@ field_at bytes = do
 
 abbrev pub begins_value : List ℕ → Bool
 begins_value [] = false
-begins_value (tag ∷ rest) = nat_le 16 tag
+begins_value (tag ∷ rest) = nat_le first_value_tag tag
 
 -- a value whose name-length is 0
 abbrev pub begins_further : List ℕ → Bool
 begins_further [] = false
 begins_further (tag ∷ []) = false
 begins_further (tag ∷ high ∷ []) = false
-begins_further (tag ∷ high ∷ low ∷ rest) = nat_le 16 tag && (high == 0) && (low == 0)
+begins_further (tag ∷ high ∷ low ∷ rest) =
+    nat_le first_value_tag tag && (high == 0) && (low == 0)
 
 abbrev pub is_group_tag : ℕ → Bool
-is_group_tag tag = nat_lt 0 tag && nat_lt tag 16 && not (tag == 3)
+is_group_tag tag = nat_lt 0 tag && nat_lt tag first_value_tag && not (tag == end_tag)
 
 abbrev pub begins_group : List ℕ → Bool
 begins_group [] = false
@@ -110,9 +113,9 @@ groups_at bytes = series begins_group group_at (length bytes) bytes
 -- behind the end tag
 abbrev pub payload_at : List ℕ → Option (List ℕ)
 payload_at [] = None
-payload_at (tag ∷ rest) = if tag == 3 then Some rest else None
+payload_at (tag ∷ rest) = if tag == end_tag then Some rest else None
 
--- the header in the first 8 bytes
+-- the header in the first bytes
 abbrev pub header_in : List ℕ → Header
 header_in bytes = record {
   major = slice_index bytes 0;
@@ -122,12 +125,12 @@ header_in bytes = record {
 }
 
 abbrev pub header_at : List ℕ → Option Header
-header_at bytes = if nat_lt (length bytes) 8 then None else Some (header_in bytes)
+header_at bytes = if nat_lt (length bytes) header_length then None else Some (header_in bytes)
 
 -- the message that the bytes spell, if one does
 unfoldable pub message_of : List ℕ → Option PlainMessage
 message_of bytes = do
   header ← header_at bytes
-  groups ← groups_at (drop 8 bytes)
+  groups ← groups_at (drop header_length bytes)
   payload ← payload_at groups.1
   Some (record { header = header; groups = groups.0; payload = payload })

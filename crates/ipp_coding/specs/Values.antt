@@ -8,7 +8,7 @@ use Rattle.ipp_coding.specs.Reading.{◌>>=◌, prefixed_at}
 
 -- integer 0x21 and enum 0x23 (RFC 8010 section 3.5.2)
 abbrev pub is_number_tag : ℕ → Bool
-is_number_tag tag = tag == 33 || tag == 35
+is_number_tag tag = tag == 0x21 || tag == 0x23
 
 -- a number is four bytes in two's complement (RFC 8010 section 3.9)
 abbrev pub int_said : PlainValue → Option ℤ
@@ -24,16 +24,16 @@ bool_in (byte ∷ []) = if byte == 0 then Some false else if byte == 1 then Some
 bool_in (byte ∷ next ∷ more) = None
 
 abbrev pub bool_said : PlainValue → Option Bool
-bool_said v = if v.tag == 34 then bool_in v.bytes else None
+bool_said v = if v.tag == 0x22 then bool_in v.bytes else None
 
 -- textWithoutLanguage 0x41, nameWithoutLanguage 0x42, keyword 0x44 to mimeMediaType 0x49 (RFC 8010
 -- section 3.5.2)
 abbrev pub is_text_tag : ℕ → Bool
-is_text_tag tag = tag == 65 || tag == 66 || nat_le 68 tag && nat_le tag 73
+is_text_tag tag = tag == 0x41 || tag == 0x42 || nat_le 0x44 tag && nat_le tag 0x49
 
 -- textWithLanguage 0x35, nameWithLanguage 0x36 (RFC 8010 section 3.5.2)
 abbrev pub is_language_tag : ℕ → Bool
-is_language_tag tag = tag == 53 || tag == 54
+is_language_tag tag = tag == 0x35 || tag == 0x36
 
 -- a language and a text, each behind its length in two bytes, and nothing after them (RFC 8010
 -- section 3.9)

@@ -3,6 +3,7 @@
 ghost use Rattle.std.specs.Prelude.{◌≡◌, ◌≤◌, ◌+◌, ◌∷◌, ◌↔◌, [], length, drop, IfOk, IfSome, IsErrOf, IsNone, Some, option_map, map, List, ℕ, ◌<◌};
 ghost use Rattle.std.specs.Borrow.{Bor};
 ghost use Rattle.std.specs.List.{flat_map};
+ghost use Rattle.ipp_coding.specs.Limits.{header_length};
 ghost use Rattle.ipp_coding.specs.Plain.{PlainMessage, plain_value, plain_attribute, plain_group, plain_message};
 ghost use Rattle.ipp_coding.specs.Spelling.{Spells, first_spelling};
 ghost use Rattle.ipp_coding.specs.Reading.{ReadsAs, after_those, header_in, prefixed_at, field_at, begins_value, begins_further, begins_group, is_group_tag, further_at, first_at, all_further_at, attribute_at, attributes_at, group_at, groups_at, payload_at, header_at, message_of};
@@ -11,15 +12,15 @@ ghost use Rattle.ipp_coding.specs.Places.{StandsAt, StandInARow, FurtherStands, 
 use crate::fault::ReadFault;
 use crate::list::List;
 use crate::message::{Attribute, Group, Header, Message, Value};
+use crate::tags::{END_OF_ATTRIBUTES, FIRST_OF_VALUES};
 use byteorder::{BigEndian, ByteOrder};
 use std::alloc::Global;
 
 /// The longest name or value, in bytes.
 pub(crate) const LONGEST: usize = 32767;
 
-pub(crate) const HEADER_LENGTH: usize = 8;
-
-const END_OF_ATTRIBUTES: u8 = 0x03;
+/// The header of a message, in bytes (RFC 8010 section 3.1.1).
+pub const HEADER_LENGTH: usize = 8;
 
 /// The bytes from here to the end of the message.
 #[derive(Clone, Copy)]
@@ -29,7 +30,7 @@ struct Rest<'a> {
 
 /// The header in the first 8 bytes.
 pub fn header_in(b: &[u8]) -> Header
-    requires { 8 ≤ length b.now }
+    requires { header_length ≤ length b.now }
     ensures { result ≡ header_in b.now }
 {
     Header {
@@ -43,7 +44,7 @@ pub fn header_in(b: &[u8]) -> Header
 /// The header in the first 8 bytes, and None where there are fewer.
 pub fn read_header(b: &[u8]) -> Option<Header>
     ensures header { result ≡ header_at b.now }
-    ensures short { IsNone result ↔ (length b.now < 8) }
+    ensures short { IsNone result ↔ (length b.now < header_length) }
 {
     if b.len() < HEADER_LENGTH {
         return None;
@@ -93,9 +94,9 @@ fn message_in<'a>(alloc: Global, b: &'a [u8]) -> Result<Message<'a>, ReadFault>
 }
 
 fn behind_header(b: &[u8]) -> &[u8]
-    requires { 8 ≤ length b.now }
-    ensures value { result.now ≡ drop 8 b.now }
-    ensures place { StandsAt b.entry 8 result }
+    requires { header_length ≤ length b.now }
+    ensures value { result.now ≡ drop header_length b.now }
+    ensures place { StandsAt b.entry header_length result }
 {
     &b[HEADER_LENGTH..]
 }
@@ -308,7 +309,7 @@ fn begins_value(bytes: &[u8]) -> bool
 {
     match bytes {
         [] => false,
-        [tag, ..] => *tag >= 0x10,
+        [tag, ..] => *tag >= FIRST_OF_VALUES,
     }
 }
 
@@ -316,7 +317,7 @@ fn begins_further(bytes: &[u8]) -> bool
     ensures { result ≡ begins_further bytes.now }
 {
     match bytes {
-        [tag, high, low, ..] => *tag >= 0x10 && *high == 0 && *low == 0,
+        [tag, high, low, ..] => *tag >= FIRST_OF_VALUES && *high == 0 && *low == 0,
         _ => false,
     }
 }
@@ -333,5 +334,5 @@ fn begins_group(bytes: &[u8]) -> bool
 pub(crate) fn is_group_tag(tag: u8) -> bool
     ensures { result ≡ is_group_tag tag }
 {
-    0 < tag && tag < 0x10 && tag != END_OF_ATTRIBUTES
+    0 < tag && tag < FIRST_OF_VALUES && tag != END_OF_ATTRIBUTES
 }

@@ -6,6 +6,10 @@ ghost use Rattle.ipp_coding.specs.Values.{is_number_tag, is_text_tag, is_languag
 
 use crate::message::Value;
 use crate::reading::prefixed_of;
+use crate::tags::{
+    BOOLEAN, ENUM, INTEGER, KEYWORD, MIME_MEDIA_TYPE, NAME_WITH_LANGUAGE, NAME_WITHOUT_LANGUAGE,
+    TEXT_WITH_LANGUAGE, TEXT_WITHOUT_LANGUAGE,
+};
 use byteorder::{BigEndian, ByteOrder};
 
 /// The number of an integer or an enum of four bytes.
@@ -23,7 +27,7 @@ pub fn int_of(v: Value<'_>) -> Option<i32>
 pub fn bool_of(v: Value<'_>) -> Option<bool>
     ensures { result ≡ bool_said (plain_value v.entry) }
 {
-    if v.tag == 0x22 {
+    if v.tag == BOOLEAN {
         bool_in(v.bytes)
     } else {
         None
@@ -47,19 +51,21 @@ pub fn text_of<'a>(v: Value<'a>) -> Option<&'a [u8]>
 fn is_number_tag(tag: u8) -> bool
     ensures { result ≡ is_number_tag tag }
 {
-    tag == 0x21 || tag == 0x23
+    tag == INTEGER || tag == ENUM
 }
 
 fn is_text_tag(tag: u8) -> bool
     ensures { result ≡ is_text_tag tag }
 {
-    tag == 0x41 || tag == 0x42 || (0x44 <= tag && tag <= 0x49)
+    tag == TEXT_WITHOUT_LANGUAGE
+        || tag == NAME_WITHOUT_LANGUAGE
+        || (KEYWORD <= tag && tag <= MIME_MEDIA_TYPE)
 }
 
 fn is_language_tag(tag: u8) -> bool
     ensures { result ≡ is_language_tag tag }
 {
-    tag == 0x35 || tag == 0x36
+    tag == TEXT_WITH_LANGUAGE || tag == NAME_WITH_LANGUAGE
 }
 
 fn bool_in(bytes: &[u8]) -> Option<bool>

@@ -21,7 +21,8 @@ pub record AreBefore (words digits line : List ℕ) : Type 0 where
   pub last : IsWord digits
   pub whole : line ≡ words ++ 32 ∷ digits
 
--- a line of a script, `MOMENT ipp ACCOUNT DIGITS`; of its output, `ipp DIGITS`; and one of digits alone
+-- a line of a script, `MOMENT ipp ACCOUNT DIGITS`; of its output, `ipp DIGITS`; and one of digits
+-- alone
 abbrev pub IsParted : Origin → (words digits line : List ℕ) → Type 0
 IsParted Script words digits line = IsOfScript words × AreBefore words digits line
 IsParted Output words digits line = (words ≡ codes "ipp") × AreBefore words digits line

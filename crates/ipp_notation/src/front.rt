@@ -22,8 +22,9 @@ enum Part {
     Value,
 }
 
-/// How many bytes at the front of bytes that are no message are whole parts of one: with an end tag behind them they are
-/// a message, and no longer front is one. 0 where not even the header is whole. Time is linear in the length of the bytes.
+/// How many bytes at the front of bytes that are no message are whole parts of one: with an end tag
+/// behind them they are a message, and no longer front is one. 0 where not even the header is
+/// whole. Time is linear in the length of the bytes.
 pub(crate) fn end_of_reading(alloc: Global, bytes: &[u8]) -> Result<usize, AllocError>
     ensures within { IfOk result (λ n. n ≤ length bytes.now) }
     ensures message { IfOk result

@@ -1,4 +1,5 @@
-//! IPP messages as people write and read them: a notation, which is read as bytes, and in which messages are explained.
+//! IPP messages as people write and read them: a notation, which is read as bytes, and in which
+//! messages are explained.
 #![tactic(auto)]
 
 mod digits;

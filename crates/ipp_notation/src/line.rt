@@ -32,8 +32,8 @@ pub(crate) struct MessageLine<'a> {
 }
 
 impl<'a> MessageLine<'a> {
-    /// That of the line, without what ends it, if it is one: digits are one or more pairs of hexadecimal digits, and the
-    /// moment and the account may be any words.
+    /// That of the line, without what ends it, if it is one: digits are one or more pairs of
+    /// hexadecimal digits, and the moment and the account may be any words.
     pub(crate) fn read(alloc: Global, line: &'a [u8]) -> Result<Option<MessageLine<'a>>, AllocError>
         ensures message { IfOk result (λ found. IfSome found
             (λ m. HasMessage m.origin m.words.now m.bytes.items line.now)) }

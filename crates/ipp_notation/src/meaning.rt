@@ -45,7 +45,8 @@ impl fmt::Display for Shown<'_> {
     }
 }
 
-/// The two parts of a text or a name with its language, where both are texts that can stand in quotes.
+/// The two parts of a text or a name with its language, where both are texts that can stand in
+/// quotes.
 fn with_language(value: Value<'_>) -> Option<Shown<'_>> {
     let text = text_of(value)?;
     let (language, _) = value
@@ -58,8 +59,8 @@ fn with_language(value: Value<'_>) -> Option<Shown<'_>> {
     })
 }
 
-/// The text that the bytes are, where it can stand in quotes: ASCII without a quote or a control character, and without
-/// what begins a comment.
+/// The text that the bytes are, where it can stand in quotes: ASCII without a quote or a control
+/// character, and without what begins a comment.
 fn quotable(bytes: &[u8]) -> Option<&str> {
     let text = str::from_utf8(bytes).ok()?;
     let is_plain = bytes
@@ -72,8 +73,8 @@ fn quotable(bytes: &[u8]) -> Option<&str> {
     }
 }
 
-/// What people read of a value of the attribute: the name of its tag, and what its digits say, if it is shown in digits.
-/// A value that is none of its syntax is told to be malformed.
+/// What people read of a value of the attribute: the name of its tag, and what its digits say, if
+/// it is shown in digits. A value that is none of its syntax is told to be malformed.
 #[derive(Clone, Copy)]
 pub(crate) struct Meaning<'a> {
     pub attribute: &'a [u8],

@@ -2,9 +2,9 @@
 
 use crate::operation::Operation;
 
-/// The name of a number of the attribute, where the attribute says what its numbers are: job-state (RFC 8011 section
-/// 5.3.7), orientation-requested (section 5.2.10), print-quality (section 5.2.13), printer-state (section 5.4.11) and
-/// operations-supported (section 5.4.15).
+/// The name of a number of the attribute, where the attribute says what its numbers are: job-state
+/// (RFC 8011 section 5.3.7), orientation-requested (section 5.2.10), print-quality (section
+/// 5.2.13), printer-state (section 5.4.11) and operations-supported (section 5.4.15).
 pub(crate) fn number_name(attribute: &[u8], number: i32) -> Option<&'static str> {
     match attribute {
         b"job-state" => job_state(number),

@@ -1,4 +1,5 @@
-//! The parts of a message in the notation, each on a line, with what people read of it as a comment.
+//! The parts of a message in the notation, each on a line, with what people read of it as a
+//! comment.
 
 use crate::digits::Digits;
 use crate::group_tag::GroupTag;
@@ -84,8 +85,9 @@ fn print_attribute<W: Write>(
     Ok(())
 }
 
-/// Prints a value with the name of its attribute. One whose name the notation does not have is printed as words of
-/// digits: the tag, the length of the name, the name, the length of the value and the value.
+/// Prints a value with the name of its attribute. One whose name the notation does not have is
+/// printed as words of digits: the tag, the length of the name, the name, the length of the value
+/// and the value.
 fn print_first<W: Write>(
     output: &mut W,
     indent: &str,
@@ -140,7 +142,8 @@ fn print_further<W: Write>(
     writeln!(output, "{indent}{tag:02x} = {shown}  # {meaning}{more}")
 }
 
-/// The name as the notation has it, where it is made of letters, digits, `-`, `.` and `_` (RFC 8011 section 5.1.4).
+/// The name as the notation has it, where it is made of letters, digits, `-`, `.` and `_` (RFC 8011
+/// section 5.1.4).
 fn legible(name: &[u8]) -> Option<&str> {
     let is_legible = name.iter().all(|byte| byte.is_ascii_alphanumeric()
         || matches!(*byte, b'-' | b'.' | b'_'));

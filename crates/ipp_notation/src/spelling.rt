@@ -1,14 +1,19 @@
-//! The notation of messages, in which a person can read and write them. Each line of it stands for hexadecimal digits:
+//! The notation of messages, in which a person can read and write them. Each line of it stands for
+//! hexadecimal digits:
 //!
-//! - words of hexadecimal digits stand for themselves, each as often as `*N` behind it says, `C` for the charset and the language, `U(alice)` for
+//! - words of hexadecimal digits stand for themselves, each as often as `*N` behind it says, `C`
+//! for the charset and the language, `U(alice)` for
 //!   the printer-uri `ipp://localhost/ipp/print/alice`;
-//! - `TAG NAME = VALUE` is an attribute, without a NAME a further value. A value is made of digits and of
+//! - `TAG NAME = VALUE` is an attribute, without a NAME a further value. A value is made of digits
+//! and of
 //!   texts in double quotes, each of them as often as `*N` behind it says;
-//! - `job ACCOUNT N STATE REASON` is the group of job N as it is answered to the request that made it;
+//! - `job ACCOUNT N STATE REASON` is the group of job N as it is answered to the request that made
+//! it;
 //! - `refused STATUS ID WORD` is the whole answer to a refused request of version 1.1;
 //! - another line with a text in double quotes is a value by itself.
 //!
-//! What stands behind `#` is a comment and stands for nothing, where two spaces stand before the `#` or nothing does.
+//! What stands behind `#` is a comment and stands for nothing, where two spaces stand before the
+//! `#` or nothing does.
 
 use crate::fault::NotationFault;
 use std::alloc::Global;

@@ -18,7 +18,8 @@ pub(crate) struct DateTime {
 }
 
 impl DateTime {
-    /// That of eleven bytes, the ninth of which is `+` or `-`. Whether there is such a moment is not looked at.
+    /// That of eleven bytes, the ninth of which is `+` or `-`. Whether there is such a moment is
+    /// not looked at.
     pub(crate) fn read(bytes: &[u8]) -> Option<DateTime> {
         match bytes {
             [

@@ -1,5 +1,6 @@
 -- Whether a queue takes jobs, and what its printer is doing.
 use Rattle.std.specs.Prelude.{ℕ, Bool, true, false, ◌&&◌, nat_lt, if◌then◌else◌, Result, Ok, Err}
+use Rattle.room_texts.specs.PrinterStates.{idle, processing, stopped}
 use Rattle.room_rules.specs.Limits.{most_unfinished, last_next_job}
 use Rattle.room_rules.specs.declared.refusal.Refusal.{Refusal}
 use Rattle.room_rules.specs.declared.refusal.Word.TheVariants.{NotAccepting}
@@ -16,12 +17,12 @@ accepting_refusal unfinished next =
     if is_accepting unfinished next then Ok tt
     else Err (record { status = 0x0506; word = NotAccepting })
 
--- printer-state: 3 idle, 4 processing, 5 stopped (RFC 8011 section 5.4.11); a printer is stopped
--- while no device takes jobs (this project's own)
+-- printer-state (RFC 8011 section 5.4.11): a printer is stopped while no device takes jobs (this
+-- project's own)
 abbrev pub printer_state : (is_processing is_device_on : Bool) → ℕ
-printer_state true is_device_on = 4
-printer_state false false = 5
-printer_state false true = 3
+printer_state true is_device_on = processing
+printer_state false false = stopped
+printer_state false true = idle
 
 -- what the printer is doing: so many jobs have not ended, and the next has that number
 abbrev pub printer_now : (unfinished next : ℕ) (is_processing is_device_on : Bool) → PrinterNow

@@ -2,6 +2,7 @@
 -- (RFC 8010 section 3.1.1, RFC 8011 section 4.1.1).
 use Rattle.std.specs.Prelude.{ℕ, Bool, List, [], ◌∷◌, ◌++◌, map, Option, Some, None}
 use Rattle.std.specs.List.{flat_map}
+use Rattle.ipp_coding.specs.Tags.{end_tag}
 use Rattle.ipp_coding.specs.declared.message.Header.{Header}
 use Rattle.ipp_coding.specs.Plain.{PlainAttribute, PlainGroup}
 use Rattle.ipp_coding.specs.Spelling.{group_spelling}
@@ -18,7 +19,7 @@ abbrev pub response :
     (groups : List PlainGroup) →
     List ℕ
 response request status text unsupported groups =
-    (reply_text request status text unsupported ++ flat_map group_spelling groups) ++ 3 ∷ []
+    (reply_text request status text unsupported ++ flat_map group_spelling groups) ++ end_tag ∷ []
 
 -- the status and the text of the word that tell why (RFC 8011 section 4.1.6)
 abbrev pub refused_text :

@@ -6,10 +6,10 @@ ghost use Rattle.room_rules.specs.Limits.{most_unfinished};
 ghost use Rattle.room_texts.specs.Limits.{IsPrinter};
 
 use room_rules::{LAST_JOB, MOST_UNFINISHED, Refusal, Word};
-use room_texts::PrinterNow;
+use room_texts::{IDLE, PROCESSING, PrinterNow, STOPPED};
 
-/// Whether the account takes a job: it has fewer than 100 unfinished ones, and the number of its next
-/// job is one that a job may have.
+/// Whether the account takes a job: it has fewer than 100 unfinished ones, and the number of its
+/// next job is one that a job may have.
 pub fn is_accepting(unfinished: u32, next_job: u32) -> bool
     ensures { result ≡ is_accepting unfinished next_job }
 {
@@ -29,14 +29,15 @@ pub fn check_accepting(unfinished: u32, next_job: u32) -> Result<(), Refusal>
     Ok(())
 }
 
-/// The printer-state: 4 where a job of the account is processing, else 5 where no device is on, else 3.
+/// The printer-state: it is printing where a job of the account is processing, else stopped where
+/// no device is on, else idle.
 fn printer_state(is_processing: bool, is_device_on: bool) -> u32
     ensures { result ≡ printer_state is_processing is_device_on }
 {
     match (is_processing, is_device_on) {
-        (true, _) => 4,
-        (false, false) => 5,
-        (false, true) => 3,
+        (true, _) => PROCESSING,
+        (false, false) => STOPPED,
+        (false, true) => IDLE,
     }
 }
 

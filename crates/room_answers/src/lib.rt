@@ -1,5 +1,5 @@
-//! What an account answers, decided on values that were looked up, and the bytes of whole answers. No
-//! room and no table.
+//! What an account answers, decided on values that were looked up, and the bytes of whole answers.
+//! No room and no table.
 #![tactic(auto)]
 
 mod accepting;

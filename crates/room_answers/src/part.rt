@@ -17,8 +17,8 @@ pub struct Part {
     pub bytes: List<u8>,
 }
 
-/// A document of a job of so many copies, as it is handed to a device: its bytes, moved, behind its line.
-/// `Memory` is its only fault.
+/// A document of a job of so many copies, as it is handed to a device: its bytes, moved, behind its
+/// line. `Memory` is its only fault.
 pub fn handed(alloc: Global, copies: u32, document: Document) -> Result<Part, CoreFault>
     ensures part { IfOk result (λ part. part ≡ part_of copies document) }
     ensures memory { IfErr result (λ fault. fault ≡ CoreFault.Memory) }

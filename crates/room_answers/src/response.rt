@@ -44,7 +44,7 @@ pub fn refused(
 }
 
 /// The response to a request that was done, up to its groups of jobs or of the printer.
-pub fn begun(
+fn begun(
     alloc: Global,
     request: Header,
     unsupported: &[Attribute<'_>],
@@ -77,7 +77,7 @@ fn success_status(unsupported: &[Attribute<'_>]) -> u16
 }
 
 /// The response whose groups are all there.
-pub fn ended(out: Vec<u8>) -> Result<List<u8>, CoreFault>
+fn ended(out: Vec<u8>) -> Result<List<u8>, CoreFault>
     ensures text { IfOk result (λ text. text ≡ out.items ++ 3 ∷ []) }
     ensures memory { IfErr result (λ fault. fault ≡ CoreFault.Memory) }
 {

@@ -1,12 +1,15 @@
 //! What a station is answered, decided on its device and the job.
 
-ghost use Rattle.std.specs.Prelude.{◌≡◌, ◌+◌, ◌*◌, ◌^◌, ◌≤◌, pos, neg_ℤ, ◌≤ℤ◌, option_copied, IfOk, IfErr, option_map};
+ghost use Rattle.std.specs.Prelude.{◌≡◌, ◌≤◌, pos, ◌≤ℤ◌, option_copied, IfOk, IfErr, option_map};
 ghost use Rattle.room_answers.specs.Stations.{known_device, ready_device, check_on, left_after, units_of};
+ghost use Rattle.room_rules.specs.Limits.{most_units};
+ghost use Rattle.room_rules.specs.Quota.{least_left, most_left};
 ghost use Rattle.room_rules.specs.Standings.{IsStanding};
 
 use room_rules::{Device, Standing, Word};
 
-/// What is known of the device that a station speaks for. Refused as `NoDevice` where there is none of its name.
+/// What is known of the device that a station speaks for. Refused as `NoDevice` where there is none
+/// of its name.
 pub fn known_device<D: Drop>(known: Option<D>) -> Result<D, Word>
     ensures { result ≡ known_device known }
 {
@@ -32,8 +35,8 @@ pub fn check_on(on: bool) -> Result<(), Word>
 /// What is left of the quota once a job stands otherwise, of what was left before, which is from
 /// -2 * 10^18 to 10^18.
 pub fn left_after(left: i64, before: &Standing, after: &Standing) -> i64
-    requires low { neg_ℤ (pos (2 * 10 ^ 18)) ≤ℤ left }
-    requires high { left ≤ℤ pos (10 ^ 18) }
+    requires low { least_left ≤ℤ left }
+    requires high { left ≤ℤ most_left }
     requires before { IsStanding before.now }
     requires after { IsStanding after.now }
     ensures { result ≡ left_after left before.now after.now }
@@ -45,7 +48,7 @@ pub fn left_after(left: i64, before: &Standing, after: &Standing) -> i64
 fn units(standing: &Standing) -> i64
     requires { IsStanding standing.now }
     ensures units { result ≡ pos (units_of standing.now) }
-    ensures bound { units_of standing.now ≤ 10 ^ 15 }
+    ensures bound { units_of standing.now ≤ most_units }
 {
     (standing.reserved + standing.charged) as i64
 }

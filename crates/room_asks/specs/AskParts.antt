@@ -18,7 +18,8 @@ pub record AskParts : Type 0 where
   pub target : PlainTarget
   pub fields : PlainFields
 
-unfoldable pub ask_parts : List ℕ → Operation → List PlainAttribute → AskParts
+unfoldable pub ask_parts : (account : List ℕ) (operation : Operation)
+    (attributes : List PlainAttribute) → AskParts
 ask_parts account operation attributes = record {
   attributes = attributes;
   target = target_of account operation attributes;

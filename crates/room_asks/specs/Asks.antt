@@ -95,7 +95,8 @@ asked account header operation m =
     (unsupported (template_attributes operation m))
     m.payload
 
-abbrev pub read_as : List ℕ → Header → Option PlainMessage → Result PlainAsk PlainRefusal
+abbrev pub read_as : (account : List ℕ) (header : Header) (message : Option PlainMessage)
+    → Result PlainAsk PlainRefusal
 read_as account header message =
     checked
     (checks account header message)

@@ -27,5 +27,10 @@ abbrev pub HandsOn : {A B : Type 0} → (result : Result A Refusal) (view : A �
 HandsOn result view check handed = told view result ≡ checked (check ∷ []) handed
 
 -- a call makes one check, and hands on nothing
-abbrev pub MakesCheck : Result (Unit {0}) Refusal → Check → Type 0
+abbrev pub MakesCheck : (result : Result (Unit {0}) Refusal) (check : Check) → Type 0
 MakesCheck result check = HandsOn result (λ x. x) check tt
+
+-- a call makes one check, and attributes go with a refusal
+abbrev pub ChecksWith : (unsupported : List PlainAttribute) (result : Result (Unit {0}) Refusal)
+    (check : Check) → Type 0
+ChecksWith unsupported result check = told_with unsupported result ≡ checked (check ∷ []) tt

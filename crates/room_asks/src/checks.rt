@@ -1,10 +1,9 @@
 //! The checks of a request in their order, one function each. A check that passes hands on what it
 //! looked at, for those that follow.
 
-ghost use Rattle.std.specs.Prelude.{◌≡◌, ◌<◌, ◌≤◌, ◌&&◌, [], true, IfOk, Ok, Err, Some, None, if◌then◌else◌, length, map, nat_lt, option_map, unwrap_or};
-ghost use Rattle.ipp_coding.specs.Plain.{plain_attribute, plain_message};
+ghost use Rattle.std.specs.Prelude.{◌≡◌, ◌<◌, ◌≤◌, List, [], true, IfOk, Some, None, if◌then◌else◌, length, map, option_map, unwrap_or};
+ghost use Rattle.ipp_coding.specs.Plain.{PlainAttribute, plain_attribute, plain_message};
 ghost use Rattle.room_rules.specs.Limits.{longest_job_name, longest_password, longest_document, last_next_job, longest_uri};
-ghost use Rattle.room_rules.specs.declared.refusal.Word.TheVariants.{Template, DocumentTooLarge};
 ghost use Rattle.room_rules.specs.declared.format.Format.TheVariants.{OctetStream};
 ghost use Rattle.room_asks.specs.declared.ask.Which.TheVariants.{NotCompleted};
 ghost use Rattle.room_asks.specs.CheckOrder.{document_checks};
@@ -13,7 +12,7 @@ ghost use Rattle.room_asks.specs.Fields.{document_format, which_jobs, password, 
 ghost use Rattle.room_asks.specs.Operations.{operation_of, hands_in_document};
 ghost use Rattle.room_asks.specs.PlainParts.{plain_named, plain_target};
 ghost use Rattle.room_asks.specs.Refusals.{checked, refusal_of};
-ghost use Rattle.room_asks.specs.Telling.{told_with, HandsOn, MakesCheck};
+ghost use Rattle.room_asks.specs.Telling.{told_with, ChecksWith, HandsOn, MakesCheck};
 ghost use Rattle.room_asks.specs.Requests.{operation_attributes};
 ghost use Rattle.room_asks.specs.Targets.{target_in, uri_of, at_job, reached};
 ghost use Rattle.room_asks.specs.PlainParts.{HasNumber};
@@ -63,8 +62,8 @@ pub(crate) fn malformed() -> Refusal
     }
 }
 
-/// 4: the message begins with an operation group, and this with a charset and a natural language. Hands
-/// on the attributes of the group.
+/// 4: the message begins with an operation group, and this with a charset and a natural language.
+/// Hands on the attributes of the group.
 pub(crate) fn charset_and_language<'m, 'a>(
     message: &'m Message<'a>,
 ) -> Result<&'m [Attribute<'a>], Refusal>
@@ -283,10 +282,8 @@ pub(crate) fn job_name_length<'a>(
 
 /// 17: the requester does not insist on what is not supported.
 fn template(insists: bool, unsupported: &[Attribute<'_>]) -> Result<(), Refusal>
-    ensures { result
-        ≡ (if insists && checks.some_attribute (map plain_attribute unsupported.now)
-        then Err (record { status = 0x040B; word = Template })
-        else Ok tt) }
+    ensures { ChecksWith (map plain_attribute unsupported.now) result
+        (checks.template_check insists (map plain_attribute unsupported.now)) }
 {
     if insists && !unsupported.is_empty() {
         return Err(Refusal {
@@ -301,10 +298,8 @@ fn template(insists: bool, unsupported: &[Attribute<'_>]) -> Result<(), Refusal>
 fn document_length(operation: Operation, payload: &[u8]) -> Result<(), Refusal>
     ensures fits { IfOk result
         (λ x. hands_in_document operation ≡ true → length payload.now ≤ longest_document) }
-    ensures told { result
-        ≡ (if hands_in_document operation && nat_lt longest_document (length payload.now)
-        then Err (record { status = 0x0408; word = DocumentTooLarge })
-        else Ok tt) }
+    ensures told { (unsupported : List PlainAttribute) → ChecksWith unsupported result
+        (checks.document_check operation unsupported payload.now) }
 {
     if operation.hands_in_document() && payload.len() > LONGEST_DOCUMENT {
         return Err(Refusal {

@@ -7,9 +7,9 @@ ghost use Rattle.room_asks.specs.Names.{byte_at, first_bytes, first_eight, IsKey
 use ipp_coding::Attribute;
 use std::alloc::{AllocError, Global};
 
-/// What a name is sorted by: its first bytes as a number, its length and what is behind those bytes.
-/// Most names differ in their first bytes, and a short name has no others: so two are mostly compared
-/// with no look at a byte of the request, wherever that lies.
+/// What a name is sorted by: its first bytes as a number, its length and what is behind those
+/// bytes. Most names differ in their first bytes, and a short name has no others: so two are mostly
+/// compared with no look at a byte of the request, wherever that lies.
 #[derive(Clone, Copy, PartialEq, Eq, PartialOrd, Ord)]
 struct Key<'a> {
     first: u64,
@@ -17,8 +17,8 @@ struct Key<'a> {
     rest: &'a [u8],
 }
 
-/// Of each attribute whether it is the first of its name. Names are sorted, those that are the same in
-/// the order of the request, and then each is compared to its neighbour.
+/// Of each attribute whether it is the first of its name. Names are sorted, those that are the same
+/// in the order of the request, and then each is compared to its neighbour.
 pub(crate) fn firsts_in(
     alloc: Global,
     attributes: &[Attribute<'_>],

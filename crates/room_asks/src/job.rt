@@ -10,8 +10,8 @@ ghost use Rattle.room_asks.specs.Operations.{is_print_job};
 use crate::ask::Ask;
 use room_rules::{Standing, fresh};
 
-/// The job that a request makes at the moment `now`, in seconds since 1970-01-01T00:00:00Z: with its
-/// one document after Print-Job, and open for some after Create-Job.
+/// The job that a request makes at the moment `now`, in seconds since 1970-01-01T00:00:00Z: with
+/// its one document after Print-Job, and open for some after Create-Job.
 pub fn new_job(ask: &Ask<'_>, now: u64) -> Standing
     ensures made { result
         ≡ fresh (is_print_job ask.now.operation) ask.now.copies ask.now.impressions now }

@@ -2,6 +2,7 @@
 
 ghost use Rattle.std.specs.Prelude.{◌≡◌, ◌≤◌, length, map, IfOk, IfErr};
 ghost use Rattle.std.specs.List.{AllByRecursion};
+ghost use Rattle.ipp_coding.specs.Limits.{header_length};
 ghost use Rattle.ipp_coding.specs.Plain.{plain_attribute, plain_group, plain_message};
 ghost use Rattle.ipp_coding.specs.Spelling.{IsGroup};
 ghost use Rattle.room_asks.specs.declared.ask.AskFault.TheVariants.{Memory};
@@ -29,7 +30,7 @@ use std::alloc::Global;
 /// `Memory` where there was no memory to read the message, to list the job template attributes that
 /// are not supported, or to list the names that are wanted.
 pub fn read_ask<'a>(alloc: Global, body: &'a [u8], account: Name) -> Result<Ask<'a>, AskFault<'a>>
-    requires { 8 ≤ length body.now }
+    requires { header_length ≤ length body.now }
     ensures asked { AsksAs result (ask_of account body.now) }
     // Each field lies within its limits.
     ensures fields { IfOk result (λ ask. IsAsk (plain_ask ask)) }

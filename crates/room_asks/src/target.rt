@@ -1,13 +1,13 @@
 //! The target of a request, and where in the account's queue it leads.
 
-ghost use Rattle.std.specs.Prelude.{◌≡◌, ◌<◌, ◌≤◌, IfOk, IfSome, IsTrue, length, map, nat_eq, option_map};
+ghost use Rattle.std.specs.Prelude.{◌≡◌, ◌<◌, ◌≤◌, IfOk, IfSome, IsTrue, bytes_eq, length, map, option_map};
 ghost use Rattle.std.specs.Char.{is_ascii_digit};
 ghost use Rattle.std.specs.List.{list_all};
-ghost use Rattle.std.specs.Cmp.Lexicographic.{pointwise};
 ghost use Rattle.std.specs.Str.Parse.{digits_value};
 ghost use Rattle.ipp_coding.specs.Plain.{plain_attribute};
 ghost use Rattle.room_rules.specs.Limits.{last_next_job, longest_uri};
-ghost use Rattle.room_asks.specs.Targets.{job_numbered, lone_integer, job_id, with_job_id, job_target, target_in, uri_of, behind, queue_path, starts_above_zero, is_job_number, job_number, job_in_path, in_queue, in_job, reached};
+ghost use Rattle.room_rules.specs.QueuePaths.{queue_path};
+ghost use Rattle.room_asks.specs.Targets.{job_numbered, lone_integer, job_id, with_job_id, job_target, target_in, uri_of, starts_above_zero, is_job_number, job_number, job_in_path, in_queue, in_job, reached};
 ghost use Rattle.room_asks.specs.PlainParts.{HasNumber};
 ghost use Rattle.room_asks.specs.CheckOrder.{target_checks};
 ghost use Rattle.room_asks.specs.Checks.{target_of};
@@ -21,9 +21,8 @@ use crate::request::{named, single_named};
 use crate::syntax::{integer_of, lone_value};
 use crate::uri::{Uri, parts_of};
 use ipp_coding::Attribute;
-use room_rules::{LAST_JOB, Name, Refusal};
-
-const QUEUES: &[u8] = b"/ipp/print/";
+use ipp_coding::tags::URI;
+use room_rules::{LAST_JOB, Name, QUEUES, Refusal};
 
 /// The attributes that name a target (RFC 8011 section 4.1.5).
 #[derive(Clone, Copy, Debug)]
@@ -53,7 +52,7 @@ impl<'a> TargetUri<'a> {
         if operation.is_for_job() {
             return job_target(attributes);
         }
-        let uri = single_named(attributes, b"printer-uri", 0x45)?;
+        let uri = single_named(attributes, b"printer-uri", URI)?;
         Some(TargetUri::Printer { uri, job: 0 })
     }
 
@@ -110,11 +109,11 @@ fn job_target<'a>(attributes: &[Attribute<'a>]) -> Option<TargetUri<'a>>
     ensures number { IfSome result (λ target. HasNumber (plain_named target)) }
 {
     if named(attributes, b"printer-uri").is_some() {
-        let uri = single_named(attributes, b"printer-uri", 0x45)?;
+        let uri = single_named(attributes, b"printer-uri", URI)?;
         let job = job_id(attributes)?;
         Some(TargetUri::Printer { uri, job })
     } else {
-        let uri = single_named(attributes, b"job-uri", 0x45)?;
+        let uri = single_named(attributes, b"job-uri", URI)?;
         Some(TargetUri::Job { uri })
     }
 }
@@ -160,7 +159,7 @@ fn in_queue<'a>(uri: Uri<'a>, account: Name, job: u32) -> Option<Target<'a>>
 }
 
 fn is_queue_path(path: &[u8], account: Name) -> bool
-    ensures { result ≡ pointwise nat_eq path.now (queue_path account) }
+    ensures { result ≡ bytes_eq path.now (queue_path account) }
 {
     match path.strip_prefix(QUEUES) {
         Some(name) => name == account.bytes(),
@@ -185,19 +184,9 @@ fn job_in_path(path: &[u8], account: Name) -> Option<u32>
     ensures number { result ≡ job_in_path account path.now }
     ensures within { IfSome result (λ number. number < last_next_job) }
 {
-    let name = behind(path, QUEUES)?;
-    let rest = behind(name, account.bytes())?;
-    job_number(behind(rest, b"/")?)
-}
-
-fn behind<'a>(bytes: &'a [u8], front: &[u8]) -> Option<&'a [u8]>
-    ensures { option_map (λ rest. rest.now) result ≡ behind front.now bytes.now }
-{
-    if bytes.starts_with(front) {
-        Some(&bytes[front.len()..])
-    } else {
-        None
-    }
+    let name = path.strip_prefix(QUEUES)?;
+    let rest = name.strip_prefix(account.bytes())?;
+    job_number(rest.strip_prefix(b"/".as_slice())?)
 }
 
 /// The number that 1 to 6 digits write, the first of them not 0.

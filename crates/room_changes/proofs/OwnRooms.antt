@@ -14,7 +14,7 @@ use Rattle.room_state.proofs.RoomLemmas.{empty_room_keeps}
 use Rattle.room_tables.specs.Tables.{account as account_table, grants as grants_table}
 use Rattle.room_tables.specs.Keyed.{SetsRow}
 use Rattle.room_tables.specs.Cells.{account_cells, job_cells, grant_cells}
-use Rattle.room_tables.specs.Accounts.{job_at, account_of, HoldsRows, HoldsRoom, HoldsNothing}
+use Rattle.room_tables.specs.Accounts.{job_at, account_of_room, HoldsRows, HoldsRoom, HoldsNothing}
 use Rattle.room_changes.specs.Rows.{AddsJob, Restands, EndsJob}
 use Rattle.room_statements.specs.Updates.{SetsStanding}
 use Rattle.room_changes.proofs.OwnRows.{account_held, job_held, documents_removed, grant_held, added_document_held, opened_held}
@@ -30,7 +30,7 @@ added_job_room name it first old new adds room held can =
     let with_job : HoldsRows adds.with_job name one = job_held name old adds.with_job room held.rows it adds.job_row in
     let with_document : HoldsRows adds.with_document name two = added_document_held name first adds.with_job adds.with_document one with_job adds.document_row in
     let last : HoldsRows new name (record two { opened = room.opened; next = it.job + 1 }) =
-    account_held name adds.with_document new two with_document (record { opened = room.opened; next_job = it.job + 1 }) (adds.account_row (account_of two) with_document.account_row) in
+    account_held name adds.with_document new two with_document (record { opened = room.opened; next_job = it.job + 1 }) (adds.account_row (account_of_room two) with_document.account_row) in
     record {
       is_room = add_job_keeps room it first held.is_room can;
       rows = subst (λ n. HoldsRows new name (record two { next = n + 1 })) can.numbered last;

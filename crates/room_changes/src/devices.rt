@@ -1,9 +1,9 @@
 //! A device is turned on or off, or gets another rate.
 
-ghost use Rattle.std.specs.Prelude.{◌≡◌, ◌≤◌, false, true, not, IsTrue};
+ghost use Rattle.std.specs.Prelude.{◌≡◌, false, true, not, IsTrue};
 ghost use Rattle.std.specs.FinMap.{contains_key};
 ghost use Rattle.room_rules.specs.Devices.{Devices, turned, rated};
-ghost use Rattle.room_rules.specs.Limits.{most_rate};
+ghost use Rattle.room_rules.specs.Limits.{IsRate};
 ghost use Rattle.room_rules.specs.Names.{is_name};
 ghost use Rattle.room_tables.specs.Calls.{Changes, IsWhole, StaysInside};
 ghost use Rattle.room_tables.specs.Cells.{units_cells};
@@ -76,7 +76,7 @@ pub fn rate_device<S: Alter>(
     units: u32,
 ) -> Result<(), Error>
     requires mode { connection.old.in_transaction ≡ false }
-    requires units { (1 ≤ units) × (units ≤ most_rate) }
+    requires units { IsRate units }
     ensures devices { Changes S.Store connection.old connection.new result
         (λ before after. (devices : Devices) → HoldsDevices before devices →
         contains_key devices name ≡ true → HoldsDevices after (rated devices name units)) }

@@ -23,8 +23,8 @@ use room_statements::{
 };
 use sqlite::{Alter, Connection, Error, Transaction};
 
-/// Makes the job, at most 999999, with its first document or with none. The account's next number is the one
-/// after it. `Damaged` tells that the job or the document is there already.
+/// Makes the job, at most 999999, with its first document or with none. The account's next number
+/// is the one after it. `Damaged` tells that the job or the document is there already.
 pub fn make_job<S: Alter>(
     connection: &mut Connection<S>,
     name: Name,
@@ -151,8 +151,8 @@ fn count_on<S: Alter>(
     Ok(set_next_job(transaction, name, job.job + 1)?)
 }
 
-/// Gives a job that is there another standing, with its next document or with none. `Damaged` tells that the
-/// document is there already.
+/// Gives a job that is there another standing, with its next document or with none. `Damaged` tells
+/// that the document is there already.
 pub fn restand_job<S: Alter>(
     connection: &mut Connection<S>,
     name: Name,

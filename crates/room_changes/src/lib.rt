@@ -1,5 +1,5 @@
-//! The changes of the shared tables that events come to, each in one transaction of its own: whole or not
-//! at all.
+//! The changes of the shared tables that events come to, each in one transaction of its own: whole
+//! or not at all.
 #![tactic(auto)]
 
 mod devices;

@@ -14,14 +14,16 @@ use std::{io, thread};
 /// How many seconds a client may take for its next bytes, or to take some, while the others wait.
 const PATIENCE: u64 = 10;
 
-/// How many milliseconds a client that was told that its connection ends may take to end it too, or for the next piece of
-/// what it still sends.
+/// How many milliseconds a client that was told that its connection ends may take to end it too, or
+/// for the next piece of what it still sends.
 const PARTING: u64 = 150;
 
-/// How many such pieces are read, and dropped: the others never wait longer for it than for a client that is patient.
+/// How many such pieces are read, and dropped: the others never wait longer for it than for a
+/// client that is patient.
 const MOST_DROPPED: u32 = 64;
 
-/// How many milliseconds to wait where a connection can't be taken, as where too many files are open.
+/// How many milliseconds to wait where a connection can't be taken, as where too many files are
+/// open.
 const PAUSE: u64 = 100;
 
 /// How often in a row, about an hour long, that may be before the program ends.
@@ -115,8 +117,8 @@ fn serve_connection<S: Alter>(
     part(stream)
 }
 
-/// Ends a connection so that its last answer arrives: were it closed over bytes that nobody read, the system would
-/// take back what the client has not read yet.
+/// Ends a connection so that its last answer arrives: were it closed over bytes that nobody read,
+/// the system would take back what the client has not read yet.
 fn part(stream: &TcpStream) -> io::Result<()> {
     stream.shutdown(Shutdown::Write)?;
     stream.set_read_timeout(Some(Duration::from_millis(PARTING)))?;

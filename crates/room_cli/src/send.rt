@@ -12,8 +12,8 @@ use std::os::unix::net::UnixStream;
 /// How many bytes are asked of a connection at once.
 const BUFFER: usize = 65_536;
 
-/// Sends standard input as is asked for, and prints what it came to. A folder for documents has to be there before anything
-/// is sent.
+/// Sends standard input as is asked for, and prints what it came to. A folder for documents has to
+/// be there before anything is sent.
 pub fn send<O: Write>(rt: &HostRuntime, asked: &Sending<'_>, output: &mut O) -> Result<(), Fault> {
     if let Some(folder) = asked.folder {
         if !fs::metadata(rt, folder)?.is_dir() {

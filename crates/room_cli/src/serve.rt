@@ -8,7 +8,8 @@ use std::hash::RandomState;
 use std::io;
 use std::io::Write;
 
-/// Serves everybody until the process is ended. Writes `serving PORT STATIONS OPERATORS` once all can connect.
+/// Serves everybody until the process is ended. Writes `serving PORT STATIONS OPERATORS` once all
+/// can connect.
 pub fn serve<W: Write>(rt: &HostRuntime, asked: &Serving<'_>, output: &mut W) -> Result<(), Fault> {
     if asked.database == MEMORY {
         let alloc = rt.alloc();

@@ -1,5 +1,5 @@
-//! The program from the outside, through `run_on`, with readers and writers that fail. How it ends on others, rows of
-//! runs show.
+//! The program from the outside, through `run_on`, with readers and writers that fail. How it ends
+//! on others, rows of runs show.
 mod ends;
 
 use room_commands::run_on;

@@ -1,4 +1,3 @@
-pub mod Digits
 pub mod Fronts
 pub mod Printed
 pub mod PrintedGrants

@@ -11,9 +11,10 @@ use Rattle.room_client.specs.declared.answer.Answer.{Answer}
 use Rattle.room_client.specs.declared.answer.Answer.TheVariants as answer_is
 use Rattle.room_client.specs.declared.outcome.Outcome.{Outcome}
 use Rattle.room_client.specs.declared.outcome.Outcome.TheVariants.{Fine}
+use Rattle.room_client.specs.Answering.{AnsweredOnce, HearsDocument, PrintsAnswer, TakesDocuments}
 use Rattle.room_client.specs.Answers.{answer_said}
 use Rattle.room_client.specs.Outcomes.{outcome_after}
-use Rattle.room_client.specs.Replies.{Answered, AnsweredOnce, Document, IsReply, Known, PrintsAnswer, Reply, Shows, TakesDocument, TakesDocuments, all_printed, document_heard, document_printed, documents_printed, documents_said, heard, outcome_from, printed, printed_as}
+use Rattle.room_client.specs.Replies.{Answered, Document, IsReply, Known, Reply, Shows, all_printed, document_heard, document_printed, documents_printed, documents_said, heard, outcome_from, printed, printed_as}
 
 -- a line that was printed, and then what is shown behind it
 pub printed-shown : (a b c d : Known) (head : List ℕ) (known : Known) → Appends a b head
@@ -69,10 +70,10 @@ TakesDocuments-none shown a p account job = ([], refl, Consumes-nil a, Appends-n
 
 pub TakesDocuments-more : (shown : Shows) (ha hb hc pa pb pc : Known) (account : List ℕ)
     → (job count : ℕ) → TakesDocuments shown ha hb pa pb account job count
-    → (now : Shows) → now ≡ shown → TakesDocument now hb hc pb pc account job (count + 1)
+    → (now : Shows) → now ≡ shown → HearsDocument now hb hc pb pc account job (count + 1)
     → TakesDocuments shown ha hc pa pc account job (count + 1)
 TakesDocuments-more shown ha hb hc pa pb pc account job count done now same taken =
-    let next = subst (λ s. TakesDocument s hb hc pb pc account job (count + 1)) same taken in
+    let next = subst (λ s. HearsDocument s hb hc pb pc account job (count + 1)) same taken in
     let documents = done.0 in
     let last = next.0 in
     let long : length (documents ++ last ∷ []) ≡ count + 1 =

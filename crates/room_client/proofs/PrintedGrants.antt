@@ -11,11 +11,12 @@ use Rattle.room_grants.specs.declared.line.GrantLine.{GrantLine}
 use Rattle.room_grants.specs.declared.line.GrantLine.TheVariants.{Good, Bad}
 use Rattle.room_client.specs.declared.answer.Answer.{Answer}
 use Rattle.room_client.specs.declared.answer.Answer.TheVariants.{Told}
+use Rattle.room_client.specs.Answering.{GrantAnswered, HearsResult}
 use Rattle.room_client.specs.Grants.{line_asked}
 use Rattle.room_client.specs.declared.outcome.Outcome.{Outcome}
 use Rattle.room_client.specs.declared.outcome.Outcome.TheVariants.{Fine}
 use Rattle.room_client.specs.Outcomes.{outcome_after}
-use Rattle.room_client.specs.GrantReplies.{GrantAnswered, Granted, GrantsAnswered, HearsResult, IsGranted, granted_heard, granted_outcome, granted_printed, line_heard, line_printed}
+use Rattle.room_client.specs.GrantReplies.{Granted, GrantsAnswered, IsGranted, granted_heard, granted_outcome, granted_printed, line_heard, line_printed}
 use Rattle.room_client.specs.Replies.{Known}
 
 granted_printed-more : (number : ℕ) (all : List Granted) (last : Granted)

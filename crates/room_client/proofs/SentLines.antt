@@ -4,8 +4,8 @@ use Rattle.std.specs.Prelude.{Option, None, Some}
 use Rattle.std.specs.Io.KnownBytes.{Appends, IsAtEnd}
 use Rattle.std.proofs.KnownBytes.{Appends-nil, Appends-trans}
 use Rattle.std.proofs.lemmas.List.Elements.{All-head, All-tail}
-use Rattle.room_client.specs.Sending.{AppendsUpTo, SendsAll, SendsFront, SendsOn, as_lines}
-use Rattle.room_client.specs.Taking.{HasNoFeed, IsAtKnownEnd, IsLine, TakesLine}
+use Rattle.room_client.specs.Sending.{AppendsUpTo, IsAtKnownEnd, SendsAll, SendsFront, SendsOn, as_lines}
+use Rattle.room_client.specs.Taking.{HasNoFeed, MayBeLine, TakesLine}
 use Rattle.room_client.proofs.Fronts.{AppendsUpTo-behind, AppendsUpTo-longer}
 
 pub as_lines-line : (line rest : List ℕ) → as_lines (line ++ 10 ∷ rest) ≡ line ++ 10 ∷ as_lines rest
@@ -24,7 +24,7 @@ as_lines-last (byte ∷ next ∷ line) some none =
 
 -- a line that was taken is what comes first of the text as lines
 pub line_first : (text : List ℕ) (after : Option (List ℕ)) (line : List ℕ)
-    → TakesLine (Some text) after line → IsLine line
+    → TakesLine (Some text) after line → MayBeLine line
     → (rest : List ℕ) × (after ≡ Some rest) × (as_lines text ≡ (line ++ 10 ∷ []) ++ as_lines rest)
 line_first text None line (inl taken) short = absurd taken
 line_first text None line (inr (some, taken)) short = absurd taken.0
@@ -43,7 +43,7 @@ line_first text (Some rest) line (inr (some, taken)) short = (
 )
 
 pub SendsOn-line : (input_before input_after before after : Option (List ℕ)) (line : List ℕ)
-    → TakesLine input_before input_after line → IsLine line → Appends before after (line ++ codes "\n")
+    → TakesLine input_before input_after line → MayBeLine line → Appends before after (line ++ codes "\n")
     → SendsOn input_before input_after before after
 SendsOn-line None input_after before after line taken short sent = tt
 SendsOn-line (Some text) input_after before after line taken short sent =
@@ -51,7 +51,7 @@ SendsOn-line (Some text) input_after before after line taken short sent =
     (first.0, first.1, line ++ codes "\n", first.2, sent)
 
 pub SendsFront-line : (input_before input_after before after : Option (List ℕ)) (line : List ℕ)
-    → TakesLine input_before input_after line → IsLine line
+    → TakesLine input_before input_after line → MayBeLine line
     → AppendsUpTo before after (line ++ codes "\n") → SendsFront input_before before after
 SendsFront-line None input_after before after line taken short sent = tt
 SendsFront-line (Some text) input_after before after line taken short sent =

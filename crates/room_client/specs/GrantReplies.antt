@@ -22,12 +22,12 @@ pub record Granted : Type 0 where
   pub says : Answer
 
 -- a bad record is not answered
-abbrev pub Says : GrantLine → (line : List ℕ) → Answer → Type 0
-Says (Good account month pages) line says = answer_said line ≡ Some says
-Says (Bad number) line says = says ≡ Told
+abbrev pub AnswersLine : GrantLine → (line : List ℕ) → Answer → Type 0
+AnswersLine (Good account month pages) line says = answer_said line ≡ Some says
+AnswersLine (Bad number) line says = says ≡ Told
 
 abbrev pub IsGranted : Granted → Type 0
-IsGranted granted = Says granted.asked granted.line granted.says
+IsGranted granted = AnswersLine granted.asked granted.line granted.says
 
 abbrev pub line_heard : GrantLine → (line : List ℕ) → List ℕ
 line_heard (Good account month pages) line = line ++ codes "\n"
@@ -63,22 +63,6 @@ pub record GrantsAnswered (records : List GrantLine) (heard_before heard_after :
   pub heard : Consumes heard_before heard_after (flat_map granted_heard all)
   pub printed : Appends printed_before printed_after (granted_printed 1 all)
   pub came_to : outcome ≡ granted_outcome 1 Fine all
-
--- the same of the record of the number
-pub record GrantAnswered (asked : GrantLine) (number : ℕ) (heard_before heard_after : Known)
-    (printed_before printed_after : Known) (says : Answer) : Type 0 where
-  pub line : List ℕ
-  pub said : Says asked line says
-  pub heard : Consumes heard_before heard_after (line_heard asked line)
-  pub printed : Appends printed_before printed_after (line_printed number asked line)
-
--- an answer was heard, and printed behind the number of its record
-abbrev pub HearsResult : (number : ℕ) (heard_before heard_after : Known)
-    → (printed_before printed_after : Known) → Answer → Type 0
-HearsResult number heard_before heard_after printed_before printed_after says =
-    (line : List ℕ) × (answer_said line ≡ Some says)
-    × Consumes heard_before heard_after (line ++ codes "\n")
-    × Appends printed_before printed_after ((decimal number ++ codes " ") ++ (line ++ codes "\n"))
 
 -- the answers to the records of a file that was left were heard and printed, and came to the
 -- outcome

@@ -1,3 +1,4 @@
+pub mod Answering
 pub mod Answers
 pub mod Faults
 pub mod GrantReplies

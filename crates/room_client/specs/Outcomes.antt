@@ -6,7 +6,7 @@ use Rattle.room_client.specs.declared.outcome.Outcome.{Outcome}
 use Rattle.room_client.specs.declared.outcome.Outcome.TheVariants.{Fine, BadLine, Failed}
 
 -- an event that failed comes before any bad line, and the first bad line before the others
-abbrev pub outcome_after : Outcome → ℕ → Answer → Outcome
+abbrev pub outcome_after : (outcome : Outcome) (number : ℕ) (says : Answer) → Outcome
 outcome_after outcome number answer_is.Failed = Failed
 outcome_after Fine number answer_is.BadLine = BadLine number
 outcome_after (BadLine first) number answer_is.BadLine = BadLine first

@@ -84,7 +84,7 @@ IsReply reply = (answer_said reply.line ≡ Some reply.says)
     × (length reply.documents ≡ documents_said reply.says)
 
 -- what answers to lines come to, the first of which has this number
-abbrev pub outcome_from : ℕ → Outcome → List Reply → Outcome
+abbrev pub outcome_from : (number : ℕ) (outcome : Outcome) (replies : List Reply) → Outcome
 outcome_from number outcome [] = outcome
 outcome_from number outcome (first ∷ rest) =
     outcome_from (number + 1) (outcome_after outcome number first.says) rest
@@ -97,39 +97,3 @@ pub record Answered (shown : Shows) (heard_before heard_after : Known)
   pub heard_all : Consumes heard_before heard_after (flat_map heard replies)
   pub printed_all : IfSome (all_printed shown replies) (Appends printed_before printed_after)
   pub came_to : outcome ≡ outcome_from 1 Fine replies
-
--- the same of one answer
-pub record AnsweredOnce (shown : Shows) (heard_before heard_after : Known)
-    (printed_before printed_after : Known) (answer : Answer) : Type 0 where
-  pub reply : Reply
-  pub said : IsReply reply
-  pub heard_whole : Consumes heard_before heard_after (heard reply)
-  pub printed_whole : IfSome (printed shown reply) (Appends printed_before printed_after)
-  pub came_to : answer ≡ reply.says
-
--- so many documents of the job were heard and printed
-abbrev pub TakesDocuments : (shown : Shows) (heard_before heard_after : Known)
-    → (printed_before printed_after : Known) (account : List ℕ) (job count : ℕ) → Type 0
-TakesDocuments shown heard_before heard_after printed_before printed_after account job count =
-    (documents : List Document) × (length documents ≡ count)
-    × Consumes heard_before heard_after (flat_map document_heard documents)
-    × IfSome (documents_printed shown account job 1 documents)
-    (Appends printed_before printed_after)
-
--- the document of the number was
-abbrev pub TakesDocument : (shown : Shows) (heard_before heard_after : Known)
-    → (printed_before printed_after : Known) (account : List ℕ) (job number : ℕ) → Type 0
-TakesDocument shown heard_before heard_after printed_before printed_after account job number =
-    (document : Document) × Consumes heard_before heard_after (document_heard document)
-    × IfSome (document_printed shown account job number document)
-    (Appends printed_before printed_after)
-
--- the answer of the text was printed, and its documents heard
-abbrev pub PrintsAnswer : (shown : Shows) (heard_before heard_after : Known)
-    → (printed_before printed_after : Known) (text : List ℕ) → Answer → Type 0
-PrintsAnswer shown heard_before heard_after printed_before printed_after text says =
-    (account : List ℕ) × (job : ℕ) × (documents : List Document)
-    × (length documents ≡ documents_said says)
-    × Consumes heard_before heard_after (flat_map document_heard documents)
-    × IfSome (printed_as says (documents_printed shown account job 1 documents)
-    (Some (text ++ codes "\n"))) (Appends printed_before printed_after)

@@ -1,6 +1,10 @@
--- What is sent (all this project's own).
-use Rattle.std.specs.Prelude.{◌≡◌, ℕ, ◌==◌, if◌then◌else◌, List, [], ◌∷◌, ◌++◌, codes, Option, Some, IfSome}
-use Rattle.std.specs.Io.KnownBytes.{Appends}
+-- What is sent, and when nothing is left of an input (all this project's own).
+use Rattle.std.specs.Prelude.{◌≡◌, ℕ, ◌==◌, if◌then◌else◌, List, [], ◌∷◌, ◌++◌, codes, Option, Some, IfSome, OnSome}
+use Rattle.std.specs.Io.KnownBytes.{Appends, IsAtEnd}
+
+-- bytes of a line that is sent, without the line feed that ends it
+abbrev pub longest_line : ℕ
+longest_line = 65536
 
 -- a text as whole lines: a line feed comes behind the last byte, where that is none
 abbrev pub as_lines : (text : List ℕ) → List ℕ
@@ -12,6 +16,10 @@ as_lines (byte ∷ next ∷ rest) = byte ∷ as_lines (next ∷ rest)
 abbrev pub AppendsUpTo : (before after : Option (List ℕ)) (bytes : List ℕ) → Type 0
 AppendsUpTo before after bytes = (front : List ℕ) × (rest : List ℕ) × (bytes ≡ front ++ rest)
     × Appends before after front
+
+-- nothing is left of the input, where it was known what is left
+abbrev pub IsAtKnownEnd : (before after : Option (List ℕ)) → Type 0
+IsAtKnownEnd before after = OnSome before (IsAtEnd after)
 
 -- what was taken of the input so far was sent as whole lines
 abbrev pub SendsOn : (input_before input_after before after : Option (List ℕ)) → Type 0

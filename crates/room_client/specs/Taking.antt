@@ -1,7 +1,7 @@
--- What is taken of a reader, a line at a time (all this project's own); for the proof of the code
--- alone but for `HasNoFeed`.
-use Rattle.std.specs.Prelude.{◌≡◌, ◌≢◌, ℕ, ◌<◌, ◌≤◌, All, List, [], ◌++◌, codes, length, Option, OnSome, ◌⊎◌}
-use Rattle.std.specs.Io.KnownBytes.{Consumes, IsAtEnd}
+-- For the proof of the code alone: what is taken of a reader, a line at a time.
+use Rattle.std.specs.Prelude.{◌≡◌, ◌≢◌, ℕ, ◌+◌, ◌<◌, ◌≤◌, All, List, [], ◌++◌, codes, length, Option, ◌⊎◌}
+use Rattle.std.specs.Io.KnownBytes.{Consumes}
+use Rattle.room_client.specs.Sending.{IsAtKnownEnd, longest_line}
 use Rattle.room_client.specs.declared.line.Taken.{Taken}
 use Rattle.room_client.specs.declared.line.Taken.TheVariants as taken
 use Rattle.room_client.specs.declared.line.Piece.{Piece}
@@ -12,27 +12,23 @@ abbrev pub HasNoFeed : List ℕ → Type 0
 HasNoFeed bytes = All (λ byte. byte ≢ 10) bytes
 
 -- what one line may be, without the line feed that ends it
-abbrev pub IsLine : List ℕ → Type 0
-IsLine bytes = (length bytes ≤ 65536) × HasNoFeed bytes
+abbrev pub MayBeLine : List ℕ → Type 0
+MayBeLine bytes = (length bytes ≤ longest_line) × HasNoFeed bytes
 
 -- more than one line may be was taken, and no more
 abbrev pub TakesTooMany : (before after : Option (List ℕ)) → Type 0
-TakesTooMany before after = (front : List ℕ) × (length front ≡ 65537) × HasNoFeed front
-    × Consumes before after front
-
--- nothing is left, where it was known what is left
-abbrev pub IsAtKnownEnd : (before after : Option (List ℕ)) → Type 0
-IsAtKnownEnd before after = OnSome before (IsAtEnd after)
+TakesTooMany before after = (front : List ℕ) × (length front ≡ longest_line + 1)
+    × HasNoFeed front × Consumes before after front
 
 -- all that was left was taken
 abbrev pub TakesAll : (before after : Option (List ℕ)) (bytes : List ℕ) → Type 0
 TakesAll before after bytes = Consumes before after bytes × IsAtKnownEnd before after
 
-abbrev pub Takes : (before after : Option (List ℕ)) → Taken → Type 0
-Takes before after (taken.Line line) =
-    IsLine line.items × Consumes before after (line.items ++ codes "\n")
-Takes before after (taken.Last line) = IsLine line.items × TakesAll before after line.items
-Takes before after taken.Long = TakesTooMany before after
+abbrev pub TakesInput : (before after : Option (List ℕ)) → Taken → Type 0
+TakesInput before after (taken.Line line) =
+    MayBeLine line.items × Consumes before after (line.items ++ codes "\n")
+TakesInput before after (taken.Last line) = MayBeLine line.items × TakesAll before after line.items
+TakesInput before after taken.Long = TakesTooMany before after
 
 -- a line was taken with the line feed that ends it, or as the last one, which has none
 abbrev pub TakesLine : (before after : Option (List ℕ)) (line : List ℕ) → Type 0

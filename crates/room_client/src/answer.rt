@@ -1,7 +1,7 @@
 //! What the first line of an answer says.
 ghost use Rattle.std.specs.Prelude.{◌≡◌};
 ghost use Rattle.std.specs.List.{list_all};
-ghost use Rattle.room_client.specs.Answers.{answer_said, count_said, is_text, is_text_byte};
+ghost use Rattle.room_client.specs.Answers.{answer_said, document_count_said, is_text, is_text_byte};
 
 /// What the first line of an answer says, as far as it is anything to the client.
 #[derive(Clone, Copy, Debug, PartialEq, Eq)]
@@ -36,7 +36,7 @@ impl Answer {
 
 /// How many documents there are: 0 to 8, which is one digit.
 fn count_said(text: &[u8]) -> Option<u8>
-    ensures { result ≡ count_said text.now }
+    ensures { result ≡ document_count_said text.now }
 {
     match text {
         [digit @ b'0'..=b'8'] => Some(*digit - b'0'),

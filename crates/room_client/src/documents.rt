@@ -1,6 +1,7 @@
 //! The documents of an answer.
 ghost use Rattle.std.specs.Prelude.{◌≡◌, ◌≤◌, ℕ, List, IfSome, OnOk};
-ghost use Rattle.room_client.specs.Replies.{TakesDocument, TakesDocuments};
+ghost use Rattle.room_rules.specs.Limits.{longest_document};
+ghost use Rattle.room_client.specs.Answering.{HearsDocument, TakesDocuments};
 
 use crate::asked::Asked;
 use crate::fault::ClientFault;
@@ -11,8 +12,8 @@ use room_rules::{LONGEST_DOCUMENT, MOST_COPIES};
 use std::alloc::Global;
 use std::io::{BufRead, Write};
 
-/// Takes so many documents of the job that the line asked for, one after another: of each its line is printed, and the keeper
-/// gets its bytes.
+/// Takes so many documents of the job that the line asked for, one after another: of each its line
+/// is printed, and the keeper gets its bytes.
 pub(crate) fn take_documents<R: BufRead, W: Write, K: Keeper, O: Write>(
     alloc: Global,
     peer: &mut Peer<R, W>,
@@ -44,7 +45,7 @@ fn take_document<R: BufRead, W: Write, K: Keeper, O: Write>(
     keeper: &mut K,
     output: &mut O,
 ) -> Result<(), ClientFault>
-    ensures taken { OnOk result (TakesDocument (K.shown keeper.old)
+    ensures taken { OnOk result (HearsDocument (K.shown keeper.old)
         (R.remaining peer.old.reader) (R.remaining peer.new.reader)
         (O.contents output.old) (O.contents output.new) asked.now.account asked.now.job number) }
     ensures same { K.shown keeper.new ≡ K.shown keeper.old }
@@ -60,10 +61,10 @@ fn take_document<R: BufRead, W: Write, K: Keeper, O: Write>(
     Ok(())
 }
 
-/// How many bytes a document has by its line `document JOB COPIES FORMAT LENGTH`, or `None` where that is no line of a document
-/// of the job.
+/// How many bytes a document has by its line `document JOB COPIES FORMAT LENGTH`, or `None` where
+/// that is no line of a document of the job.
 fn length_said(line: &[u8], job: u32) -> Option<u32>
-    ensures { IfSome result (λ length. length ≤ 16777216) }
+    ensures { IfSome result (λ length. length ≤ longest_document) }
 {
     let mut words = line.split(|byte| *byte == b' ');
     if words.next()? != b"document".as_slice() {

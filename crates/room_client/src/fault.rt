@@ -14,7 +14,8 @@ use thiserror::Error;
 /// Why what was to be sent was not sent to its end.
 #[derive(Clone, Copy, Debug, PartialEq, Eq, Error)]
 pub enum ClientFault {
-    /// Reading or writing failed: of the input, of the connection, of what is printed or of what is kept.
+    /// Reading or writing failed: of the input, of the connection, of what is printed or of what is
+    /// kept.
     #[error("reading or writing failed")]
     Io,
     /// The connection ended before an answer was whole, or what came is no answer.

@@ -2,9 +2,10 @@
 ghost use Rattle.std.specs.Prelude.{◌≡◌, ◌-◌, ◌^◌, ◌<◌, ◌≤◌, ◌++◌, All, IfOk, OnErr, OnOk, Some, codes, decimal, option_map};
 ghost use Rattle.std.specs.Io.KnownBytes.{Appends};
 ghost use Rattle.room_rules.specs.Limits.{first_month, last_month};
+ghost use Rattle.room_client.specs.Answering.{GrantAnswered, HearsResult};
 ghost use Rattle.room_client.specs.Answers.{answer_said};
 ghost use Rattle.room_client.specs.Grants.{SendsFile, SendsFileFront, grant_text, line_asked, record_sent, records_sent};
-ghost use Rattle.room_client.specs.GrantReplies.{FileAnswered, GrantAnswered, GrantsAnswered, HearsResult};
+ghost use Rattle.room_client.specs.GrantReplies.{FileAnswered, GrantsAnswered};
 ghost use Rattle.room_client.specs.Peers.{reader_of, writer_of};
 ghost use Rattle.room_client.specs.Sending.{AppendsUpTo};
 ghost use Rattle.room_grants.specs.Lines.{IsInRange};
@@ -20,8 +21,9 @@ use room_streams::Source;
 use std::alloc::{AllocError, Global};
 use std::io::{BufRead, Write};
 
-/// Reads a file of grants, sends a line `grant ACCOUNT YYYY-MM PAGES` for each good record, in order, and prints of each record
-/// its number from 1 and what its grant came to, or `bad`. Nothing is sent of a file that is too long.
+/// Reads a file of grants, sends a line `grant ACCOUNT YYYY-MM PAGES` for each good record, in
+/// order, and prints of each record its number from 1 and what its grant came to, or `bad`. Nothing
+/// is sent of a file that is too long.
 pub fn send_grants<S: Source, R: BufRead, W: Write, O: Write>(
     alloc: Global,
     input: &mut S,

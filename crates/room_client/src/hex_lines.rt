@@ -1,16 +1,11 @@
 //! Documents that are printed and not kept.
 ghost use Rattle.hex.specs.Hex.{encode_lower};
-ghost use Rattle.std.specs.Io.KnownBytes.{Appends};
-ghost use Rattle.std.specs.Prelude.{◌≤◌, ◌*◌, ◌++◌, OnOk, Some, codes, length};
+ghost use Rattle.std.specs.Prelude.{◌++◌, Some, codes};
 
 use crate::keeper::Keeper;
+use room_fields::print_hex;
 use std::io;
 use std::io::Write;
-
-/// How many bytes are turned into digits at once.
-const CHUNK: usize = 512;
-
-const DIGITS: usize = 2 * CHUNK;
 
 /// Prints the bytes of each document as a line of hexadecimal digits.
 #[derive(Clone, Copy, Debug, Default)]
@@ -20,32 +15,7 @@ impl Keeper for HexLines {
     ghost shown = { λ _ _ bytes. Some (encode_lower bytes ++ codes "\n") };
 
     fn keep<O: Write>(&mut self, output: &mut O, _name: &str, bytes: Vec<u8>) -> io::Result<()> {
-        print_digits(output, bytes.as_slice())?;
+        print_hex(output, bytes.as_slice())?;
         output.write_all(b"\n")
     }
-}
-
-/// Prints two digits of each byte.
-fn print_digits<O: Write>(output: &mut O, bytes: &[u8]) -> io::Result<()>
-    ensures { OnOk result
-        (Appends (O.contents output.old) (O.contents output.new) (encode_lower bytes.now)) }
-{
-    let mut rest = bytes;
-    while !rest.is_empty() {
-        let (chunk, more) = rest.split_at(rest.len().min(CHUNK));
-        print_chunk(output, chunk)?;
-        rest = more;
-    }
-    Ok(())
-}
-
-fn print_chunk<O: Write>(output: &mut O, chunk: &[u8]) -> io::Result<()>
-    requires { length chunk.now ≤ CHUNK }
-    ensures { OnOk result
-        (Appends (O.contents output.old) (O.contents output.new) (encode_lower chunk.now)) }
-{
-    let mut buffer = [0; DIGITS];
-    let digits = &mut buffer[..2 * chunk.len()];
-    hex::encode_to_slice(chunk, digits).unwrap();
-    output.write_all(digits)
 }

@@ -1,21 +1,22 @@
 //! The lines of an input, one at a time.
 
 ghost use Rattle.std.specs.Prelude.{◌≡◌, ◌<◌, IfOk, IfSome, IfNone, IsErrOf, [], length};
-ghost use Rattle.room_client.specs.Taking.{IsLine, TakesAll, TakesLine, TakesTooMany};
+ghost use Rattle.room_client.specs.Taking.{MayBeLine, TakesAll, TakesLine, TakesTooMany};
 
 use crate::fault::ClientFault;
 use crate::line::{Taken, take_line};
 use std::alloc::Global;
 use std::io::BufRead;
 
-/// The next line without the line feed that ends it, or `None` at the end. The last line may have none.
+/// The next line without the line feed that ends it, or `None` at the end. The last line may have
+/// none.
 pub(crate) fn next_line<I: BufRead>(
     alloc: Global,
     input: &mut I,
 ) -> Result<Option<Vec<u8>>, ClientFault>
     ensures taken { IfOk result (λ found. IfSome found
         (λ line. TakesLine (I.remaining input.old) (I.remaining input.new) line.items)) }
-    ensures line { IfOk result (λ found. IfSome found (λ line. IsLine line.items)) }
+    ensures line { IfOk result (λ found. IfSome found (λ line. MayBeLine line.items)) }
     ensures end { IfOk result
         (λ found. IfNone found (TakesAll (I.remaining input.old) (I.remaining input.new) [])) }
     ensures long { IsErrOf result ClientFault.TooLong

@@ -2,7 +2,8 @@
 
 ghost use Rattle.std.specs.Prelude.{◌≡◌, ◌≢◌, ◌+◌, ◌<◌, ◌≤◌, ℕ, List, All, IfOk, IfErr, IfSome, IfNone, codes, length, take, ◌++◌, Ok};
 ghost use Rattle.std.specs.Io.KnownBytes.{Consumes};
-ghost use Rattle.room_client.specs.Taking.{Adds, IsAtKnownEnd, Takes};
+ghost use Rattle.room_client.specs.Sending.{IsAtKnownEnd};
+ghost use Rattle.room_client.specs.Taking.{Adds, TakesInput};
 
 use crate::fault::ClientFault;
 use std::alloc::{AllocError, Global};
@@ -36,7 +37,7 @@ pub(crate) enum Piece {
 
 /// Takes the next line. No more is taken of one that is too long.
 pub(crate) fn take_line<R: BufRead>(alloc: Global, reader: &mut R) -> Result<Taken, ClientFault>
-    ensures taken { IfOk result (Takes (R.remaining reader.old) (R.remaining reader.new)) }
+    ensures taken { IfOk result (TakesInput (R.remaining reader.old) (R.remaining reader.new)) }
     ensures fault { IfErr result (λ fault. fault ≢ ClientFault.TooLong) }
 {
     let mut line = Vec::new(alloc);
@@ -54,7 +55,8 @@ pub(crate) fn take_line<R: BufRead>(alloc: Global, reader: &mut R) -> Result<Tak
     Err(ClientFault::Io)
 }
 
-/// Takes of what the reader shows at once what belongs to the line, of which there may be so many bytes.
+/// Takes of what the reader shows at once what belongs to the line, of which there may be so many
+/// bytes.
 fn take_piece<R: BufRead>(
     reader: &mut R,
     room: usize,
@@ -88,8 +90,8 @@ fn none_shown(error: io::Error) -> Result<Piece, ClientFault>
     Err(ClientFault::from(error))
 }
 
-/// Adds what is shown to the line, up to its first line feed but no more than so many bytes, and answers how many of the bytes
-/// are done with.
+/// Adds what is shown to the line, up to its first line feed but no more than so many bytes, and
+/// answers how many of the bytes are done with.
 fn add_front(shown: &[u8], room: usize, line: &mut Vec<u8>) -> Result<(usize, Piece), AllocError>
     requires { 0 < room }
     ensures shown { IfOk result (λ added. added.0 ≤ length shown.now) }
@@ -122,10 +124,5 @@ fn line_feed_in(bytes: &[u8]) -> Option<usize>
     ensures before { IfSome result (λ end. All (λ byte. byte ≢ 10) (take end bytes.now)) }
     ensures none { IfNone result (All (λ byte. byte ≢ 10) bytes.now) }
 {
-    for (index, byte) in bytes.iter().enumerate() {
-        if *byte == b'\n' {
-            return Some(index);
-        }
-    }
-    None
+    bytes.iter().position(|byte| *byte == b'\n')
 }

@@ -1,9 +1,9 @@
 //! Lines that are sent one after another.
 
 ghost use Rattle.std.specs.Prelude.{◌≡◌, IfOk, IfSome, IfNone, OnOk, OnErr};
-ghost use Rattle.room_client.specs.Replies.{Answered, AnsweredOnce, PrintsAnswer};
-ghost use Rattle.room_client.specs.Sending.{SendsAll, SendsFront, SendsOn};
-ghost use Rattle.room_client.specs.Taking.{IsAtKnownEnd};
+ghost use Rattle.room_client.specs.Answering.{AnsweredOnce, PrintsAnswer};
+ghost use Rattle.room_client.specs.Replies.{Answered};
+ghost use Rattle.room_client.specs.Sending.{IsAtKnownEnd, SendsAll, SendsFront, SendsOn};
 ghost use Rattle.room_client.specs.Peers.{reader_of, writer_of};
 
 use crate::answer::Answer;
@@ -16,8 +16,9 @@ use crate::peer::Peer;
 use std::alloc::Global;
 use std::io::{BufRead, Write};
 
-/// Sends each line of the input, to its end, and prints its answer before the next one is read: the line that was answered, or
-/// of each document its line and what the keeper prints. No line is judged here.
+/// Sends each line of the input, to its end, and prints its answer before the next one is read: the
+/// line that was answered, or of each document its line and what the keeper prints. No line is
+/// judged here.
 pub fn send_lines<I: BufRead, R: BufRead, W: Write, K: Keeper, O: Write>(
     alloc: Global,
     input: &mut I,

@@ -4,7 +4,8 @@ ghost use Rattle.room_fields.specs.Fields.{digit_said, month_said, two_digits_sa
 ghost use Rattle.room_rules.specs.Limits.{first_month, last_month};
 ghost use Rattle.room_client.specs.Grants.{month_text, two_digits};
 
-/// The month of the number, twelve times the year and 0 for January to 11 for December, as `YYYY-MM`.
+/// The month of the number, twelve times the year and 0 for January to 11 for December, as
+/// `YYYY-MM`.
 pub(crate) fn month_text(month: u32) -> [u8; 7]
     requires first { first_month ≤ month }
     requires last { month ≤ last_month }

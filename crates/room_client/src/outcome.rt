@@ -9,7 +9,8 @@ use crate::answer::Answer;
 pub enum Outcome {
     /// No event failed, and no line was bad.
     Fine,
-    /// No event failed, and the line or record of this number, counted from 1, is the first that was answered as a bad line.
+    /// No event failed, and the line or record of this number, counted from 1, is the first that
+    /// was answered as a bad line.
     BadLine(usize),
     /// An event failed.
     Failed,

@@ -43,7 +43,8 @@ impl<R: BufRead, W: Write> Peer<R, W> {
         Ok(self.writer.flush()?)
     }
 
-    /// The next line that comes, without the line feed that ends it. No more is read of one that is too long.
+    /// The next line that comes, without the line feed that ends it. No more is read of one that is
+    /// too long.
     pub(crate) fn hear(&mut self, alloc: Global) -> Result<Vec<u8>, ClientFault>
         ensures line { IfOk result (λ line. Consumes (R.remaining self.old.reader)
             (R.remaining self.new.reader) (line.items ++ codes "\n")) }
@@ -56,7 +57,8 @@ impl<R: BufRead, W: Write> Peer<R, W> {
         }
     }
 
-    /// The bytes that come next, so many, which a line feed has to follow. Memory is taken as they come.
+    /// The bytes that come next, so many, which a line feed has to follow. Memory is taken as they
+    /// come.
     pub(crate) fn hear_bytes(&mut self, alloc: Global, count: u32) -> Result<Vec<u8>, ClientFault>
         ensures bytes { IfOk result (λ bytes. Consumes (R.remaining self.old.reader)
             (R.remaining self.new.reader) (bytes.items ++ codes "\n")) }

@@ -8,7 +8,8 @@ use crate::fault::ClientFault;
 use std::io;
 use std::io::{ErrorKind, Write};
 
-/// Writes the bytes, or a front of them where that fails. A call that a signal interrupts is made again.
+/// Writes the bytes, or a front of them where that fails. A call that a signal interrupts is made
+/// again.
 pub(crate) fn put<W: Write>(writer: &mut W, bytes: &[u8]) -> Result<(), ClientFault>
     ensures whole { OnOk result
         (Appends (W.contents writer.old) (W.contents writer.new) bytes.now) }

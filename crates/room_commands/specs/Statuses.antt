@@ -5,11 +5,11 @@ use Rattle.room_commands.specs.declared.fault.Fault.TheVariants.{Usage, Name, In
 
 -- 1 for usage, 2 for bad input, of which nothing was run unless it was sent, 3 for the store and
 -- for memory, 4 for reading and writing
-abbrev pub status_of : Fault → ℕ
-status_of (Usage error) = 1
-status_of Name = 2
-status_of Input = 2
-status_of (Line number) = 2
-status_of Store = 3
-status_of Memory = 3
-status_of Io = 4
+abbrev pub exit_status_of : Fault → ℕ
+exit_status_of (Usage error) = 1
+exit_status_of Name = 2
+exit_status_of Input = 2
+exit_status_of (Line number) = 2
+exit_status_of Store = 3
+exit_status_of Memory = 3
+exit_status_of Io = 4

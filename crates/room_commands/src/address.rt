@@ -13,8 +13,8 @@ pub enum Address<'a> {
 }
 
 impl<'a> Address<'a> {
-    /// The address that a word is. Decimal digits alone are a port, which is at least `least`; any other word is a path. `None`
-    /// where it is empty, or such a port is none.
+    /// The address that a word is. Decimal digits alone are a port, which is at least `least`; any
+    /// other word is a path. `None` where it is empty, or such a port is none.
     pub(crate) fn read(word: &'a str, least: u32) -> Option<Address<'a>> {
         if word.is_empty() {
             return None;

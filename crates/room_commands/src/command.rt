@@ -8,7 +8,8 @@ use crate::listening::Listening;
 use crate::sending::Sending;
 use crate::serving::Serving;
 use crate::words::{
-    ADDRESS, DATABASE, EXPLAIN, FOLDER, GRANTS, LISTEN, OPERATORS, PORT, SEND, SERVE, STATIONS,
+    ACCOUNT, ADDRESS, COUNT, CREATE, DATABASE, DEVICE, EXPLAIN, FOLDER, GRANTS, LISTEN, MIGRATE,
+    NAME, ON, OPEN, OPERATORS, PORT, RATE, SCRIPT, SEND, SERVE, STATION, STATIONS, SWITCH, UNITS,
     program,
 };
 use clap::ArgMatches;
@@ -145,29 +146,29 @@ fn of_matches<'a>(matches: &ArgMatches<'a>) -> Result<Command<'a>, Unfit>
     }
     let database = word(words, DATABASE)?;
     match command {
-        "create" => Ok(Command::Create { database }),
-        "open" => Ok(Command::Open {
+        CREATE => Ok(Command::Create { database }),
+        OPEN => Ok(Command::Open {
             database,
-            account: name(words, "ACCOUNT")?,
+            account: name(words, ACCOUNT)?,
         }),
-        "migrate" => Ok(Command::Migrate { database }),
-        "device" => Ok(Command::Device {
+        MIGRATE => Ok(Command::Migrate { database }),
+        DEVICE => Ok(Command::Device {
             database,
-            on: word(words, "SWITCH")? == "on",
-            name: name(words, "NAME")?,
+            on: word(words, SWITCH)? == ON,
+            name: name(words, NAME)?,
         }),
-        "rate" => Ok(Command::Rate {
+        RATE => Ok(Command::Rate {
             database,
-            units: number(words, "UNITS", 1, MOST_RATE, Unfit::Units)?,
-            name: name(words, "NAME")?,
+            units: number(words, UNITS, 1, MOST_RATE, Unfit::Units)?,
+            name: name(words, NAME)?,
         }),
-        "grants" => Ok(Command::Grants { database }),
-        "station" => Ok(Command::Station { database }),
-        "script" => Ok(Command::Script { database }),
+        GRANTS => Ok(Command::Grants { database }),
+        STATION => Ok(Command::Station { database }),
+        SCRIPT => Ok(Command::Script { database }),
         LISTEN => Ok(Command::Listen(Listening {
             database,
             port: port(words, 1, Unfit::Port)?,
-            connections: number(words, "COUNT", 0, MOST_CONNECTIONS, Unfit::Count)?,
+            connections: number(words, COUNT, 0, MOST_CONNECTIONS, Unfit::Count)?,
         })),
         SERVE => Ok(Command::Serve(Serving {
             database,

@@ -3,6 +3,7 @@
 use crate::command::MEMORY;
 use crate::opener::Opener;
 use crate::program::run;
+use crate::words::CREATE;
 use room_store::OpenFault;
 use sqlite::{Connection, File, FileStore, MemStore};
 use std::alloc::Global;
@@ -61,7 +62,7 @@ pub fn run_on<R: Read + Drop, W: Write, E: Write>(
     if words.contains(&MEMORY) {
         return run(alloc, words, now, InMemory { alloc }, input, output, errors);
     }
-    let is_new = words.first() == Some(&"create");
+    let is_new = words.first() == Some(&CREATE);
     run(
         alloc,
         words,

@@ -1,6 +1,6 @@
 //! Why a run of the program ends with a status other than 0.
 ghost use Rattle.std.specs.Prelude.{◌≡◌};
-ghost use Rattle.room_commands.specs.Statuses.{status_of};
+ghost use Rattle.room_commands.specs.Statuses.{exit_status_of};
 
 use room_client::ClientFault;
 use room_grants::GrantFault;
@@ -16,7 +16,8 @@ use thiserror::Error;
 /// Why the program ends early. Its text is what standard error carries.
 #[derive(Debug, Drop, Error)]
 pub enum Fault {
-    /// The words are no command line of the program. The text is the parser's, its line feed with it.
+    /// The words are no command line of the program. The text is the parser's, its line feed with
+    /// it.
     #[error("{0}")]
     Usage(clap::Error),
     /// A word in the place of an account or a device is no name.
@@ -25,7 +26,8 @@ pub enum Fault {
     /// Standard input is longer than its limit, or a line of it that was to be sent is.
     #[error("ipp-room: input")]
     Input,
-    /// The line or record of this number, counted from 1, is the first that is no line of its grammar.
+    /// The line or record of this number, counted from 1, is the first that is no line of its
+    /// grammar.
     #[error("ipp-room: line {0}")]
     Line(usize),
     /// The database can't be had, or refused an event.
@@ -40,10 +42,10 @@ pub enum Fault {
 }
 
 impl Fault {
-    /// The exit status: 1 for usage, 2 for bad input, of which nothing was run unless it was sent, 3 for the store and
-    /// for memory, 4 for reading and writing.
+    /// The exit status: 1 for usage, 2 for bad input, of which nothing was run unless it was sent,
+    /// 3 for the store and for memory, 4 for reading and writing.
     pub fn status(&self) -> u8
-        ensures { result ≡ status_of self.now }
+        ensures { result ≡ exit_status_of self.now }
     {
         match self {
             Fault::Usage(_) => 1,

@@ -1,4 +1,5 @@
-//! The commands of the program: what its words ask for, done over any reader, any writers and any databases.
+//! The commands of the program: what its words ask for, done over any reader, any writers and any
+//! databases.
 #![tactic(auto)]
 
 mod address;

@@ -5,8 +5,8 @@ use crate::fault::Fault;
 use crate::words::LISTEN;
 use std::alloc::Global;
 
-/// The command `listen`: so many connections, at most 1000000, one after another on a port of 127.0.0.1, which is
-/// not 0.
+/// The command `listen`: so many connections, at most 1000000, one after another on a port of
+/// 127.0.0.1, which is not 0.
 #[derive(Clone, Copy, Debug)]
 pub struct Listening<'a> {
     pub database: &'a str,
@@ -15,7 +15,8 @@ pub struct Listening<'a> {
 }
 
 impl<'a> Listening<'a> {
-    /// What the words after the program's name ask for, or `None` where they are another command, or ask for help.
+    /// What the words after the program's name ask for, or `None` where they are another command,
+    /// or ask for help.
     pub fn read(alloc: Global, words: &'a [&'a str]) -> Result<Option<Listening<'a>>, Fault> {
         if words.first() != Some(&LISTEN) {
             return Ok(None);

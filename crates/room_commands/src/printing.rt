@@ -27,8 +27,8 @@ pub fn print_outcomes<W: Write>(output: &mut W, outcomes: &[Outcome]) -> io::Res
     output.flush()
 }
 
-/// Of each record its number from 1 and `bad`, or what its grant came to. The good ones have the outcomes, in
-/// order.
+/// Of each record its number from 1 and `bad`, or what its grant came to. The good ones have the
+/// outcomes, in order.
 pub fn print_grants<W: Write>(
     output: &mut W,
     lines: &[GrantLine],

@@ -16,14 +16,15 @@ use std::io;
 use std::io::{Read, Write};
 
 /// Does what the words after the program's name ask for, and answers the exit status. `now` is the
-/// clock's moment in seconds since 1970-01-01T00:00:00Z, or `None` where it has none to give. What is
-/// wrong is found in this order: the words, the names among them, the clock, reading, the input, the
-/// store, writing. Where the status is not 0, `errors` gets the fault's text.
+/// clock's moment in seconds since 1970-01-01T00:00:00Z, or `None` where it has none to give. What
+/// is wrong is found in this order: the words, the names among them, the clock, reading, the input,
+/// the store, writing. Where the status is not 0, `errors` gets the fault's text.
 ///
-/// `opener` is asked for the database once nothing else can be wrong, and gets it back before anything is
-/// printed. In `:memory:` each run makes tables of its own. `explain` asks for none, and none of its lines is wrong. Of
-/// `listen`, `serve` and `send` it answers `Io` with nothing run, since it has no sockets (`Listening`, `Serving` and
-/// `Sending` say what their words ask for).
+/// `opener` is asked for the database once nothing else can be wrong, and gets it back before
+/// anything is printed. In `:memory:` each run makes tables of its own. `explain` asks for none,
+/// and none of its lines is wrong. Of `listen`, `serve` and `send` it answers `Io` with nothing
+/// run, since it has no sockets (`Listening`, `Serving` and `Sending` say what their words ask
+/// for).
 pub fn run<S, F, R, W, E>(
     alloc: Global,
     words: &[&str],

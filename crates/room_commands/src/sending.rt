@@ -6,7 +6,8 @@ use crate::fault::Fault;
 use crate::words::SEND;
 use std::alloc::Global;
 
-/// The command `send`: the lines of standard input, or its grants, go to an address, whose port is not 0.
+/// The command `send`: the lines of standard input, or its grants, go to an address, whose port is
+/// not 0.
 #[derive(Clone, Copy, Debug)]
 pub struct Sending<'a> {
     pub address: Address<'a>,
@@ -17,7 +18,8 @@ pub struct Sending<'a> {
 }
 
 impl<'a> Sending<'a> {
-    /// What the words after the program's name ask for, or `None` where they are another command, or ask for help.
+    /// What the words after the program's name ask for, or `None` where they are another command,
+    /// or ask for help.
     pub fn read(alloc: Global, words: &'a [&'a str]) -> Result<Option<Sending<'a>>, Fault> {
         if words.first() != Some(&SEND) {
             return Ok(None);

@@ -6,7 +6,8 @@ use crate::fault::Fault;
 use crate::words::SERVE;
 use std::alloc::Global;
 
-/// The command `serve`: HTTP on a port of 127.0.0.1, or on a free one where it is 0, and lines at two further addresses.
+/// The command `serve`: HTTP on a port of 127.0.0.1, or on a free one where it is 0, and lines at
+/// two further addresses.
 #[derive(Clone, Copy, Debug)]
 pub struct Serving<'a> {
     pub database: &'a str,
@@ -18,7 +19,8 @@ pub struct Serving<'a> {
 }
 
 impl<'a> Serving<'a> {
-    /// What the words after the program's name ask for, or `None` where they are another command, or ask for help.
+    /// What the words after the program's name ask for, or `None` where they are another command,
+    /// or ask for help.
     pub fn read(alloc: Global, words: &'a [&'a str]) -> Result<Option<Serving<'a>>, Fault> {
         if words.first() != Some(&SERVE) {
             return Ok(None);

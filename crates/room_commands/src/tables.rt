@@ -11,7 +11,8 @@ use room_store::{Refused, Store};
 use sqlite::{Alter, Connection};
 use std::alloc::Global;
 
-/// How a command comes by the tables. In memory they are made, since no run before can have made them.
+/// How a command comes by the tables. In memory they are made, since no run before can have made
+/// them.
 #[derive(Clone, Copy)]
 pub enum Begin {
     Create,
@@ -53,8 +54,8 @@ pub fn first_failure(outcomes: &[Outcome]) -> Option<Fault> {
     })
 }
 
-/// The store that a command works on. The tables of `:memory:` are made whatever `how` says; after a refusal the
-/// opener has its connection back.
+/// The store that a command works on. The tables of `:memory:` are made whatever `how` says; after
+/// a refusal the opener has its connection back.
 pub fn store_of<S: Alter + Drop, F: Opener<Kept = Connection<S>>>(
     opener: &mut F,
     database: &str,

@@ -8,6 +8,23 @@ const PROGRAM: &str = "ipp-room";
 
 const VERSION: &str = "1.0.0";
 
+pub(crate) const CREATE: &str = "create";
+
+pub(crate) const OPEN: &str = "open";
+
+pub(crate) const MIGRATE: &str = "migrate";
+
+pub(crate) const DEVICE: &str = "device";
+
+pub(crate) const RATE: &str = "rate";
+
+/// A command, and what `send` is told where it has a file of grants.
+pub(crate) const GRANTS: &str = "grants";
+
+pub(crate) const STATION: &str = "station";
+
+pub(crate) const SCRIPT: &str = "script";
+
 pub(crate) const EXPLAIN: &str = "explain";
 
 pub(crate) const LISTEN: &str = "listen";
@@ -16,9 +33,21 @@ pub(crate) const SERVE: &str = "serve";
 
 pub(crate) const SEND: &str = "send";
 
-const SWITCHES: [&str; 2] = ["on", "off"];
+pub(crate) const ON: &str = "on";
+
+const SWITCHES: [&str; 2] = [ON, "off"];
 
 pub(crate) const DATABASE: &str = "DB";
+
+pub(crate) const ACCOUNT: &str = "ACCOUNT";
+
+pub(crate) const NAME: &str = "NAME";
+
+pub(crate) const SWITCH: &str = "SWITCH";
+
+pub(crate) const UNITS: &str = "UNITS";
+
+pub(crate) const COUNT: &str = "COUNT";
 
 pub(crate) const PORT: &str = "PORT";
 
@@ -27,8 +56,6 @@ pub(crate) const STATIONS: &str = "STATIONS";
 pub(crate) const OPERATORS: &str = "OPERATORS";
 
 pub(crate) const ADDRESS: &str = "ADDRESS";
-
-pub(crate) const GRANTS: &str = "grants";
 
 pub(crate) const FOLDER: &str = "FOLDER";
 
@@ -40,14 +67,14 @@ pub(crate) fn program<'a>(alloc: Global) -> Result<clap::Command<'a>, AllocError
         .no_binary_name(true)
         .bin_name(PROGRAM)?
         .subcommand_required(true)
-        .subcommand(on_database(alloc, "create", "Makes the tables of a database")?)?
+        .subcommand(on_database(alloc, CREATE, "Makes the tables of a database")?)?
         .subcommand(open(alloc)?)?
-        .subcommand(on_database(alloc, "migrate", "Brings older tables up to date")?)?
+        .subcommand(on_database(alloc, MIGRATE, "Brings older tables up to date")?)?
         .subcommand(device(alloc)?)?
         .subcommand(rate(alloc)?)?
-        .subcommand(on_database(alloc, "grants", "Takes the grants of standard input")?)?
-        .subcommand(on_database(alloc, "station", "Runs the lines of a station")?)?
-        .subcommand(on_database(alloc, "script", "Runs lines that have moments")?)?
+        .subcommand(on_database(alloc, GRANTS, "Takes the grants of standard input")?)?
+        .subcommand(on_database(alloc, STATION, "Runs the lines of a station")?)?
+        .subcommand(on_database(alloc, SCRIPT, "Runs lines that have moments")?)?
         .subcommand(listen(alloc)?)?
         .subcommand(serve(alloc)?)?
         .subcommand(send(alloc)?)?
@@ -55,27 +82,27 @@ pub(crate) fn program<'a>(alloc: Global) -> Result<clap::Command<'a>, AllocError
 }
 
 fn open<'a>(alloc: Global) -> Result<clap::Command<'a>, AllocError> {
-    on_database(alloc, "open", "Opens an account")?.arg(required(alloc, "ACCOUNT"))
+    on_database(alloc, OPEN, "Opens an account")?.arg(required(alloc, ACCOUNT))
 }
 
 fn device<'a>(alloc: Global) -> Result<clap::Command<'a>, AllocError> {
     let switch = ValueParser::Names(SWITCHES.as_slice());
-    on_database(alloc, "device", "Turns a device on or off")?
-        .arg(required(alloc, "NAME"))?
-        .arg(required(alloc, "SWITCH").value_parser(switch))
+    on_database(alloc, DEVICE, "Turns a device on or off")?
+        .arg(required(alloc, NAME))?
+        .arg(required(alloc, SWITCH).value_parser(switch))
 }
 
 fn rate<'a>(alloc: Global) -> Result<clap::Command<'a>, AllocError> {
-    on_database(alloc, "rate", "Sets a device's units per impression")?
-        .arg(required(alloc, "NAME"))?
-        .arg(required(alloc, "UNITS").help("1 to 100"))
+    on_database(alloc, RATE, "Sets a device's units per impression")?
+        .arg(required(alloc, NAME))?
+        .arg(required(alloc, UNITS).help("1 to 100"))
 }
 
 fn listen<'a>(alloc: Global) -> Result<clap::Command<'a>, AllocError> {
     let count = "How many connections are served before it ends, 0 to 1000000";
     on_database(alloc, LISTEN, "Serves connections on 127.0.0.1")?
         .arg(required(alloc, PORT).help("1 to 65535"))?
-        .arg(required(alloc, "COUNT").help(count))
+        .arg(required(alloc, COUNT).help(count))
 }
 
 fn serve<'a>(alloc: Global) -> Result<clap::Command<'a>, AllocError> {
@@ -87,7 +114,7 @@ fn serve<'a>(alloc: Global) -> Result<clap::Command<'a>, AllocError> {
 
 fn send<'a>(alloc: Global) -> Result<clap::Command<'a>, AllocError> {
     let grants = Arg::new(alloc, GRANTS)
-        .long("grants")
+        .long(GRANTS)
         .action(ArgAction::SetTrue)
         .help("Standard input is a file of grants")
         .conflicts_with(FOLDER)?;

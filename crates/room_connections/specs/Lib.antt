@@ -1,3 +1,4 @@
 pub mod Patience
 pub mod HttpPeers
 pub mod LinePeers
+pub mod LineSteps

@@ -1,5 +1,5 @@
 -- What a connection of lines has taken and told (all this project's own).
-use Rattle.std.specs.Prelude.{◌≡◌, ◌≢◌, ◌⊎◌, ℕ, List, [], ◌∷◌, ◌++◌, codes, Option, None, Some}
+use Rattle.std.specs.Prelude.{◌≡◌, ◌≢◌, ◌⊎◌, ℕ, List, [], ◌∷◌, ◌++◌, None}
 use Rattle.std.specs.List.{flat_map}
 use Rattle.sqlite_trees.specs.declared.store.Store.{Ghosts}
 use Rattle.room_served.specs.Lines.{Asks, IsBad, input_of, line_end, output_of, side_of}
@@ -24,8 +24,8 @@ LineCall = List ℕ × List ℕ
 abbrev pub taken : List LineCall → List ℕ
 taken calls = flat_map (λ (call : LineCall). call.0) calls
 
-abbrev pub told : List LineCall → List ℕ
-told calls = flat_map (λ (call : LineCall). call.1) calls
+abbrev pub bytes_told : List LineCall → List ℕ
+bytes_told calls = flat_map (λ (call : LineCall). call.1) calls
 
 module _ {S : Type 0} (store : Ghosts S) (side : Side) where
   -- what each line says is applied, once, and told, or it is a bad one, which changes nothing, and
@@ -39,51 +39,20 @@ module _ {S : Type 0} (store : Ghosts S) (side : Side) where
 module _ {S : Type 0} (store : Ghosts S) where
   -- Bytes came, and the lines in them were taken in order; what was told of each waits behind the
   -- others, and goes in order.
-  pub record GoesOn (before after : LineConnection) (old new : Served S) : Type 0 where
+  pub record TakesTurn (before after : LineConnection) (old new : Served S) : Type 0 where
     pub came : List ℕ
     pub calls : List LineCall
     pub went : List ℕ
     pub input : input_of before ++ came ≡ taken calls ++ input_of after
-    pub output : output_of before ++ told calls ≡ went ++ output_of after
+    pub output : output_of before ++ bytes_told calls ≡ went ++ output_of after
     pub chain : Chain store (side_of before) old calls new
     pub side : side_of after ≡ side_of before
 
   -- a connection that is over may have lost an answer
   abbrev pub TurnGoesOn : (next : Next) (before after : LinePeer) (old new : Served S) → Type 0
   TurnGoesOn next before after old new =
-      next ≢ Close → GoesOn (lines_of before) (lines_of after) old new
-
-  abbrev pub StepGoesOn : (next : Option Next) (before after : LinePeer) (old new : Served S)
-      → Type 0
-  StepGoesOn next before after old new =
-      next ≢ Some Close → GoesOn (lines_of before) (lines_of after) old new
+      next ≢ Close → TakesTurn (lines_of before) (lines_of after) old new
 
 -- each line that came was taken, unless what was told before waits to go
 abbrev pub HasTaken : LineConnection → Type 0
 HasTaken connection = (output_of connection ≢ []) ⊎ (line_end (input_of connection) ≡ None)
-
--- ---- the steps of a peer that nothing is applied in
-
--- bytes came
-pub record Receives (before after : LineConnection) : Type 0 where
-  pub came : List ℕ
-  pub input : input_of after ≡ input_of before ++ came
-  pub output : output_of after ≡ output_of before
-  pub side : side_of after ≡ side_of before
-
--- bytes went
-pub record Sends (before after : LineConnection) : Type 0 where
-  pub went : List ℕ
-  pub input : input_of after ≡ input_of before
-  pub output : output_of before ≡ went ++ output_of after
-  pub side : side_of after ≡ side_of before
-
--- what is left is no line
-pub record Refuses (before after : LineConnection) : Type 0 where
-  pub input : input_of after ≡ []
-  pub output : output_of after ≡ output_of before ++ codes "bad-line\n"
-  pub side : side_of after ≡ side_of before
-
--- no more comes: all was said, or what is left is told to be no line
-abbrev pub IsEnded : (before after : LineConnection) → Type 0
-IsEnded before after = (after ≡ before) ⊎ Refuses before after

@@ -18,11 +18,11 @@ most_of (Moves moved) = 10000
 most_of Holds = 60000
 most_of Parts = 10000
 
-abbrev pub is_over : Patience → ℕ → Bool
+abbrev pub is_over : (patience : Patience) (now : ℕ) → Bool
 is_over patience now = nat_lt (most_of patience.doing) (now - patience.since)
 
 -- no whole piece has moved for a quarter of a second
-abbrev pub is_slow : Patience → ℕ → Bool
+abbrev pub is_slow : (patience : Patience) (now : ℕ) → Bool
 is_slow patience now = nat_lt 250 (now - patience.since)
 
 -- so much of a piece has moved: 163840 bytes are a whole one, which gives the time anew
@@ -46,7 +46,7 @@ holding_from Holds since now = record { since = since; doing = Holds }
 holding_from _ since now = record { since = now; doing = Holds }
 
 -- it waits for room, since it first had to
-abbrev pub after_holding : Patience → ℕ → Patience
+abbrev pub after_holding : (patience : Patience) (now : ℕ) → Patience
 after_holding patience now = holding_from patience.doing patience.since now
 
 abbrev pub letting_on_from : (doing : Doing) (since now : ℕ) → Patience

@@ -1,6 +1,7 @@
 //! A connection of HTTP: where it stands, how long it may take, and how much it holds.
 
 ghost use Rattle.std.specs.Prelude.{◌≡◌, ◌≢◌, IsFalse, Some};
+ghost use Rattle.room_http.specs.Limits.{longest_body, longest_head};
 ghost use Rattle.http_server.specs.Connection.{config_of, history};
 ghost use Rattle.http_server.specs.History.{new_history};
 ghost use Rattle.room_served.specs.Journals.{Continues};
@@ -36,8 +37,8 @@ impl HttpPeer {
     /// A peer that came just now. It takes no memory.
     pub fn new(alloc: Global, keys: RandomState, now: u64) -> HttpPeer
         ensures history { history (connection_of result) ≡ new_history }
-        ensures head { (config_of (connection_of result)).limits.max_head_len ≡ 16384 }
-        ensures body { (config_of (connection_of result)).max_body_len ≡ 16842752 }
+        ensures head { (config_of (connection_of result)).limits.max_head_len ≡ longest_head }
+        ensures body { (config_of (connection_of result)).max_body_len ≡ longest_body }
         ensures pending { (config_of (connection_of result)).max_pending ≡ 0 }
     {
         HttpPeer {
@@ -49,8 +50,9 @@ impl HttpPeer {
         }
     }
 
-    /// Reads, answers and writes as far as it goes now, but a few steps at most. Each request is one call: it is applied,
-    /// once, or refused. A peer is left to wait only where each request that came has its call.
+    /// Reads, answers and writes as far as it goes now, but a few steps at most. Each request is
+    /// one call: it is applied, once, or refused. A peer is left to wait only where each request
+    /// that came has its call.
     pub fn drive<S: Alter, T: Read + Write>(
         &mut self,
         stream: &mut T,
@@ -165,7 +167,8 @@ impl HttpPeer {
         self.patience
     }
 
-    /// The bytes for which it has room. The buffer of an answer grows to twice what it has to hold, as that of a request.
+    /// The bytes for which it has room. The buffer of an answer grows to twice what it has to hold,
+    /// as that of a request.
     pub fn held(&self) -> usize {
         let waiting = self.connection.output().len();
         self.load.held().saturating_add(waiting.saturating_mul(2))

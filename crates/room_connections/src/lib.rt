@@ -1,5 +1,5 @@
-//! One connection of HTTP or of lines, over any stream that may make it wait: what it reads, answers and writes in a turn,
-//! how long it may take, and how much it holds.
+//! One connection of HTTP or of lines, over any stream that may make it wait: what it reads,
+//! answers and writes in a turn, how long it may take, and how much it holds.
 #![tactic(auto)]
 
 mod http_peer;

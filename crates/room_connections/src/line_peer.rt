@@ -25,7 +25,8 @@ pub struct LinePeer {
 }
 
 impl LinePeer {
-    ghost use Rattle.room_connections.specs.LinePeers.{HasTaken, IsEnded, Receives, Sends, StepGoesOn, TurnGoesOn, lines_of, patience_of};
+    ghost use Rattle.room_connections.specs.LinePeers.{HasTaken, TurnGoesOn, lines_of, patience_of};
+    ghost use Rattle.room_connections.specs.LineSteps.{IsEnded, ReceivesBytes, SendsBytes, StepGoesOn};
 
     /// A peer that came just now. It takes no memory.
     pub fn new(alloc: Global, side: Side, now: u64) -> LinePeer
@@ -42,8 +43,9 @@ impl LinePeer {
         }
     }
 
-    /// Reads, answers and writes as far as it goes now, but a few steps at most: what came is taken line by line, each is
-    /// applied, once, or is a bad one, and what is told goes in order. A connection that is over may have lost an answer.
+    /// Reads, answers and writes as far as it goes now, but a few steps at most: what came is taken
+    /// line by line, each is applied, once, or is a bad one, and what is told goes in order. A
+    /// connection that is over may have lost an answer.
     pub fn drive<S: Alter, T: Read + Write>(
         &mut self,
         stream: &mut T,
@@ -67,8 +69,8 @@ impl LinePeer {
         Next::Again
     }
 
-    /// One read, one line or one write: a line is answered once the answers before it have gone. Answers what to wait for,
-    /// where it can't go on.
+    /// One read, one line or one write: a line is answered once the answers before it have gone.
+    /// Answers what to wait for, where it can't go on.
     fn step<S: Alter, T: Read + Write>(
         &mut self,
         stream: &mut T,
@@ -98,7 +100,7 @@ impl LinePeer {
     }
 
     fn send<T: Write>(&mut self, stream: &mut T, now: u64) -> Option<Next>
-        ensures sends { Sends (lines_of self.old) (lines_of self.new) }
+        ensures sends { SendsBytes (lines_of self.old) (lines_of self.new) }
         ensures waits { result ≡ Some Next.Wait → lines_of self.new ≡ lines_of self.old }
         ensures moves { result ≢ Some Next.Hold }
     {
@@ -120,7 +122,7 @@ impl LinePeer {
     }
 
     fn receive<T: Read>(&mut self, stream: &mut T, turn: Turn) -> Option<Next>
-        ensures receives { Receives (lines_of self.old) (lines_of self.new) }
+        ensures receives { ReceivesBytes (lines_of self.old) (lines_of self.new) }
         ensures waits { result ≡ Some Next.Wait
             → input_of (lines_of self.new) ≡ input_of (lines_of self.old) }
         ensures moves { result ≢ Some Next.Hold }

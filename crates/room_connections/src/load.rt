@@ -1,12 +1,15 @@
 //! How much a connection holds.
 
+use room_http::{BODY_LIMIT, HEAD_LIMIT};
+
 /// A request, or an answer, of more bytes is a large one.
 pub const LARGE: usize = 65_536;
 
 /// The most bytes of one request, with its head.
-pub const LONGEST: usize = 16_859_136;
+pub const LONGEST: usize = HEAD_LIMIT + BODY_LIMIT;
 
-/// The bytes that a connection holds of what came. Its buffer keeps the room that it ever had, until it is closed.
+/// The bytes that a connection holds of what came. Its buffer keeps the room that it ever had,
+/// until it is closed.
 #[derive(Clone, Copy, Debug, PartialEq, Eq)]
 pub(crate) struct Load {
     /// What came since the last answer, and the last piece of it.
@@ -41,7 +44,8 @@ impl Load {
         self.coming = 0;
     }
 
-    /// The bytes for which there is room: the buffer grows to twice what it has to hold, or to the longest request.
+    /// The bytes for which there is room: the buffer grows to twice what it has to hold, or to the
+    /// longest request.
     pub(crate) fn held(&self) -> usize {
         self.most.saturating_mul(2).min(LONGEST).max(self.most)
     }

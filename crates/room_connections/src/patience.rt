@@ -34,7 +34,8 @@ pub enum Doing {
     Parts,
 }
 
-/// How long a connection may take still. A moment is in milliseconds since any start that all moments share.
+/// How long a connection may take still. A moment is in milliseconds since any start that all
+/// moments share.
 #[derive(Clone, Copy, Debug, PartialEq, Eq)]
 pub struct Patience {
     since: u64,

@@ -7,7 +7,8 @@ use std::io::{ErrorKind, Read};
 /// So many reads and writes of a connection make a turn, so that no peer holds up the others.
 pub(crate) const STEPS: u32 = 4;
 
-/// A read has room for so many bytes at least, so that one that brings fewer has brought all that was there.
+/// A read has room for so many bytes at least, so that one that brings fewer has brought all that
+/// was there.
 const LEAST_ROOM: usize = 4_096;
 
 /// How many bytes are read at once of what a peer sends that was told of the end.
@@ -33,7 +34,8 @@ pub enum Next {
     Again,
     /// It can go on once there is room for it.
     Hold,
-    /// All was said: the peer is to be told so, and what it still sends is dropped until it ends too.
+    /// All was said: the peer is to be told so, and what it still sends is dropped until it ends
+    /// too.
     Part,
     /// All was said before. The system tells when more comes, or the end.
     Parted,
@@ -41,8 +43,8 @@ pub enum Next {
     Close,
 }
 
-/// Whether a read that brought so many bytes has brought all that was there. The system tells of what comes after it, and of
-/// the end as well, if it has not told of it yet.
+/// Whether a read that brought so many bytes has brought all that was there. The system tells of
+/// what comes after it, and of the end as well, if it has not told of it yet.
 pub(crate) fn was_all(count: usize, turn: Turn) -> bool {
     count < LEAST_ROOM && !turn.is_last
 }
@@ -58,8 +60,8 @@ pub(crate) fn after(error: &io::Error) -> Option<Next>
     }
 }
 
-/// Reads and drops what still comes. Were a connection closed over bytes that nobody read, the system would take back the
-/// last answer.
+/// Reads and drops what still comes. Were a connection closed over bytes that nobody read, the
+/// system would take back the last answer.
 pub(crate) fn drain<T: Read>(stream: &mut T) -> Next
     ensures waits { result ≢ Next.Wait }
     ensures holds { result ≢ Next.Hold }

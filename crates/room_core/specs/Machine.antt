@@ -1,6 +1,7 @@
 -- One account's answer to one event, and its room afterwards.
 use Rattle.std.specs.Prelude.{◌≡◌, ℕ, nat_lt, if◌then◌else◌, List, length, Option, Some, None, Result, Ok, Err, IfOk}
 use Rattle.ipp_coding.specs.declared.message.Header.{Header}
+use Rattle.ipp_coding.specs.Limits.{header_length}
 use Rattle.ipp_coding.specs.Reading.{header_in}
 use Rattle.room_answers.specs.Responses.{refused_text}
 use Rattle.room_asks.specs.declared.operation.Operation.{Operation}
@@ -16,7 +17,7 @@ use Rattle.room_core.specs.NewJobs.{made, validated}
 use Rattle.room_core.specs.Printers.{printer_shown}
 use Rattle.room_core.specs.Queues.{listed}
 use Rattle.room_core.specs.Requests.{Response}
-use Rattle.room_core.specs.Stations.{station, station_release, released, station_start, started, station_settle, settled}
+use Rattle.room_core.specs.Stations.{station, station_release, release_told, station_start, start_told, station_settle, settling_told}
 use Rattle.room_core.specs.Steps.{Step, refusing}
 use Rattle.room_rules.specs.declared.refusal.Word.TheVariants.{NoAccount, Exists}
 use Rattle.room_rules.specs.Devices.{Devices}
@@ -60,7 +61,7 @@ abbrev pub requested :
     Step
 requested room devices now account body =
     let response = responded_to room devices account now (header_in body) (ask_of account body) in
-    if nat_lt (length body) 8 then record { reply = reply.Short; room = room }
+    if nat_lt (length body) header_length then record { reply = reply.Short; room = room }
     else record { reply = reply.Ipp response.text; room = response.room }
 
 -- ---- an account that is open. A device's own event is of no account
@@ -70,12 +71,13 @@ answered_open room devices now (event.Open account) = refusing room Exists
 answered_open room devices now (event.Ipp account body) =
     requested room devices now account body.now
 answered_open room devices now (event.Release device account job password impressions) =
-    released room now job
+    release_told room now job
     (station_release room (station devices device now) job password.now impressions)
 answered_open room devices now (event.Start device account job) =
-    started room job (station_start room (station devices device now) job)
+    start_told room job (station_start room (station devices device now) job)
 answered_open room devices now (event.Settle device account job impressions failed) =
-    settled room now job (station_settle room (station devices device now) job impressions failed)
+    settling_told room now job
+    (station_settle room (station devices device now) job impressions failed)
 answered_open room devices now (event.Grant account month pages) = granted room month pages
 answered_open room devices now (event.Device name on) =
     record { reply = reply.NoAccount; room = room }
@@ -104,7 +106,7 @@ answered_unopened now (event.Open account) = record {
   room = Some (empty_room now);
 }
 answered_unopened now (event.Ipp account body) =
-    stays_unopened (if nat_lt (length body.now) 8 then reply.Short else reply.NoAccount)
+    stays_unopened (if nat_lt (length body.now) header_length then reply.Short else reply.NoAccount)
 answered_unopened now (event.Release device account job password impressions) =
     stays_unopened (reply.Line (word_text NoAccount))
 answered_unopened now (event.Start device account job) =

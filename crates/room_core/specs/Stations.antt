@@ -49,8 +49,9 @@ station_release room at number password impressions =
     StationRelease job.password at.device password impressions ready.rate (left_in room at.now))))
 
 -- what the job reserves, and what is left then
-abbrev pub released : (room : RoomValue) (now number : ℕ) (decided : Result Standing Word) → Step
-released room now number decided = refusing_or room decided (λ (standing : Standing).
+abbrev pub release_told : (room : RoomValue) (now number : ℕ) (decided : Result Standing Word)
+    → Step
+release_told room now number decided = refusing_or room decided (λ (standing : Standing).
     let after = with_moved room number standing in
     telling after (Released standing.reserved (left_in after now)))
 
@@ -64,8 +65,8 @@ station_start room at number =
     by_word (act_on room number (λ _. StationStart at.device ready.rate at.now)))
 
 -- each document of the job, as it is handed to the device
-abbrev pub started : (room : RoomValue) (number : ℕ) (decided : Result Standing Word) → Step
-started room number decided = refusing_or room decided (λ (standing : Standing). record {
+abbrev pub start_told : (room : RoomValue) (number : ℕ) (decided : Result Standing Word) → Step
+start_told room number decided = refusing_or room decided (λ (standing : Standing). record {
   reply = reply.Documents (map (part_of standing.copies) (documents_of room number));
   room = with_moved room number standing;
 })
@@ -81,7 +82,8 @@ station_settle room at number impressions failed =
     by_word (act_on room number (λ _. StationSettle at.device impressions failed at.now)))
 
 -- what the job was charged, and what is left then
-abbrev pub settled : (room : RoomValue) (now number : ℕ) (decided : Result Standing Word) → Step
-settled room now number decided = refusing_or room decided (λ (standing : Standing).
+abbrev pub settling_told : (room : RoomValue) (now number : ℕ) (decided : Result Standing Word)
+    → Step
+settling_told room now number decided = refusing_or room decided (λ (standing : Standing).
     let after = with_moved room number standing in
     telling after (Settled standing.charged (left_in after now)))

@@ -1,11 +1,11 @@
 //! What the events of devices are answered, and what becomes of the devices.
 
-ghost use Rattle.std.specs.Prelude.{◌≡◌, ◌↔◌, ◌<◌, ◌≤◌, IsTrue, IfErr, OnErr, IsErrOf};
+ghost use Rattle.std.specs.Prelude.{◌≡◌, ◌↔◌, ◌<◌, IsTrue, IfErr, OnErr, IsErrOf};
 ghost use Rattle.room_core.specs.DeviceEvents.{IsDeviceAnswer, device_answered, rated_answer, turned_answer};
 ghost use Rattle.room_core.specs.Fits.{fits};
 ghost use Rattle.room_core.specs.Rates.{AreRated};
 ghost use Rattle.room_rules.specs.Devices.{device_map};
-ghost use Rattle.room_rules.specs.Limits.{most_rate, last_moment};
+ghost use Rattle.room_rules.specs.Limits.{last_moment, IsRate};
 
 use crate::event::{Event, Reply};
 use room_answers::{line, success};
@@ -13,11 +13,11 @@ use room_rules::{CoreFault, Device, LAST_MOMENT, Name, Word, set_device, set_rat
 use room_texts::Success;
 use std::alloc::Global;
 
-/// What a `Device` or a `Rate` event at the moment `now` is answered. Of the devices, that of its name
-/// changes alone. An event of an account changes none, and is answered `NoAccount`.
+/// What a `Device` or a `Rate` event at the moment `now` is answered. Of the devices, that of its
+/// name changes alone. An event of an account changes none, and is answered `NoAccount`.
 ///
-/// `Moment` where `now` is past `LAST_MOMENT`, which is looked at first, and `Memory` where there was
-/// none for the reply or for a new device: then nothing has changed.
+/// `Moment` where `now` is past `LAST_MOMENT`, which is looked at first, and `Memory` where there
+/// was none for the reply or for a new device: then nothing has changed.
 pub fn answer_device(
     alloc: Global,
     devices: &mut Vec<Device>,
@@ -71,7 +71,7 @@ fn rate(
     name: Name,
     units: u32,
 ) -> Result<Reply, CoreFault>
-    requires { (1 ≤ units) × (units ≤ most_rate) }
+    requires { IsRate units }
     ensures answer { IsDeviceAnswer result (device_map devices.new.items)
         (rated_answer (device_map devices.old.items) name units) }
     ensures memory { IfErr result (λ fault. fault ≡ CoreFault.Memory) }

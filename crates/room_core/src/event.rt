@@ -16,8 +16,8 @@ pub enum Event<'a> {
         account: Name,
         body: &'a [u8],
     },
-    /// A held job is released at the station of a device. The password is the one given there, empty
-    /// where none was; the impressions stand in for the job's own where they are above 0.
+    /// A held job is released at the station of a device. The password is the one given there,
+    /// empty where none was; the impressions stand in for the job's own where they are above 0.
     Release {
         device: Name,
         account: Name,
@@ -31,7 +31,8 @@ pub enum Event<'a> {
         account: Name,
         job: u32,
     },
-    /// The device is done with a job, of which it completed so many impressions, all copies included.
+    /// The device is done with a job, of which it completed so many impressions, all copies
+    /// included.
     Settle {
         device: Name,
         account: Name,
@@ -39,8 +40,8 @@ pub enum Event<'a> {
         impressions: u32,
         failed: bool,
     },
-    /// The account is granted pages, in units of the quota, from the month on: the year times 12, and
-    /// 0 for January to 11 for December.
+    /// The account is granted pages, in units of the quota, from the month on: the year times 12,
+    /// and 0 for January to 11 for December.
     Grant {
         account: Name,
         month: u32,

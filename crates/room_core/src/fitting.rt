@@ -7,8 +7,8 @@ ghost use Rattle.room_core.specs.Fits.{fits};
 use crate::event::Event;
 use room_rules::{FIRST_MONTH, LAST_MONTH, MOST_IMPRESSIONS, MOST_PAGES, MOST_RATE};
 
-/// Whether the event's impressions (up to 2147483647), month (January 1970 to December 2099), pages (up
-/// to 1000000000) and units (1 to 100) lie within their limits. An event without any does.
+/// Whether the event's impressions (up to 2147483647), month (January 1970 to December 2099), pages
+/// (up to 1000000000) and units (1 to 100) lie within their limits. An event without any does.
 pub fn fits(e: &Event<'_>) -> bool
     ensures { result ≡ fits e.now }
 {

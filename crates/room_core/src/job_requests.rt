@@ -5,7 +5,7 @@ ghost use Rattle.room_asks.specs.Asks.{IsAsk, plain_ask};
 ghost use Rattle.room_core.specs.JobRequests.{job_shown, cancel_of, hold_of, release_of, acted, has_data, sent, sent_document};
 ghost use Rattle.room_core.specs.Moving.{CanMove};
 ghost use Rattle.room_core.specs.Requests.{IsResponse};
-ghost use Rattle.room_rules.specs.Limits.{last_moment};
+ghost use Rattle.room_rules.specs.Limits.{last_moment, most_documents};
 ghost use Rattle.room_state.specs.Changes.{with_standing};
 ghost use Rattle.room_state.specs.Conditions.{CanRestand};
 
@@ -137,7 +137,7 @@ pub(crate) fn send(
         &shown,
         Some(&made_names()),
     )?;
-    take_document(room, ask.job, &standing, document)?;
+    room.restand(ask.job, standing, document)?;
     Ok(text)
 }
 
@@ -148,14 +148,14 @@ pub fn has_data(ask: &Ask<'_>) -> bool
     !ask.payload.is_empty()
 }
 
-/// The data of the request as the job's next document, and none where there is no data. `Memory` is its
-/// only fault.
+/// The data of the request as the job's next document, and none where there is no data. `Memory` is
+/// its only fault.
 pub(crate) fn sent_document(
     alloc: Global,
     ask: &Ask<'_>,
     job: &Job,
 ) -> Result<Option<Document>, CoreFault>
-    requires { job.now.standing.documents ≤ 8 }
+    requires { job.now.standing.documents ≤ most_documents }
     ensures document { IfOk result
         (λ document. document ≡ sent_document (plain_ask ask.entry.now) job.now) }
     ensures memory { IfErr result (λ fault. fault ≡ CoreFault.Memory) }
@@ -185,19 +185,4 @@ pub(crate) fn restood(alloc: Global, job: &Job, standing: &Standing) -> Result<J
         password,
         standing: *standing,
     })
-}
-
-/// Gives the job its next standing, with its next document if there is one.
-fn take_document(
-    room: &mut Room,
-    number: u32,
-    standing: &Standing,
-    document: Option<Document>,
-) -> Result<(), CoreFault>
-    requires { CanRestand room.old number standing.now document }
-    ensures changed { OnOk result (room.new ≡ with_standing room.old number standing.now document) }
-    ensures memory { IfErr result (λ fault. fault ≡ CoreFault.Memory) }
-    ensures unchanged { OnErr result (room.new ≡ room.old) }
-{
-    room.restand(number, *standing, document)
 }

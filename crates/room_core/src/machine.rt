@@ -1,6 +1,7 @@
 //! What an account answers to an event, and what becomes of it.
 
 ghost use Rattle.std.specs.Prelude.{◌≡◌, ◌≢◌, ◌↔◌, ◌<◌, ◌≤◌, IsTrue, IfErr, OnErr, IsErrOf, None, length};
+ghost use Rattle.ipp_coding.specs.Limits.{header_length};
 ghost use Rattle.ipp_coding.specs.Reading.{header_in};
 ghost use Rattle.room_asks.specs.Asks.{IsAsk, ask_of, plain_ask};
 ghost use Rattle.room_core.specs.Fits.{fits};
@@ -17,7 +18,7 @@ use crate::job_requests::{act, cancel_of, describe, hold_of, release_of, send};
 use crate::making::{make, validate};
 use crate::stations::{self, Station};
 use crate::{printer, queue};
-use ipp_coding::{Header, List, read_header};
+use ipp_coding::{HEADER_LENGTH, Header, List, read_header};
 use room_answers::{line, refused, success};
 use room_asks::{Ask, AskFault, Operation, read_ask};
 use room_rules::{CoreFault, Device, LAST_MOMENT, Name, Word};
@@ -26,11 +27,11 @@ use room_texts::Success;
 use std::alloc::Global;
 
 /// What one account answers to one event at the moment `now`, among these devices. The room is None
-/// until the account is opened; it changes last. A `Device` or a `Rate` event is of no account, and is
-/// answered `NoAccount`.
+/// until the account is opened; it changes last. A `Device` or a `Rate` event is of no account, and
+/// is answered `NoAccount`.
 ///
-/// `Moment` where `now` is past `LAST_MOMENT`, which is looked at first, and `Memory` where there was
-/// none for the reply or for what is kept: then nothing has changed.
+/// `Moment` where `now` is past `LAST_MOMENT`, which is looked at first, and `Memory` where there
+/// was none for the reply or for what is kept: then nothing has changed.
 pub fn answer(
     alloc: Global,
     room: &mut Option<Room>,
@@ -72,7 +73,7 @@ fn answer_unopened(
             *room = Some(Room::new(alloc, now));
             Ok(reply)
         }
-        Event::Ipp { body, .. } if body.len() < 8 => Ok(Reply::Short),
+        Event::Ipp { body, .. } if body.len() < HEADER_LENGTH => Ok(Reply::Short),
         Event::Ipp { .. } | Event::Device { .. } | Event::Rate { .. } => Ok(Reply::NoAccount),
         Event::Release { .. } | Event::Start { .. } | Event::Settle { .. } | Event::Grant { .. } =>
             { Ok(Reply::Line(line(alloc, Word::NoAccount)?)) }
@@ -156,7 +157,7 @@ fn response(
     body: &[u8],
 ) -> Result<List<u8>, CoreFault>
     requires moment { now ≤ last_moment }
-    requires length { 8 ≤ length body.now }
+    requires length { header_length ≤ length body.now }
     ensures response { IsResponse result room.new
         (responded_to room.old (device_map devices.now) account now header
         (ask_of account body.now)) }

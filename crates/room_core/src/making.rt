@@ -72,8 +72,8 @@ fn accepts(room: &Room) -> Result<(), Refusal>
     check_accepting(room.tally().unfinished, room.account().next_job)
 }
 
-/// The job that a Print-Job or a Create-Job makes under the number, 1 to 999999. `Memory` is its only
-/// fault.
+/// The job that a Print-Job or a Create-Job makes under the number, 1 to 999999. `Memory` is its
+/// only fault.
 pub fn job_made(alloc: Global, number: u32, now: u64, ask: &Ask<'_>) -> Result<Job, CoreFault>
     requires ask { IsAsk (plain_ask ask.now) }
     requires moment { now ≤ last_moment }

@@ -5,7 +5,7 @@ ghost use Rattle.room_core.specs.Moving.{Keeps, CanMove};
 ghost use Rattle.room_core.specs.Stations.{by_word};
 ghost use Rattle.room_core.specs.Steps.{with_moved};
 ghost use Rattle.room_rules.specs.Acts.{CancelJob, HoldJob, ReleaseJob, StationRelease, StationStart, StationSettle};
-ghost use Rattle.room_rules.specs.Limits.{most_impressions, most_rate, last_moment};
+ghost use Rattle.room_rules.specs.Limits.{most_impressions, last_moment, IsRate};
 ghost use Rattle.room_rules.specs.Moves.{move};
 ghost use Rattle.room_rules.specs.Standings.{IsStanding};
 ghost use Rattle.room_rules.specs.StateLaws.{kept_to_quota};
@@ -51,8 +51,9 @@ pub fn held(standing: Standing) -> Result<Standing, Refusal>
     hold(standing)
 }
 
-/// What Release-Job makes of a job but for the quota: `release_by_owner` where the quota refuses nothing, and
-/// what it keeps of the job. Whatever is left, it makes of the job what `within_quota` makes of this.
+/// What Release-Job makes of a job but for the quota: `release_by_owner` where the quota refuses
+/// nothing, and what it keeps of the job. Whatever is left, it makes of the job what `within_quota`
+/// makes of this.
 pub fn released(standing: Standing, has_password: bool) -> Result<Standing, Refusal>
     requires { IsStanding standing }
     ensures moved { (left : ℤ) →
@@ -74,7 +75,7 @@ pub fn released_at(
 ) -> Result<Standing, Refusal>
     requires standing { IsStanding job.now.standing }
     requires impressions { impressions ≤ most_impressions }
-    requires rate { (1 ≤ rate) × (rate ≤ most_rate) }
+    requires rate { IsRate rate }
     ensures moved { (left : ℤ) →
         let act = StationRelease job.now.password device password.now impressions rate left in
         move act job.now.standing ≡ kept_to_quota job.now.standing.state left result }
@@ -93,10 +94,11 @@ pub fn released_at(
     )
 }
 
-/// What becomes of a job as a device starts it: `start`, where the word alone tells why it is refused.
+/// What becomes of a job as a device starts it: `start`, where the word alone tells why it is
+/// refused.
 pub fn started(standing: Standing, device: Name, rate: u32, now: u64) -> Result<Standing, Word>
     requires standing { IsStanding standing }
-    requires rate { (1 ≤ rate) × (rate ≤ most_rate) }
+    requires rate { IsRate rate }
     requires moment { now ≤ last_moment }
     ensures moved { result ≡ by_word (move (StationStart device rate now) standing) }
     ensures in_range { IfOk result IsStanding }
@@ -105,8 +107,8 @@ pub fn started(standing: Standing, device: Name, rate: u32, now: u64) -> Result<
     by_word(start(standing, device, rate, now))
 }
 
-/// What becomes of a job as its device is done with it: `settle`, where the word alone tells why it is
-/// refused.
+/// What becomes of a job as its device is done with it: `settle`, where the word alone tells why it
+/// is refused.
 pub fn settled(
     standing: Standing,
     device: Name,

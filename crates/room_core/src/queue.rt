@@ -175,7 +175,7 @@ fn by_end(job: &Job, other: &Job) -> Ordering
 }
 
 /// Whether the job has ended later than the other, or with it and is the later made.
-pub(crate) fn is_later(job: &Job, other: &Job) -> bool
+fn is_later(job: &Job, other: &Job) -> bool
     ensures { result ≡ is_later job.now other.now }
 {
     let ended = job.standing.ended.unwrap_or(0);

@@ -1,14 +1,13 @@
 //! What is left of the quota of a room.
 
-ghost use Rattle.std.specs.Prelude.{◌≡◌, ◌≤◌, ◌*◌, ◌^◌, pos, neg_ℤ, ◌≤ℤ◌, Ok, IfOk};
+ghost use Rattle.std.specs.Prelude.{◌≡◌, ◌≤◌, pos, ◌≤ℤ◌, Ok, IfOk};
 ghost use Rattle.room_core.specs.Moving.{CanMove};
 ghost use Rattle.room_core.specs.Steps.{with_moved};
-ghost use Rattle.room_rules.specs.Limits.{last_moment};
+ghost use Rattle.room_rules.specs.Limits.{last_moment, most_units};
 ghost use Rattle.room_rules.specs.Months.{month_at};
-ghost use Rattle.room_rules.specs.Quota.{left_of};
+ghost use Rattle.room_rules.specs.Quota.{left_of, least_left, most_left};
 ghost use Rattle.room_rules.specs.StateLaws.{kept_to_quota};
 ghost use Rattle.room_state.specs.Sums.{granted_to, left_in};
-ghost use Rattle.room_state.specs.Tallies.{most_units};
 
 use room_answers::left_after;
 use room_rules::{JobState, Refusal, Standing, left, month_of, within_quota};
@@ -16,12 +15,12 @@ use room_state::{Room, Tally};
 
 /// What is left of what was granted (up to 10^18 units), with what the jobs come to.
 pub fn left_with(granted: i64, tally: &Tally) -> i64
-    requires granted { (pos 0 ≤ℤ granted) × (granted ≤ℤ pos (10 ^ 18)) }
+    requires granted { (pos 0 ≤ℤ granted) × (granted ≤ℤ pos most_units) }
     requires reserved { tally.now.reserved ≤ most_units }
     requires charged { tally.now.charged ≤ most_units }
     ensures left { result ≡ left_of granted (pos tally.now.reserved) (pos tally.now.charged) }
-    ensures low { neg_ℤ (pos (2 * 10 ^ 18)) ≤ℤ result }
-    ensures high { result ≤ℤ pos (10 ^ 18) }
+    ensures low { least_left ≤ℤ result }
+    ensures high { result ≤ℤ most_left }
 {
     left(granted, tally.reserved as i64, tally.charged as i64)
 }
@@ -30,8 +29,8 @@ pub fn left_with(granted: i64, tally: &Tally) -> i64
 pub(crate) fn left_now(room: &Room, now: u64) -> i64
     requires { now ≤ last_moment }
     ensures left { result ≡ left_in room.now now }
-    ensures low { neg_ℤ (pos (2 * 10 ^ 18)) ≤ℤ result }
-    ensures high { result ≤ℤ pos (10 ^ 18) }
+    ensures low { least_left ≤ℤ result }
+    ensures high { result ≤ℤ most_left }
 {
     let granted = granted_now(room, now);
     left_with(granted, &room.tally())
@@ -56,8 +55,8 @@ pub(crate) fn left_once(room: &Room, now: u64, number: u32, standing: &Standing)
     left_after(left_now(room, now), &before, standing)
 }
 
-/// What a release makes of a job that was in the state, as it was asked where the quota refuses nothing: kept
-/// to what is left at the moment `now`. The sums are taken only where they decide.
+/// What a release makes of a job that was in the state, as it was asked where the quota refuses
+/// nothing: kept to what is left at the moment `now`. The sums are taken only where they decide.
 pub(crate) fn kept_to_quota(
     room: &Room,
     now: u64,

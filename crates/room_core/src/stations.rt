@@ -7,8 +7,8 @@ ghost use Rattle.std.specs.FinMap.{get};
 ghost use Rattle.room_answers.specs.Parts.{part_of};
 ghost use Rattle.room_core.specs.Moving.{CanMove};
 ghost use Rattle.room_core.specs.Rates.{AreRated};
-ghost use Rattle.room_core.specs.Stations.{plain_station, station_release, released, station_start, started, station_settle, settled};
-ghost use Rattle.room_core.specs.Steps.{IsStep};
+ghost use Rattle.room_core.specs.Stations.{plain_station, station_release, release_told, station_start, start_told, station_settle, settling_told};
+ghost use Rattle.room_core.specs.Steps.{IsStep, telling, with_moved};
 ghost use Rattle.room_rules.specs.Devices.{device_map};
 ghost use Rattle.room_rules.specs.Limits.{most_impressions, last_moment};
 ghost use Rattle.room_state.specs.Documents.{documents_of};
@@ -20,10 +20,13 @@ use crate::quota::{kept_to_quota, left_once};
 use crate::respond::copied;
 use ipp_coding::List;
 use room_answers::{Part, handed, known_device, line, ready_device, success};
-use room_rules::{CoreFault, Device, Document, Name, Standing, Word};
+use room_rules::{CoreFault, Device, Document, MOST_DOCUMENTS, Name, Standing, Word};
 use room_state::Room;
 use room_texts::Success;
 use std::alloc::Global;
+
+/// The numbers that a job's documents may have, in their order.
+const DOCUMENT_NUMBERS: [u32; MOST_DOCUMENTS as usize] = [1, 2, 3, 4, 5, 6, 7, 8];
 
 /// A station: the name of its device, among all devices, at a moment.
 #[derive(Clone, Copy)]
@@ -60,7 +63,7 @@ pub(crate) fn release(
     requires rates { AreRated (device_map at.now.devices.now) }
     requires impressions { impressions ≤ most_impressions }
     ensures step { IsStep result room.new
-        (released room.old at.entry.now.now number
+        (release_told room.old at.entry.now.now number
         (station_release room.old (plain_station at.entry.now) number password.now impressions)) }
     ensures memory { IfErr result (λ fault. fault ≡ CoreFault.Memory) }
     ensures unchanged { OnErr result (room.new ≡ room.old) }
@@ -79,7 +82,7 @@ pub(crate) fn start(
     requires moment { at.now.now ≤ last_moment }
     requires rates { AreRated (device_map at.now.devices.now) }
     ensures step { IsStep result room.new
-        (started room.old number (station_start room.old (plain_station at.entry.now) number)) }
+        (start_told room.old number (station_start room.old (plain_station at.entry.now) number)) }
     ensures memory { IfErr result (λ fault. fault ≡ CoreFault.Memory) }
     ensures unchanged { OnErr result (room.new ≡ room.old) }
 {
@@ -101,7 +104,7 @@ pub(crate) fn settle(
     requires rates { AreRated (device_map at.now.devices.now) }
     requires impressions { impressions ≤ most_impressions }
     ensures step { IsStep result room.new
-        (settled room.old at.entry.now.now number
+        (settling_told room.old at.entry.now.now number
         (station_settle room.old (plain_station at.entry.now) number impressions failed)) }
     ensures memory { IfErr result (λ fault. fault ≡ CoreFault.Memory) }
     ensures unchanged { OnErr result (room.new ≡ room.old) }
@@ -110,8 +113,8 @@ pub(crate) fn settle(
     tell_settled(alloc, room, at.now, number, decided)
 }
 
-/// What becomes of the job as the station releases it, with the password and the impressions that are
-/// handed in there.
+/// What becomes of the job as the station releases it, with the password and the impressions that
+/// are handed in there.
 fn station_release(
     room: &Room,
     at: &Station<'_>,
@@ -144,7 +147,7 @@ fn tell_released(
 ) -> Result<Reply, CoreFault>
     requires moment { now ≤ last_moment }
     requires can_move { IfOk decided (CanMove room.old number) }
-    ensures step { IsStep result room.new (released room.old now number decided) }
+    ensures step { IsStep result room.new (release_told room.old now number decided) }
     ensures memory { IfErr result (λ fault. fault ≡ CoreFault.Memory) }
     ensures unchanged { OnErr result (room.new ≡ room.old) }
 {
@@ -156,9 +159,7 @@ fn tell_released(
         reserved: standing.reserved,
         left: left_once(room, now, number, &standing),
     };
-    let reply = Reply::Line(success(alloc, told)?);
-    stand(room, number, &standing)?;
-    Ok(reply)
+    tell(alloc, room, number, &standing, told)
 }
 
 /// What becomes of the job as the device of the station takes it.
@@ -183,7 +184,7 @@ fn hand_over(
     decided: Result<Standing, Word>,
 ) -> Result<Reply, CoreFault>
     requires { IfOk decided (CanMove room.old number) }
-    ensures step { IsStep result room.new (started room.old number decided) }
+    ensures step { IsStep result room.new (start_told room.old number decided) }
     ensures memory { IfErr result (λ fault. fault ≡ CoreFault.Memory) }
     ensures unchanged { OnErr result (room.new ≡ room.old) }
 {
@@ -191,13 +192,7 @@ fn hand_over(
         Ok(standing) => standing,
         Err(word) => return Ok(Reply::Line(line(alloc, word)?)),
     };
-    let items = parts(
-        alloc,
-        room,
-        number,
-        standing.copies,
-        &[1, 2, 3, 4, 5, 6, 7, 8],
-    )?;
+    let items = parts(alloc, room, number, standing.copies, &DOCUMENT_NUMBERS)?;
     let reply = Reply::Documents(List { items });
     stand(room, number, &standing)?;
     Ok(reply)
@@ -271,7 +266,7 @@ fn tell_settled(
 ) -> Result<Reply, CoreFault>
     requires moment { now ≤ last_moment }
     requires can_move { IfOk decided (CanMove room.old number) }
-    ensures step { IsStep result room.new (settled room.old now number decided) }
+    ensures step { IsStep result room.new (settling_told room.old now number decided) }
     ensures memory { IfErr result (λ fault. fault ≡ CoreFault.Memory) }
     ensures unchanged { OnErr result (room.new ≡ room.old) }
 {
@@ -283,7 +278,24 @@ fn tell_settled(
         charged: standing.charged,
         left: left_once(room, now, number, &standing),
     };
+    tell(alloc, room, number, &standing, told)
+}
+
+/// Tells what was done, and gives the job its standing. `Memory` is its only fault.
+fn tell(
+    alloc: Global,
+    room: &mut Room,
+    number: u32,
+    standing: &Standing,
+    told: Success,
+) -> Result<Reply, CoreFault>
+    requires { CanMove room.old number standing.now }
+    ensures step { IsStep result room.new
+        (telling (with_moved room.old number standing.now) told) }
+    ensures memory { IfErr result (λ fault. fault ≡ CoreFault.Memory) }
+    ensures unchanged { OnErr result (room.new ≡ room.old) }
+{
     let reply = Reply::Line(success(alloc, told)?);
-    stand(room, number, &standing)?;
+    stand(room, number, standing)?;
     Ok(reply)
 }

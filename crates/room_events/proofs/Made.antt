@@ -24,7 +24,7 @@ use Rattle.room_state.specs.Changes.{with_new_job}
 use Rattle.room_state.specs.Conditions.{CanAddJob, GoesOn}
 use Rattle.room_state.specs.RoomRules.{has_document, unfinished_count}
 use Rattle.room_state.specs.Rooms.{RoomValue}
-use Rattle.room_tables.specs.Accounts.{account_of, document_at, job_at, HoldsRoom}
+use Rattle.room_tables.specs.Accounts.{account_of_room, document_at, job_at, HoldsRoom}
 use Rattle.room_tables.specs.Cells.{document_cells, job_cells}
 use Rattle.room_tables.proofs.KeyedRows.{same_row}
 use Rattle.room_tables.proofs.ReadBackLemmas.{rows_are_read_back}
@@ -33,8 +33,8 @@ use Rattle.room_texts.specs.Places.{PlainPlace}
 use Rattle.room_events.specs.Known.{IsOpen}
 
 -- the account's own row is that of its room
-pub account_in_room : (db : Database) (name : List ℕ) (account : Account) → IsOpen name account db → (room : RoomValue) → HoldsRoom db name room → account ≡ account_of room
-account_in_room db name account opened room holds = (rows_are_read_back.accounts name name account (account_of room) (same_row (sym opened ∙ holds.rows.account_row))).1
+pub account_in_room : (db : Database) (name : List ℕ) (account : Account) → IsOpen name account db → (room : RoomValue) → HoldsRoom db name room → account ≡ account_of_room room
+account_in_room db name account opened room holds = (rows_are_read_back.accounts name name account (account_of_room room) (same_row (sym opened ∙ holds.rows.account_row))).1
 
 accepted : (unfinished next : ℕ) → accepting_refusal unfinished next ≡ Ok tt → (unfinished < most_unfinished) × (next < last_next_job)
 accepted unfinished next takes = grind (arith, nat_tests)
@@ -71,7 +71,7 @@ stands ask now is_ask moment prints = record {
   named_device = tt;
 }
 
-module _ (room : RoomValue) (account : Account) (same : account ≡ account_of room) (unfinished : ℕ) (counted : unfinished ≡ unfinished_count room) (takes : accepting_refusal unfinished account.next_job ≡ Ok tt) (ask : PlainAsk) (now : ℕ) where
+module _ (room : RoomValue) (account : Account) (same : account ≡ account_of_room room) (unfinished : ℕ) (counted : unfinished ≡ unfinished_count room) (takes : accepting_refusal unfinished account.next_job ≡ Ok tt) (ask : PlainAsk) (now : ℕ) where
   -- what the account takes its room takes
   can_make : IsAsk ask → IsStanding (new_job account.next_job ask now).standing → CanAddJob room (new_job account.next_job ask now) (new_document account.next_job ask)
   can_make is_ask in_range =
@@ -129,7 +129,7 @@ none_of (Some document) is = let no : ⊥ = cc in absurd no
 none_first : (room : RoomValue) (db : Database) (name : List ℕ) → HoldsRoom db name room → get room.documents (room.next, 1) ≡ None
 none_first room db name holds = none_of (get room.documents (room.next, 1)) (holds.is_room.all_documents room.next 1 ∙ ap (λ (o : Option Job). has_document o 1) (none_next room db name holds))
 
-module _ (db : Database) (name : List ℕ) (account : Account) (room : RoomValue) (same : account ≡ account_of room) (holds : HoldsRoom db name room) where
+module _ (db : Database) (name : List ℕ) (account : Account) (room : RoomValue) (same : account ≡ account_of_room room) (holds : HoldsRoom db name room) where
   next_at : (P : ℕ → Type 0) → P room.next → P account.next_job
   next_at P p = subst P (sym (ap (λ (a : Account). a.next_job) same)) p
 

@@ -24,7 +24,7 @@ use Rattle.room_state.specs.Changes.{with_standing}
 use Rattle.room_state.specs.Conditions.{CanRestand, GoesOn}
 use Rattle.room_state.specs.RoomRules.{has_document}
 use Rattle.room_state.specs.Rooms.{RoomValue}
-use Rattle.room_tables.specs.Accounts.{account_of, HoldsRoom}
+use Rattle.room_tables.specs.Accounts.{account_of_room, HoldsRoom}
 use Rattle.room_tables.specs.Cells.{document_cells}
 use Rattle.room_texts.specs.JobAttributes.{job_group}
 use Rattle.room_texts.specs.Places.{PlainPlace}
@@ -76,7 +76,7 @@ module _ (room : RoomValue) (ask : PlainAsk) (job : Job) (there : get room.jobs 
         subst (λ (d : Result Standing Refusal). HoldsRoom after name (response d).room) (sym is)
         (subst (λ (d : Option Document). HoldsRoom after name (with_standing room ask.job standing d)) same (holds (subst (λ (d : Option Document). CanRestand room ask.job standing d) (sym same) (can_take in_range fits))))
 
-    pub told : (account : Account) → account ≡ account_of room → (at : PlainPlace) → at ≡ asked_at account.opened name now ask → (names : Option (List (List ℕ))) → names ≡ made_names
+    pub told : (account : Account) → account ≡ account_of_room room → (at : PlainPlace) → at ≡ asked_at account.opened name now ask → (names : Option (List (List ℕ))) → names ≡ made_names
         → done_text ask.header ask.unsupported (job_group at (record job { standing = standing }) names ∷ []) ≡ (response decided).text
     told account own at place names same =
         ap (λ (p : PlainPlace). done_text ask.header ask.unsupported (job_group p (record job { standing = standing }) names ∷ [])) (place ∙ ap (λ (a : Account). asked_at a.opened name now ask) own)

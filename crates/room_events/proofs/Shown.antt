@@ -12,13 +12,13 @@ use Rattle.room_rules.specs.declared.job.Job.{Job}
 use Rattle.room_state.specs.RoomRules.{unfinished_count}
 use Rattle.room_state.specs.Rooms.{RoomValue}
 use Rattle.room_state.specs.Sums.{has_processing}
-use Rattle.room_tables.specs.Accounts.{account_of}
+use Rattle.room_tables.specs.Accounts.{account_of_room}
 use Rattle.room_texts.specs.Places.{PlainPlace}
 use Rattle.room_texts.specs.PrinterAttributes.{printer_group}
 use Rattle.room_texts.specs.declared.printer.PrinterNow.{PrinterNow}
 use Rattle.std.specs.FinMap.{values}
 
-module _ (room : RoomValue) (name : List ℕ) (now : ℕ) (ask : PlainAsk) (account : Account) (same : account ≡ account_of room) (at : PlainPlace) (place : at ≡ asked_at account.opened name now ask) where
+module _ (room : RoomValue) (name : List ℕ) (now : ℕ) (ask : PlainAsk) (account : Account) (same : account ≡ account_of_room room) (at : PlainPlace) (place : at ≡ asked_at account.opened name now ask) where
   at_room : at ≡ asked_at room.opened name now ask
   at_room = place ∙ ap (λ (a : Account). asked_at a.opened name now ask) same
 

@@ -5,7 +5,7 @@ use Rattle.sqlite.specs.Effect.{Database}
 use Rattle.room_rules.specs.JobStates.{is_released}
 use Rattle.room_answers.specs.Stations.{known_device, left_after, ready_device}
 use Rattle.room_core.specs.JobActs.{job_or_refusal}
-use Rattle.room_core.specs.Stations.{PlainStation, by_word, station_release, released, station_settle, settled, station_start}
+use Rattle.room_core.specs.Stations.{PlainStation, by_word, station_release, release_told, station_settle, settling_told, station_start}
 use Rattle.room_core.proofs.Sums.{left_moved}
 use Rattle.room_core.specs.Steps.{and_then, telling, with_moved}
 use Rattle.room_rules.specs.Acts.{Act, StationRelease, StationSettle, StationStart}
@@ -120,11 +120,11 @@ module _ (room : RoomValue) (now : ℕ) (job : Job) (there : get room.jobs job.j
   told_left : left_then ≡ left_in (with_moved room job.job standing) now
   told_left = after ∙ ap (λ units. left_after units job.standing standing) was ∙ left_moved room now job.job job standing there
 
-  pub settled_so : (decided : Result Standing Word) → decided ≡ Ok standing → telling (with_moved room job.job standing) (Settled standing.charged left_then) ≡ settled room now job.job decided
-  settled_so decided is = ap (λ units. telling (with_moved room job.job standing) (Settled standing.charged units)) told_left ∙ ap (settled room now job.job) (sym is)
+  pub settled_so : (decided : Result Standing Word) → decided ≡ Ok standing → telling (with_moved room job.job standing) (Settled standing.charged left_then) ≡ settling_told room now job.job decided
+  settled_so decided is = ap (λ units. telling (with_moved room job.job standing) (Settled standing.charged units)) told_left ∙ ap (settling_told room now job.job) (sym is)
 
   pub released_so : (asked : Result Standing Refusal) → asked ≡ Ok standing → (kept : Standing) → kept_to_quota job.standing.state left (Ok standing) ≡ Ok kept
-      → telling (with_moved room job.job standing) (Released standing.reserved left_then) ≡ released room now job.job (by_word (kept_to_quota job.standing.state (left_in room now) asked))
+      → telling (with_moved room job.job standing) (Released standing.reserved left_then) ≡ release_told room now job.job (by_word (kept_to_quota job.standing.state (left_in room now) asked))
   released_so asked is kept stays =
       ap (λ units. telling (with_moved room job.job standing) (Released standing.reserved units)) told_left
-      ∙ ap (λ (d : Result Standing Refusal). released room now job.job (by_word d)) (sym (ap (λ (a : Result Standing Refusal). kept_to_quota job.standing.state (left_in room now) a) is ∙ ap (λ units. kept_to_quota job.standing.state units (Ok standing)) (sym was) ∙ kept_is job.standing.state left standing kept stays))
+      ∙ ap (λ (d : Result Standing Refusal). release_told room now job.job (by_word d)) (sym (ap (λ (a : Result Standing Refusal). kept_to_quota job.standing.state (left_in room now) a) is ∙ ap (λ units. kept_to_quota job.standing.state units (Ok standing)) (sym was) ∙ kept_is job.standing.state left standing kept stays))

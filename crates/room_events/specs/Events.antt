@@ -1,5 +1,6 @@
 -- Whose an event is (all this project's own).
 use Rattle.std.specs.Prelude.{◌≡◌, ℕ, ◌<◌, ⊤, List, length}
+use Rattle.ipp_coding.specs.Limits.{header_length}
 use Rattle.room_core.specs.declared.event.Event.{Event}
 use Rattle.room_core.specs.declared.event.Event.TheVariants as event
 
@@ -31,5 +32,5 @@ IsLine _ = ⊥
 -- an IPP message that ends within its first 8 bytes, the header (RFC 8010 section 3.1.1); it is
 -- answered before any row is looked up
 abbrev pub IsShort : (e : Event) → Type 0
-IsShort (event.Ipp account body) = length body.now < 8
+IsShort (event.Ipp account body) = length body.now < header_length
 IsShort _ = ⊥

@@ -1,8 +1,8 @@
 //! The events of devices.
 
-ghost use Rattle.std.specs.Prelude.{◌≡◌, ◌≤◌, false};
+ghost use Rattle.std.specs.Prelude.{◌≡◌, false};
 ghost use Rattle.room_core.specs.DeviceEvents.{rated_answer, turned_answer};
-ghost use Rattle.room_rules.specs.Limits.{most_rate};
+ghost use Rattle.room_rules.specs.Limits.{IsRate};
 ghost use Rattle.room_events.specs.Serving.{ServesDevices, WasOpen};
 
 use crate::told::{refusing, telling};
@@ -39,7 +39,7 @@ pub fn rate<S: Alter>(
     units: u32,
 ) -> Result<Reply, TableFault>
     requires mode { connection.old.in_transaction ≡ false }
-    requires units { (1 ≤ units) × (units ≤ most_rate) }
+    requires units { IsRate units }
     ensures served { ServesDevices S.Store connection.old connection.new
         (λ devices. rated_answer devices name units) result }
     ensures asks { WasOpen S.Store connection.old connection.new result }

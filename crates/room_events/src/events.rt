@@ -21,8 +21,8 @@ use room_tables::TableFault;
 use sqlite::{Alter, Connection};
 use std::alloc::Global;
 
-/// What the event is answered at the moment `now`, and what becomes of the tables: of the rows of its account,
-/// or of those of its device, and of no other.
+/// What the event is answered at the moment `now`, and what becomes of the tables: of the rows of
+/// its account, or of those of its device, and of no other.
 pub fn answer_event<S: Alter>(
     alloc: Global,
     connection: &mut Connection<S>,

@@ -13,7 +13,8 @@ use room_tables::TableFault;
 use sqlite::{Alter, Connection};
 use std::alloc::Global;
 
-/// Grants the account, which is open, the pages from the month on, where nothing was granted for it yet.
+/// Grants the account, which is open, the pages from the month on, where nothing was granted for it
+/// yet.
 pub fn grant<S: Alter>(
     alloc: Global,
     connection: &mut Connection<S>,

@@ -1,13 +1,12 @@
 //! What is left of the quota of an account.
 
-ghost use Rattle.std.specs.Prelude.{◌≡◌, ◌≤◌, ◌*◌, ◌^◌, pos, neg_ℤ, ◌≤ℤ◌, Err, IfOk, Ok};
-ghost use Rattle.room_rules.specs.Limits.{last_moment};
+ghost use Rattle.std.specs.Prelude.{◌≡◌, ◌≤◌, pos, ◌≤ℤ◌, Err, IfOk, Ok};
+ghost use Rattle.room_rules.specs.Limits.{last_moment, most_units};
 ghost use Rattle.room_rules.specs.Months.{month_at};
-ghost use Rattle.room_rules.specs.Quota.{left_of};
+ghost use Rattle.room_rules.specs.Quota.{left_of, least_left, most_left};
 ghost use Rattle.room_rules.specs.StateLaws.{kept_to_quota};
 ghost use Rattle.room_state.specs.Rooms.{RoomValue};
 ghost use Rattle.room_state.specs.Sums.{granted_to, left_in};
-ghost use Rattle.room_state.specs.Tallies.{most_units};
 ghost use Rattle.room_tables.specs.Accounts.{HoldsRoom};
 ghost use Rattle.room_tables.specs.Calls.{OfStore, ReadsStore};
 ghost use Rattle.room_events.specs.Serving.{LooksUp};
@@ -27,8 +26,8 @@ pub(crate) fn left_now<S: Alter>(
     ensures left { OfStore S.Store connection.old connection.new
         (λ db. (room : RoomValue) → HoldsRoom db name room →
         IfOk result (λ left. left ≡ left_in room now)) }
-    ensures low { IfOk result (λ left. neg_ℤ (pos (2 * 10 ^ 18)) ≤ℤ left) }
-    ensures high { IfOk result (λ left. left ≤ℤ pos (10 ^ 18)) }
+    ensures low { IfOk result (λ left. least_left ≤ℤ left) }
+    ensures high { IfOk result (λ left. left ≤ℤ most_left) }
     ensures damaged { OfStore S.Store connection.old connection.new
         (λ db. result ≡ Err TableFault.Damaged → (room : RoomValue) → HoldsRoom db name room → ⊥) }
     ensures looks { LooksUp S.Store connection.old connection.new result }
@@ -62,14 +61,14 @@ fn left_of(granted: u64, tally: &Tally) -> i64
     requires reserved { tally.now.reserved ≤ most_units }
     requires charged { tally.now.charged ≤ most_units }
     ensures left { result ≡ left_of (pos granted) (pos tally.now.reserved) (pos tally.now.charged) }
-    ensures low { neg_ℤ (pos (2 * 10 ^ 18)) ≤ℤ result }
-    ensures high { result ≤ℤ pos (10 ^ 18) }
+    ensures low { least_left ≤ℤ result }
+    ensures high { result ≤ℤ most_left }
 {
     left_with(granted as i64, tally)
 }
 
-/// What a release makes of a job that was in the state, as it was asked where the quota refuses nothing: kept
-/// to what is left at the moment `now`. The sums are taken only where they decide.
+/// What a release makes of a job that was in the state, as it was asked where the quota refuses
+/// nothing: kept to what is left at the moment `now`. The sums are taken only where they decide.
 pub(crate) fn keep_to_quota<S: Alter>(
     connection: &mut Connection<S>,
     name: Name,

@@ -1,6 +1,7 @@
 //! IPP requests to the queue of an account.
 
 ghost use Rattle.std.specs.Prelude.{◌≡◌, ◌≤◌, ◌<◌, false, length, IfOk};
+ghost use Rattle.ipp_coding.specs.Limits.{header_length};
 ghost use Rattle.room_asks.specs.Asks.{IsAsk, ask_of, plain_ask};
 ghost use Rattle.room_core.specs.Machine.{answered, responded, responded_to};
 ghost use Rattle.room_core.specs.declared.event.Event.TheVariants as event;
@@ -23,7 +24,8 @@ use room_tables::TableFault;
 use sqlite::{Alter, Connection};
 use std::alloc::Global;
 
-/// Answers a request to the account, which may not be open. Of a body under 8 bytes nothing is looked up.
+/// Answers a request to the account, which may not be open. Of a body under 8 bytes nothing is
+/// looked up.
 pub fn answer_request<S: Alter>(
     alloc: Global,
     connection: &mut Connection<S>,
@@ -35,8 +37,8 @@ pub fn answer_request<S: Alter>(
     requires moment { now ≤ last_moment }
     ensures served { Answers S.Store connection.old connection.new name
         (λ room devices. answered room devices now (event.Ipp name body.entry)) result }
-    ensures short { length body.now < 8 → IfOk result (λ told. told ≡ reply.Short) }
-    ensures asks { (length body.now < 8 → ⊥) →
+    ensures short { length body.now < header_length → IfOk result (λ told. told ≡ reply.Short) }
+    ensures asks { (length body.now < header_length → ⊥) →
         WasOpen S.Store connection.old connection.new result }
 {
     let Some(header) = read_header(body) else {
@@ -62,7 +64,7 @@ fn response<S: Alter>(
     requires mode { connection.old.in_transaction ≡ false }
     requires account { IsAccount account }
     requires moment { now ≤ last_moment }
-    requires length { 8 ≤ length body.now }
+    requires length { header_length ≤ length body.now }
     ensures going { GoesFrom S.Store connection.old connection.new result }
     ensures served { OfStore S.Store connection.old connection.new (IsOpen name account) →
         ServesResponse S.Store connection.old connection.new name

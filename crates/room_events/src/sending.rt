@@ -6,7 +6,7 @@ ghost use Rattle.room_changes.specs.NewDocuments.{first_of};
 ghost use Rattle.room_core.specs.JobRequests.{document_taken, has_data, sent, sent_document};
 ghost use Rattle.room_core.specs.Requests.{refusing_ask_or};
 ghost use Rattle.room_rules.specs.Acts.{SendDocument};
-ghost use Rattle.room_rules.specs.Limits.{last_moment};
+ghost use Rattle.room_rules.specs.Limits.{last_moment, most_documents};
 ghost use Rattle.room_rules.specs.Moves.{move};
 ghost use Rattle.room_rules.specs.Standings.{IsStanding};
 ghost use Rattle.room_rules.specs.declared.job.Job.{Job as JobValue};
@@ -104,9 +104,10 @@ fn take<S: Alter>(
     Ok(text)
 }
 
-/// The data of the request as the next document of a job with so many, and none where there is no data.
+/// The data of the request as the next document of a job with so many, and none where there is no
+/// data.
 fn next_document<'a>(ask: &Ask<'a>, documents: u32) -> Option<NewDocument<'a>>
-    requires { documents ≤ 8 }
+    requires { documents ≤ most_documents }
     ensures { (job : JobValue) → job.standing.documents ≡ documents →
         first_of ask.entry.now.job result ≡ sent_document (plain_ask ask.entry.now) job }
 {

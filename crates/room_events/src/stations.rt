@@ -4,10 +4,10 @@ ghost use Rattle.std.specs.Prelude.{◌≡◌, ◌≤◌, false, map, IfErr, IfO
 ghost use Rattle.std.specs.FinMap.{get};
 ghost use Rattle.room_answers.specs.Parts.{part_of};
 ghost use Rattle.room_core.specs.Moving.{Keeps};
-ghost use Rattle.room_core.specs.Stations.{by_word, station, station_release, released, station_settle, settled, station_start, started};
+ghost use Rattle.room_core.specs.Stations.{by_word, station, station_release, release_told, station_settle, settling_told, station_start, start_told};
 ghost use Rattle.room_core.specs.Steps.{telling, with_moved};
 ghost use Rattle.room_rules.specs.Devices.{Devices};
-ghost use Rattle.room_rules.specs.Limits.{last_moment, most_impressions, most_rate};
+ghost use Rattle.room_rules.specs.Limits.{last_moment, most_impressions, IsRate};
 ghost use Rattle.room_rules.specs.Standings.{IsStanding};
 ghost use Rattle.room_rules.specs.StateLaws.{kept_to_quota};
 ghost use Rattle.room_state.specs.Sums.{left_in};
@@ -30,8 +30,8 @@ use room_tables::TableFault;
 use sqlite::{Alter, Connection};
 use std::alloc::Global;
 
-/// Releases the job at the station of the device, with the password and the impressions that are handed in
-/// there, of an account that is open.
+/// Releases the job at the station of the device, with the password and the impressions that are
+/// handed in there, of an account that is open.
 pub fn release_at<S: Alter>(
     alloc: Global,
     connection: &mut Connection<S>,
@@ -46,7 +46,7 @@ pub fn release_at<S: Alter>(
     requires moment { now ≤ last_moment }
     requires impressions { impressions ≤ most_impressions }
     ensures served { ServesStep S.Store connection.old connection.new name
-        (λ room devices. released room now number
+        (λ room devices. release_told room now number
         (station_release room (station devices device now) number password.now impressions))
         result }
 {
@@ -73,7 +73,7 @@ pub fn start<S: Alter>(
     requires mode { connection.old.in_transaction ≡ false }
     requires moment { now ≤ last_moment }
     ensures served { ServesStep S.Store connection.old connection.new name
-        (λ room devices. started room number
+        (λ room devices. start_told room number
         (station_start room (station devices device now) number)) result }
 {
     let rate = match ready_rate(connection, device)? {
@@ -87,8 +87,8 @@ pub fn start<S: Alter>(
     hand_over(alloc, connection, name, &job, decided)
 }
 
-/// The device of the station is done with the job of an account that is open, of which it completed so many
-/// impressions, all copies included.
+/// The device of the station is done with the job of an account that is open, of which it completed
+/// so many impressions, all copies included.
 pub fn settle<S: Alter>(
     alloc: Global,
     connection: &mut Connection<S>,
@@ -103,7 +103,7 @@ pub fn settle<S: Alter>(
     requires moment { now ≤ last_moment }
     requires impressions { impressions ≤ most_impressions }
     ensures served { ServesStep S.Store connection.old connection.new name
-        (λ room devices. settled room now number
+        (λ room devices. settling_told room now number
         (station_settle room (station devices device now) number impressions failed)) result }
 {
     if let Err(word) = known_device(find_device(connection, device)?) {
@@ -116,8 +116,8 @@ pub fn settle<S: Alter>(
     charge(alloc, connection, name, now, &job, decided)
 }
 
-/// The units that an impression counts on the device, where it takes jobs. Of a device that takes none no rate
-/// is looked up.
+/// The units that an impression counts on the device, where it takes jobs. Of a device that takes
+/// none no rate is looked up.
 fn ready_rate<S: Alter>(
     connection: &mut Connection<S>,
     device: Name,
@@ -125,7 +125,7 @@ fn ready_rate<S: Alter>(
     ensures ready { OfStore S.Store connection.old connection.new
         (λ db. (devices : Devices) → HoldsDevices db devices →
         IfOk result (λ ready. ready ≡ ready_rate (get devices device))) }
-    ensures rate { IfOk result (λ ready. IfOk ready (λ rate. (1 ≤ rate) × (rate ≤ most_rate))) }
+    ensures rate { IfOk result (λ ready. IfOk ready IsRate) }
     ensures damaged { OfStore S.Store connection.old connection.new
         (λ db. result ≡ Err TableFault.Damaged → (devices : Devices) →
         HoldsDevices db devices → ⊥) }
@@ -161,7 +161,7 @@ fn reserve<S: Alter>(
     ensures going { GoesFrom S.Store connection.old connection.new result }
     ensures served { OfStore S.Store connection.old connection.new (IsThere name job.now) →
         ServesStep S.Store connection.old connection.new name
-        (λ room devices. released room now job.now.job
+        (λ room devices. release_told room now job.now.job
         (by_word (kept_to_quota job.now.standing.state (left_in room now) asked))) result }
 {
     let released = match asked {
@@ -206,7 +206,7 @@ fn charge<S: Alter>(
     ensures going { GoesFrom S.Store connection.old connection.new result }
     ensures served { OfStore S.Store connection.old connection.new (IsThere name job.now) →
         ServesStep S.Store connection.old connection.new name
-        (λ room devices. settled room now job.now.job decided) result }
+        (λ room devices. settling_told room now job.now.job decided) result }
 {
     let settled = match decided {
         Ok(settled) => settled,
@@ -235,7 +235,7 @@ fn hand_over<S: Alter>(
     ensures going { GoesFrom S.Store connection.old connection.new result }
     ensures served { OfStore S.Store connection.old connection.new (IsThere name job.now) →
         ServesStep S.Store connection.old connection.new name
-        (λ room devices. started room job.now.job decided) result }
+        (λ room devices. start_told room job.now.job decided) result }
 {
     let standing = match decided {
         Ok(standing) => standing,

@@ -65,8 +65,8 @@ pub(crate) fn done_as(alloc: Global, ask: &Ask<'_>) -> Result<List<u8>, TableFau
     done(alloc, ask.header, ask.unsupported.as_slice()).map_err(|fault| TableFault::of_core(fault))
 }
 
-/// The response to a request that was done, with the attributes of the job that are wanted. `Memory` is its
-/// only fault.
+/// The response to a request that was done, with the attributes of the job that are wanted.
+/// `Memory` is its only fault.
 pub(crate) fn shown_as(
     alloc: Global,
     ask: &Ask<'_>,

@@ -1,13 +1,12 @@
 -- What one field of a line says.
-use Rattle.std.specs.Prelude.{◌≡◌, ℕ, ◌+◌, ◌*◌, ◌-◌, Bool, true, false, ◌&&◌, ◌==◌, nat_le, nat_eq, if◌then◌else◌, List, length, slice_index, Option, Some, None, option_map, option_and_then}
-use Rattle.std.specs.Cmp.Lexicographic.{pointwise}
+use Rattle.std.specs.Prelude.{◌≡◌, ℕ, ◌+◌, ◌*◌, ◌-◌, Bool, true, false, ◌&&◌, ◌==◌, bytes_eq, nat_le, if◌then◌else◌, List, length, slice_index, Option, Some, None, option_map, option_and_then}
 use Rattle.std.specs.Str.Parse.{IsNumeral}
 
 -- one of two words
 abbrev pub choice_said : (first second text : List ℕ) → Option Bool
 choice_said first second text =
-    if pointwise nat_eq text first then Some true
-    else if pointwise nat_eq text second then Some false
+    if bytes_eq text first then Some true
+    else if bytes_eq text second then Some false
     else None
 
 -- a decimal digit
@@ -25,16 +24,20 @@ pub record IsDecimal (text : List ℕ) : Type 0 where
   pub numeral : IsNumeral 10 text
   pub no_leading_zero : slice_index text 0 ≡ 48 → length text ≡ 1
 
--- a number within bounds
-abbrev pub within : (least most n : ℕ) → Option ℕ
-within least most n = if nat_le least n && nat_le n most then Some n else None
-
 -- twelve times the year, and 0 for January to 11 for December; the years 1970 to 2099
 abbrev pub month_number : (year month : ℕ) → Option ℕ
 month_number year month =
     if nat_le 1970 year && nat_le year 2099 && nat_le 1 month && nat_le month 12
     then Some (year * 12 + month - 1)
     else None
+
+-- which the years 1970 to 2099 give: from January 1970
+abbrev pub first_month : ℕ
+first_month = 23640
+
+-- to December 2099
+abbrev pub last_month : ℕ
+last_month = 25199
 
 abbrev pub with_year : (centuries years month : Option ℕ) → Option ℕ
 with_year None years month = None

@@ -4,7 +4,7 @@ ghost use Rattle.std.specs.Prelude.{◌≡◌, ◌≤◌, ◌<◌, ◌^◌, IfSo
 ghost use Rattle.std.specs.Option.{SomeIff};
 ghost use Rattle.std.specs.Str.Parse.{digits_value};
 ghost use Rattle.hex.specs.Hex.{decode_of};
-ghost use Rattle.room_fields.specs.Fields.{IsDecimal, choice_said, digit_said, two_digits_said, month_said};
+ghost use Rattle.room_fields.specs.Fields.{IsDecimal, choice_said, digit_said, first_month, last_month, two_digits_said, month_said};
 
 use hex::FromHexError;
 use std::alloc::Global;
@@ -57,7 +57,7 @@ pub fn number(text: &[u8], least: u32, most: u32) -> Option<u32>
 /// the year, and 0 for January to 11 for December.
 pub fn month(text: &[u8]) -> Option<u32>
     ensures said { result ≡ month_said text.now }
-    ensures within { IfSome result (λ m. (23640 ≤ m) × (m ≤ 25199)) }
+    ensures within { IfSome result (λ m. (first_month ≤ m) × (m ≤ last_month)) }
 {
     let [a, b, c, d, b'-', e, f] = text else {
         return None;

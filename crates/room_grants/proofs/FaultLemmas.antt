@@ -5,7 +5,7 @@ use Rattle.std.proofs.lemmas.Bool.Decides.{nat_tests}
 use Rattle.room_streams.specs.declared.fault.StreamFault.{StreamFault}
 use Rattle.room_streams.specs.declared.fault.StreamFault.TheVariants as stream
 use Rattle.room_grants.specs.Faults.{grant_fault_of}
-use Rattle.room_grants.specs.Files.{exceeds}
+use Rattle.room_grants.specs.Files.{is_too_large, longest_file}
 use Rattle.room_grants.specs.declared.fault.GrantFault.{GrantFault}
 use Rattle.room_grants.specs.declared.fault.GrantFault.TheVariants as grants
 
@@ -23,5 +23,5 @@ many_from fault (Ok lines) is many = absurd is
 many_from {A} fault (Err e) is many = too_long fault (sym is ∙ err-same {A = A} e grants.TooMany many)
 
 -- too many bytes exceed
-pub exceeds-bytes : (bytes : List ℕ) → 67108864 < length bytes → exceeds bytes ≡ true
-exceeds-bytes bytes over = let at : nat_lt 67108864 (length bytes) ≡ true = grind (arith, nat_tests) in rw at refl
+pub is_too_large-bytes : (bytes : List ℕ) → longest_file < length bytes → is_too_large bytes ≡ true
+is_too_large-bytes bytes over = let at : nat_lt longest_file (length bytes) ≡ true = grind (arith, nat_tests) in rw at refl

@@ -10,7 +10,7 @@ use Rattle.std.proofs.lemmas.Str.Parse.{digit_from_value}
 use Rattle.csv.proofs.RecordFacts.{field-there}
 use Rattle.csv.specs.Records.{field_at}
 use Rattle.room_fields.specs.Fields.{IsDecimal, month_said}
-use Rattle.room_grants.specs.Lines.{good_line, grant_line, is_decimal, lines_from, name_said, pages_said}
+use Rattle.room_grants.specs.Lines.{good_line, grant_line, is_decimal, lines_from, account_said, pages_said}
 use Rattle.room_grants.specs.declared.line.GrantLine.TheVariants.{Bad}
 
 digit_from : (c : ℕ) → is_ascii_digit c ≡ true → digit_value c < 10
@@ -68,7 +68,7 @@ some-same a b same = cc same
 -- a record of three fields, and one of fewer or more
 pub grant_line-three : (number : ℕ) (fields : List (List ℕ)) (account month pages : List ℕ) → length fields ≡ 3
     → Some account ≡ field_at fields 0 → Some month ≡ field_at fields 1 → Some pages ≡ field_at fields 2
-    → grant_line number fields ≡ unwrap_or (good_line (name_said account) (month_said month) (pages_said pages)) (Bad number)
+    → grant_line number fields ≡ unwrap_or (good_line (account_said account) (month_said month) (pages_said pages)) (Bad number)
 unfolding field_at
 grant_line-three number [] account month pages three a m p = absurd (grind arith)
 grant_line-three number (x ∷ []) account month pages three a m p = absurd (grind arith)

@@ -6,6 +6,15 @@ use Rattle.csv.specs.Reading.{default_config, records, strip_bom}
 abbrev pub records_of : List ℕ → List (List (List ℕ))
 records_of bytes = records default_config (strip_bom bytes)
 
--- more than 67108864 bytes or more than 100000 records
-abbrev pub exceeds : List ℕ → Bool
-exceeds bytes = nat_lt 67108864 (length bytes) || nat_lt 100000 (length (records_of bytes))
+-- records of a file
+abbrev pub most_records : ℕ
+most_records = 100000
+
+-- bytes of a file
+abbrev pub longest_file : ℕ
+longest_file = 67108864
+
+-- more bytes or more records than a file may have
+abbrev pub is_too_large : List ℕ → Bool
+is_too_large bytes =
+    nat_lt longest_file (length bytes) || nat_lt most_records (length (records_of bytes))

@@ -10,8 +10,8 @@ use Rattle.room_grants.specs.declared.line.GrantLine.{GrantLine}
 use Rattle.room_grants.specs.declared.line.GrantLine.TheVariants.{Good, Bad}
 
 -- a name of an account
-abbrev pub name_said : List ℕ → Option (List ℕ)
-name_said text = if is_name text then Some text else None
+abbrev pub account_said : List ℕ → Option (List ℕ)
+account_said text = if is_name text then Some text else None
 
 -- decimal digits, the first of which is 0 in `0` alone
 abbrev pub is_decimal : List ℕ → Bool
@@ -21,8 +21,8 @@ is_decimal text = nat_lt 0 (length text) && list_all is_ascii_digit text
 -- pages in decimal, up to the most that one grant has
 abbrev pub pages_said : List ℕ → Option ℕ
 pages_said text =
-    if is_decimal text && nat_le (digits_value 10 text) most_pages then Some (digits_value 10 text)
-    else None
+    let pages : ℕ = digits_value 10 text in
+    if is_decimal text && nat_le pages most_pages then Some pages else None
 
 -- a grant, where each of its three fields says what it is to say
 abbrev pub good_line : (account : Option (List ℕ)) (month pages : Option ℕ) → Option GrantLine
@@ -32,16 +32,16 @@ good_line (Some account) None pages = None
 good_line None month pages = None
 
 -- the record of this number: a grant where it has three fields, else bad
-abbrev pub grant_line : ℕ → List (List ℕ) → GrantLine
+abbrev pub grant_line : (number : ℕ) (fields : List (List ℕ)) → GrantLine
 grant_line number (account ∷ month ∷ pages ∷ []) =
-    unwrap_or (good_line (name_said account) (month_said month) (pages_said pages)) (Bad number)
+    unwrap_or (good_line (account_said account) (month_said month) (pages_said pages)) (Bad number)
 grant_line number [] = Bad number
 grant_line number (account ∷ []) = Bad number
 grant_line number (account ∷ month ∷ []) = Bad number
 grant_line number (account ∷ month ∷ pages ∷ more ∷ rest) = Bad number
 
 -- records in their order, the first of which has this number
-abbrev pub lines_from : ℕ → List (List (List ℕ)) → List GrantLine
+abbrev pub lines_from : (number : ℕ) (records : List (List (List ℕ))) → List GrantLine
 lines_from number [] = []
 lines_from number (first ∷ rest) = grant_line number first ∷ lines_from (number + 1) rest
 

@@ -4,7 +4,7 @@ ghost use Rattle.std.specs.Prelude.{◌≡◌, ◌+◌, ◌-◌, ◌^◌, ◌<�
 ghost use Rattle.csv.specs.Reading.{error_kind, is_flexible};
 ghost use Rattle.room_streams.specs.Streams.{IsSpent, Yields};
 ghost use Rattle.room_grants.specs.Faults.{IsNoLength, read_faults};
-ghost use Rattle.room_grants.specs.Files.{exceeds, records_of};
+ghost use Rattle.room_grants.specs.Files.{is_too_large, longest_file, most_records, records_of};
 ghost use Rattle.room_grants.specs.Lines.{IsInRange, grant_lines};
 
 use crate::fault::GrantFault;
@@ -14,24 +14,25 @@ use room_streams::{Source, read_whole};
 use std::alloc::Global;
 
 /// The records of a file, at most.
-pub const MOST_RECORDS: usize = 100_000;
+const MOST_RECORDS: usize = 100_000;
 
 /// The bytes of a file, at most.
-pub const MOST_BYTES: usize = 67_108_864;
+const MOST_BYTES: usize = 67_108_864;
 
-/// What each record of the file that `reader` has left says, in order. No record is a header, and each may
-/// have any number of fields. Where there are too many records or bytes it is `TooMany`, whatever they say.
+/// What each record of the file that `reader` has left says, in order. No record is a header, and
+/// each may have any number of fields. Where there are too many records or bytes it is `TooMany`,
+/// whatever they say.
 ///
 /// The file is read whole first, and of one that is too long no byte behind the first too many.
 pub fn read_grants<R: Source>(alloc: Global, reader: &mut R) -> Result<Vec<GrantLine>, GrantFault>
     requires { R.failures reader.old < 2 ^ 64 - 1 }
     ensures lines { IfOk result (λ lines. (bytes : List ℕ) × R.left reader.old bytes
-        × (exceeds bytes ≡ false) × (lines.items ≡ grant_lines (records_of bytes))) }
+        × (is_too_large bytes ≡ false) × (lines.items ≡ grant_lines (records_of bytes))) }
     ensures many { IsErrOf result GrantFault.TooMany
-        → (bytes : List ℕ) × R.left reader.old bytes × (exceeds bytes ≡ true) }
+        → (bytes : List ℕ) × R.left reader.old bytes × (is_too_large bytes ≡ true) }
     ensures ranges { IfOk result (λ lines. All IsInRange lines.items) }
     ensures end { OnOk result (IsSpent (R.left reader.new)) }
-    ensures takes { (bytes : List ℕ) × (length bytes ≤ 67108865)
+    ensures takes { (bytes : List ℕ) × (length bytes ≤ longest_file + 1)
         × Yields (R.left reader.old) (R.left reader.new) bytes }
     ensures count { R.failures reader.new ≡ R.failures reader.old + read_faults result }
 {
@@ -42,8 +43,8 @@ pub fn read_grants<R: Source>(alloc: Global, reader: &mut R) -> Result<Vec<Grant
 fn lines_of(alloc: Global, text: &[u8]) -> Result<Vec<GrantLine>, GrantFault>
     ensures lines { IfOk result (λ lines. lines.items ≡ grant_lines (records_of text.now)) }
     ensures ranges { IfOk result (λ lines. All IsInRange lines.items) }
-    ensures few { OnOk result (length (records_of text.now) ≤ 100000) }
-    ensures many { IsErrOf result GrantFault.TooMany → 100000 < length (records_of text.now) }
+    ensures few { OnOk result (length (records_of text.now) ≤ most_records) }
+    ensures many { IsErrOf result GrantFault.TooMany → most_records < length (records_of text.now) }
     ensures read { read_faults result ≡ 0 }
 {
     let mut reader = ReaderBuilder::new()
@@ -68,7 +69,8 @@ fn lines_of(alloc: Global, text: &[u8]) -> Result<Vec<GrantLine>, GrantFault>
     }
 }
 
-/// What hinders records of any number of fields from being read of bytes in memory: want of it alone.
+/// What hinders records of any number of fields from being read of bytes in memory: want of it
+/// alone.
 fn fault_of(error: Error) -> GrantFault
     requires { IsNoLength (error_kind error) }
     ensures { result ≡ GrantFault.Memory }

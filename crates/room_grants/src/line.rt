@@ -4,7 +4,7 @@ ghost use Rattle.std.specs.Prelude.{◌≡◌, ◌≤◌, IfSome};
 ghost use Rattle.csv.specs.Records.{fields_of};
 ghost use Rattle.room_fields.specs.Fields.{month_said};
 ghost use Rattle.room_rules.specs.Limits.{most_pages};
-ghost use Rattle.room_grants.specs.Lines.{IsInRange, good_line, grant_line, name_said, pages_said};
+ghost use Rattle.room_grants.specs.Lines.{IsInRange, good_line, grant_line, account_said, pages_said};
 
 use csv::ByteRecord;
 use room_fields::{month, number};
@@ -13,8 +13,8 @@ use room_rules::{MOST_PAGES, Name};
 /// What a record says.
 #[derive(Clone, Copy, Debug, PartialEq)]
 pub enum GrantLine {
-    /// The account is granted pages from the month on: the year times 12, and 0 for January to 11 for
-    /// December.
+    /// The account is granted pages from the month on: the year times 12, and 0 for January to 11
+    /// for December.
     Good {
         account: Name,
         month: u32,
@@ -43,7 +43,7 @@ pub(crate) fn grant_line(number: u32, row: &ByteRecord) -> GrantLine
 
 fn good_line(account: &[u8], month_text: &[u8], pages: &[u8]) -> Option<GrantLine>
     ensures said { result
-        ≡ good_line (name_said account.now) (month_said month_text.now) (pages_said pages.now) }
+        ≡ good_line (account_said account.now) (month_said month_text.now) (pages_said pages.now) }
     ensures range { IfSome result IsInRange }
 {
     Some(GrantLine::Good {

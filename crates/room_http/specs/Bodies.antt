@@ -25,7 +25,7 @@ HasBody (Length n) b body rest = (b ≡ body ++ rest) × (length body ≡ n)
 HasBody Chunked b body rest = IsChunkedBody b body rest
 
 -- chunks, and something behind them
-abbrev pub HasBehindChunks : List ℕ → (List ℕ → List ℕ → Type 0) → Type 0
+abbrev pub HasBehindChunks : (b : List ℕ) (P : List ℕ → List ℕ → Type 0) → Type 0
 HasBehindChunks b P = (chunks : List Chunk) × (text : List ℕ) × (body : List ℕ) × (behind : List ℕ)
     × AreChunks chunks text body × (length body ≤ longest_body)
     × (b ≡ text ++ behind) × P body behind

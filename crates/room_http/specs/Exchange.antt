@@ -1,7 +1,7 @@
 -- What a call takes of an input, and writes.
 use Rattle.std.specs.Prelude.{◌≡◌, ℕ, ◌+◌, ◌*◌, ◌<◌, ◌≤◌, ⊤, Bool, true, List, ◌++◌, length, take, Option, Result, Ok, Err}
 use Rattle.std.specs.Io.KnownBytes.{Appends}
-use Rattle.room_http.specs.Limits.{longest_body, longest_head, longest_size_line, longest_trailers}
+use Rattle.room_http.specs.Limits.{longest_body, longest_head, longest_size_line, longest_trailers, shortest_body}
 use Rattle.room_streams.specs.Streams.{Yields}
 use Rattle.room_http.specs.Http.{Http, Nothing, Orders, Refused, Carried}
 use Rattle.room_http.specs.Texts.{interim_text}
@@ -49,8 +49,8 @@ pub record TakesAtMost (most : ℕ) (before after : List ℕ → Type 0) : Type 
   pub short : length taken ≤ most
 
 -- The most bytes of chunks with the line of size 0 behind them: each byte of the body stands at
--- worst in a chunk of its own, of a line, the byte, and CR LF. What ends within a chunk, or is none,
--- has no more.
+-- worst in a chunk of its own, of a line, the byte, and CR LF. What ends within a chunk, or is
+-- none, has no more.
 abbrev pub most_of_chunks : ℕ
 most_of_chunks = (longest_size_line + 3) * longest_body + longest_size_line
 
@@ -90,4 +90,4 @@ FailedReceiving before after old new Ended = ⊥
 abbrev pub HasHeader : Received → Type 0
 HasHeader received.Nothing = ⊤
 HasHeader (received.Refused why) = ⊤
-HasHeader (received.Carried order body) = 8 ≤ length body.items
+HasHeader (received.Carried order body) = shortest_body ≤ length body.items

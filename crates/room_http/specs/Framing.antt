@@ -21,7 +21,7 @@ abbrev pub by_coding : List ℕ → Option Framing
 by_coding coding = if is_same_word coding (codes "chunked") then Some Chunked else None
 
 -- by the values of Content-Length and of Transfer-Encoding
-abbrev pub framed_by : List (List ℕ) → List (List ℕ) → Option Framing
+abbrev pub framed_by : (lengths codings : List (List ℕ)) → Option Framing
 framed_by [] [] = Some (Length 0)
 framed_by [] (coding ∷ []) = by_coding coding
 framed_by [] (coding ∷ another ∷ codings) = None

@@ -5,6 +5,7 @@ use Rattle.httparse.specs.Grammar.{RequestHead}
 use Rattle.room_http.specs.Bodies.{HasBody, IsNoBody, IsTooLongBody}
 use Rattle.room_http.specs.Heads.{Opens, IsTooLong, IsNoHead}
 use Rattle.room_http.specs.Judging.{judged, said_by}
+use Rattle.room_http.specs.Limits.{shortest_body}
 use Rattle.room_http.specs.declared.framing.Framing.TheVariants.{Chunked}
 use Rattle.room_http.specs.declared.judging.Order.{Order}
 use Rattle.room_http.specs.declared.refusal.Refusal.{Refusal}
@@ -41,8 +42,9 @@ pub data Http (b : List ℕ) : Heard → Type 0 where
       → IsNoBody behind order.framing → Http b (Refused order.expects BadRequest)
   -- line 7: a body that is too short for a message of IPP
   has_short_body : (order : Order) (behind body rest : List ℕ) → Orders b order behind
-      → HasBody order.framing behind body rest → length body < 8
+      → HasBody order.framing behind body rest → length body < shortest_body
       → Http b (Refused order.expects BadRequest)
   -- whether the account is known is seen when it is asked
   has_message : (order : Order) (behind body rest : List ℕ) → Orders b order behind
-      → HasBody order.framing behind body rest → 8 ≤ length body → Http b (Carried order body rest)
+      → HasBody order.framing behind body rest → shortest_body ≤ length body
+      → Http b (Carried order body rest)

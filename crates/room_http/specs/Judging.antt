@@ -1,12 +1,13 @@
 -- What a whole head is refused for, the first of these that applies, or what it orders (all this
 -- project's own): a body that cannot be told, another method than POST, a path of no queue, another
 -- type of content, a body that is too long.
-use Rattle.std.specs.Prelude.{◌==◌, ◌&&◌, ◌||◌, ℕ, ◌≤◌, Bool, true, false, List, [], ◌∷◌, Option, Some, None, Result, Ok, Err, bytes_eq, codes, drop, if◌then◌else◌, length, map, nat_eq, nat_le, nat_lt, ⊤}
+use Rattle.std.specs.Prelude.{◌==◌, ◌&&◌, ◌||◌, ℕ, ◌≤◌, Bool, true, false, List, [], ◌∷◌, Option, Some, None, Result, Ok, Err, bytes_eq, codes, drop, if◌then◌else◌, length, map, nat_le, nat_lt, option_and_then, ⊤}
 use Rattle.std.specs.Char.{is_ascii_digit}
-use Rattle.std.specs.List.{list_all, list_any, starts_with}
+use Rattle.std.specs.List.{list_all, list_any}
 use Rattle.httparse.specs.Grammar.{RequestHead}
 use Rattle.httparse.specs.Spans.{name_and_value}
 use Rattle.room_rules.specs.Names.{is_name}
+use Rattle.room_rules.specs.QueuePaths.{behind, queues}
 use Rattle.room_http.specs.Limits.{longest_body}
 use Rattle.room_http.specs.Fields.{NameAndValue, is_named, plain_field, values_named}
 use Rattle.room_http.specs.Framing.{framing_of}
@@ -61,8 +62,7 @@ queue_in rest =
 -- "?"
 abbrev pub account_of : List ℕ → Option (List ℕ)
 account_of target =
-    let path = before 63 target in
-    if starts_with nat_eq path (codes "/ipp/print/") then queue_in (drop 11 path) else None
+    option_and_then queue_in (behind queues (before 63 target))
 
 -- ---- what its body is
 
@@ -76,9 +76,9 @@ abbrev pub is_ipp : List (List ℕ) → Bool
 is_ipp [] = false
 is_ipp (value ∷ values) = is_ipp_type value
 
-abbrev pub is_too_long : Framing → Bool
-is_too_long (Length n) = nat_lt longest_body n
-is_too_long Chunked = false
+abbrev pub passes_limit : Framing → Bool
+passes_limit (Length n) = nat_lt longest_body n
+passes_limit Chunked = false
 
 abbrev pub FitsLimit : Framing → Type 0
 FitsLimit (Length n) = n ≤ longest_body
@@ -103,15 +103,16 @@ closes said = said.minor == 0 || list_any is_close said.fields
 
 -- ---- the refusals in their order
 
-abbrev pub ordered : Said → Framing → List ℕ → Order
+abbrev pub ordered : (said : Said) (framing : Framing) (account : List ℕ) → Order
 ordered said framing account =
     record { account = account; framing = framing; expects = expects said; closes = closes said }
 
-abbrev pub judged_account : Said → Framing → Option (List ℕ) → Result Order Refusal
+abbrev pub judged_account : (said : Said) (framing : Framing) (account : Option (List ℕ))
+    → Result Order Refusal
 judged_account said framing None = Err NotFound
 judged_account said framing (Some account) =
     if is_ipp (values_named (codes "content-type") said.fields) then (
-    if is_too_long framing then Err PayloadTooLarge else Ok (ordered said framing account)
+    if passes_limit framing then Err PayloadTooLarge else Ok (ordered said framing account)
     ) else Err UnsupportedMediaType
 
 abbrev pub judged_framing : Said → Option Framing → Result Order Refusal

@@ -1,4 +1,4 @@
--- Texts of a kind, as heads, lines and trailers are.
+-- For the proof of the code alone: texts of a kind, as heads, lines and trailers are.
 use Rattle.std.specs.Prelude.{◌≡◌, ◌==◌, ◌&&◌, ◌||◌, ℕ, Bool, List, ◌++◌, codes, nat_eq}
 use Rattle.std.specs.List.{ends_with, list_any}
 

@@ -2,6 +2,7 @@ pub mod Limits
 pub mod Kinds
 pub mod Words
 pub mod Fields
+pub mod Finding
 pub mod Framing
 pub mod Judging
 pub mod Texts

@@ -8,6 +8,10 @@ longest_head = 16384
 abbrev pub most_fields : ℕ
 most_fields = 64
 
+-- a message of IPP up to its request-id (RFC 8010 section 3.1.1)
+abbrev pub shortest_body : ℕ
+shortest_body = 8
+
 -- a document of 16 MiB and 64 KiB of attributes
 abbrev pub longest_body : ℕ
 longest_body = 16842752
@@ -19,3 +23,14 @@ longest_size_line = 256
 -- with the empty line behind them
 abbrev pub longest_trailers : ℕ
 longest_trailers = 4096
+
+-- the head of an answer, for which there is room
+abbrev pub longest_answer_head : ℕ
+longest_answer_head = 256
+
+-- the status line in it (RFC 9112 section 4), with a phrase of so many
+abbrev pub longest_status_line : ℕ
+longest_status_line = 64
+
+abbrev pub longest_phrase : ℕ
+longest_phrase = 31

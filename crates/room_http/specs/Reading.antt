@@ -1,4 +1,5 @@
--- What the calls that read a part of a message found in its place.
+-- For the proof of the code alone: what the calls that read a part of a message found in its
+-- place.
 use Rattle.std.specs.Prelude.{◌≡◌, ◌≢◌, ℕ, ◌<◌, ◌≤◌, Bool, true, false, List, [], ◌∷◌, ◌++◌, length, Option, Some, None}
 use Rattle.httparse.specs.Grammar.{HasNoRequest, MayBecomeRequest, NeverHasRequest, ChunkLine, print_chunk_line, chunk_size}
 use Rattle.httparse.specs.Ascii.{crlf_bytes}
@@ -63,17 +64,17 @@ ReadsInto before after old new count false = (bytes : List ℕ) × (length bytes
 
 -- ---- chunks
 
-abbrev pub SizeLineIs : (List ℕ → Type 0) → (List ℕ → Type 0) → SizeLine → Type 0
+abbrev pub SizeLineIs : (before after : List ℕ → Type 0) (line : SizeLine) → Type 0
 SizeLineIs before after (Size size) = (line : ChunkLine) × IsSizeLine line
     × Yields before after (print_chunk_line line) × (size ≡ chunk_size line)
 SizeLineIs before after Invalid = Takes before after (λ b rest. HasNoSizeLine b)
 
-abbrev pub LineEndIs : (List ℕ → Type 0) → (List ℕ → Type 0) → Bool → Type 0
+abbrev pub LineEndIs : (before after : List ℕ → Type 0) (is_there : Bool) → Type 0
 LineEndIs before after true = Yields before after crlf_bytes
 LineEndIs before after false = Takes before after (λ b rest. HasNoLineEnd b)
 
 -- the chunks of this body, and the line of size 0 behind them
-abbrev pub EndsChunks : (List ℕ → Type 0) → (List ℕ → Type 0) → List ℕ → Type 0
+abbrev pub EndsChunks : (before after : List ℕ → Type 0) (body : List ℕ) → Type 0
 EndsChunks before after body =
     (chunks : List Chunk) × (text : List ℕ) × (last : ChunkLine) × AreChunks chunks text body
     × IsLast last × (length body ≤ longest_body)
@@ -88,7 +89,7 @@ ChunksAre before after body chunks_are.TooLong = Takes before after (λ b rest. 
 
 -- ---- trailers
 
-abbrev pub TrailersAre : (List ℕ → Type 0) → (List ℕ → Type 0) → Bool → Type 0
+abbrev pub TrailersAre : (before after : List ℕ → Type 0) (are_there : Bool) → Type 0
 TrailersAre before after true =
     (section : Section) × AreTrailers section × Yields before after (print_trailers section)
 TrailersAre before after false = Takes before after (λ b rest. HasNoTrailers b)
@@ -104,7 +105,7 @@ BodyIs framing before after body_is.TooLong =
 
 -- ---- heads that are judged
 
-abbrev pub OpeningIs : (List ℕ → Type 0) → (List ℕ → Type 0) → Opening → Type 0
+abbrev pub OpeningIs : (before after : List ℕ → Type 0) (opening : Opening) → Type 0
 OpeningIs before after opening_is.Nothing = Takes before after (λ b rest. Http b Nothing)
 OpeningIs before after (opening_is.Refused why) =
     Takes before after (λ b rest. Http b (Refused false why))

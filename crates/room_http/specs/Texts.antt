@@ -33,11 +33,11 @@ interim_text true = codes "HTTP/1.1 100 Continue\r\n\r\n"
 abbrev pub close_field : Bool → List ℕ
 close_field closes = if closes then codes "Connection: close\r\n" else []
 
-abbrev pub answer_head : ℕ → Bool → List ℕ
+abbrev pub answer_head : (size : ℕ) (closes : Bool) → List ℕ
 answer_head size closes =
     status_line 200 ++ codes "Content-Type: application/ipp\r\nContent-Length: " ++ decimal size
     ++ codes "\r\n" ++ close_field closes ++ codes "\r\n"
 
 -- an answer of IPP
-abbrev pub answer_text : List ℕ → Bool → List ℕ
+abbrev pub answer_text : (answer : List ℕ) (closes : Bool) → List ℕ
 answer_text answer closes = answer_head (length answer) closes ++ answer

@@ -9,7 +9,7 @@ abbrev pub is_same_word : (a b : List ℕ) → Bool
 is_same_word a b = bytes_eq (map to_ascii_lowercase a) (map to_ascii_lowercase b)
 
 -- what stands before the first such byte, and all where there is none
-abbrev pub before : ℕ → List ℕ → List ℕ
+abbrev pub before : (mark : ℕ) (bytes : List ℕ) → List ℕ
 before mark bytes = take (position_or_len (λ b. b == mark) bytes) bytes
 
 -- without the bytes of a margin at its front

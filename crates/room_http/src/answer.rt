@@ -1,5 +1,6 @@
 //! The texts of answers, in memory of a fixed size.
 ghost use Rattle.std.specs.Prelude.{◌≡◌, ◌+◌, ◌++◌, ◌≤◌, [], length, unwrap_or};
+ghost use Rattle.room_http.specs.Limits.{longest_answer_head, longest_status_line, longest_phrase};
 ghost use Rattle.http.specs.StatusCode.{reason_phrase};
 ghost use Rattle.arrayvec.specs.ArrayVec.{array_vec_len};
 ghost use Rattle.room_http.specs.Texts.{allowed, answer_head, refusal_text, status_line};
@@ -8,6 +9,9 @@ use crate::refusal::Refusal;
 use arrayvec::ArrayVec;
 use http::StatusCode;
 use itoa::Buffer;
+
+/// Room for the head of an answer.
+const HEAD_ROOM: usize = 256;
 
 /// Adds bytes that there is room for.
 pub(crate) fn put<const N: usize>(text: &mut ArrayVec<u8, N>, bytes: &[u8])
@@ -20,10 +24,10 @@ pub(crate) fn put<const N: usize>(text: &mut ArrayVec<u8, N>, bytes: &[u8])
 
 /// Adds a status line (RFC 9112 section 4).
 fn put_status<const N: usize>(text: &mut ArrayVec<u8, N>, status: StatusCode)
-    requires room { array_vec_len text.old + 64 ≤ N }
-    requires short { length (unwrap_or (reason_phrase status) []) ≤ 31 }
+    requires room { array_vec_len text.old + longest_status_line ≤ N }
+    requires short { length (unwrap_or (reason_phrase status) []) ≤ longest_phrase }
     ensures items { text.new.items ≡ text.old.items ++ status_line status }
-    ensures len { array_vec_len text.new ≤ array_vec_len text.old + 64 }
+    ensures len { array_vec_len text.new ≤ array_vec_len text.old + longest_status_line }
 {
     put(text, b"HTTP/1.1 ");
     put(text, status.as_str().as_bytes());
@@ -36,15 +40,12 @@ fn put_status<const N: usize>(text: &mut ArrayVec<u8, N>, status: StatusCode)
 fn phrase_of(status: StatusCode) -> &'static str
     ensures { result.now ≡ unwrap_or (reason_phrase status) [] }
 {
-    match status.canonical_reason() {
-        Some(phrase) => phrase,
-        None => "",
-    }
+    status.canonical_reason().unwrap_or("")
 }
 
-/// The answer to what is refused, which ends the connection. For the method it names the one that there is (RFC
-/// 9110 section 15.5.6).
-pub fn refusal_text(refusal: Refusal) -> ArrayVec<u8, 256>
+/// The answer to what is refused, which ends the connection. For the method it names the one that
+/// there is (RFC 9110 section 15.5.6).
+pub fn refusal_text(refusal: Refusal) -> ArrayVec<u8, HEAD_ROOM>
     ensures { result.items ≡ refusal_text refusal }
 {
     let mut text = ArrayVec::new();
@@ -68,9 +69,9 @@ fn allowed(refusal: Refusal) -> &'static [u8]
 
 /// Adds the head of an answer of so many bytes, which tells where the connection ends with it.
 pub fn put_answer_head<const N: usize>(text: &mut ArrayVec<u8, N>, size: usize, closes: bool)
-    requires { array_vec_len text.old + 256 ≤ N }
+    requires { array_vec_len text.old + longest_answer_head ≤ N }
     ensures items { text.new.items ≡ text.old.items ++ answer_head size closes }
-    ensures len { array_vec_len text.new ≤ array_vec_len text.old + 256 }
+    ensures len { array_vec_len text.new ≤ array_vec_len text.old + longest_answer_head }
 {
     let mut digits = Buffer::new();
     put_status(text, StatusCode::OK);

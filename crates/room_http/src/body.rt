@@ -24,8 +24,8 @@ pub(crate) enum Body {
     TooLong,
 }
 
-/// Reads exactly so many bytes and no byte behind them, by way of `piece`, and adds them to the body. `false` where
-/// the input ends before.
+/// Reads exactly so many bytes and no byte behind them, by way of `piece`, and adds them to the
+/// body. `false` where the input ends before.
 pub(crate) fn read_into<R: Source>(
     reader: &mut R,
     body: &mut Vec<u8>,

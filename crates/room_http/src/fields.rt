@@ -1,8 +1,7 @@
 //! The fields of a head by their names, which are compared in any case.
 ghost use Rattle.std.specs.Prelude.{◌≡◌, ℕ, List, map};
-ghost use Rattle.room_http.specs.Fields.{FindsMore, FoundIs, is_named, plain_field, values_named};
-
-use crate::words::is_same_word;
+ghost use Rattle.room_http.specs.Fields.{is_named, plain_field, values_named};
+ghost use Rattle.room_http.specs.Finding.{FindsMore, FoundIs};
 
 /// A field of a head.
 #[derive(Clone, Copy, Debug, Default)]
@@ -16,7 +15,7 @@ impl<'a> Field<'a> {
     pub(crate) fn is_named(&self, name: &[u8]) -> bool
         ensures { result ≡ is_named name.now (plain_field self.now) }
     {
-        is_same_word(self.name, name)
+        self.name.eq_ignore_ascii_case(name)
     }
 }
 

@@ -6,7 +6,6 @@ ghost use Rattle.room_http.specs.Framing.{framing_of};
 
 use crate::digits::short_number;
 use crate::fields::{Field, Found, find_field};
-use crate::words::is_same_word;
 
 /// The most bytes of a body: a document of 16 MiB and 64 KiB of attributes.
 pub const BODY_LIMIT: usize = 16_842_752;
@@ -20,8 +19,9 @@ pub enum Framing {
     Chunked,
 }
 
-/// How the fields frame the body: by one Content-Length of 1 to 18 digits, or by one Transfer-Encoding, which is
-/// chunked. With neither it is empty. None where they say anything else.
+/// How the fields frame the body: by one Content-Length of 1 to 18 digits, or by one
+/// Transfer-Encoding, which is chunked. With neither it is empty. None where they say anything
+/// else.
 pub(crate) fn framing_of(fields: &[Field<'_>]) -> Option<Framing>
     ensures { result ≡ framing_of (map plain_field fields.now) }
 {
@@ -30,7 +30,7 @@ pub(crate) fn framing_of(fields: &[Field<'_>]) -> Option<Framing>
     match (length, coding) {
         (Found::Absent, Found::Absent) => Some(Framing::Length(0)),
         (Found::One(digits), Found::Absent) => Some(Framing::Length(short_number(digits)?)),
-        (Found::Absent, Found::One(coding)) if is_same_word(coding, b"chunked") => {
+        (Found::Absent, Found::One(coding)) if coding.eq_ignore_ascii_case(b"chunked") => {
             Some(Framing::Chunked)
         }
         _ => None,

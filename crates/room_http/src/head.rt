@@ -11,7 +11,7 @@ use httparse::{Error, Status};
 use room_streams::Source;
 
 /// The most bytes of a head.
-const HEAD_LIMIT: usize = 16384;
+pub const HEAD_LIMIT: usize = 16_384;
 
 /// What came in the place of a head.
 #[derive(Clone, Copy, Debug)]
@@ -48,9 +48,9 @@ pub(crate) fn read_byte<R: Source>(reader: &mut R) -> Result<Option<u8>, WireFau
     }
 }
 
-/// Reads the head of a request into an empty text, which is then what was taken. The parser is asked where an
-/// empty line has ended behind the first space, since a head has a space and ends so: once for each message,
-/// however many empty lines come before it.
+/// Reads the head of a request into an empty text, which is then what was taken. The parser is
+/// asked where an empty line has ended behind the first space, since a head has a space and ends
+/// so: once for each message, however many empty lines come before it.
 #[tactic(auto, using(crate::proofs::Streams::Yields_more, crate::proofs::Heads::no_head_with_byte, crate::proofs::Heads::whole_head))]
 pub(crate) fn read_head<R: Source>(
     reader: &mut R,

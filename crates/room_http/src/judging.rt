@@ -2,16 +2,14 @@
 ghost use Rattle.std.specs.Prelude.{◌≡◌, ◌≤◌, IfOk, bytes_eq, codes, length, map};
 ghost use Rattle.std.specs.List.{list_any};
 ghost use Rattle.room_http.specs.Fields.{plain_field, values_named};
-ghost use Rattle.room_http.specs.Judging.{FitsLimit, account_of, closes, expects, is_close, is_expectation, is_ipp, is_ipp_type, is_job_part, is_too_long, judged, queue_in, said};
+ghost use Rattle.room_http.specs.Judging.{FitsLimit, account_of, closes, expects, is_close, is_expectation, is_ipp, is_ipp_type, is_job_part, passes_limit, judged, queue_in, said};
 
 use crate::digits::are_digits;
 use crate::fields::{Field, Found, find_field};
 use crate::framing::{BODY_LIMIT, Framing, framing_of};
 use crate::refusal::Refusal;
-use crate::words::{before, is_same_word, lists, without_margin};
-use room_rules::Name;
-
-const QUEUES: &[u8] = b"/ipp/print/";
+use crate::words::{before, lists, without_margin};
+use room_rules::{Name, QUEUES};
 
 /// The head of a request.
 #[derive(Clone, Copy, Debug)]
@@ -36,9 +34,9 @@ pub struct Order {
     pub closes: bool,
 }
 
-/// What the head orders, or the first refusal that applies: `BadRequest` where its fields do not frame a body,
-/// `MethodNotAllowed`, `NotFound` for a path of no queue, `UnsupportedMediaType`, `PayloadTooLarge` for a
-/// Content-Length past `BODY_LIMIT`.
+/// What the head orders, or the first refusal that applies: `BadRequest` where its fields do not
+/// frame a body, `MethodNotAllowed`, `NotFound` for a path of no queue, `UnsupportedMediaType`,
+/// `PayloadTooLarge` for a Content-Length past `BODY_LIMIT`.
 #[tactic(auto, unfolding(crate::specs::Judging::judged))]
 pub fn judge(request: &Request<'_>) -> Result<Order, Refusal>
     ensures value { result ≡ judged (said request.now) }
@@ -56,7 +54,7 @@ pub fn judge(request: &Request<'_>) -> Result<Order, Refusal>
     if !is_ipp(request.fields) {
         return Err(Refusal::UnsupportedMediaType);
     }
-    if framing.is_too_long() {
+    if framing.passes_limit() {
         return Err(Refusal::PayloadTooLarge);
     }
     Ok(Order {
@@ -74,17 +72,12 @@ pub fn is_post(method: &[u8]) -> bool
     method == b"POST".as_slice()
 }
 
-/// The account whose queue the target is: `/ipp/print/NAME`, or `/ipp/print/NAME/` and 1 to 6 digits, up to the
-/// first `?`. None for any other. Nothing is percent-decoded.
+/// The account whose queue the target is: `/ipp/print/NAME`, or `/ipp/print/NAME/` and 1 to 6
+/// digits, up to the first `?`. None for any other. Nothing is percent-decoded.
 pub fn account_of(target: &[u8]) -> Option<Name>
     ensures { result ≡ account_of target.now }
 {
-    let path = before(b'?', target);
-    if path.starts_with(QUEUES) {
-        queue_in(&path[QUEUES.len()..])
-    } else {
-        None
-    }
+    queue_in(before(b'?', target).strip_prefix(QUEUES)?)
 }
 
 /// The name at the front of what stands behind `/ipp/print/`.
@@ -120,20 +113,18 @@ fn is_ipp(fields: &[Field<'_>]) -> bool
     }
 }
 
-/// Whether a value of Content-Type is `application/ipp`, whatever stands behind a `;` (RFC 9110 section 8.3.1).
+/// Whether a value of Content-Type is `application/ipp`, whatever stands behind a `;` (RFC 9110
+/// section 8.3.1).
 pub fn is_ipp_type(value: &[u8]) -> bool
     ensures { result ≡ is_ipp_type value.now }
 {
-    is_same_word(
-        without_margin(b" ", before(b';', value)),
-        b"application/ipp",
-    )
+    without_margin(b" ", before(b';', value)).eq_ignore_ascii_case(b"application/ipp")
 }
 
 impl Framing {
     /// Whether it tells of more bytes than a body may have.
-    fn is_too_long(self) -> bool
-        ensures { result ≡ is_too_long self }
+    fn passes_limit(self) -> bool
+        ensures { result ≡ passes_limit self }
     {
         match self {
             Framing::Length(size) => size > BODY_LIMIT as u64,
@@ -150,8 +141,8 @@ impl Request<'_> {
         self.minor == 1 && has_expectation(self.fields)
     }
 
-    /// Whether the connection ends with the answer: after HTTP/1.0, and where the client says so (RFC 9112
-    /// section 9.6).
+    /// Whether the connection ends with the answer: after HTTP/1.0, and where the client says so
+    /// (RFC 9112 section 9.6).
     fn closes(&self) -> bool
         ensures { result ≡ closes (said self.now) }
     {
@@ -175,7 +166,7 @@ impl Field<'_> {
     fn is_expectation(&self) -> bool
         ensures { result ≡ is_expectation (plain_field self.now) }
     {
-        self.is_named(b"expect") && is_same_word(self.value, b"100-continue")
+        self.is_named(b"expect") && self.value.eq_ignore_ascii_case(b"100-continue")
     }
 
     fn is_close(&self) -> bool

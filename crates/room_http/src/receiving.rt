@@ -23,7 +23,8 @@ use std::alloc::Global;
 /// The most fields of a head.
 const MOST_FIELDS: usize = 64;
 
-/// The fewest bytes of a body: those of a message of IPP up to its request-id (RFC 8010 section 3.1.1).
+/// The fewest bytes of a body: those of a message of IPP up to its request-id (RFC 8010 section
+/// 3.1.1).
 const SHORTEST_BODY: usize = 8;
 
 /// What came in the place of a message.
@@ -45,12 +46,12 @@ pub(crate) enum Opening {
     Ordered(Order),
 }
 
-/// Reads one message and no byte behind it. Where its client waits for the 100 text, that is written between
-/// head and body.
+/// Reads one message and no byte behind it. Where its client waits for the 100 text, that is
+/// written between head and body.
 ///
-/// `Read`, `Write` or `Memory` where that failed; nothing but the 100 text, or a front of it, was written then. Where
-/// it is due, that text is written before anything behind the head is read. However a call ends, it has read at most
-/// `most_taken` bytes.
+/// `Read`, `Write` or `Memory` where that failed; nothing but the 100 text, or a front of it, was
+/// written then. Where it is due, that text is written before anything behind the head is read.
+/// However a call ends, it has read at most `most_taken` bytes.
 pub fn receive<R: Source, W: Sink>(
     alloc: Global,
     reader: &mut R,

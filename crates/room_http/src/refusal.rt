@@ -1,6 +1,7 @@
 //! The refusals of a message, and the status of each.
 
 ghost use Rattle.std.specs.Prelude.{◌≡◌, ◌≤◌, [], length, unwrap_or};
+ghost use Rattle.room_http.specs.Limits.{longest_phrase};
 ghost use Rattle.http.specs.StatusCode.{reason_phrase};
 ghost use Rattle.room_http.specs.Texts.{status_of};
 
@@ -27,7 +28,7 @@ impl Refusal {
     /// The status of its answer (RFC 9110 section 15.5; RFC 6585 section 5 for `HeadTooLarge`).
     pub fn status(self) -> StatusCode
         ensures value { result ≡ status_of self }
-        ensures phrase { length (unwrap_or (reason_phrase result) []) ≤ 31 }
+        ensures phrase { length (unwrap_or (reason_phrase result) []) ≤ longest_phrase }
     {
         match self {
             Refusal::BadRequest => StatusCode::BAD_REQUEST,

@@ -13,11 +13,8 @@ use room_streams::Sink;
 /// The most bytes of the first piece of an answer.
 const FIRST_PIECE: usize = 65536;
 
-/// Room for the head of an answer.
-const HEAD_ROOM: usize = 256;
-
-/// Writes a text whole. A call that failed is not tried again: a front of the text was written then that is not
-/// all of it.
+/// Writes a text whole. A call that failed is not tried again: a front of the text was written then
+/// that is not all of it.
 #[tactic(auto, using(crate::proofs::Streams::Appends_more, crate::proofs::Streams::wrote_more))]
 pub(crate) fn write_all<W: Sink>(writer: &mut W, text: &[u8]) -> Result<(), WireFault>
     requires { W.failures writer.old < 2 ^ 64 - 1 }
@@ -69,8 +66,8 @@ pub fn send_refusal<W: Sink>(writer: &mut W, refusal: Refusal) -> Result<(), Wir
     write_all(writer, text.as_slice())
 }
 
-/// Writes an answer of IPP behind its head: in one piece where they have at most 64 KiB together, and else the
-/// head with the first part of it first. It takes no memory.
+/// Writes an answer of IPP behind its head: in one piece where they have at most 64 KiB together,
+/// and else the head with the first part of it first. It takes no memory.
 pub fn send_answer<W: Sink>(writer: &mut W, answer: &[u8], closes: bool) -> Result<(), WireFault>
     requires { W.failures writer.old < 2 ^ 64 - 1 }
     ensures sent { OnOk result
@@ -97,8 +94,6 @@ fn write_both<W: Sink>(writer: &mut W, first: &[u8], rest: &[u8]) -> Result<(), 
     ensures cause { IfErr result (λ fault. fault ≡ WireFault.Write) }
     ensures count { W.failures writer.new ≡ W.failures writer.old + write_faults result }
 {
-    match write_all(writer, first) {
-        Ok(()) => write_all(writer, rest),
-        Err(fault) => Err(fault),
-    }
+    write_all(writer, first)?;
+    write_all(writer, rest)
 }

@@ -12,12 +12,13 @@ use httparse::spans::{EMPTY_HEADER_SPAN, parse_headers};
 use room_streams::Source;
 
 /// The most bytes of the trailers, the empty line behind them included.
-const TRAILERS_LIMIT: usize = 4096;
+pub const TRAILERS_LIMIT: usize = 4_096;
 
 /// The most fields of the trailers.
 const MOST_TRAILERS: usize = 64;
 
-/// Reads the trailers of a body in chunks, and lets them go. `false` where something else came, or the end.
+/// Reads the trailers of a body in chunks, and lets them go. `false` where something else came, or
+/// the end.
 pub(crate) fn read_trailers<R: Source>(reader: &mut R) -> Result<bool, WireFault>
     requires { R.failures reader.old < 2 ^ 64 - 1 }
     ensures is { IfOk result (TrailersAre (R.left reader.old) (R.left reader.new)) }

@@ -3,13 +3,6 @@ ghost use Rattle.std.specs.Prelude.{◌≡◌, ◌==◌, ◌<◌, ◌≤◌, IfS
 ghost use Rattle.std.specs.List.{list_any, position};
 ghost use Rattle.room_http.specs.Words.{before, is_same_word, lists, without_front, without_margin};
 
-/// Whether two words are the same, in any case.
-pub(crate) fn is_same_word(a: &[u8], b: &[u8]) -> bool
-    ensures { result ≡ is_same_word a.now b.now }
-{
-    a.eq_ignore_ascii_case(b)
-}
-
 /// What stands before the first `mark`, and all where there is none.
 pub(crate) fn before(mark: u8, bytes: &[u8]) -> &[u8]
     ensures value { result.now ≡ before mark bytes.now }
@@ -67,7 +60,5 @@ fn is_in(byte: u8, margin: &[u8]) -> bool
 pub(crate) fn lists(word: &[u8], value: &[u8]) -> bool
     ensures { result ≡ lists word.now value.now }
 {
-    value
-        .split(|b| *b == b',')
-        .any(|item| is_same_word(without_margin(b" \t", item), word))
+    value.split(|b| *b == b',').any(|item| without_margin(b" \t", item).eq_ignore_ascii_case(word))
 }

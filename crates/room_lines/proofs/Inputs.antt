@@ -6,7 +6,7 @@ use Rattle.std.specs.Iterator.{Yields}
 use Rattle.std.proofs.lemmas.List.Splits.{join_with_byte-slice_split, length-slice_split}
 use Rattle.std.specs.List.{AllZip, enumerate_from, join_with_byte, slice_split}
 use Rattle.std.specs.Prelude.{MatchOption, unwrap_or}
-use Rattle.room_lines.specs.Saying.{AreTexts, as_lines}
+use Rattle.room_lines.specs.Saying.{AreTexts, ended_lines}
 use Rattle.room_lines.specs.declared.line.Line.{Line}
 
 abbrev pub is_feed : ℕ → Bool
@@ -16,20 +16,20 @@ is_feed b = b == 10
 abbrev pub texts_of : List ℕ → List (List ℕ)
 texts_of text = slice_split is_feed text
 
-as_lines-join : (texts : List (List ℕ)) → 0 < length texts → as_lines texts ≡ join_with_byte 10 texts ++ 10 ∷ []
-as_lines-join [] some = absurd (omega arith)
-as_lines-join (text ∷ []) some = refl
-as_lines-join (text ∷ next ∷ texts) some =
-    ap (λ l. text ++ 10 ∷ l) (as_lines-join (next ∷ texts) (omega arith)) ∙ sym (append_assoc text (10 ∷ join_with_byte 10 (next ∷ texts)) (10 ∷ []))
+ended_lines-join : (texts : List (List ℕ)) → 0 < length texts → ended_lines texts ≡ join_with_byte 10 texts ++ 10 ∷ []
+ended_lines-join [] some = absurd (omega arith)
+ended_lines-join (text ∷ []) some = refl
+ended_lines-join (text ∷ next ∷ texts) some =
+    ap (λ l. text ++ 10 ∷ l) (ended_lines-join (next ∷ texts) (omega arith)) ∙ sym (append_assoc text (10 ∷ join_with_byte 10 (next ∷ texts)) (10 ∷ []))
 
-as_lines-texts_of : (text : List ℕ) → as_lines (texts_of text) ≡ text ++ 10 ∷ []
-as_lines-texts_of text =
-    as_lines-join (texts_of text) (omega (arith, length-slice_split is_feed text)) ∙ ap (λ l. l ++ 10 ∷ []) (join_with_byte-slice_split 10 text)
+ended_lines-texts_of : (text : List ℕ) → ended_lines (texts_of text) ≡ text ++ 10 ∷ []
+ended_lines-texts_of text =
+    ended_lines-join (texts_of text) (omega (arith, length-slice_split is_feed text)) ∙ ap (λ l. l ++ 10 ∷ []) (join_with_byte-slice_split 10 text)
 
 -- a line feed that ends an input is taken off before it is cut
 pub AreTexts-of : (input : Bor (List ℕ)) (front : Option (Bor (List ℕ))) (None' : Type 0) → MatchOption front None' (λ x. input.now ≡ x.now ++ 10 ∷ []) → AreTexts input.now (texts_of (unwrap_or front input).now)
-AreTexts-of input None none h = inr (sym (as_lines-texts_of input.now))
-AreTexts-of input (Some front) none h = inl (h ∙ sym (as_lines-texts_of front.now))
+AreTexts-of input None none h = inr (sym (ended_lines-texts_of input.now))
+AreTexts-of input (Some front) none h = inl (h ∙ sym (ended_lines-texts_of front.now))
 
 -- `YieldsList-end` with the list last, whose parts the items say
 pub yielded_whole : {S A B : Type 0} {steps : S → Option A → S → Type 0} {v : A → B} {s : S} {all : List B} (xs : List A) (t : S) (y : Yields steps s xs t) (r : Option A) (u : S) → r ≡ None → steps t r u

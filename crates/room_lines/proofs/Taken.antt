@@ -8,7 +8,7 @@ use Rattle.std.proofs.lemmas.List.Elements.{All-cons, All-nil}
 use Rattle.std.proofs.lemmas.List.Sums.{fails_before_first, split_at_first, passes_at_first}
 use Rattle.std.specs.List.{join_with_byte, position, position_or_len, before_first, after_first}
 use Rattle.room_lines.specs.Saying.{AreFields, HasNoSpace, Says, SaysLine, SaysNumber}
-use Rattle.room_lines.specs.Taking.{TakesField, TakesFields, behind}
+use Rattle.room_lines.specs.Taking.{TakesField, TakesFields, space_before}
 use Rattle.room_lines.specs.declared.action.Action.{Action}
 use Rattle.room_lines.specs.declared.line.Line.{Line}
 use Rattle.room_lines.specs.declared.lines.Grammar.{Grammar}
@@ -69,11 +69,11 @@ all_no_space (field ∷ fields) old new taken = All-cons HasNoSpace field fields
 
 joined : (field : List ℕ) (fields : List (List ℕ)) (text : List ℕ) → TakesFields (Some text) None (field ∷ fields) → text ≡ join_with_byte 32 (field ∷ fields)
 joined field [] text (between, taken, ended) =
-    ap (λ old. unwrap_or old []) taken.first ∙ ap (λ rest. field ++ behind rest) ended ∙ append-nil field
+    ap (λ old. unwrap_or old []) taken.first ∙ ap (λ rest. field ++ space_before rest) ended ∙ append-nil field
 joined field (next ∷ fields) text (between, taken, more) =
-    let rest = next ++ behind more.0 in
+    let rest = next ++ space_before more.0 in
     let others = joined next fields rest (subst (λ old. TakesFields old None (next ∷ fields)) more.1.first more) in
-    ap (λ old. unwrap_or old []) taken.first ∙ ap (λ b. field ++ behind b) more.1.first ∙ ap (λ l. field ++ 32 ∷ l) others
+    ap (λ old. unwrap_or old []) taken.first ∙ ap (λ b. field ++ space_before b) more.1.first ∙ ap (λ l. field ++ 32 ∷ l) others
 
 -- fields that were taken, behind which nothing is left, are those of the text
 pub AreFields-taken : (text : List ℕ) (between new : Option (List ℕ)) (field : List ℕ) (fields : List (List ℕ)) → TakesField (Some text) between field

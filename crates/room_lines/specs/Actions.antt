@@ -41,7 +41,7 @@ is_of_operator _ = false
 
 -- ---- the event, with its bytes at this place
 
-abbrev pub event_of : ℕ × ℕ → Action → Event
+abbrev pub event_of : (at : ℕ × ℕ) (action : Action) → Event
 event_of at (action.Open account) = event.Open account
 event_of at (action.Device name on) = event.Device name on
 event_of at (action.Rate name units) = event.Rate name units

@@ -39,7 +39,7 @@ SaysImpressions field (Some impressions) = SaysNumber field impressions
 
 -- ---- what the fields of a line say
 
-abbrev pub Says : List (List ℕ) → Action → Type 0
+abbrev pub Says : (fields : List (List ℕ)) (action : Action) → Type 0
 Says fields (Open account) = fields ≡ codes "open" ∷ account ∷ []
 Says fields (Device name on) =
     (word : List ℕ) × (fields ≡ codes "device" ∷ name ∷ word ∷ [])
@@ -78,7 +78,7 @@ pub record AreFields (text : List ℕ) (fields : List (List ℕ)) : Type 0 where
   pub no_space : All HasNoSpace fields
 
 -- a line of a script begins with its moment, which the others are given
-abbrev pub SaysLine : Grammar → List (List ℕ) → Line → Type 0
+abbrev pub SaysLine : (grammar : Grammar) (fields : List (List ℕ)) (line : Line) → Type 0
 SaysLine Script fields line =
     (moment : List ℕ) × (rest : List (List ℕ)) × (fields ≡ moment ∷ rest)
     × SaysNumber moment line.moment × Says rest line.action
@@ -92,13 +92,13 @@ IsLineOf grammar text line =
 -- ---- what an input says
 
 -- with a line feed behind each
-abbrev pub as_lines : List (List ℕ) → List ℕ
-as_lines [] = []
-as_lines (text ∷ texts) = text ++ 10 ∷ as_lines texts
+abbrev pub ended_lines : List (List ℕ) → List ℕ
+ended_lines [] = []
+ended_lines (text ∷ texts) = text ++ 10 ∷ ended_lines texts
 
 -- the line feed behind the last one may be missing
 abbrev pub AreTexts : (input : List ℕ) (texts : List (List ℕ)) → Type 0
-AreTexts input texts = (input ≡ as_lines texts) ⊎ (input ++ 10 ∷ [] ≡ as_lines texts)
+AreTexts input texts = (input ≡ ended_lines texts) ⊎ (input ++ 10 ∷ [] ≡ ended_lines texts)
 
 -- a line for each text, in order
 abbrev pub AreLinesOf : Grammar → (input : List ℕ) → List Line → Type 0

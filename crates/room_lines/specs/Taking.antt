@@ -8,13 +8,13 @@ abbrev pub left : Fields → Option (List ℕ)
 left fields = option_copied fields.rest
 
 -- a space, where something is left
-abbrev pub behind : Option (List ℕ) → List ℕ
-behind None = []
-behind (Some rest) = 32 ∷ rest
+abbrev pub space_before : Option (List ℕ) → List ℕ
+space_before None = []
+space_before (Some rest) = 32 ∷ rest
 
 -- the first field of what was left
 pub record TakesField (old new : Option (List ℕ)) (field : List ℕ) : Type 0 where
-  pub first : old ≡ Some (field ++ behind new)
+  pub first : old ≡ Some (field ++ space_before new)
   pub no_space : HasNoSpace field
 
 -- so many fields in their order

@@ -1,7 +1,8 @@
-//! The grammar of lines: fields parted by one space, lines ended by a line feed, the last of which may
-//! be missing. Nothing is trimmed, so a carriage return, a tab or a further space makes a line bad.
+//! The grammar of lines: fields parted by one space, lines ended by a line feed, the last of which
+//! may be missing. Nothing is trimmed, so a carriage return, a tab or a further space makes a line
+//! bad.
 ghost use Rattle.std.specs.Prelude.{◌≡◌, ◌==◌, ◌∷◌, ◌≤◌, ◌<◌, None, All, IfOk, IfSome, IsTrue, OnOk, length, position};
-ghost use Rattle.room_rules.specs.Limits.{first_month, last_month};
+ghost use Rattle.room_rules.specs.Limits.{first_month, last_moment, last_month};
 ghost use Rattle.room_lines.specs.Actions.{are_impressions, is_in_range, is_of_operator, is_of_station};
 ghost use Rattle.room_lines.specs.Lines.{IsAllowed};
 ghost use Rattle.room_lines.specs.Saying.{AreLinesOf, IsLineOf, Says, SaysBytes, SaysImpressions, SaysMonth, SaysNumber, SaysPassword, SaysWord};
@@ -26,8 +27,8 @@ pub enum Grammar {
 }
 
 impl Grammar {
-    /// The lines of an input in order, or the number of the first bad line. An input of no bytes has
-    /// no lines.
+    /// The lines of an input in order, or the number of the first bad line. An input of no bytes
+    /// has no lines.
     pub fn read(self, alloc: Global, input: &[u8]) -> Result<Vec<Line>, LineFault>
         ensures allowed { IfOk result (λ lines. All (IsAllowed self) lines.items) }
         ensures said { IfOk result (λ lines. AreLinesOf self input.now lines.items) }
@@ -179,7 +180,7 @@ impl<'a> Fields<'a> {
     }
 
     fn moment(&mut self) -> Result<u64, FieldFault>
-        ensures range { IfOk result (λ moment. moment ≤ 4102444799) }
+        ensures range { IfOk result (λ moment. moment ≤ last_moment) }
         ensures said { IfOk result (λ moment.
             TakesOne (left self.old) (left self.new) (λ field. SaysNumber field moment)) }
     {
@@ -242,10 +243,10 @@ impl<'a> Fields<'a> {
     {
         match self.take()? {
             b"-" => Ok(None),
-            digits => match room_fields::number(digits, 1, MOST_IMPRESSIONS) {
-                Some(impressions) => Ok(Some(impressions)),
-                None => Err(FieldFault::Malformed),
-            },
+            digits => {
+                let impressions = room_fields::number(digits, 1, MOST_IMPRESSIONS);
+                Ok(Some(impressions.ok_or(FieldFault::Malformed)?))
+            }
         }
     }
 }

@@ -1,17 +1,12 @@
 //! What the program prints for each event, with no memory taken.
-ghost use Rattle.std.specs.Prelude.{◌≤◌, ◌*◌, length};
 
 use room_core::{Part, Reply};
+use room_fields::print_hex;
 use std::io;
 use std::io::Write;
 
-// How many bytes are turned into digits at once.
-const CHUNK: usize = 512;
-
-const DIGITS: usize = 2 * CHUNK;
-
-/// Writes what was answered to an event as a line, and of each document its line and a line of its bytes; of an
-/// event that failed, which has no answer, the line `failed`.
+/// Writes what was answered to an event as a line, and of each document its line and a line of its
+/// bytes; of an event that failed, which has no answer, the line `failed`.
 pub fn print_answer<W: Write>(output: &mut W, answer: Option<&Reply>) -> io::Result<()> {
     match answer {
         Some(Reply::Ipp(message)) => {
@@ -35,20 +30,4 @@ fn print_parts<W: Write>(output: &mut W, parts: &[Part]) -> io::Result<()> {
         output.write_all(b"\n")?;
     }
     Ok(())
-}
-
-fn print_hex<W: Write>(output: &mut W, bytes: &[u8]) -> io::Result<()> {
-    for chunk in bytes.chunks(CHUNK) {
-        print_chunk(output, chunk)?;
-    }
-    Ok(())
-}
-
-fn print_chunk<W: Write>(output: &mut W, chunk: &[u8]) -> io::Result<()>
-    requires { length chunk.now ≤ CHUNK }
-{
-    let mut buffer = [0; DIGITS];
-    let digits = &mut buffer[..2 * chunk.len()];
-    hex::encode_to_slice(chunk, digits).unwrap();
-    output.write_all(digits)
 }

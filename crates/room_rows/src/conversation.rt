@@ -1,12 +1,11 @@
-//! A conversation with the print room: what is handed in, line by line, and what is printed of the answers.
+//! A conversation with the print room: what is handed in, line by line, and what is printed of the
+//! answers.
 
 use crate::fault::RowFault;
+use crate::moment::MOMENT;
 use crate::step::Step;
 use ipp_notation::{explain, spell};
 use std::alloc::{AllocError, Global};
-
-/// The moment of a line that names none, in seconds since 1970-01-01T00:00:00Z.
-const MOMENT: &str = "1788220800";
 
 /// Two open accounts and a device that is on.
 const OPENED: [&str; 6] = [
@@ -35,10 +34,11 @@ pub struct Conversation {
 }
 
 impl Conversation {
-    /// That of the lines. One that begins with `> ` begins a line of a script, or a step of its own, and `> N times `
-    /// so many of them; one with `< ` begins a line of the output. The lines under each spell the message that goes
-    /// on it. `opened` stands for `OPENED`; `reopened` says that the conversation is also one with a file that is
-    /// closed and opened again between any two lines; an empty line, and one that begins with `-- `, say nothing.
+    /// That of the lines. One that begins with `> ` begins a line of a script, or a step of its
+    /// own, and `> N times ` so many of them; one with `< ` begins a line of the output. The lines
+    /// under each spell the message that goes on it. `opened` stands for `OPENED`; `reopened` says
+    /// that the conversation is also one with a file that is closed and opened again between any
+    /// two lines; an empty line, and one that begins with `-- `, say nothing.
     pub fn read(alloc: Global, lines: &str) -> Result<Conversation, RowFault> {
         let mut talk = Conversation {
             asked: Vec::new(alloc),
@@ -100,8 +100,8 @@ impl Conversation {
         };
         let mut text = String::new(alloc);
         if !asked.starts_with(|c: char| c.is_ascii_digit()) && !Step::is_of_its_own(asked) {
-            text.push_str(MOMENT)?;
-            text.push_str(" ")?;
+            let moment = format!(in alloc; "{MOMENT} ")?;
+            text.push_str(moment.as_str())?;
         }
         add_words(&mut text, asked)?;
         self.asked.push(Asked { times, text })?;
@@ -134,7 +134,8 @@ impl Conversation {
         Ok(Some(script))
     }
 
-    /// The conversation that is read of what `explain` prints of its lines: the same one, if both have one notation.
+    /// The conversation that is read of what `explain` prints of its lines: the same one, if both
+    /// have one notation.
     pub fn explained(&self, alloc: Global) -> Result<Conversation, RowFault> {
         let mut lines = String::new(alloc);
         for asked in self.asked.as_slice() {
@@ -174,8 +175,8 @@ fn add_words(text: &mut String, line: &str) -> Result<(), AllocError> {
     Ok(())
 }
 
-/// Adds what `explain` prints of the text. What it prints of a message stands behind two spaces, and each other line gets
-/// the mark before it.
+/// Adds what `explain` prints of the text. What it prints of a message stands behind two spaces,
+/// and each other line gets the mark before it.
 fn add_explained(
     alloc: Global,
     lines: &mut String,

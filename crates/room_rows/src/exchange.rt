@@ -1,21 +1,22 @@
 //! An exchange over one connection of HTTP, in a notation that a person can read:
 //!
-//! - `> TEXT` is sent with CR LF behind it, and `< TEXT` is written so. The lines under each spell further bytes
+//! - `> TEXT` is sent with CR LF behind it, and `< TEXT` is written so. The lines under each spell
+//! further bytes
 //!   (`ipp_notation` says how).
-//! - `= END` ends what one call of `serve_one` reads and writes, and says what it answers; `= END N times` says that
+//! - `= END` ends what one call of `serve_one` reads and writes, and says what it answers; `= END N
+//! times` says that
 //!   this comes so often.
-//! - `refused STATUS PHRASE` is what is written of a refusal, and the end of the call that answers `close`.
+//! - `refused STATUS PHRASE` is what is written of a refusal, and the end of the call that answers
+//! `close`.
 //! - `at MOMENT` is the moment of the calls.
 //! - `failing` says that the exchange is also one over connections of which a call fails.
 //!
 //! An empty line, and one that begins with `-- `, say nothing.
 
 use crate::fault::RowFault;
+use crate::moment::MOMENT;
 use ipp_notation::spell;
 use std::alloc::{AllocError, Global};
-
-/// The moment of calls where none is named, in seconds since 1970-01-01T00:00:00Z.
-const MOMENT: u64 = 1_788_220_800;
 
 /// How a call ends on a connection that has ended: it reads and writes nothing.
 pub const ENDED: &str = "ended";
@@ -193,8 +194,8 @@ pub fn told(alloc: Global, ends: &[&str], left: usize, written: &[u8]) -> Result
     Ok(text)
 }
 
-/// Adds bytes as a text: line feeds and what is printed of ASCII but for the backslash as they are, each other byte by
-/// its number.
+/// Adds bytes as a text: line feeds and what is printed of ASCII but for the backslash as they are,
+/// each other byte by its number.
 fn push_legible(alloc: Global, text: &mut String, bytes: &[u8]) -> Result<(), RowFault> {
     for byte in bytes {
         match *byte {

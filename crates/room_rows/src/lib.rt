@@ -1,6 +1,7 @@
-//! Conversations with the print room, exchanges over HTTP and runs of the program in a notation that a person can read,
-//! the machine in memory that conversations are held against, the rows that stand for its rooms, and what an event
-//! reaches. Tests over rooms, over tables, over HTTP and of the program share them.
+//! Conversations with the print room, exchanges over HTTP and runs of the program in a notation
+//! that a person can read, the machine in memory that conversations are held against, the rows that
+//! stand for its rooms, and what an event reaches. Tests over rooms, over tables, over HTTP and of
+//! the program share them.
 #![tactic(auto)]
 
 mod comparing;
@@ -10,6 +11,7 @@ mod exchange;
 mod fault;
 mod http;
 mod listing;
+mod moment;
 mod reached;
 mod rooms;
 mod run;

@@ -1,5 +1,5 @@
-//! The rows that stand for a room and for devices in the shared tables, each printed on a line: the table, and the
-//! columns in their order, bytes as digits.
+//! The rows that stand for a room and for devices in the shared tables, each printed on a line: the
+//! table, and the columns in their order, bytes as digits.
 
 use room_core::{Device, FIRST_MONTH, Job, LAST_MONTH, Name, Room, Standing};
 use std::io;

@@ -2,9 +2,10 @@
 
 use crate::fault::RowFault;
 use crate::rooms::Rooms;
-use ipp_coding::{List, read_header, read_message};
+use ipp_coding::{HEADER_LENGTH, List, read_header, read_message};
 use ipp_notation::Operation;
 use room_core::{Event, Job, JobState, LAST_JOB, Name, Part, Reply, Room, read_ask};
+use room_rules::find_device;
 use std::alloc::Global;
 
 /// The attribute that has the word of a refusal (RFC 8011 section 4.1.6.2).
@@ -59,21 +60,21 @@ impl Act {
     }
 
     fn of_device(name: &'static str, device: Name, rooms: &Rooms) -> Act {
-        let mut is_known = false;
-        for known in rooms.devices() {
-            is_known |= known.name == device;
-        }
         Act {
             name,
             job: 0,
-            state: if is_known { "known" } else { "unknown" },
+            state: if find_device(rooms.devices(), device).is_some() {
+                "known"
+            } else {
+                "unknown"
+            },
             has_password: false,
             is_last: false,
         }
     }
 
-    /// What the act came to, the room being the account's afterwards: `ACT STATE: OUTCOME`, and what else a job that
-    /// was handed out shows.
+    /// What the act came to, the room being the account's afterwards: `ACT STATE: OUTCOME`, and
+    /// what else a job that was handed out shows.
     pub fn reached(
         &self,
         alloc: Global,
@@ -143,7 +144,7 @@ fn operation(body: &[u8]) -> &'static str {
 
 /// The job that a good request acts on.
 fn job_in(alloc: Global, body: &[u8], account: Name) -> u32 {
-    if body.len() < 8 {
+    if body.len() < HEADER_LENGTH {
         return 0;
     }
     match read_ask(alloc, body, account) {
@@ -206,7 +207,8 @@ fn first_word(alloc: Global, text: &[u8]) -> Result<String, RowFault> {
     Ok(String::from_str(alloc, word)?)
 }
 
-/// How many documents were handed out, and of each its line without its numbers: `copies 3, text/plain`.
+/// How many documents were handed out, and of each its line without its numbers: `copies 3,
+/// text/plain`.
 fn add_parts(alloc: Global, names: &mut Vec<String>, parts: &[Part]) -> Result<(), RowFault> {
     let count = parts.len();
     names.push(format!(in alloc; "handed out: {count} documents")?)?;

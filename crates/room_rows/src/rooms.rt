@@ -31,8 +31,8 @@ impl Rooms {
         }
     }
 
-    /// What is answered to an event at a moment, in seconds since 1970-01-01T00:00:00Z. After a fault
-    /// every room and every device is as before.
+    /// What is answered to an event at a moment, in seconds since 1970-01-01T00:00:00Z. After a
+    /// fault every room and every device is as before.
     pub fn answer(&mut self, now: u64, event: &Event<'_>) -> Result<Reply, CoreFault>
         requires { IsTrue (fits event.now) }
         ensures told { IfOk result

@@ -1,10 +1,8 @@
 //! Runs of the program: their words, what they are given, and how they should end.
 
 use crate::fault::RowFault;
+use crate::moment::MOMENT;
 use std::alloc::{AllocError, Global};
-
-/// The clock's moment where a row says none.
-const NOW: u64 = 1_788_220_800;
 
 /// The runs whose second line is bad, each between two good ones.
 const BAD_LINES: [(&str, &str, &str, &str); 2] = [
@@ -48,8 +46,8 @@ pub struct Run {
 }
 
 impl Run {
-    /// The run that a line begins: `$ WORDS` is one of the words, `script ? LINE` and `station ? LINE` are one with this
-    /// bad line.
+    /// The run that a line begins: `$ WORDS` is one of the words, `script ? LINE` and `station ?
+    /// LINE` are one with this bad line.
     pub(crate) fn begun(alloc: Global, line: &str) -> Result<Option<Run>, RowFault> {
         if line == "$" {
             return Ok(Some(Run::new(alloc, "")?));
@@ -70,7 +68,7 @@ impl Run {
         let words = unescaped(alloc, words)?;
         Ok(Run {
             words: String::from_utf8(words).map_err(|_| RowFault::Text)?,
-            clock: Some(NOW),
+            clock: Some(MOMENT),
             input: Vec::new(alloc),
             printed: Printed::Whole(Vec::new(alloc)),
             status: 0,
@@ -93,8 +91,10 @@ impl Run {
     ///
     /// - `clock MOMENT`, or `clock none`;
     /// - `> TEXT` is a line of its input, `>. TEXT` one without its end, `* N TEXT` so many;
-    /// - `< TEXT` is a line that it prints, and `<~ TEXT` a text that stands somewhere in what it prints;
-    /// - `status N TEXT` is its exit status and the line on standard error, `usage` the status 1 and any text.
+    /// - `< TEXT` is a line that it prints, and `<~ TEXT` a text that stands somewhere in what it
+    /// prints;
+    /// - `status N TEXT` is its exit status and the line on standard error, `usage` the status 1
+    /// and any text.
     pub(crate) fn add(&mut self, alloc: Global, line: &str) -> Result<bool, RowFault> {
         if let Some(clock) = line.strip_prefix("clock ") {
             self.clock = if clock == "none" {
@@ -203,7 +203,8 @@ impl Run {
     }
 }
 
-/// The bytes that a text stands for, in which a backslash, an x and two hexadecimal digits stand for a byte.
+/// The bytes that a text stands for, in which a backslash, an x and two hexadecimal digits stand
+/// for a byte.
 fn unescaped(alloc: Global, text: &str) -> Result<Vec<u8>, RowFault> {
     let mut pieces = text.split("\\x");
     let mut bytes = Vec::new(alloc);

@@ -1,4 +1,5 @@
-//! Rows of runs: one run of the program after another, and between them what is done to a file by hand.
+//! Rows of runs: one run of the program after another, and between them what is done to a file by
+//! hand.
 
 use crate::fault::RowFault;
 use crate::run::Run;
@@ -16,8 +17,8 @@ pub enum RunStep {
 pub enum FileStep {
     /// `sql TEXT`: a statement is run on the file, which is made where there is none.
     Sql(String),
-    /// `stopped LINE`: a store over the file is given the line of a script, as by a program that is stopped before it
-    /// closes the file.
+    /// `stopped LINE`: a store over the file is given the line of a script, as by a program that is
+    /// stopped before it closes the file.
     Stopped(Vec<Line>),
     /// `text TEXT`: a file of this text is made.
     Text(String),
@@ -57,8 +58,9 @@ impl FileStep {
     }
 }
 
-/// The steps of a row. A line begins a run (`Run::begun`), says something of the run before it (`Run::add`), or is a step
-/// of the file. An empty line, and one that begins with `-- `, say nothing.
+/// The steps of a row. A line begins a run (`Run::begun`), says something of the run before it
+/// (`Run::add`), or is a step of the file. An empty line, and one that begins with `-- `, say
+/// nothing.
 pub fn run_steps(alloc: Global, lines: &str) -> Result<Vec<RunStep>, RowFault> {
     let mut steps = Vec::new(alloc);
     for line in lines.lines() {

@@ -1,5 +1,5 @@
-//! What comes to a process that serves everybody, and what it sends: the lines of stations and operators with their
-//! answers, and messages of HTTP that tell what was answered.
+//! What comes to a process that serves everybody, and what it sends: the lines of stations and
+//! operators with their answers, and messages of HTTP that tell what was answered.
 
 use crate::fault::RowFault;
 use crate::listing::{print_begin, print_hex, print_name};
@@ -9,8 +9,8 @@ use std::alloc::Global;
 use std::io;
 use std::io::Write;
 
-/// The line of a station or an operator that asks for the action, with the line feed that ends it and without a moment. A
-/// message of IPP has no line: it answers `RowFault::Line`.
+/// The line of a station or an operator that asks for the action, with the line feed that ends it
+/// and without a moment. A message of IPP has no line: it answers `RowFault::Line`.
 pub fn line_text(alloc: Global, action: &Action) -> Result<Vec<u8>, RowFault> {
     let mut text = Vec::new(alloc);
     put_action(&mut text, action)?;
@@ -97,8 +97,8 @@ fn put_impressions(text: &mut Vec<u8>, impressions: Option<u32>) -> io::Result<(
     }
 }
 
-/// What a connection of lines is sent for a line that came to the reply: what a script prints of it, but for documents the
-/// number of them, and of each its line and then its bytes as they are.
+/// What a connection of lines is sent for a line that came to the reply: what a script prints of
+/// it, but for documents the number of them, and of each its line and then its bytes as they are.
 pub fn line_answer(alloc: Global, reply: &Reply) -> Result<Vec<u8>, RowFault> {
     let mut text = Vec::new(alloc);
     match reply {
@@ -119,9 +119,9 @@ fn put_documents(text: &mut Vec<u8>, parts: &[Part]) -> io::Result<()> {
     Ok(())
 }
 
-/// The message of HTTP that tells a request's reply to a connection that is served beside all others. Where `closes`, it
-/// says that the connection ends behind it. Unlike `http_answer`'s, the names of its fields are in lower case, and a refusal
-/// does not by itself end the connection.
+/// The message of HTTP that tells a request's reply to a connection that is served beside all
+/// others. Where `closes`, it says that the connection ends behind it. Unlike `http_answer`'s, the
+/// names of its fields are in lower case, and a refusal does not by itself end the connection.
 pub fn served_answer(alloc: Global, reply: &Reply, closes: bool) -> Result<Vec<u8>, RowFault> {
     let (status, kind, body) = match reply {
         Reply::Ipp(answer) => (

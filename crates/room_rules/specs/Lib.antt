@@ -4,6 +4,7 @@ pub mod NameCells
 pub mod Limits
 pub mod JobStates
 pub mod Standings
+pub mod QueuePaths
 pub mod Quota
 pub mod Acts
 pub mod Effects

@@ -5,7 +5,7 @@ use Rattle.room_rules.specs.declared.job.JobState.{JobState}
 use Rattle.room_rules.specs.declared.job.JobState.TheVariants.{Held, Pending, Processing, Canceled, Aborted, Completed}
 use Rattle.room_rules.specs.declared.job.Standing.{Standing}
 use Rattle.room_rules.specs.Names.{IsNameOrNone}
-use Rattle.room_rules.specs.Limits.{most_copies, most_impressions, most_rate, most_documents, IsMoment}
+use Rattle.room_rules.specs.Limits.{most_copies, most_impressions, most_rate, most_documents, most_need, IsMoment}
 
 -- nothing is charged before the job ends, and there is no moment of ending
 pub record IsUnfinished (s : Standing) : Type 0 where
@@ -17,7 +17,7 @@ pub record IsReleased (s : Standing) : Type 0 where
   pub unfinished : IsUnfinished s
   pub is_closed : s.is_open ≡ false
   pub has_document : 1 ≤ s.documents
-  pub reserves_at_most : s.reserved ≤ most_impressions * most_copies * most_rate
+  pub reserves_at_most : s.reserved ≤ most_need
 
 pub record IsHeld (s : Standing) : Type 0 where
   pub unfinished : IsUnfinished s

@@ -8,7 +8,7 @@ use Rattle.room_rules.specs.declared.refusal.Refusal.{Refusal}
 use Rattle.room_rules.specs.declared.refusal.Word.TheVariants.{Quota}
 use Rattle.room_rules.specs.Effects.{refused}
 use Rattle.room_rules.specs.JobStates.{has_ended, is_released}
-use Rattle.room_rules.specs.Limits.{most_impressions, most_copies, most_rate}
+use Rattle.room_rules.specs.Limits.{most_impressions, most_rate, most_need}
 use Rattle.room_rules.specs.Moves.{move}
 use Rattle.room_rules.specs.Quota.{exceeds}
 use Rattle.room_rules.specs.Standings.{IsStanding}
@@ -81,19 +81,20 @@ StartsAloneProcess = (act : Act) (s next : Standing) → move act s ≡ Ok next
     → next.state ≡ Processing → (s.state ≡ Processing) ⊎ IsStart act
 
 -- a job as it was released, where what that reserves is left
-abbrev pub within_quota : Standing → ℤ → Result Standing Refusal
+abbrev pub within_quota : (released : Standing) (left : ℤ) → Result Standing Refusal
 within_quota released left =
     if exceeds released.reserved left then refused (Quota released.reserved left) else Ok released
 
 -- a release by the act is refused for the quota where it would reserve more than what is left, and
 -- else stays as it is
-abbrev pub kept_to_quota : JobState → ℤ → Result Standing Refusal → Result Standing Refusal
+abbrev pub kept_to_quota : (before : JobState) (left : ℤ) (asked : Result Standing Refusal)
+    → Result Standing Refusal
 kept_to_quota before left (Err refusal) = Err refusal
 kept_to_quota before left (Ok next) = if is_released before then Ok next else within_quota next left
 
 -- so many units refuse no release
 abbrev pub RefusesNothing : ℤ → Type 0
-RefusesNothing enough = pos (most_impressions * most_copies * most_rate) ≤ℤ enough
+RefusesNothing enough = pos most_need ≤ℤ enough
 
 -- the quota is the last that a release is refused for
 pub record QuotaComesLast : Type 0 where

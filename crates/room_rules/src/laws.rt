@@ -45,9 +45,9 @@ pub fn starts_alone_process()
     ensures { StartsAloneProcess }
 {}
 
-/// A release is refused for the quota last of all: asked with the units that are left it answers what it
-/// answers where enough is left, but for the quota itself. So the units that are left need to be known
-/// only where a release would else succeed.
+/// A release is refused for the quota last of all: asked with the units that are left it answers
+/// what it answers where enough is left, but for the quota itself. So the units that are left need
+/// to be known only where a release would else succeed.
 #[tactic(auto, using(crate::proofs::QuotaLemmas::quota_is_last))]
 pub fn quota_comes_last()
     ensures { QuotaComesLast }

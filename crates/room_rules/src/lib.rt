@@ -12,6 +12,7 @@ mod laws;
 mod limits;
 mod month;
 mod name;
+mod queues;
 mod quota;
 mod ranges;
 mod refusal;
@@ -30,9 +31,10 @@ pub use laws::{
 pub use limits::{
     FIRST_MONTH, GREATEST_INTEGER, LAST_JOB, LAST_MOMENT, LAST_MONTH, LONGEST_DOCUMENT,
     LONGEST_JOB_NAME, LONGEST_PASSWORD, LONGEST_URI, MOST_COPIES, MOST_DOCUMENTS, MOST_IMPRESSIONS,
-    MOST_PAGES, MOST_RATE, MOST_UNFINISHED, may_be_job,
+    MOST_PAGES, MOST_RATE, MOST_UNFINISHED, MOST_UNITS, may_be_job,
 };
 pub use month::month_of;
 pub use name::Name;
+pub use queues::QUEUES;
 pub use quota::{ENOUGH_LEFT, left, within_quota};
 pub use refusal::{Refusal, Word};

@@ -4,21 +4,21 @@ ghost use Rattle.std.specs.Prelude.{◌≡◌, Some, None, IsTrue, if◌then◌e
 ghost use Rattle.std.specs.List.{list_all};
 ghost use Rattle.room_rules.specs.Names.{is_letter, is_name_byte, is_name};
 
+use crate::limits::LONGEST_NAME;
 use std::marker::Model;
-
-const LONGEST: usize = 32;
 
 /// The name of an account or a device: 1 to 32 bytes of `a` to `z`, `0` to `9` and `-`, the first
 /// of them a letter.
 #[derive(Clone, Copy, Debug, PartialEq, Eq, PartialOrd, Ord)]
 pub struct Name {
     size: u8,
-    cells: [u8; LONGEST],
+    cells: [u8; LONGEST_NAME],
 }
 
 impl Model for Name {
     ghost use Rattle.std.specs.Prelude.{◌≡◌, ℕ, ◌≤◌, List, length, take, IsTrue};
     ghost use Rattle.std.proofs.Common.{sym};
+    ghost use Rattle.room_rules.specs.Limits.{longest_name};
     ghost use Rattle.room_rules.specs.Names.{is_name};
     ghost use Rattle.room_rules.specs.NameCells.{cells_of};
 
@@ -27,7 +27,7 @@ impl Model for Name {
     ghost view = { λ n. take n.size n.cells };
 
     ghost invariant = { λ n.
-        (n.size ≤ 32)
+        (n.size ≤ longest_name)
         × (length (take n.size n.cells) ≡ n.size)
         × (n.cells ≡ cells_of (take n.size n.cells))
         × IsTrue (is_name (take n.size n.cells)) };
@@ -48,7 +48,7 @@ impl Name {
         if !is_name(b) {
             return None;
         }
-        let mut cells = [0; LONGEST];
+        let mut cells = [0; LONGEST_NAME];
         cells[..b.len()].copy_from_slice(b);
         Some(Name {
             size: b.len() as u8,
@@ -68,7 +68,7 @@ impl Name {
 fn is_name(bytes: &[u8]) -> bool
     ensures { result ≡ is_name bytes.now }
 {
-    if bytes.is_empty() || LONGEST < bytes.len() {
+    if bytes.is_empty() || LONGEST_NAME < bytes.len() {
         return false;
     }
     is_letter(bytes[0]) && are_name_bytes(bytes)

@@ -2,7 +2,7 @@
 -- project's own).
 use Rattle.std.specs.Prelude.{List, [], ◌∷◌, ◌++◌, Option, if◌then◌else◌}
 use Rattle.room_core.specs.DeviceEvents.{device_answered}
-use Rattle.room_core.specs.Machine.{answered}
+use Rattle.room_core.specs.Machine.{Answer, answered}
 use Rattle.room_core.specs.declared.event.Reply.{Reply}
 use Rattle.room_rules.specs.Devices.{Devices}
 use Rattle.room_state.specs.Rooms.{RoomValue}
@@ -16,18 +16,20 @@ pub record Alone : Type 0 where
   pub room : Option RoomValue
   pub devices : Devices
 
+-- one reply more, and the room as the answer leaves it
+abbrev pub with_answer : (so_far : Alone) (answer : Answer) → Alone
+with_answer so_far answer = record {
+  replies = so_far.replies ++ answer.reply ∷ [];
+  room = answer.room;
+  devices = so_far.devices;
+}
+
 -- an event of a device changes the devices, any other is answered to the account
 abbrev pub answer_next : Alone → Timed → Alone
 answer_next so_far e =
-    if is_of_device e.1 then record {
-      replies = so_far.replies;
-      room = so_far.room;
-      devices = (device_answered so_far.devices e.1).devices;
-    } else record {
-      replies = so_far.replies ++ (answered so_far.room so_far.devices e.0 e.1).reply ∷ [];
-      room = (answered so_far.room so_far.devices e.0 e.1).room;
-      devices = so_far.devices;
-    }
+    if is_of_device e.1
+    then record so_far { devices = (device_answered so_far.devices e.1).devices }
+    else with_answer so_far (answered so_far.room so_far.devices e.0 e.1)
 
 abbrev pub answer_on : Alone → List Timed → Alone
 answer_on so_far [] = so_far

@@ -34,20 +34,20 @@ use Rattle.room_serve.specs.declared.wire.After.TheVariants.{Again, Close}
 
 -- ---- what is told
 
-abbrev pub internal_error : List ℕ → Bool → List ℕ
-internal_error body closes = answer_text (internal_error_text (header_in body)) closes
+abbrev pub internal_error_answer : (body : List ℕ) (closes : Bool) → List ℕ
+internal_error_answer body closes = answer_text (internal_error_text (header_in body)) closes
 
 -- the answer, 404 where the account is not open, and internal-error for any fault of the store
-abbrev pub text_told : List ℕ → Bool → Result Reply StoreFault → List ℕ
+abbrev pub text_told : (body : List ℕ) (closes : Bool) (told : Result Reply StoreFault) → List ℕ
 text_told body closes (Ok (reply_is.Ipp answer)) = answer_text answer closes
 text_told body closes (Ok reply_is.NoAccount) = refusal_text NotFound
-text_told body closes (Ok other) = internal_error body closes
-text_told body closes (Err fault) = internal_error body closes
+text_told body closes (Ok other) = internal_error_answer body closes
+text_told body closes (Err fault) = internal_error_answer body closes
 
 abbrev pub after_answer : Bool → After
 after_answer closes = if closes then Close else Again
 
-abbrev pub after_telling : Bool → Result Reply StoreFault → After
+abbrev pub after_telling : (closes : Bool) (told : Result Reply StoreFault) → After
 after_telling closes (Ok reply_is.NoAccount) = Close
 after_telling closes (Ok other) = after_answer closes
 after_telling closes (Err fault) = after_answer closes
@@ -117,11 +117,11 @@ module _ {S : Type 0} (store : Ghosts S) (now : ℕ) (before after : List ℕ �
         → IsBroken
 
   -- nothing of the message was applied, and nothing or the 100 text was written
-  abbrev pub IsUnfinished : Type 0
-  IsUnfinished = ((interim : Bool) × Appends given given2 (interim_text interim)) × (new ≡ old)
+  abbrev pub AppliesNothing : Type 0
+  AppliesNothing = ((interim : Bool) × Appends given given2 (interim_text interim)) × (new ≡ old)
 
   abbrev pub Breaks : WireFault → Type 0
-  Breaks Read = IsUnfinished
-  Breaks Memory = IsUnfinished
+  Breaks Read = AppliesNothing
+  Breaks Memory = AppliesNothing
   Breaks Write = IsBroken
   Breaks Ended = ⊥

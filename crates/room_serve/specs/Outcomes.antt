@@ -29,12 +29,13 @@ failed_of (e ∷ events) (Failed fault ∷ outcomes) = e ∷ failed_of events ou
 failed_of _ _ = []
 
 -- what was answered to the events of a kind, in order
-abbrev pub replies_to : (Event → Bool) → List Timed → List Outcome → List Reply
+abbrev pub replies_to : (kind : Event → Bool) (events : List Timed) (outcomes : List Outcome)
+    → List Reply
 replies_to kind (e ∷ events) (Answered reply ∷ outcomes) =
     if kind e.1 then reply ∷ replies_to kind events outcomes else replies_to kind events outcomes
 replies_to kind (e ∷ events) (Failed fault ∷ outcomes) = replies_to kind events outcomes
 replies_to kind _ _ = []
 
 -- of the account's own events and those of devices, none failed
-abbrev pub NoneFailed : List ℕ → List Timed → List Outcome → Type 0
+abbrev pub NoneFailed : (name : List ℕ) (events : List Timed) (outcomes : List Outcome) → Type 0
 NoneFailed name events outcomes = own name (failed_of events outcomes) ≡ []

@@ -8,7 +8,7 @@ abbrev pub Timed : Type 0
 Timed = ℕ × Event
 
 -- it names this account
-abbrev pub is_of : List ℕ → Event → Bool
+abbrev pub is_of : (name : List ℕ) (e : Event) → Bool
 is_of name (event.Open account) = bytes_eq account name
 is_of name (event.Ipp account body) = bytes_eq account name
 is_of name (event.Release device account job password impressions) = bytes_eq account name
@@ -25,7 +25,7 @@ is_of_device (event.Rate device units) = true
 is_of_device _ = false
 
 -- the events that name the account and those of devices, in order, with their moments
-abbrev pub own : List ℕ → List Timed → List Timed
+abbrev pub own : (name : List ℕ) (events : List Timed) → List Timed
 own name events = filter (λ (e : Timed). is_of name e.1 || is_of_device e.1) events
 
 -- those of devices alone

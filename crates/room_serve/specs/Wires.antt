@@ -9,5 +9,5 @@ abbrev pub writer_of : {R W : Type 0} → Wire R W → W
 writer_of wire = wire.writer
 
 -- after Close, or any fault
-abbrev pub has_ended : {R W : Type 0} → Wire R W → Bool
-has_ended wire = wire.has_ended
+abbrev pub wire_has_ended : {R W : Type 0} → Wire R W → Bool
+wire_has_ended wire = wire.has_ended

@@ -2,11 +2,12 @@
 ghost use Rattle.std.specs.Prelude.{◌≡◌, ◌↔◌, ◌+◌, ◌-◌, ◌^◌, ◌<◌, ◌≤◌, true, false, Err, IfErr, IfOk, IsErr, OnErr, OnOk, Ok, Result, length};
 ghost use Rattle.std.specs.Io.KnownBytes.{Appends};
 ghost use Rattle.sqlite.specs.Held.{state};
+ghost use Rattle.ipp_coding.specs.Limits.{header_length};
 ghost use Rattle.room_core.specs.declared.event.Reply.{Reply as ToldReply};
 ghost use Rattle.room_http.specs.Exchange.{AppendsFront, TakesAtMost, most_taken, read_faults, write_faults};
 ghost use Rattle.room_store.specs.declared.fault.StoreFault.{StoreFault as ToldFault};
-ghost use Rattle.room_serve.specs.Exchanges.{Answers, Applies, Breaks, after_answer, after_telling, internal_error, text_told};
-ghost use Rattle.room_serve.specs.Wires.{has_ended, reader_of, writer_of};
+ghost use Rattle.room_serve.specs.Exchanges.{Answers, Applies, Breaks, after_answer, after_telling, internal_error_answer, text_told};
+ghost use Rattle.room_serve.specs.Wires.{wire_has_ended, reader_of, writer_of};
 ghost use Rattle.room_tables.specs.Calls.{Goes};
 
 use crate::wire::{After, Wire};
@@ -18,31 +19,34 @@ use room_streams::{Sink, Source};
 use sqlite::Alter;
 use std::alloc::Global;
 
-/// Reads one message and writes its answer, at the moment `now` in seconds from 1970; no byte behind the message is
-/// read. The message is one event of the account in its path; a fault of the store is told as internal-error.
+/// Reads one message and writes its answer, at the moment `now` in seconds from 1970; no byte
+/// behind the message is read. The message is one event of the account in its path; a fault of the
+/// store is told as internal-error.
 ///
-/// `Read`, `Write` and `Memory` end the connection, as `Close` does: every later call answers `Ended`, and reads and
-/// writes nothing. However a call ends, it has read at most `most_taken` bytes. From the event on no memory is taken
-/// but by the store.
+/// `Read`, `Write` and `Memory` end the connection, as `Close` does: every later call answers
+/// `Ended`, and reads and writes nothing. However a call ends, it has read at most `most_taken`
+/// bytes. From the event on no memory is taken but by the store.
 pub fn serve_one<S: Alter, R: Source, W: Sink>(
     alloc: Global,
     store: &mut Store<S>,
     now: u64,
     wire: &mut Wire<R, W>,
 ) -> Result<After, WireFault>
-    requires reads { has_ended wire.old ≡ false → R.failures (reader_of wire.old) < 2 ^ 64 - 1 }
-    requires writes { has_ended wire.old ≡ false → W.failures (writer_of wire.old) < 2 ^ 64 - 1 }
+    requires reads { wire_has_ended wire.old ≡ false
+        → R.failures (reader_of wire.old) < 2 ^ 64 - 1 }
+    requires writes { wire_has_ended wire.old ≡ false
+        → W.failures (writer_of wire.old) < 2 ^ 64 - 1 }
     ensures exchange { IfOk result
         (Answers S.Store now (R.left (reader_of wire.old)) (R.left (reader_of wire.new))
         (W.given (writer_of wire.old)) (W.given (writer_of wire.new)) store.old store.new) }
-    ensures fault { has_ended wire.old ≡ false → IfErr result (Breaks S.Store now
+    ensures fault { wire_has_ended wire.old ≡ false → IfErr result (Breaks S.Store now
         (R.left (reader_of wire.old)) (R.left (reader_of wire.new))
         (W.given (writer_of wire.old)) (W.given (writer_of wire.new)) store.old store.new) }
     ensures bounded { TakesAtMost most_taken (R.left (reader_of wire.old))
         (R.left (reader_of wire.new)) }
-    ensures ended { has_ended wire.old ≡ true
+    ensures ended { wire_has_ended wire.old ≡ true
         → (result ≡ Err WireFault.Ended) × (wire.new ≡ wire.old) × (store.new ≡ store.old) }
-    ensures goes_on { has_ended wire.new ≡ false ↔ (result ≡ Ok After.Again) }
+    ensures goes_on { wire_has_ended wire.new ≡ false ↔ (result ≡ Ok After.Again) }
     ensures reads { R.failures (reader_of wire.new)
         ≡ R.failures (reader_of wire.old) + read_faults result }
     ensures writes { W.failures (writer_of wire.new)
@@ -100,7 +104,7 @@ fn carry_out<S: Alter, W: Sink>(
     body: &[u8],
 ) -> Result<After, WireFault>
     requires writes { W.failures writer.old < 2 ^ 64 - 1 }
-    requires long { 8 ≤ length body.now }
+    requires long { header_length ≤ length body.now }
     ensures told { IfOk result (λ after. (told : Result ToldReply ToldFault)
         × Applies S.Store now order.account body.now store.old store.new told
         × Appends (W.given writer.old) (W.given writer.new) (text_told body.now order.closes told)
@@ -129,7 +133,7 @@ fn tell<W: Sink>(
     closes: bool,
 ) -> Result<After, WireFault>
     requires writes { W.failures writer.old < 2 ^ 64 - 1 }
-    requires long { 8 ≤ length body.now }
+    requires long { header_length ≤ length body.now }
     ensures sent { OnOk result
         (Appends (W.given writer.old) (W.given writer.new) (text_told body.now closes told.now)) }
     ensures front { OnErr result (AppendsFront (W.given writer.old) (W.given writer.new)
@@ -159,11 +163,13 @@ fn tell_internal_error<W: Sink>(
     closes: bool,
 ) -> Result<After, WireFault>
     requires writes { W.failures writer.old < 2 ^ 64 - 1 }
-    requires long { 8 ≤ length body.now }
+    requires long { header_length ≤ length body.now }
     ensures sent { OnOk result
-        (Appends (W.given writer.old) (W.given writer.new) (internal_error body.now closes)) }
+        (Appends (W.given writer.old) (W.given writer.new)
+        (internal_error_answer body.now closes)) }
     ensures front { OnErr result
-        (AppendsFront (W.given writer.old) (W.given writer.new) (internal_error body.now closes)) }
+        (AppendsFront (W.given writer.old) (W.given writer.new)
+        (internal_error_answer body.now closes)) }
     ensures after { IfOk result (λ after. after ≡ after_answer closes) }
     ensures cause { IfErr result (λ fault. fault ≡ WireFault.Write) }
     ensures count { W.failures writer.new ≡ W.failures writer.old + write_faults result }

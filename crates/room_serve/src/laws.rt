@@ -2,16 +2,17 @@
 ghost use Rattle.room_serve.specs.Agreement.{AgreeAgain, HoldTheSame, SameAlone};
 ghost use Rattle.room_serve.specs.Isolation.{Isolation};
 
-/// The headline. Two databases that agree on an account's rows and on the devices', and two lists of events
-/// with the same events of that account and of devices, of which none failed: the account gets the same
-/// answers, byte for byte, and the databases agree again, whatever others asked in between and whatever else
-/// is in the tables.
+/// The headline. Two databases that agree on an account's rows and on the devices', and two lists
+/// of events with the same events of that account and of devices, of which none failed: the account
+/// gets the same answers, byte for byte, and the databases agree again, whatever others asked in
+/// between and whatever else is in the tables.
 pub fn isolation()
     ensures { Isolation }
 {}
 
-/// The account's machine alone gives the same for the same own events; what an account's rows are in one of
-/// two databases that agree, they are in the other; and where they are the same in both, the two agree.
+/// The account's machine alone gives the same for the same own events; what an account's rows are
+/// in one of two databases that agree, they are in the other; and where they are the same in both,
+/// the two agree.
 pub fn agreement()
     ensures alone { SameAlone }
     ensures rows { HoldTheSame }

@@ -1,5 +1,5 @@
-//! Lists of events of many accounts over one store, and what each account may rely on whatever the others
-//! ask; and messages of HTTP, each one event.
+//! Lists of events of many accounts over one store, and what each account may rely on whatever the
+//! others ask; and messages of HTTP, each one event.
 #![tactic(auto)]
 
 mod exchange;

@@ -14,8 +14,8 @@ use room_store::Store;
 use sqlite::Alter;
 use std::alloc::Global;
 
-/// Answers the events in order, each at its moment in seconds from 1970, and tells what each came to. An event
-/// that fails changes nothing, and those after it are answered all the same.
+/// Answers the events in order, each at its moment in seconds from 1970, and tells what each came
+/// to. An event that fails changes nothing, and those after it are answered all the same.
 ///
 /// `Memory` where there is no room for all outcomes, which is asked for before the first event.
 pub fn run_events<S: Alter>(

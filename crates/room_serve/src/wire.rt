@@ -20,13 +20,13 @@ pub enum After {
 }
 
 impl<R, W> Wire<R, W> {
-    ghost use Rattle.room_serve.specs.Wires.{has_ended, reader_of, writer_of};
+    ghost use Rattle.room_serve.specs.Wires.{wire_has_ended, reader_of, writer_of};
 
     /// A connection that goes on. It takes no memory.
     pub fn new(reader: R, writer: W) -> Wire<R, W>
         ensures reader { reader_of result ≡ reader }
         ensures writer { writer_of result ≡ writer }
-        ensures going { has_ended result ≡ false }
+        ensures going { wire_has_ended result ≡ false }
     {
         Wire {
             reader,

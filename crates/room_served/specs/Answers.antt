@@ -29,13 +29,13 @@ abbrev pub answer_fields : Bool → List Field
 answer_fields closes = (codes "content-type", codes "application/ipp") ∷ close_fields closes
 
 -- a refusal of the method names the one that there is (RFC 9110 section 15.5.6)
-abbrev pub refusal_fields : Refusal → Bool → List Field
+abbrev pub refusal_fields : (why : Refusal) (closes : Bool) → List Field
 refusal_fields MethodNotAllowed closes = (codes "allow", codes "POST") ∷ close_fields closes
 refusal_fields _ closes = close_fields closes
 
 -- ---- the responses
 
-abbrev pub IsRefusal : Refusal → Bool → Response → Type 0
+abbrev pub IsRefusal : (why : Refusal) (closes : Bool) (response : Response) → Type 0
 IsRefusal why closes = IsResponse (status_of why) (refusal_fields why closes) []
 
 -- the answer, 404 where the account is not open, and internal-error for any fault of the store

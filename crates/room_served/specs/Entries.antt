@@ -8,7 +8,7 @@ use Rattle.room_served.specs.declared.entry.Entry.{Entry}
 use Rattle.room_served.specs.declared.entry.Entry.TheVariants as entry
 
 -- with its bytes at this place
-abbrev pub event_at : ℕ × ℕ → Entry → Event
+abbrev pub event_at : (at : ℕ × ℕ) (entry : Entry) → Event
 event_at at (entry.Message moment account body) =
     event.Ipp account (record { ref_ptr = at; now = body })
 event_at at (entry.Line line) = event_of at line.action

@@ -6,6 +6,10 @@ use Rattle.room_core.specs.declared.event.Reply.{Reply}
 use Rattle.room_core.specs.declared.event.Reply.TheVariants as reply_is
 use Rattle.room_store.specs.declared.fault.StoreFault.{StoreFault}
 
+-- for a line that is none of its side's
+abbrev pub bad_line_text : List ℕ
+bad_line_text = codes "bad-line\n"
+
 -- a document: its line, its bytes as they are, and a line feed
 abbrev pub part_text : Part → List ℕ
 part_text part = part.line ++ codes "\n" ++ part.bytes ++ codes "\n"

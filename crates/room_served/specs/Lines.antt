@@ -17,7 +17,7 @@ use Rattle.room_served.specs.declared.line_connection.Side.{Side}
 use Rattle.room_served.specs.declared.line_connection.Side.TheVariants.{Station, Operator}
 use Rattle.room_served.specs.declared.served.Served.{Served}
 use Rattle.room_served.specs.Journals.{Applies, journal, moment_of, store_of}
-use Rattle.room_served.specs.LineTexts.{line_text}
+use Rattle.room_served.specs.LineTexts.{bad_line_text, line_text}
 
 -- ---- a connection
 
@@ -32,9 +32,13 @@ input_of connection = connection.input.items
 abbrev pub output_of : LineConnection → List ℕ
 output_of connection = connection.output.items
 
-abbrev pub grammar_of : Side → ℕ → Grammar
+abbrev pub grammar_of : (side : Side) (moment : ℕ) → Grammar
 grammar_of Station moment = grammar_is.Station moment
 grammar_of Operator moment = grammar_is.Operator moment
+
+-- bytes that a line may have, without the line feed that ends it
+abbrev pub longest_line : ℕ
+longest_line = 65536
 
 -- where the first line feed stands
 abbrev pub line_end : List ℕ → Option ℕ
@@ -77,10 +81,10 @@ module _ {S : Type 0} (store : Ghosts S) where
 
   -- a line that is none of its side's
   abbrev pub IsBad : Served S → List ℕ → Served S → Type 0
-  IsBad old text new = (text ≡ codes "bad-line\n") × (new ≡ old)
+  IsBad old text new = (text ≡ bad_line_text) × (new ≡ old)
 
   -- the first line that came is taken, and its answer waits behind the others
-  pub record Takes (before after : LineConnection) (old new : Served S) : Type 0 where
+  pub record TakesLine (before after : LineConnection) (old new : Served S) : Type 0 where
     pub end : ℕ
     pub first : line_end (input_of before) ≡ Some end
     pub rest : input_of after ≡ drop (end + 1) (input_of before)

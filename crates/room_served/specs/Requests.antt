@@ -7,6 +7,7 @@ use Rattle.http.specs.declared.request.Request.{Request}
 use Rattle.http_header.specs.FieldValue.{FieldValue}
 use Rattle.http_header.specs.HeaderMap.{get}
 use Rattle.http_uri.specs.Uri.{uri_path}
+use Rattle.ipp_coding.specs.Limits.{header_length}
 use Rattle.room_http.specs.Judging.{account_of, is_ipp_type}
 use Rattle.room_http.specs.declared.refusal.Refusal.{Refusal}
 use Rattle.room_http.specs.declared.refusal.Refusal.TheVariants.{BadRequest, MethodNotAllowed, NotFound, UnsupportedMediaType}
@@ -19,11 +20,12 @@ is_ipp_value (Some value) = is_ipp_type value.bytes
 abbrev pub has_ipp : Request (List ℕ) → Bool
 has_ipp request = is_ipp_value (get (head_of request).headers (codes "content-type"))
 
-abbrev pub asked_of_queue : Request (List ℕ) → Option (List ℕ) → Result (List ℕ) Refusal
+abbrev pub asked_of_queue : (request : Request (List ℕ)) (account : Option (List ℕ))
+    → Result (List ℕ) Refusal
 asked_of_queue request None = Err NotFound
 asked_of_queue request (Some account) =
     if has_ipp request then (
-    if nat_lt (length (body_of request)) 8 then Err BadRequest else Ok account
+    if nat_lt (length (body_of request)) header_length then Err BadRequest else Ok account
     ) else Err UnsupportedMediaType
 
 -- the account whose queue it is for

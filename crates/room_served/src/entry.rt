@@ -7,7 +7,8 @@ use bytes::Bytes;
 use room_core::{Event, Name};
 use room_lines::Line;
 
-/// What a connection asked of the rooms or the devices, at a moment in seconds since 1970-01-01T00:00:00Z.
+/// What a connection asked of the rooms or the devices, at a moment in seconds since
+/// 1970-01-01T00:00:00Z.
 #[derive(Debug, Drop)]
 pub enum Entry {
     /// A message of IPP for the queue of an account.

@@ -3,9 +3,10 @@ ghost use Rattle.room_served.specs.Journals.{AlwaysRuns};
 
 use sqlite::Alter;
 
-/// What came to the journal, of whichever connection, made of the tables what `run_events` makes of them by the same list of
-/// events: each account is told, and has, what its own machine alone gives for its own events and those of devices. So what
-/// is promised of lists of events, `isolation` among it, holds for everybody who is served.
+/// What came to the journal, of whichever connection, made of the tables what `run_events` makes of
+/// them by the same list of events: each account is told, and has, what its own machine alone gives
+/// for its own events and those of devices. So what is promised of lists of events, `isolation`
+/// among it, holds for everybody who is served.
 pub fn always_runs<S: Alter>()
     ensures { AlwaysRuns S.Store }
 {}

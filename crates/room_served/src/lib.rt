@@ -1,5 +1,5 @@
-//! The rooms as one process serves them to everybody: a service of HTTP, over one store and one journal of all that was
-//! applied to it, of whichever connection.
+//! The rooms as one process serves them to everybody: a service of HTTP, over one store and one
+//! journal of all that was applied to it, of whichever connection.
 #![tactic(auto)]
 
 mod entry;

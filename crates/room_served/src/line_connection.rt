@@ -1,7 +1,8 @@
 //! A connection of lines: what came and is no whole line yet, and answers that wait to go.
-ghost use Rattle.std.specs.Prelude.{◌≡◌, ◌<◌, ◌≤◌, ◌+◌, ◌++◌, [], codes, length, nat_lt, false, true, IfOk, IfSome, OnErr, OnOk, Ok};
+ghost use Rattle.std.specs.Prelude.{◌≡◌, ◌<◌, ◌≤◌, ◌+◌, ◌++◌, [], length, nat_lt, false, true, IfOk, IfSome, OnErr, OnOk, Ok};
+ghost use Rattle.room_served.specs.LineTexts.{bad_line_text};
 ghost use Rattle.room_served.specs.Journals.{Continues};
-ghost use Rattle.room_served.specs.Lines.{Comes, IsEntryOf, IsWaiting, Leaves, Takes, begins_start, grammar_of, input_of, line_end, output_of, side_of};
+ghost use Rattle.room_served.specs.Lines.{Comes, IsEntryOf, IsWaiting, Leaves, TakesLine, begins_start, grammar_of, input_of, line_end, output_of, side_of, longest_line};
 
 use crate::entry::Entry;
 use crate::line_text::{put_bad, put_told};
@@ -41,8 +42,8 @@ impl Side {
     }
 }
 
-/// A connection that carries lines one way and their answers the other. It makes no system call: the caller moves the
-/// bytes.
+/// A connection that carries lines one way and their answers the other. It makes no system call:
+/// the caller moves the bytes.
 #[derive(Drop)]
 pub struct LineConnection {
     pub(crate) alloc: Global,
@@ -78,11 +79,13 @@ impl LineConnection {
         self.input.read_from(reader)
     }
 
-    /// Answers the line at the front of what came, at the moment of what is served: what it asks for is applied, once, or
-    /// it is a bad line, which changes nothing. `Ok(false)` where no line is whole yet. Where memory for an answer was
-    /// refused, the connection has to be closed; the line may have been applied.
+    /// Answers the line at the front of what came, at the moment of what is served: what it asks
+    /// for is applied, once, or it is a bad line, which changes nothing. `Ok(false)` where no line
+    /// is whole yet. Where memory for an answer was refused, the connection has to be closed; the
+    /// line may have been applied.
     pub fn answer<S: Alter>(&mut self, served: &mut Served<S>) -> Result<bool, AllocError>
-        ensures taken { result ≡ Ok true → Takes S.Store self.old self.new served.old served.new }
+        ensures taken { result ≡ Ok true
+            → TakesLine S.Store self.old self.new served.old served.new }
         ensures none { result ≡ Ok false → IsWaiting self.old self.new served.old served.new }
         ensures continues { Continues S.Store served.old served.new }
         ensures side { side_of self.new ≡ side_of self.old }
@@ -102,7 +105,7 @@ impl LineConnection {
 
     /// Whether what came is more than a line may have, and no line yet.
     pub fn is_too_long(&self) -> bool
-        ensures { result ≡ nat_lt 65536 (length (input_of self.now)) }
+        ensures { result ≡ nat_lt longest_line (length (input_of self.now)) }
     {
         self.input.len() > MOST_LINE
     }
@@ -111,7 +114,7 @@ impl LineConnection {
     pub fn refuse_rest(&mut self) -> Result<(), AllocError>
         ensures input { input_of self.new ≡ [] }
         ensures output { OnOk result
-            (output_of self.new ≡ output_of self.old ++ codes "bad-line\n") }
+            (output_of self.new ≡ output_of self.old ++ bad_line_text) }
         ensures side { side_of self.new ≡ side_of self.old }
     {
         self.input.clear();

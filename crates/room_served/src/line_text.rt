@@ -1,6 +1,6 @@
 //! What is sent for a line.
 ghost use Rattle.std.specs.Prelude.{◌≡◌, ◌++◌, codes, OnOk};
-ghost use Rattle.room_served.specs.LineTexts.{line_text, part_text, parts_text};
+ghost use Rattle.room_served.specs.LineTexts.{line_text, part_text, parts_text, bad_line_text};
 
 use crate::shared::shared;
 use bytes::BufMut;
@@ -57,7 +57,7 @@ fn put_part(output: &mut Rope, part: Part) -> Result<(), AllocError>
 
 /// Puts the answer to a bad line behind what waits to go.
 pub(crate) fn put_bad(output: &mut Rope) -> Result<(), AllocError>
-    ensures { OnOk result (output.new.items ≡ output.old.items ++ codes "bad-line\n") }
+    ensures { OnOk result (output.new.items ≡ output.old.items ++ bad_line_text) }
 {
     output.put_slice(b"bad-line\n")
 }

@@ -4,17 +4,16 @@ ghost use Rattle.room_served.specs.Requests.{asked, has_ipp, has_long_body, is_i
 
 use bytes::Bytes;
 use http::{HeaderValue, Request, header};
+use ipp_coding::HEADER_LENGTH;
 use room_core::Name;
 use room_http::{Refusal, account_of, is_ipp_type, is_post};
-
-/// The bytes of the header of a message of IPP (RFC 8010 section 3.1.1).
-const HEADER: usize = 8;
 
 /// A body of more bytes ends the connection, which would keep the room that it took.
 const LONG_BODY: usize = 1_048_576;
 
-/// Whose queue the message in the request is for, or the first refusal that applies: `MethodNotAllowed`, `NotFound` for a
-/// path of no queue, `UnsupportedMediaType`, and `BadRequest` for a body that ends within the header of its message.
+/// Whose queue the message in the request is for, or the first refusal that applies:
+/// `MethodNotAllowed`, `NotFound` for a path of no queue, `UnsupportedMediaType`, and `BadRequest`
+/// for a body that ends within the header of its message.
 pub(crate) fn asked(request: &Request<Bytes>) -> Result<Name, Refusal>
     ensures { result ≡ asked request.now }
 {
@@ -27,7 +26,7 @@ pub(crate) fn asked(request: &Request<Bytes>) -> Result<Name, Refusal>
     if !has_ipp(request) {
         return Err(Refusal::UnsupportedMediaType);
     }
-    if request.body().len() < HEADER {
+    if request.body().len() < HEADER_LENGTH {
         return Err(Refusal::BadRequest);
     }
     Ok(account)

@@ -9,8 +9,8 @@ use room_store::{Store, StoreFault};
 use sqlite::Alter;
 use std::alloc::Global;
 
-/// The shared tables, the clock's moment, and a journal of all that was applied to them, of whichever connection. The
-/// journal takes no memory: only proofs read it.
+/// The shared tables, the clock's moment, and a journal of all that was applied to them, of
+/// whichever connection. The journal takes no memory: only proofs read it.
 #[derive(Drop)]
 pub struct Served<S: Alter> {
     pub(crate) alloc: Global,
@@ -20,7 +20,8 @@ pub struct Served<S: Alter> {
 }
 
 impl<S: Alter> Served<S> {
-    /// Serves a store, from the moment on, in seconds since 1970-01-01T00:00:00Z. It takes no memory.
+    /// Serves a store, from the moment on, in seconds since 1970-01-01T00:00:00Z. It takes no
+    /// memory.
     pub fn new(alloc: Global, store: Store<S>, moment: u64) -> Served<S>
         ensures store { store_of result ≡ store }
         ensures moment { moment_of result ≡ moment }

@@ -2,6 +2,7 @@
 ghost use Rattle.std.specs.Prelude.{◌≡◌, ◌⊎◌, ◌≤◌, ◌++◌, [], length, OnErr, OnOk};
 ghost use Rattle.http.specs.Request.{body_of};
 ghost use Rattle.http_server.specs.Response.{IsBlank, IsResponse, fields_of};
+ghost use Rattle.ipp_coding.specs.Limits.{header_length};
 ghost use Rattle.room_texts.specs.Replies.{internal_error_text};
 ghost use Rattle.room_served.specs.Answers.{Answers, IsLost, IsRefusal, IsTold, Sends, answer_fields, close_fields};
 
@@ -43,7 +44,7 @@ impl<S: Alter> Served<S> {
         response: &mut Response,
     ) -> Result<(), AllocError>
         requires blank { IsBlank response.old }
-        requires long { 8 ≤ length (body_of request.now) }
+        requires long { header_length ≤ length (body_of request.now) }
         ensures ok { OnOk result
             (Sends S.Store account self.old request.now response.new self.new) }
         ensures err { OnErr result (self.new ≡ self.old) }

@@ -10,8 +10,8 @@ use crate::served::Served;
 use http_server::Connection;
 use sqlite::Alter;
 
-/// Answers what came on a connection of HTTP, at the moment of what is served. Each request is one call: what it asks for is
-/// applied, once, or it is refused.
+/// Answers what came on a connection of HTTP, at the moment of what is served. Each request is one
+/// call: what it asks for is applied, once, or it is refused.
 pub fn answer_requests<S: Alter>(connection: &mut Connection, served: &mut Served<S>)
     ensures calls { Calls (Answers S.Store) served.old served.new
         (history connection.old).calls (history connection.new).calls }

@@ -12,11 +12,11 @@ use Rattle.room_sockets.specs.declared.hall.Kind.{Kind}
 use Rattle.room_sockets.specs.declared.hall.Kind.TheVariants.{Clients, Operators, Stations}
 
 -- who came in by a door says what that door is for
-abbrev pub IsOf : Kind → Peer → Type 0
-IsOf Clients (Http peer) = ⊤
-IsOf Stations (Lines peer) = side_of (lines_of peer) ≡ side_is.Station
-IsOf Operators (Lines peer) = side_of (lines_of peer) ≡ side_is.Operator
-IsOf _ _ = ⊥
+abbrev pub CameBy : Kind → Peer → Type 0
+CameBy Clients (Http peer) = ⊤
+CameBy Stations (Lines peer) = side_of (lines_of peer) ≡ side_is.Station
+CameBy Operators (Lines peer) = side_of (lines_of peer) ≡ side_is.Operator
+CameBy _ _ = ⊥
 
 -- the peers that are there, each with its socket and its connection, by their keys
 abbrev pub guests_of : Hall → Slab Guest

@@ -1,5 +1,6 @@
 -- How much all connections may hold together, and who may go on (all this project's own). In bytes.
-use Rattle.std.specs.Prelude.{ℕ, ◌-◌, ◌*◌, Bool, Option, nat_lt, not}
+use Rattle.std.specs.Prelude.{ℕ, ◌+◌, ◌-◌, ◌*◌, Bool, Option, nat_lt, not}
+use Rattle.room_http.specs.Limits.{longest_body, longest_head}
 use Rattle.room_sockets.specs.declared.stock.Stock.{Stock}
 
 abbrev pub held_of : Stock → ℕ
@@ -18,7 +19,7 @@ most_held = 268435456
 
 -- of one request with its head
 abbrev pub longest_request : ℕ
-longest_request = 16859136
+longest_request = longest_head + longest_body
 
 -- there is room for two of the longest requests
 abbrev pub has_plenty : Stock → Bool

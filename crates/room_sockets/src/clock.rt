@@ -3,7 +3,8 @@
 use std::io;
 use std::time::{Clock, SystemTime, UNIX_EPOCH};
 
-/// The whole seconds since 1970-01-01T00:00:00Z, where the clock can be read and stands behind that.
+/// The whole seconds since 1970-01-01T00:00:00Z, where the clock can be read and stands behind
+/// that.
 pub fn moment(clock: &impl Clock) -> Option<u64> {
     let now = SystemTime::now(clock).ok()?;
     Some(now.duration_since(UNIX_EPOCH).ok()?.as_secs())

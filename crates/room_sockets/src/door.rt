@@ -14,7 +14,8 @@ use std::{fs, io};
 /// Its owner alone reads and writes.
 const OWNERS_ALONE: u32 = 0o600;
 
-/// How many peers at most are sent away that came before the file of a socket was its owner's alone.
+/// How many peers at most are sent away that came before the file of a socket was its owner's
+/// alone.
 const MOST_EARLY: u32 = 100_000;
 
 /// A socket that listens.
@@ -31,8 +32,9 @@ impl Door {
         Ok(Door::Tcp(TcpListener::bind(net, addr)?))
     }
 
-    /// Listens on a socket at the path, which nobody but its owner can reach. A socket that a run left which was killed is
-    /// replaced, but no other file, and none on which somebody listens: `AddrInUse`.
+    /// Listens on a socket at the path, which nobody but its owner can reach. A socket that a run
+    /// left which was killed is replaced, but no other file, and none on which somebody listens:
+    /// `AddrInUse`.
     pub fn at_path<R: Files + Net>(rt: &R, path: &str) -> io::Result<Door> {
         let listener = match UnixListener::bind(rt, path) {
             Err(error) if error.kind() == ErrorKind::AddrInUse => {

@@ -91,7 +91,8 @@ impl Guest {
         self.patience().is_over(now)
     }
 
-    /// Whether a large answer waits to go. Of a start's documents it is not asked, since they are sent once.
+    /// Whether a large answer waits to go. Of a start's documents it is not asked, since they are
+    /// sent once.
     pub(crate) fn has_large_answer(&self) -> bool {
         match &self.peer {
             Peer::Http(peer) => peer.has_large_answer(),

@@ -30,7 +30,7 @@ const MOST_STATIONS: usize = 192;
 const MOST_OPERATORS: usize = 64;
 
 /// The most peers of all.
-const MOST_GUESTS: usize = 1_024;
+const MOST_GUESTS: usize = MOST_CLIENTS + MOST_STATIONS + MOST_OPERATORS;
 
 /// How many events are taken from the system at once.
 const MOST_EVENTS: usize = 256;
@@ -61,7 +61,7 @@ enum Kind {
 }
 
 impl Kind {
-    ghost use Rattle.room_sockets.specs.Halls.{IsOf};
+    ghost use Rattle.room_sockets.specs.Halls.{CameBy};
 
     fn most(self) -> usize {
         match self {
@@ -73,7 +73,7 @@ impl Kind {
 
     /// Who came in just now.
     fn peer(self, alloc: Global, keys: RandomState, now: u64) -> Peer
-        ensures { IsOf self result }
+        ensures { CameBy self result }
     {
         match self {
             Kind::Clients => Peer::Http(HttpPeer::new(alloc, keys, now)),
@@ -224,8 +224,8 @@ impl Hall {
         }
     }
 
-    /// Where too much is held, has each large answer go on, and drops who hardly reads it, so that one turn of the loop
-    /// gives out few more.
+    /// Where too much is held, has each large answer go on, and drops who hardly reads it, so that
+    /// one turn of the loop gives out few more.
     fn relieve<S: Alter>(&mut self, clock: &impl Clock, served: &mut Served<S>)
         ensures { Continues S.Store served.old served.new }
     {
@@ -254,8 +254,8 @@ impl Hall {
         }
     }
 
-    /// Lets a peer go on, at the clock's moment, and drops it where it is over. All other peers stay as they are. `is_last`:
-    /// the system may have told that the peer sends no more.
+    /// Lets a peer go on, at the clock's moment, and drops it where it is over. All other peers
+    /// stay as they are. `is_last`: the system may have told that the peer sends no more.
     fn serve<S: Alter>(
         &mut self,
         clock: &impl Clock,
@@ -376,7 +376,8 @@ impl Hall {
         }
     }
 
-    /// Where room has come, those who are held back go on: all of them, or the one that holds least.
+    /// Where room has come, those who are held back go on: all of them, or the one that holds
+    /// least.
     fn let_on(&mut self) {
         if self.stock.lets_all_on() {
             for key in 0..MOST_GUESTS {
@@ -430,8 +431,8 @@ impl Hall {
         }
     }
 
-    /// From time to time drops who took too long, where others wait for room who rests on it, and where too much is held who
-    /// hardly reads what it asked for.
+    /// From time to time drops who took too long, where others wait for room who rests on it, and
+    /// where too much is held who hardly reads what it asked for.
     fn sweep(&mut self, now: u64) {
         if now.saturating_sub(self.swept) < TICK {
             return;

@@ -1,5 +1,5 @@
-//! The sockets of one process for everybody: three doors, a connection for each peer that came in by one, and the loop that
-//! waits for them.
+//! The sockets of one process for everybody: three doors, a connection for each peer that came in
+//! by one, and the loop that waits for them.
 #![tactic(auto)]
 
 mod clock;

@@ -6,8 +6,8 @@ ghost use Rattle.room_sockets.specs.Paces.{after_look, counted_of};
 /// The most milliseconds that count between two looks at the clock.
 const MOST_AT_ONCE: u64 = 1_000;
 
-/// Milliseconds in which peers could be served. Where the process was stopped, or one event took long, a second of it counts
-/// at most: what peers sent meanwhile is still to be read.
+/// Milliseconds in which peers could be served. Where the process was stopped, or one event took
+/// long, a second of it counts at most: what peers sent meanwhile is still to be read.
 #[derive(Clone, Copy, Debug, PartialEq, Eq)]
 pub(crate) struct Pace {
     counted: u64,

@@ -8,8 +8,8 @@ use room_connections::LONGEST;
 /// The bytes that all connections hold together, at most, but for the documents of one start.
 const MOST_HELD: usize = 268_435_456;
 
-/// What all connections hold. Where it nears its bound no further large request goes on coming, but for one peer's, which has
-/// the room that is left for the longest one.
+/// What all connections hold. Where it nears its bound no further large request goes on coming, but
+/// for one peer's, which has the room that is left for the longest one.
 #[derive(Drop)]
 pub(crate) struct Stock {
     held: usize,
@@ -31,8 +31,8 @@ impl Stock {
         }
     }
 
-    /// Whether a large request of any peer may go on coming: one turn of one peer may bring the longest, and so may all turns
-    /// of the favoured one.
+    /// Whether a large request of any peer may go on coming: one turn of one peer may bring the
+    /// longest, and so may all turns of the favoured one.
     fn has_plenty(&self) -> bool
         ensures { result ≡ has_plenty self.now }
     {

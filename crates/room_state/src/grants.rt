@@ -3,9 +3,9 @@
 ghost use Rattle.std.specs.Prelude.{◌≡◌, ◌≤◌, ◌++◌, ◌∷◌, [], ◌==◌, pos, find, IsOkUnless, OnOk, OnErr};
 ghost use Rattle.std.specs.Option.{option_map};
 ghost use Rattle.std.specs.List.{sum_by};
+ghost use Rattle.room_rules.specs.Limits.{most_units};
 ghost use Rattle.room_state.specs.RoomLists.{by_month};
 ghost use Rattle.room_state.specs.Sums.{pages_by};
-ghost use Rattle.room_state.specs.Tallies.{most_units};
 
 use ipp_coding::List;
 use room_rules::{CoreFault, Grant};

@@ -3,11 +3,10 @@
 ghost use Rattle.std.specs.Prelude.{◌≡◌, ◌≤◌, pos, is_some, option_copied, IfSome, IsNone, IsOk, IsOkUnless, OnOk, OnErr};
 ghost use Rattle.std.specs.List.{AllByRecursion};
 ghost use Rattle.std.specs.FinMap.{get, values};
-ghost use Rattle.room_rules.specs.Limits.{last_moment, last_next_job, most_unfinished};
+ghost use Rattle.room_rules.specs.Limits.{last_moment, last_next_job, most_unfinished, most_units};
 ghost use Rattle.room_state.specs.Rooms.{empty_room};
 ghost use Rattle.room_state.specs.RoomRules.{IsJobAt, IsDocumentAt, IsGrant, NumbersRise, has_document, unfinished_count};
 ghost use Rattle.room_state.specs.Sums.{has_processing, reserved_in, charged_in, granted_to};
-ghost use Rattle.room_state.specs.Tallies.{most_units};
 ghost use Rattle.room_state.specs.Changes.{with_new_job, with_standing, with_ended, with_grant};
 ghost use Rattle.room_state.specs.Skips.{with_next, CanSkipTo};
 ghost use Rattle.room_state.specs.Conditions.{CanAddJob, CanRestand, CanFinish, CanAddGrant};
@@ -19,8 +18,9 @@ use room_rules::{Account, CoreFault, Document, Grant, Job, Standing, may_be_job}
 use std::alloc::Global;
 use std::marker::Model;
 
-/// One account whole. Contracts see it as its value in the definitions: when it was opened, the number
-/// of its next job, and the maps of its jobs, their documents and its grants, which keep their rules.
+/// One account whole. Contracts see it as its value in the definitions: when it was opened, the
+/// number of its next job, and the maps of its jobs, their documents and its grants, which keep
+/// their rules.
 #[derive(Debug, Drop)]
 pub struct Room {
     account: Account,
@@ -103,7 +103,8 @@ impl Room {
         self.jobs.as_slice()
     }
 
-    /// The job with the number, if it is there. A number that no job may have, 0 among them, is not looked up.
+    /// The job with the number, if it is there. A number that no job may have, 0 among them, is not
+    /// looked up.
     pub fn job(&self, number: u32) -> Option<&Job>
         ensures job { option_copied result ≡ get self.now.jobs number }
         ensures by_the_rules { IfSome result (λ job. IsJobAt self.now.next number job.now) }
@@ -115,8 +116,8 @@ impl Room {
         jobs::find_job(jobs, number)
     }
 
-    /// The document of the job with its number there, if there is one: an unfinished job has those from
-    /// 1 to as many as it was given, and another job has none.
+    /// The document of the job with its number there, if there is one: an unfinished job has those
+    /// from 1 to as many as it was given, and another job has none.
     pub fn document(&self, job: u32, number: u32) -> Option<&Document>
         ensures document { option_copied result ≡ get self.now.documents (job, number) }
         ensures by_the_rules { IfSome result (λ document. IsDocumentAt (job, number) document.now) }
@@ -154,8 +155,8 @@ impl Room {
         tally::tally_of(self.jobs.as_slice())
     }
 
-    /// Adds the job with the next number, with its first document or with none. Answers `Memory` where
-    /// memory ran out.
+    /// Adds the job with the next number, with its first document or with none. Answers `Memory`
+    /// where memory ran out.
     pub fn add_job(&mut self, job: Job, document: Option<Document>) -> Result<(), CoreFault>
         requires { CanAddJob self.old job document }
         ensures changed { OnOk result (self.new ≡ with_new_job self.old job document) }
@@ -167,7 +168,8 @@ impl Room {
         Ok(())
     }
 
-    /// Leaves job numbers out: the next job gets this one, which may be 1000000 and then leaves none for it.
+    /// Leaves job numbers out: the next job gets this one, which may be 1000000 and then leaves
+    /// none for it.
     pub fn skip_to(&mut self, next_job: u32)
         requires { CanSkipTo self.old next_job }
         ensures { self.new ≡ with_next self.old next_job }
@@ -175,8 +177,8 @@ impl Room {
         self.account.next_job = next_job;
     }
 
-    /// Gives an unfinished job another standing, in which it stays unfinished, and its next document if
-    /// there is one. Answers `Memory` where memory ran out, and only with a document.
+    /// Gives an unfinished job another standing, in which it stays unfinished, and its next
+    /// document if there is one. Answers `Memory` where memory ran out, and only with a document.
     pub fn restand(
         &mut self,
         number: u32,
@@ -203,7 +205,8 @@ impl Room {
         documents::drop_documents(&mut self.documents, number);
     }
 
-    /// Grants the pages for a month that nothing was granted for. Answers `Memory` where memory ran out.
+    /// Grants the pages for a month that nothing was granted for. Answers `Memory` where memory ran
+    /// out.
     pub fn add_grant(&mut self, month: u32, pages: u32) -> Result<(), CoreFault>
         requires { CanAddGrant self.old month pages }
         ensures changed { OnOk result (self.new ≡ with_grant self.old month pages) }

@@ -15,9 +15,10 @@ use Rattle.sqlite.specs.Listing.{understood}
 use Rattle.room_rules.specs.declared.device.Device.{Device}
 use Rattle.room_tables.specs.Tables.{room_schema}
 use Rattle.room_tables.specs.Keyed.{HasSchema}
-use Rattle.room_tables.specs.Queries.{Means, Takes, of_table, passes, shows_of}
+use Rattle.room_tables.specs.Queries.{Means, TakesParams, of_table, passes, shows_of}
 use Rattle.room_tables.specs.Cells.{flag, on_cells, device_cells}
-use Rattle.room_tables.specs.Devices.{device_at, AreSoundDevices, GathersOn, refuses_flag}
+use Rattle.room_tables.specs.Devices.{device_at, AreSoundDevices}
+use Rattle.room_statements.specs.Totals.{GathersOn, refuses_flag}
 use Rattle.room_statements.specs.SoundRows.{AreRowsOf, device_rows}
 use Rattle.room_statements.specs.Walks.{GathersAll, WalksAll, RefusesOne}
 use Rattle.room_tables.proofs.KeyedRows.{same_row, text_at}
@@ -42,7 +43,7 @@ pub walk_is : Means room_schema walk_text (of_table 9 [] walk_shows []) walk_nam
 unfolding understood everything
 walk_is = record { is = refl; lists_nothing = refl; is_plain = (refl, refl); takes = refl; is_whole = refl }
 
-pub walk_takes : Takes room_schema (of_table 9 [] walk_shows []) [] 0
+pub walk_takes : TakesParams room_schema (of_table 9 [] walk_shows []) [] 0
 walk_takes = record { given = refl; typed = refl }
 
 abbrev pub second : Row → Row

@@ -23,7 +23,7 @@ use Rattle.room_state.specs.Rooms.{RoomValue}
 use Rattle.room_state.specs.RoomRules.{has_document}
 use Rattle.room_tables.specs.Tables.{room_schema}
 use Rattle.room_tables.specs.Keyed.{HasSchema}
-use Rattle.room_tables.specs.Queries.{Means, Takes, of_table, is_given, shown_of}
+use Rattle.room_tables.specs.Queries.{Means, TakesParams, of_table, is_given, shown_of}
 use Rattle.room_tables.specs.Cells.{number, document_cells}
 use Rattle.room_tables.specs.Accounts.{document_at, under_pair, HoldsRoom, IsSound}
 use Rattle.room_statements.specs.Documents.{is_of_job, shown_documents, ShowsDocument, IsDocumentOf, GathersDocument, refuses_document}
@@ -52,7 +52,7 @@ pub walk_is : Means room_schema walk_text (of_table 5 walk_tests walk_shows []) 
 unfolding understood everything
 walk_is = record { is = refl; lists_nothing = refl; is_plain = (refl, refl); takes = refl; is_whole = refl }
 
-pub walk_takes : (name : List ℕ) (job : ℕ) → Takes room_schema (of_table 5 walk_tests walk_shows []) (Text name ∷ number job ∷ []) 2
+pub walk_takes : (name : List ℕ) (job : ℕ) → TakesParams room_schema (of_table 5 walk_tests walk_shows []) (Text name ∷ number job ∷ []) 2
 walk_takes name job = record { given = refl; typed = refl }
 
 pub all_shown : (db : Database) (name : List ℕ) (job : ℕ) → shown_of 5 walk_tests walk_shows (Text name ∷ number job ∷ []) db.trees ≡ shown_documents db name job

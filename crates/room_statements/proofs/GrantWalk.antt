@@ -13,12 +13,12 @@ use Rattle.sqlite_sql.specs.Term.{Term, col}
 use Rattle.sqlite_rules.proofs.ProbeLemmas.{has_mapped}
 use Rattle.sqlite.specs.Effect.{Database}
 use Rattle.sqlite.specs.Listing.{understood}
+use Rattle.room_rules.specs.Limits.{most_units}
 use Rattle.room_state.specs.Sums.{pages_by}
-use Rattle.room_state.specs.Tallies.{most_units}
 use Rattle.room_state.proofs.Bounds.{granted_bound}
 use Rattle.room_tables.specs.Tables.{room_schema, grants}
 use Rattle.room_tables.specs.Keyed.{HasSchema, rows_under}
-use Rattle.room_tables.specs.Queries.{Means, Takes, of_table, is_given, shown_of}
+use Rattle.room_tables.specs.Queries.{Means, TakesParams, of_table, is_given, shown_of}
 use Rattle.room_tables.specs.Cells.{grant_cells}
 use Rattle.room_tables.specs.Accounts.{IsSound}
 use Rattle.room_statements.specs.Totals.{granted_cells, TellsGrant, gathers_grant, refuses_grant}
@@ -46,7 +46,7 @@ pub granted_is : Means room_schema granted_text (of_table 7 granted_tests grante
 unfolding understood everything
 granted_is = record { is = refl; lists_nothing = refl; is_plain = (refl, refl); takes = refl; is_whole = refl }
 
-pub granted_takes : (name : List ℕ) → Takes room_schema (of_table 7 granted_tests granted_shows []) (Text name ∷ []) 1
+pub granted_takes : (name : List ℕ) → TakesParams room_schema (of_table 7 granted_tests granted_shows []) (Text name ∷ []) 1
 granted_takes name = record { given = refl; typed = refl }
 
 cells_granted : (r : Row) → column r 2 ∷ column r 3 ∷ [] ≡ granted_cells (drop 1 r)

@@ -16,15 +16,15 @@ use Rattle.sqlite_rules.proofs.ProbeLemmas.{has_mapped}
 use Rattle.sqlite.specs.Effect.{Database}
 use Rattle.sqlite.specs.Listing.{understood}
 use Rattle.room_rules.specs.JobStates.{is_unfinished, is_processing}
-use Rattle.room_rules.specs.Limits.{most_unfinished}
+use Rattle.room_rules.specs.Limits.{most_unfinished, most_units}
 use Rattle.room_rules.specs.declared.job.Job.{Job}
 use Rattle.room_rules.specs.declared.job.JobState.{JobState}
 use Rattle.room_state.specs.declared.tally.Tally.{Tally}
-use Rattle.room_state.specs.Tallies.{tally_of, counted, is_in_bounds, most_units}
+use Rattle.room_state.specs.Tallies.{tally_of, counted, is_in_bounds}
 use Rattle.room_state.proofs.TallyLemmas.{three_lower, counted_some, room_in_bounds}
 use Rattle.room_tables.specs.Tables.{room_schema, job}
 use Rattle.room_tables.specs.Keyed.{HasSchema, rows_under}
-use Rattle.room_tables.specs.Queries.{Means, Takes, of_table, is_given, shown_of}
+use Rattle.room_tables.specs.Queries.{Means, TakesParams, of_table, is_given, shown_of}
 use Rattle.room_tables.specs.Cells.{job_cells}
 use Rattle.room_tables.specs.Accounts.{IsSound}
 use Rattle.room_statements.specs.Totals.{counted_cells, TellsCounted, CountsJob, refuses_job}
@@ -51,7 +51,7 @@ pub tally_is : Means room_schema tally_text (of_table 3 tally_tests tally_shows 
 unfolding understood everything
 tally_is = record { is = refl; lists_nothing = refl; is_plain = (refl, refl); takes = refl; is_whole = refl }
 
-pub tally_takes : (name : List ℕ) → Takes room_schema (of_table 3 tally_tests tally_shows []) (Text name ∷ []) 1
+pub tally_takes : (name : List ℕ) → TakesParams room_schema (of_table 3 tally_tests tally_shows []) (Text name ∷ []) 1
 tally_takes name = record { given = refl; typed = refl }
 
 pub cells_counted : (r : Row) → column r 5 ∷ column r 10 ∷ column r 11 ∷ [] ≡ counted_cells (drop 1 r)

@@ -20,7 +20,7 @@ use Rattle.sqlite.specs.Given.{HasBegun}
 use Rattle.sqlite.specs.Held.{Held, state}
 use Rattle.sqlite.specs.State.{State, Shown, Begins, Fails, IsUnchanged, FailsToQuery, QueriesRow}
 use Rattle.sqlite.proofs.Callers.{begins_as}
-use Rattle.room_tables.specs.Queries.{HasNoSums, Means, Takes, of_table, shown_of, IsShownBy}
+use Rattle.room_tables.specs.Queries.{HasNoSums, Means, TakesParams, of_table, shown_of, IsShownBy}
 use Rattle.room_tables.specs.Calls.{IsSame, Stays}
 use Rattle.room_statements.specs.Walks.{GathersAll, GathersShown, RefusesShown, WalksShown, WalksOver}
 use Rattle.room_tables.proofs.Queries.{answer_is, answered, fails}
@@ -63,7 +63,7 @@ query_back text params old new error h is_open = open_back text params old new e
 -- ---- what the query shows
 
 module _ (old : State) (text : List ℕ) (query : Query) (names : List (List ℕ)) (parameters : ℕ) (means : Means old.now.schema text query names parameters) (params : Row) where
-  pub query_stays : (new : State) → HasNoSums query → Takes old.now.schema query params parameters → (error : Error) → FailsToQuery text params old new error → Stays old new
+  pub query_stays : (new : State) → HasNoSums query → TakesParams old.now.schema query params parameters → (error : Error) → FailsToQuery text params old new error → Stays old new
   query_stays new no_sums takes error h is_open settled = elim (fails old new old.now.schema refl text query names parameters means params no_sums takes error h) [
     | inl failed ↦ let undone = failed.3.undone is_open in (undone.0 ∙ sym settled, undone.1)
     | inr stopped ↦ (stopped.2.0.now_is, stopped.2.0.committed_is)

@@ -13,12 +13,12 @@ use Rattle.room_tables.specs.Cells.{number}
 use Rattle.room_statements.specs.declared.documents.Found.{Found}
 
 -- the row, its row number first, is of a document of the job
-abbrev pub is_of_job : List ℕ → ℕ → Row → Bool
+abbrev pub is_of_job : (name : List ℕ) (job : ℕ) (row : Row) → Bool
 is_of_job name job row =
     agree plain (1 ∷ 2 ∷ []) row (1 ∷ 2 ∷ []) (Null ∷ Text name ∷ number job ∷ [])
 
 -- what is shown of the documents of the job: of each the columns behind that of the job
-abbrev pub shown_documents : Database → List ℕ → ℕ → List Row
+abbrev pub shown_documents : (db : Database) (name : List ℕ) (job : ℕ) → List Row
 shown_documents db name job = map (λ row. column row 3 ∷ column row 4 ∷ column row 5 ∷ [])
     (filter (is_of_job name job) (db.trees document_table.tree))
 
@@ -50,6 +50,6 @@ abbrev pub gathers_document : Found → Row → Found → Type 0
 gathers_document first row last =
     (last.job ≡ first.job) × GathersDocument first.job first.places row last.places
 
-abbrev pub refuses_document : ℕ → Row → Type 0
+abbrev pub refuses_document : (job : ℕ) (row : Row) → Type 0
 refuses_document job row =
     (document : Document) → IsDocumentOf job document → ShowsDocument row document → ⊥

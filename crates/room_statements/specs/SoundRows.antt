@@ -10,10 +10,10 @@ use Rattle.sqlite_sql.specs.declared.ops.CompareOp.TheVariants.{Eq, Ge}
 use Rattle.sqlite_sql.specs.Ops.{binary, is_true}
 use Rattle.sqlite_rules.specs.Lists.{Has}
 use Rattle.sqlite.specs.Effect.{Database}
-use Rattle.room_rules.specs.Limits.{most_pages, most_rate}
+use Rattle.room_rules.specs.Limits.{most_pages, most_units, IsRate}
 use Rattle.room_rules.specs.declared.job.Job.{Job}
 use Rattle.room_state.specs.Sums.{pages_by}
-use Rattle.room_state.specs.Tallies.{tally_of, is_in_bounds, most_units}
+use Rattle.room_state.specs.Tallies.{tally_of, is_in_bounds}
 use Rattle.room_tables.specs.Tables.{job, document, grants, device}
 use Rattle.room_tables.specs.Keyed.{HasSchema, rows_under}
 use Rattle.room_tables.specs.Cells.{number, account_cells, job_cells, document_cells, grant_cells, on_cells, units_cells}
@@ -37,14 +37,14 @@ AreRowsOf {X} cells InRange rows =
 
 -- ---- the rows of an account in a table
 
-abbrev pub job_rows : Database → List ℕ → List Row
+abbrev pub job_rows : (db : Database) (name : List ℕ) → List Row
 job_rows db name = rows_under job (1 ∷ []) (Text name ∷ []) db
 
-abbrev pub grant_rows : Database → List ℕ → List Row
+abbrev pub grant_rows : (db : Database) (name : List ℕ) → List Row
 grant_rows db name = rows_under grants (1 ∷ []) (Text name ∷ []) db
 
 -- those of one of its jobs
-abbrev pub document_rows : Database → List ℕ → ℕ → List Row
+abbrev pub document_rows : (db : Database) (name : List ℕ) (of_job : ℕ) → List Row
 document_rows db name of_job = rows_under document (1 ∷ 2 ∷ []) (Text name ∷ number of_job ∷ []) db
 
 -- those of its jobs that tell no moment of an end, and those that tell one
@@ -54,10 +54,10 @@ tells_unfinished cells = is_true (binary (Compare Eq Binary) (column cells 16) (
 abbrev pub tells_ended : Row → Bool
 tells_ended cells = is_true (binary (Compare Ge Binary) (column cells 16) (Int (pos 0)))
 
-abbrev pub unfinished_rows : Database → List ℕ → List Row
+abbrev pub unfinished_rows : (db : Database) (name : List ℕ) → List Row
 unfinished_rows db name = filter tells_unfinished (job_rows db name)
 
-abbrev pub ended_rows : Database → List ℕ → List Row
+abbrev pub ended_rows : (db : Database) (name : List ℕ) → List Row
 ended_rows db name = filter tells_ended (job_rows db name)
 
 -- and of no account, the rows of the devices
@@ -96,7 +96,7 @@ pub record AccountsRead (db : Database) (name : List ℕ) : Type 0 where
 pub record DevicesRead (db : Database) : Type 0 where
   pub devices : (name : List ℕ) → IsRowOf (on_cells name) (λ _. ⊤) (device_at db name)
   pub rates : (name : List ℕ)
-      → IsRowOf (units_cells name) (λ units. (1 ≤ units) × (units ≤ most_rate)) (rate_at db name)
+      → IsRowOf (units_cells name) IsRate (rate_at db name)
   pub all : AreRowsOf (λ (it : List ℕ × Bool). on_cells it.0 it.1) (λ _. ⊤) (device_rows db)
 
 pub record SoundRowsAreRead : Type 0 where

@@ -1,12 +1,14 @@
--- What the rows of an account come to, one after another (all this project's own).
-use Rattle.std.specs.Prelude.{◌≡◌, ℕ, ◌+◌, ◌<◌, ◌≤◌, [], ◌∷◌, Some, None}
+-- What the rows of an account come to, one after another, and those of the devices (all this
+-- project's own).
+use Rattle.std.specs.Prelude.{◌≡◌, ◌≢◌, ◌||◌, Bool, ℕ, ◌+◌, ◌<◌, ◌≤◌, [], ◌∷◌, Some, None}
 use Rattle.sqlite_value.specs.Order.{Row, column}
+use Rattle.room_rules.specs.Limits.{most_units}
 use Rattle.room_rules.specs.JobStates.{state_number}
 use Rattle.room_rules.specs.declared.job.JobState.{JobState}
 use Rattle.room_state.specs.declared.tally.Tally.{Tally}
-use Rattle.room_state.specs.Tallies.{counted_in_bounds, most_units}
+use Rattle.room_state.specs.Tallies.{counted_in_bounds}
 use Rattle.room_state.specs.Sums.{pages_by}
-use Rattle.room_tables.specs.Cells.{number}
+use Rattle.room_tables.specs.Cells.{flag, number}
 use Rattle.room_statements.specs.declared.grants.Granted.{Granted}
 
 -- ---- its jobs
@@ -61,3 +63,14 @@ gathers_grant first row last =
 abbrev pub refuses_grant : (now first : ℕ) → Row → Type 0
 refuses_grant now first row = (month pages : ℕ) → TellsGrant row month pages
     → most_units < first + pages_by now (month, pages)
+
+-- ---- the devices
+
+-- the row tells whether its device takes jobs, which is added
+pub record GathersOn (first : Bool) (row : Row) (last : Bool) : Type 0 where
+  pub accepting : Bool
+  pub told : column row 0 ≡ flag accepting
+  pub added : last ≡ (first || accepting)
+
+abbrev pub refuses_flag : Row → Type 0
+refuses_flag row = (accepting : Bool) → column row 0 ≢ flag accepting

@@ -10,7 +10,7 @@ use Rattle.sqlite.specs.Held.{Held, state}
 use Rattle.room_tables.specs.declared.fault.TableFault.{TableFault}
 use Rattle.room_tables.specs.declared.fault.TableFault.TheVariants.{Damaged}
 use Rattle.room_tables.specs.Calls.{IsSame, Stays, OfStore}
-use Rattle.room_tables.specs.Queries.{HasNoSums, Means, Takes, IsShownBy}
+use Rattle.room_tables.specs.Queries.{HasNoSums, Means, TakesParams, IsShownBy}
 
 -- row by row, each step from what the one before left
 abbrev pub GathersAll : {G : Type 0}
@@ -52,7 +52,7 @@ module _ {G : Type 0} (step : G → Row → G → Type 0) (refuses : G → Row �
   Walks old new text params first last result =
       (query : Query) (names : List (List ℕ)) (parameters : ℕ) → HasNoSums query
       → Means old.now.schema text query names parameters
-      → Takes old.now.schema query params parameters
+      → TakesParams old.now.schema query params parameters
       → WalksShown old new (IsShownBy query old.now.trees params) first last result
 
   -- over the store's tables, of which so much is shown

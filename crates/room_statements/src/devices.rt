@@ -7,7 +7,8 @@ ghost use Rattle.room_rules.specs.Names.{is_name};
 ghost use Rattle.room_tables.specs.Tables.{device as device_table};
 ghost use Rattle.room_tables.specs.Keyed.{SetsRow};
 ghost use Rattle.room_tables.specs.Cells.{on_cells};
-ghost use Rattle.room_tables.specs.Devices.{device_at, HoldsDevices, GathersOn, refuses_flag};
+ghost use Rattle.room_tables.specs.Devices.{device_at, HoldsDevices};
+ghost use Rattle.room_statements.specs.Totals.{GathersOn, refuses_flag};
 ghost use Rattle.room_statements.specs.Walks.{WalksStore};
 ghost use Rattle.room_tables.specs.Calls.{Changes, GetsRow, GoesOn, OfStore, ReadsStore, StaysInside};
 ghost use Rattle.room_statements.specs.SoundRows.{device_rows, AreRowsOf, IsRowOf};
@@ -19,8 +20,8 @@ use room_tables::{TableFault, find_row, write};
 use sqlite::{Alter, Connection, Error, Row, Transaction};
 use sqlite_value::value::ValueRef;
 
-/// Whether the device takes jobs now, if it is known. `Damaged` tells that the row that is there can be
-/// none of sound rows.
+/// Whether the device takes jobs now, if it is known. `Damaged` tells that the row that is there
+/// can be none of sound rows.
 pub fn find_device<S: Alter>(
     connection: &mut Connection<S>,
     name: Name,
@@ -50,8 +51,8 @@ fn device_row<S: Alter>(connection: &mut Connection<S>, name: Name) -> Result<Op
     )
 }
 
-/// Whether some device takes jobs now, of the rows or, where they are sound, of the map that they are. `Damaged` tells that
-/// a row that is there can be none of sound rows.
+/// Whether some device takes jobs now, of the rows or, where they are sound, of the map that they
+/// are. `Damaged` tells that a row that is there can be none of sound rows.
 pub fn is_device_on<S: Alter>(connection: &mut Connection<S>) -> Result<bool, TableFault>
     ensures found { OfStore S.Store connection.old connection.new (λ db. IfOk result
         (λ on. IsTrue on ↔ ((name : List ℕ) × (device_at db name ≡ Some (on_cells name true))))) }
@@ -74,7 +75,7 @@ struct AnyOn {
 }
 
 impl Gather for AnyOn {
-    ghost use Rattle.room_tables.specs.Devices.{GathersOn, refuses_flag};
+    ghost use Rattle.room_statements.specs.Totals.{GathersOn, refuses_flag};
 
     ghost step = { λ first row last. GathersOn first.is_on row last.is_on };
 

@@ -25,8 +25,8 @@ use sqlite::{Alter, Connection, Error, Row, Transaction};
 use sqlite_value::value::ValueRef;
 use std::alloc::Global;
 
-/// The documents of a job of the account, by rising number. `Damaged` tells that a row that is there can be
-/// none of sound rows.
+/// The documents of a job of the account, by rising number. `Damaged` tells that a row that is
+/// there can be none of sound rows.
 pub fn find_documents<S: Alter>(
     alloc: Global,
     connection: &mut Connection<S>,
@@ -48,11 +48,14 @@ pub fn find_documents<S: Alter>(
     in_order(alloc, found.places)
 }
 
+/// A place for each document that a job may have.
+const PLACES: usize = MOST_DOCUMENTS as usize;
+
 /// The documents of a job that were gathered, that of the number 1 in the first place.
 #[derive(Drop)]
 struct Found {
     job: u32,
-    places: [Option<Document>; 8],
+    places: [Option<Document>; PLACES],
 }
 
 impl Gather for Found {
@@ -110,7 +113,7 @@ fn walk_documents<S: Alter>(
 }
 
 /// Those that are there, in the order of their places.
-fn in_order(alloc: Global, places: [Option<Document>; 8]) -> Result<List<Document>, TableFault>
+fn in_order(alloc: Global, places: [Option<Document>; PLACES]) -> Result<List<Document>, TableFault>
     ensures listed { IfOk result (λ documents. documents ≡ flat_map option_to_list places) }
     ensures fault { IfErr result (λ fault. fault ≡ TableFault.Memory) }
 {
@@ -123,8 +126,8 @@ fn in_order(alloc: Global, places: [Option<Document>; 8]) -> Result<List<Documen
     Ok(List { items })
 }
 
-/// Puts a new document of a job of the account in, inside a transaction. The row takes the one copy of the bytes.
-/// `Damaged` tells that the job has a document of this number already.
+/// Puts a new document of a job of the account in, inside a transaction. The row takes the one copy
+/// of the bytes. `Damaged` tells that the job has a document of this number already.
 pub fn add_document<S: Alter>(
     transaction: &mut Transaction<'_, S>,
     name: Name,

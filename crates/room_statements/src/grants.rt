@@ -2,10 +2,9 @@
 
 ghost use Rattle.std.specs.Prelude.{◌≡◌, ◌≢◌, ℕ, ◌≤◌, pos, [], ◌∷◌, map, Err, option_map, IfOk, IfSome, OnOk, IsPermutation};
 ghost use Rattle.sqlite_value.specs.Order.{column};
-ghost use Rattle.room_rules.specs.Limits.{most_pages};
+ghost use Rattle.room_rules.specs.Limits.{most_pages, most_units};
 ghost use Rattle.room_state.specs.Rooms.{RoomValue};
 ghost use Rattle.room_state.specs.Sums.{granted_to};
-ghost use Rattle.room_state.specs.Tallies.{most_units};
 ghost use Rattle.room_tables.specs.Tables.{grants as grants_table};
 ghost use Rattle.room_tables.specs.Keyed.{SetsRow};
 ghost use Rattle.room_tables.specs.Cells.{number, grant_cells};
@@ -23,8 +22,8 @@ use room_tables::{TableFault, find_row, write};
 use sqlite::{Alter, Connection, Error, Row, Transaction};
 use sqlite_value::value::ValueRef;
 
-/// The pages that the account was granted in the month, if there is such a grant. `Damaged` tells that
-/// the row that is there can be none of sound rows.
+/// The pages that the account was granted in the month, if there is such a grant. `Damaged` tells
+/// that the row that is there can be none of sound rows.
 pub fn find_grant<S: Alter>(
     connection: &mut Connection<S>,
     name: Name,
@@ -74,8 +73,8 @@ fn pages_from(row: &Row) -> Result<u32, TableFault>
     Ok(pages as u32)
 }
 
-/// The pages that the account was granted for the months up to the given one. `Damaged` tells that a row
-/// that is there can be none of sound rows.
+/// The pages that the account was granted for the months up to the given one. `Damaged` tells that
+/// a row that is there can be none of sound rows.
 pub fn granted_to<S: Alter>(
     connection: &mut Connection<S>,
     name: Name,

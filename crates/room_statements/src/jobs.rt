@@ -1,6 +1,6 @@
 //! The rows of the table `job`.
 
-ghost use Rattle.std.specs.Prelude.{◌≡◌, None, Some, Err, pos, IfOk, IfSome, option_map};
+ghost use Rattle.std.specs.Prelude.{◌≡◌, None, Some, Err, pos, IfOk, IfSome, option_map, OnOk, OnErr, IfErr};
 ghost use Rattle.room_rules.specs.Standings.{HasRanges, IsStanding};
 ghost use Rattle.room_rules.specs.declared.job.Job.{Job as JobValue};
 ghost use Rattle.room_rules.specs.declared.job.Standing.{Standing as StandingValue};
@@ -23,8 +23,8 @@ use room_tables::{TableFault, find_row, put, write};
 use sqlite::{Alter, Connection, Error, Row, Transaction};
 use sqlite_value::value::ValueRef;
 
-/// The job of the account with the number. `Damaged` tells that the row that is there can be none of sound
-/// rows.
+/// The job of the account with the number. `Damaged` tells that the row that is there can be none
+/// of sound rows.
 pub fn find_job<S: Alter>(
     connection: &mut Connection<S>,
     name: Name,
@@ -91,10 +91,21 @@ fn standing_from(row: &Row) -> Result<Standing, TableFault>
         → ShowsStanding row.now s → ⊥ }
 {
     let standing = columns_from(row)?;
-    if !standing.is_in_range() {
-        return Err(TableFault::Damaged);
-    }
+    check_range(&standing)?;
     Ok(standing)
+}
+
+/// `Damaged` where no job can stand so.
+fn check_range(standing: &Standing) -> Result<(), TableFault>
+    ensures in_range { OnOk result (IsStanding standing.now) }
+    ensures damaged { OnErr result (IsStanding standing.now → ⊥) }
+    ensures fault { IfErr result (λ fault. fault ≡ TableFault.Damaged) }
+{
+    if standing.is_in_range() {
+        Ok(())
+    } else {
+        Err(TableFault::Damaged)
+    }
 }
 
 fn columns_from(row: &Row) -> Result<Standing, TableFault>
@@ -120,8 +131,8 @@ fn columns_from(row: &Row) -> Result<Standing, TableFault>
     })
 }
 
-/// Puts a new job of the account in, under its number, inside a transaction. `Damaged` tells that a job of this
-/// number is there already.
+/// Puts a new job of the account in, under its number, inside a transaction. `Damaged` tells that a
+/// job of this number is there already.
 pub fn add_job<S: Alter>(
     transaction: &mut Transaction<'_, S>,
     name: Name,
@@ -160,8 +171,8 @@ pub fn add_job<S: Alter>(
     )
 }
 
-/// Sets the standing of a job of the account that is there, inside a transaction. Its number, its name and its
-/// password stay.
+/// Sets the standing of a job of the account that is there, inside a transaction. Its number, its
+/// name and its password stay.
 pub fn set_standing<S: Alter>(
     transaction: &mut Transaction<'_, S>,
     name: Name,

@@ -68,9 +68,9 @@ fn walk_unfinished<S: Alter>(
     )
 }
 
-/// The jobs of the account that have ended, by falling moment of ending, and where that is the same by
-/// falling number, and of those the first so many. `Damaged` tells that some row that is there can be none
-/// of sound rows.
+/// The jobs of the account that have ended, by falling moment of ending, and where that is the same
+/// by falling number, and of those the first so many. `Damaged` tells that some row that is there
+/// can be none of sound rows.
 pub fn ended_jobs<S: Alter>(
     alloc: Global,
     connection: &mut Connection<S>,

@@ -2,7 +2,7 @@
 
 ghost use Rattle.std.specs.Prelude.{◌≡◌, ◌≢◌, ◌≤◌, ℕ, [], ◌∷◌, Err, option_map, IfOk, IfSome, IsTrue};
 ghost use Rattle.sqlite_value.specs.Order.{column};
-ghost use Rattle.room_rules.specs.Limits.{most_rate};
+ghost use Rattle.room_rules.specs.Limits.{most_rate, IsRate};
 ghost use Rattle.room_rules.specs.Names.{is_name};
 ghost use Rattle.room_tables.specs.Tables.{rates as rates_table};
 ghost use Rattle.room_tables.specs.Keyed.{SetsRow};
@@ -17,8 +17,8 @@ use room_tables::{TableFault, find_row, write};
 use sqlite::{Alter, Connection, Error, Row, Transaction};
 use sqlite_value::value::ValueRef;
 
-/// The units that an impression counts on the device, 1 to 100, if it has a rate. `Damaged` tells that
-/// the row that is there can be none of sound rows.
+/// The units that an impression counts on the device, 1 to 100, if it has a rate. `Damaged` tells
+/// that the row that is there can be none of sound rows.
 pub fn find_rate<S: Alter>(
     connection: &mut Connection<S>,
     name: Name,
@@ -26,10 +26,10 @@ pub fn find_rate<S: Alter>(
     ensures found { OfStore S.Store connection.old connection.new
         (λ db. IfOk result (λ found. rate_at db name ≡ option_map (units_cells name) found)) }
     ensures in_range { IfOk result
-        (λ found. IfSome found (λ units. (1 ≤ units) × (units ≤ most_rate))) }
+        (λ found. IfSome found IsRate) }
     ensures damaged { OfStore S.Store connection.old connection.new (λ db.
         result ≡ Err TableFault.Damaged
-        → IsRowOf (units_cells name) (λ units. (1 ≤ units) × (units ≤ most_rate)) (rate_at db name)
+        → IsRowOf (units_cells name) IsRate (rate_at db name)
         → ⊥) }
     ensures reads { ReadsStore S.Store connection.old connection.new result }
 {
@@ -53,7 +53,7 @@ fn rate_row<S: Alter>(connection: &mut Connection<S>, name: Name) -> Result<Opti
 
 fn units_from(row: &Row) -> Result<u32, TableFault>
     ensures read { IfOk result (λ units. column row.now 0 ≡ number units) }
-    ensures in_range { IfOk result (λ units. (1 ≤ units) × (units ≤ most_rate)) }
+    ensures in_range { IfOk result IsRate }
     ensures damaged { result ≡ Err TableFault.Damaged → (units : ℕ) → 1 ≤ units → units ≤ most_rate
         → column row.now 0 ≢ number units }
 {

@@ -2,9 +2,9 @@
 
 ghost use Rattle.std.specs.Prelude.{◌≡◌, ◌≤◌, map, Err, IfOk, OnOk, IsPermutation};
 ghost use Rattle.std.specs.FinMap.{values};
-ghost use Rattle.room_rules.specs.Limits.{most_unfinished};
+ghost use Rattle.room_rules.specs.Limits.{most_unfinished, most_units};
 ghost use Rattle.room_state.specs.Rooms.{RoomValue};
-ghost use Rattle.room_state.specs.Tallies.{tally_of, most_units};
+ghost use Rattle.room_state.specs.Tallies.{tally_of};
 ghost use Rattle.room_tables.specs.Accounts.{HoldsRoom};
 ghost use Rattle.room_statements.specs.Totals.{counted_cells, CountsJob, refuses_job};
 ghost use Rattle.room_tables.specs.Calls.{GoesOn, OfStore, ReadsStore};
@@ -19,8 +19,8 @@ use room_tables::TableFault;
 use sqlite::{Alter, Connection, Row};
 use sqlite_value::value::ValueRef;
 
-/// What is counted of all jobs of the account. `Damaged` tells that a row that is there can be none of
-/// sound rows.
+/// What is counted of all jobs of the account. `Damaged` tells that a row that is there can be none
+/// of sound rows.
 pub fn tally_jobs<S: Alter>(connection: &mut Connection<S>, name: Name) -> Result<Tally, TableFault>
     ensures counted { OfStore S.Store connection.old connection.new (λ db. (room : RoomValue)
         → HoldsRoom db name room → IfOk result (λ tally. tally ≡ tally_of (values room.jobs))) }

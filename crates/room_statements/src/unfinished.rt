@@ -2,12 +2,12 @@
 
 ghost use Rattle.std.specs.Prelude.{◌≡◌, ◌≤◌, map, Err, IfOk, OnOk, IsPermutation};
 ghost use Rattle.std.specs.FinMap.{values};
-ghost use Rattle.room_rules.specs.Limits.{most_unfinished};
+ghost use Rattle.room_rules.specs.Limits.{most_unfinished, most_units};
 ghost use Rattle.room_state.specs.Rooms.{RoomValue};
 ghost use Rattle.room_state.specs.Queues.{not_completed};
 ghost use Rattle.room_state.specs.RoomRules.{unfinished_count};
 ghost use Rattle.room_state.specs.Sums.{has_processing};
-ghost use Rattle.room_state.specs.Tallies.{tally_of, most_units};
+ghost use Rattle.room_state.specs.Tallies.{tally_of};
 ghost use Rattle.room_tables.specs.Accounts.{HoldsRoom};
 ghost use Rattle.room_tables.specs.Calls.{GoesOn, OfStore, ReadsStore};
 ghost use Rattle.room_statements.specs.Totals.{counted_cells, CountsJob, refuses_job};
@@ -21,8 +21,9 @@ use room_tables::TableFault;
 use sqlite::{Alter, Connection};
 use sqlite_value::value::ValueRef;
 
-/// What is counted of the jobs of the account that have not ended: all that says whether its queue takes a job and
-/// what its printer is doing. `Damaged` tells that a row that is there can be none of sound rows.
+/// What is counted of the jobs of the account that have not ended: all that says whether its queue
+/// takes a job and what its printer is doing. `Damaged` tells that a row that is there can be none
+/// of sound rows.
 pub fn tally_unfinished<S: Alter>(
     connection: &mut Connection<S>,
     name: Name,

@@ -28,8 +28,8 @@ use sqlite::{Alter, Connection, Error};
 use std::alloc::Global;
 use std::marker::Model;
 
-/// The shared tables of all accounts, over one connection, which is in no transaction. Contracts see it
-/// as its connection.
+/// The shared tables of all accounts, over one connection, which is in no transaction. Contracts
+/// see it as its connection.
 #[derive(Drop)]
 pub struct Store<S: Alter> {
     connection: Connection<S>,
@@ -85,10 +85,10 @@ impl<S: Alter> Store<S> {
         }
     }
 
-    /// Opens a database of version 2 as it is. The version is read first, wherever the first table is that
-    /// of the version: `WrongVersion` tells one that is not 2, whatever other tables there are, and
-    /// `NotOurs` that none can be read, or that it is 2 over other tables. `Storage` tells also that the
-    /// connection is in a transaction.
+    /// Opens a database of version 2 as it is. The version is read first, wherever the first table
+    /// is that of the version: `WrongVersion` tells one that is not 2, whatever other tables there
+    /// are, and `NotOurs` that none can be read, or that it is 2 over other tables. `Storage` tells
+    /// also that the connection is in a transaction.
     pub fn open(mut connection: Connection<S>) -> Result<Store<S>, Refused<S>>
         ensures opened { IfOk result (λ store. OnDisk S.Store connection store
             (λ db. IsOpened db × IsSame (state S.Store connection) (state S.Store store))) }
@@ -113,11 +113,12 @@ impl<S: Alter> Store<S> {
         }
     }
 
-    /// Makes version 2 of a database of version 1: each device has rate 1, and each account keeps its rows.
-    /// Version 2 is opened as it is. The version is read first, as `open` does: `WrongVersion` tells one that
-    /// is neither 1 nor 2, `NotOurs` that none can be read, or that it is over other tables than its own.
-    /// `Storage` tells also that a database of version 1 has the tables of version 2, among them the table
-    /// `rates` that would be made, or that the connection is in a transaction.
+    /// Makes version 2 of a database of version 1: each device has rate 1, and each account keeps
+    /// its rows. Version 2 is opened as it is. The version is read first, as `open` does:
+    /// `WrongVersion` tells one that is neither 1 nor 2, `NotOurs` that none can be read, or that
+    /// it is over other tables than its own. `Storage` tells also that a database of version 1 has
+    /// the tables of version 2, among them the table `rates` that would be made, or that the
+    /// connection is in a transaction.
     pub fn migrate(mut connection: Connection<S>) -> Result<Store<S>, Refused<S>>
         ensures migrated { IfOk result (λ store. OnDisk S.Store connection store (λ db.
             (IsOpened db × IsSame (state S.Store connection) (state S.Store store))
@@ -151,12 +152,13 @@ impl<S: Alter> Store<S> {
         }
     }
 
-    /// What the event is answered at the moment `now`, in seconds from 1970, and what becomes of the tables: of
-    /// the rows of its account, or of its device, and of no other. It writes in one transaction, last.
+    /// What the event is answered at the moment `now`, in seconds from 1970, and what becomes of
+    /// the tables: of the rows of its account, or of its device, and of no other. It writes in one
+    /// transaction, last.
     ///
-    /// `Moment` where `now` is past `LAST_MOMENT`, which is looked at first; `Damaged` where what the event reads
-    /// can stand in no sound rows; `Storage` and `Memory` where a statement was refused, the device failed or memory
-    /// was wanting. Nothing has changed then.
+    /// `Moment` where `now` is past `LAST_MOMENT`, which is looked at first; `Damaged` where what
+    /// the event reads can stand in no sound rows; `Storage` and `Memory` where a statement was
+    /// refused, the device failed or memory was wanting. Nothing has changed then.
     pub fn apply(&mut self, alloc: Global, now: u64, e: &Event<'_>) -> Result<Reply, StoreFault>
         requires { IsTrue (fits e.now) }
         ensures reply { OfStore S.Store self.old self.new (λ db. IfOk result (λ reply.

@@ -7,8 +7,8 @@ abbrev pub inner_of : {R : Type 0} → Counted R → R
 inner_of source = source.inner
 
 -- whether the reader told its end
-abbrev pub has_ended : {R : Type 0} → Counted R → Bool
-has_ended source = source.has_ended
+abbrev pub has_told_end : {R : Type 0} → Counted R → Bool
+has_told_end source = source.has_ended
 
 -- the calls that failed so far
 abbrev pub failures_of : {R : Type 0} → Counted R → ℕ

@@ -1,11 +1,11 @@
 -- What a call of a source takes of the bytes that may be left in it, and a call of a sink of what
 -- it is handed.
-use Rattle.std.specs.Prelude.{◌≡◌, ◌==◌, ◌&&◌, ℕ, Bool, true, false, if◌then◌else◌, nat_lt, List, [], ◌++◌, length, Option, Some, None, Result, Ok, Err, ⊤, refl}
+use Rattle.std.specs.Prelude.{◌≡◌, ◌==◌, ◌&&◌, ℕ, Bool, true, false, if◌then◌else◌, nat_lt, List, [], ◌++◌, length, Option, Some, None, Result, Ok, Err, ⊤}
 use Rattle.room_streams.specs.declared.fault.StreamFault.{StreamFault}
 use Rattle.room_streams.specs.declared.fault.StreamFault.TheVariants.{Read, Memory, TooLong}
 
 -- the bytes came first of what was left before, and what is left now came behind them
-abbrev pub Yields : (List ℕ → Type 0) → (List ℕ → Type 0) → List ℕ → Type 0
+abbrev pub Yields : (before after : List ℕ → Type 0) (bytes : List ℕ) → Type 0
 Yields before after bytes = (rest : List ℕ) → after rest → before (bytes ++ rest)
 
 -- nothing is left
@@ -13,17 +13,10 @@ abbrev pub IsSpent : (List ℕ → Type 0) → Type 0
 IsSpent left = (rest : List ℕ) → left rest → rest ≡ []
 
 -- what may be left in a reader whose bytes may be known, and which may have told its end
-abbrev pub MayBeLeft : Option (List ℕ) → Bool → List ℕ → Type 0
+abbrev pub MayBeLeft : (known : Option (List ℕ)) (ended : Bool) (rest : List ℕ) → Type 0
 MayBeLeft known true rest = rest ≡ []
 MayBeLeft None false rest = ⊤
 MayBeLeft (Some bytes) false rest = rest ≡ bytes
-
--- something may be left in each reader
-pub some_left_of : (known : Option (List ℕ)) (ended : Bool)
-    → (rest : List ℕ) × MayBeLeft known ended rest
-some_left_of known true = ([], refl)
-some_left_of None false = ([], tt)
-some_left_of (Some bytes) false = (bytes, refl)
 
 -- 1 of a call that failed, by whatever error
 abbrev pub failed_reads : {A E : Type 0} → Result A E → ℕ
@@ -31,7 +24,7 @@ failed_reads (Ok count) = 0
 failed_reads (Err error) = 1
 
 -- 1 of a write that failed, by whatever error, or that took nothing of a piece that is not empty
-abbrev pub failed_writes : {E : Type 0} → Result ℕ E → List ℕ → ℕ
+abbrev pub failed_writes : {E : Type 0} → (written : Result ℕ E) (piece : List ℕ) → ℕ
 failed_writes (Ok count) piece = if count == 0 && nat_lt 0 (length piece) then 1 else 0
 failed_writes (Err error) piece = 1
 

@@ -8,8 +8,8 @@ use crate::source::Source;
 use std::io;
 use std::io::{Read, Write};
 
-/// A reader or a writer of std with a count of the calls of it that failed. A reader that has told its end is
-/// not called again.
+/// A reader or a writer of std with a count of the calls of it that failed. A reader that has told
+/// its end is not called again.
 #[derive(Drop)]
 pub struct Counted<R> {
     inner: R,
@@ -18,12 +18,12 @@ pub struct Counted<R> {
 }
 
 impl<R> Counted<R> {
-    ghost use Rattle.room_streams.specs.Counts.{failures_of, has_ended, inner_of};
+    ghost use Rattle.room_streams.specs.Counts.{failures_of, has_told_end, inner_of};
 
     /// No call has failed so far.
     pub fn new(inner: R) -> Counted<R>
         ensures inner { inner_of result ≡ inner }
-        ensures going { has_ended result ≡ false }
+        ensures going { has_told_end result ≡ false }
         ensures count { failures_of result ≡ 0 }
     {
         Counted {
@@ -42,14 +42,15 @@ impl<R> Counted<R> {
 }
 
 impl<R: Read> Source for Counted<R> {
-    ghost use Rattle.room_streams.specs.Counts.{failures_of, has_ended, inner_of};
-    ghost use Rattle.room_streams.specs.Streams.{MayBeLeft, some_left_of};
+    ghost use Rattle.room_streams.specs.Counts.{failures_of, has_told_end, inner_of};
+    ghost use Rattle.room_streams.specs.Streams.{MayBeLeft};
+    ghost use Rattle.room_streams.specs.SomeLeft.{some_left_of};
 
-    ghost left = { λ s rest. MayBeLeft (R.remaining (inner_of s)) (has_ended s) rest };
+    ghost left = { λ s rest. MayBeLeft (R.remaining (inner_of s)) (has_told_end s) rest };
 
     ghost failures = { failures_of };
 
-    ghost some_left = { λ s. some_left_of (R.remaining (inner_of s)) (has_ended s) };
+    ghost some_left = { λ s. some_left_of (R.remaining (inner_of s)) (has_told_end s) };
 
     fn read(&mut self, buffer: &mut [u8]) -> io::Result<usize> {
         if self.has_ended {

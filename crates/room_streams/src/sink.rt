@@ -6,8 +6,8 @@ ghost use Rattle.room_streams.specs.Streams.{failed_writes};
 
 use std::io;
 
-/// What bytes are written to. It tells how many calls of `write` failed so far, each by whatever error, and one
-/// that took nothing of a piece that is not empty among them.
+/// What bytes are written to. It tells how many calls of `write` failed so far, each by whatever
+/// error, and one that took nothing of a piece that is not empty among them.
 pub trait Sink {
     // The bytes that it was given so far, where they are known.
     ghost given: { Self → Option (List ℕ) };

@@ -5,8 +5,8 @@ ghost use Rattle.room_streams.specs.Streams.{IsSpent, Yields, failed_reads};
 
 use std::io;
 
-/// What bytes are read from. It tells how many calls of `read` failed so far, each by whatever error:
-/// `Interrupted` counts as well.
+/// What bytes are read from. It tells how many calls of `read` failed so far, each by whatever
+/// error: `Interrupted` counts as well.
 pub trait Source {
     // The bytes that may be left to be read, up to the end.
     ghost left: { Self → List ℕ → Type 0 };
@@ -14,8 +14,8 @@ pub trait Source {
     // How many calls failed so far.
     ghost failures: { Self → ℕ };
 
-    /// Puts the next bytes at the front of `buffer` and answers how many. 0 in a buffer that is not empty
-    /// tells the end. A call that fails takes nothing of what is left.
+    /// Puts the next bytes at the front of `buffer` and answers how many. 0 in a buffer that is not
+    /// empty tells the end. A call that fails takes nothing of what is left.
     fn read(&mut self, buffer: &mut [u8]) -> io::Result<usize>
         requires { failures self.old < 2 ^ 64 - 1 }
         ensures bound { IfOk result (λ n. n ≤ length buffer.old) }

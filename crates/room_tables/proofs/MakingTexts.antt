@@ -12,7 +12,7 @@ use Rattle.sqlite_catalog.specs.Change.{created, indexed}
 use Rattle.sqlite.specs.Does.{lacks_sequence}
 use Rattle.sqlite.specs.Listing.{understood}
 use Rattle.sqlite.proofs.Callers.{IsPlain, command_of, statement_of}
-use Rattle.room_tables.specs.Making.{with_meta, with_account, with_job, with_document, with_grants}
+use Rattle.room_tables.specs.Making.{with_meta, with_account, with_job, with_documents, with_grants}
 use Rattle.room_tables.specs.Tables.{no_schema, first_schema, rated_schema, room_schema, job_ended, meta, account, job, document, grants, device, rates}
 
 -- under the schema, the text is one statement that makes this table
@@ -70,7 +70,7 @@ pub makes_document : Makes with_job document_text document
 unfolding understood everything
 makes_document = record { command = refl; whole = refl; is_plain = (refl, refl); defines = refl; counts_nothing = refl }
 
-pub makes_grants : Makes with_document grants_text grants
+pub makes_grants : Makes with_documents grants_text grants
 unfolding understood everything
 makes_grants = record { command = refl; whole = refl; is_plain = (refl, refl); defines = refl; counts_nothing = refl }
 

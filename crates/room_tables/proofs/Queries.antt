@@ -30,7 +30,7 @@ use Rattle.sqlite.specs.Effect.{RefusesToRead}
 use Rattle.sqlite.specs.Listing.{understood, reads_listing, IsSourceOf}
 use Rattle.sqlite.specs.State.{State, Shown, QueriesRow, IsUnchanged, IsNoStatement, IsNotRun, FailsToQuery, FailsToShow, store_error}
 use Rattle.sqlite.proofs.Callers.{IsPlain, reads_as, first_as}
-use Rattle.room_tables.specs.Queries.{first_of_table, of_table, query_in, end_of, parameters_of, HasNoSums, Means, Takes, IsShownBy, passes, shows_of, shown_of, FailsToRead, FindsRow}
+use Rattle.room_tables.specs.Queries.{first_of_table, of_table, query_in, tail_of, parameters_of, HasNoSums, Means, TakesParams, IsShownBy, passes, shows_of, shown_of, FailsToRead, FindsRow}
 use Rattle.room_tables.proofs.Edits.{AreFound}
 
 -- ---- the answer is the passing rows, in some order
@@ -163,12 +163,12 @@ module _ (old new : State) (schema : Schema) (has : old.now.schema ≡ schema) (
       let known = sym h.1 ∙ ap (λ s. understood s text) has in
       let bare = subst IsPlain (sym known) means.is_plain in
       elim h.2 [
-        | inl more ↦ more.0 (leb-true _ _ (subst (λ r. nat_le (length text) (end_of r) ≡ true) (sym known) means.is_whole))
+        | inl more ↦ more.0 (leb-true _ _ (subst (λ r. nat_le (length text) (tail_of r) ≡ true) (sym known) means.is_whole))
         | inr (inl wrong) ↦ wrong.0 (given ∙ sym (subst (λ r. parameters_of r ≡ parameters) (sym known) means.takes))
         | inr (inr timed) ↦ timed.0 bare.1
       ]
 
-  pub fails : HasNoSums query → Takes schema query params parameters → (error : Error) → FailsToQuery text params old new error → FailsToRead old new error
+  pub fails : HasNoSums query → TakesParams schema query params parameters → (error : Error) → FailsToQuery text params old new error → FailsToRead old new error
   unfolding FailsToQuery IsNotRun
   fails no_sums takes error (inl (inl refused)) = absurd (runs error takes.given refused.0)
   fails no_sums takes error (inl (inr failed)) = inl failed
@@ -211,12 +211,12 @@ module _ (old new : State) (schema : Schema) (has : old.now.schema ≡ schema) (
         failed = tt;
       }
 
-  pub finds_no_row : Takes schema (of_table tree tests shows []) params parameters → QueriesRow text params old new (Err QueryReturnedNoRows) → FindsRow old new tree tests shows params (Ok None)
+  pub finds_no_row : TakesParams schema (of_table tree tests shows []) params parameters → QueriesRow text params old new (Err QueryReturnedNoRows) → FindsRow old new tree tests shows params (Ok None)
   unfolding QueriesRow
   finds_no_row takes (inl h) = absurd (never_none old new (fails old new schema has text query names parameters means params (record { ungrouped = refl; unfolded = refl }) takes QueryReturnedNoRows h))
   finds_no_row takes (inr h) = record { found = empty_map _ _ (shown_all [] h.1); same = unchanged [] h.1; failed = tt }
 
-  pub fails_to_find : Takes schema (of_table tree tests shows []) params parameters → (error : Error) → error ≢ QueryReturnedNoRows → QueriesRow text params old new (Err error)
+  pub fails_to_find : TakesParams schema (of_table tree tests shows []) params parameters → (error : Error) → error ≢ QueryReturnedNoRows → QueriesRow text params old new (Err error)
       → FindsRow old new tree tests shows params (Err error)
   unfolding QueriesRow
   fails_to_find takes error other (inl h) = record { found = tt; same = tt; failed = fails old new schema has text query names parameters means params (record { ungrouped = refl; unfolded = refl }) takes error h }

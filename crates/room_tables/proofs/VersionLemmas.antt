@@ -14,7 +14,7 @@ use Rattle.sqlite.specs.Listing.{understood}
 use Rattle.room_tables.specs.Tables.{meta}
 use Rattle.room_tables.specs.declared.fault.OpenFault.{OpenFault}
 use Rattle.room_tables.specs.Making.{KeepsVersion, version_tests, IsVersionRow, HasVersion, LacksVersion}
-use Rattle.room_tables.specs.Queries.{Means, Takes, of_table, passes, shows_of, shown_of, IsFirst}
+use Rattle.room_tables.specs.Queries.{Means, TakesParams, of_table, passes, shows_of, shown_of, IsFirst}
 use Rattle.room_tables.proofs.Queries.{finds_shown}
 use Rattle.room_tables.proofs.Reading.{empty_filter}
 
@@ -35,16 +35,16 @@ means_over (table ∷ tables) indexes views first =
 pub find_version_is : (schema : Schema) → KeepsVersion schema → Means schema find_version_text (of_table 0 version_tests (col 1 2 ∷ []) []) (codes "version" ∷ []) 0
 find_version_is schema first = means_over schema.tables schema.indexes schema.views first
 
-takes_behind : (tables : List Table) (indexes : List Index) (views : List View) → Takes (record { tables = meta ∷ tables; indexes = indexes; views = views }) (of_table 0 version_tests (col 1 2 ∷ []) []) [] 0
+takes_behind : (tables : List Table) (indexes : List Index) (views : List View) → TakesParams (record { tables = meta ∷ tables; indexes = indexes; views = views }) (of_table 0 version_tests (col 1 2 ∷ []) []) [] 0
 takes_behind tables indexes views = record { given = refl; typed = refl }
 
-takes_over : (tables : List Table) (indexes : List Index) (views : List View) → slice_get tables 0 ≡ Some meta → Takes (record { tables = tables; indexes = indexes; views = views }) (of_table 0 version_tests (col 1 2 ∷ []) []) [] 0
+takes_over : (tables : List Table) (indexes : List Index) (views : List View) → slice_get tables 0 ≡ Some meta → TakesParams (record { tables = tables; indexes = indexes; views = views }) (of_table 0 version_tests (col 1 2 ∷ []) []) [] 0
 takes_over [] indexes views first = absurd cc
 takes_over (table ∷ tables) indexes views first =
     let this : table ≡ meta = cc in
-    subst (λ (t : Table). Takes (record { tables = t ∷ tables; indexes = indexes; views = views }) (of_table 0 version_tests (col 1 2 ∷ []) []) [] 0) (sym this) (takes_behind tables indexes views)
+    subst (λ (t : Table). TakesParams (record { tables = t ∷ tables; indexes = indexes; views = views }) (of_table 0 version_tests (col 1 2 ∷ []) []) [] 0) (sym this) (takes_behind tables indexes views)
 
-pub find_version_takes : (schema : Schema) → KeepsVersion schema → Takes schema (of_table 0 version_tests (col 1 2 ∷ []) []) [] 0
+pub find_version_takes : (schema : Schema) → KeepsVersion schema → TakesParams schema (of_table 0 version_tests (col 1 2 ∷ []) []) [] 0
 find_version_takes schema first = takes_over schema.tables schema.indexes schema.views first
 
 -- ---- what it finds

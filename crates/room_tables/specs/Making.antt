@@ -14,7 +14,7 @@ use Rattle.sqlite_schema.specs.Rules.{equal}
 use Rattle.sqlite_rules.specs.Lists.{Has}
 use Rattle.sqlite_catalog.specs.Change.{created}
 use Rattle.sqlite.specs.Effect.{Database, IsDatabase}
-use Rattle.room_tables.specs.Tables.{no_schema, first_schema, room_schema, meta, account, job, document, grants}
+use Rattle.room_tables.specs.Tables.{no_schema, first_schema, room_schema, meta, account, job, document, grants, room_version}
 use Rattle.room_tables.specs.declared.fault.OpenFault.{OpenFault}
 use Rattle.room_tables.specs.declared.schema.Layout.{Layout}
 use Rattle.room_tables.specs.declared.schema.Layout.TheVariants.{Current, First, Other}
@@ -35,11 +35,11 @@ with_account = created with_meta account
 abbrev pub with_job : Schema
 with_job = created with_account job
 
-abbrev pub with_document : Schema
-with_document = created with_job document
+abbrev pub with_documents : Schema
+with_documents = created with_job document
 
 abbrev pub with_grants : Schema
-with_grants = created with_document grants
+with_grants = created with_documents grants
 
 -- it has the tables of the schema, and no row
 abbrev pub IsBlank : Schema → Database → Type 0
@@ -55,7 +55,7 @@ IsVersionRow db row = Has (db.trees meta.tree) row × (equal Binary (rowid row) 
 abbrev pub version_tests : List Term
 version_tests = op2 (Compare Eq Binary) (col 1 0) (lit (Int (pos 1))) ∷ []
 
-abbrev pub HasVersion : Database → ℤ → Type 0
+abbrev pub HasVersion : (db : Database) (version : ℤ) → Type 0
 HasVersion db version = (row : Row) × IsVersionRow db row × (column row 2 ≡ Int version)
 
 -- there is no such row, or it has no number
@@ -74,8 +74,8 @@ version_row version = Int (pos 1) ∷ Null ∷ Int version ∷ []
 -- every account is absent and there is no device
 pub record IsNew (db : Database) : Type 0 where
   pub has_schema : HasSchema db
-  pub one_version : db.trees meta.tree ≡ version_row (pos 2) ∷ []
-  pub version_two : HasVersion db (pos 2)
+  pub one_version : db.trees meta.tree ≡ version_row room_version ∷ []
+  pub version_two : HasVersion db room_version
   pub no_row : AllByRecursion (λ table. table.tree ≢ meta.tree → db.trees table.tree ≡ [])
       room_schema.tables
   pub no_account : (name : List ℕ) → HoldsNothing db name
@@ -108,19 +108,20 @@ IsNoEdition db Memory = ⊤
 pub record IsOpened (db : Database) : Type 0 where
   pub schema_is : db.schema ≡ room_schema
   pub is_database : IsDatabase db
-  pub version_two : HasVersion db (pos 2)
+  pub version_two : HasVersion db room_version
 
 -- it has the version, and not the tables of that version
-abbrev pub IsMislaid : Database → ℤ → Schema → Type 0
+abbrev pub IsMislaid : (db : Database) (version : ℤ) (schema : Schema) → Type 0
 IsMislaid db version schema = HasVersion db version × (db.schema ≢ schema)
 
 -- it is none of ours: no version can be read, or it is 2 over other tables
 abbrev pub IsNotOurs : Database → Type 0
-IsNotOurs db = (KeepsVersion db.schema → ⊥) ⊎ (LacksVersion db ⊎ IsMislaid db (pos 2) room_schema)
+IsNotOurs db =
+    (KeepsVersion db.schema → ⊥) ⊎ (LacksVersion db ⊎ IsMislaid db room_version room_schema)
 
 -- whatever its tables are beside that of the version
-abbrev pub IsOfVersion : Database → ℤ → Type 0
-IsOfVersion db version = KeepsVersion db.schema × HasVersion db version × (version ≢ pos 2)
+abbrev pub IsOfVersion : (db : Database) (version : ℤ) → Type 0
+IsOfVersion db version = KeepsVersion db.schema × HasVersion db version × (version ≢ room_version)
 
 -- why it could not be opened; want of memory and a failure of the storage say nothing of it
 abbrev pub IsOpenFault : Database → OpenFault → Type 0

@@ -7,7 +7,7 @@ use Rattle.sqlite_trees.specs.declared.store.Shape.TheVariants as shape
 use Rattle.sqlite_schema.specs.declared.schema.Schema.{Schema}
 use Rattle.sqlite.specs.Effect.{Database, IsDatabase}
 use Rattle.room_rules.specs.Devices.{Devices}
-use Rattle.room_tables.specs.Tables.{first_schema, rated_schema, room_schema, meta, rates}
+use Rattle.room_tables.specs.Tables.{first_schema, rated_schema, room_schema, meta, rates, first_version, room_version}
 use Rattle.room_tables.specs.declared.fault.OpenFault.{OpenFault}
 use Rattle.room_tables.specs.declared.fault.OpenFault.TheVariants.{NotOurs, WrongVersion, Storage, Memory}
 use Rattle.room_tables.specs.Keyed.{AreNumbered, OnlyChanges}
@@ -17,10 +17,10 @@ use Rattle.room_tables.specs.Making.{HasVersion, KeepsVersion, IsMislaid, IsNotO
 
 -- ---- a database of version 1
 
-pub record IsFirst (db : Database) : Type 0 where
+pub record IsFirstVersion (db : Database) : Type 0 where
   pub schema_is : db.schema ≡ first_schema
   pub is_database : IsDatabase db
-  pub version_one : HasVersion db (pos 1)
+  pub version_one : HasVersion db first_version
 
 -- each device has one row, and counts one unit for an impression
 pub record HoldsFirstDevices (db : Database) (devices : Devices) : Type 0 where
@@ -43,9 +43,9 @@ KeepsFirst old new =
     first_schema.tables
 
 pub record IsMigrated (old new : Database) : Type 0 where
-  pub was_first : IsFirst old
+  pub was_first : IsFirstVersion old
   pub schema_is : new.schema ≡ room_schema
-  pub version_two : HasVersion new (pos 2)
+  pub version_two : HasVersion new room_version
   pub kept : KeepsFirst old new
   pub rated : AreRatedOne new
   pub is_database : IsDatabase new
@@ -76,20 +76,21 @@ pub record NotesVersionTwo (old new : Database) : Type 0 where
   pub schema_is : new.schema ≡ room_schema
   pub is_database : IsDatabase new
   pub kept : OnlyChanges meta old new
-  pub version_two : HasVersion new (pos 2)
+  pub version_two : HasVersion new room_version
   pub numbered : IsShaped shape.Table (old.trees meta.tree)
       → IsShaped shape.Table (new.trees meta.tree)
 
 -- ---- why it is not migrated
 
 -- a version that there is none of, whatever its tables are beside that of the version
-abbrev pub IsOfOtherVersion : Database → ℤ → Type 0
+abbrev pub IsOfOtherVersion : (db : Database) (version : ℤ) → Type 0
 IsOfOtherVersion db version =
-    KeepsVersion db.schema × HasVersion db version × (version ≢ pos 1) × (version ≢ pos 2)
+    KeepsVersion db.schema × HasVersion db version
+    × (version ≢ first_version) × (version ≢ room_version)
 
 -- want of memory and a failure of the storage say nothing of it
 abbrev pub IsMigrateFault : Database → OpenFault → Type 0
-IsMigrateFault db NotOurs = IsNotOurs db ⊎ IsMislaid db (pos 1) first_schema
+IsMigrateFault db NotOurs = IsNotOurs db ⊎ IsMislaid db first_version first_schema
 IsMigrateFault db (WrongVersion version) = IsOfOtherVersion db version
 IsMigrateFault db Storage = ⊤
 IsMigrateFault db Memory = ⊤

@@ -52,9 +52,9 @@ abbrev pub query_in : Result Compiled CompileError → Command
 query_in (Ok compiled) = compiled.command
 query_in (Err fault) = Nothing
 
-abbrev pub end_of : Result Compiled CompileError → ℕ
-end_of (Ok compiled) = compiled.tail
-end_of (Err fault) = 0
+abbrev pub tail_of : Result Compiled CompileError → ℕ
+tail_of (Ok compiled) = compiled.tail
+tail_of (Err fault) = 0
 
 abbrev pub parameters_of : Result Compiled CompileError → ℕ
 parameters_of (Ok compiled) = length compiled.names
@@ -68,10 +68,11 @@ pub record Means (schema : Schema) (text : List ℕ) (query : Query) (names : Li
   pub lists_nothing : reads_listing schema text ≡ false
   pub is_plain : IsPlain (understood schema text)
   pub takes : parameters_of (understood schema text) ≡ parameters
-  pub is_whole : nat_le (length text) (end_of (understood schema text)) ≡ true
+  pub is_whole : nat_le (length text) (tail_of (understood schema text)) ≡ true
 
 -- the parameters are as many, and of types that the query takes
-pub record Takes (schema : Schema) (query : Query) (params : Row) (parameters : ℕ) : Type 0 where
+pub record TakesParams (schema : Schema) (query : Query) (params : Row) (parameters : ℕ)
+    : Type 0 where
   pub given : length params ≡ parameters
   pub typed : accepts_program schema [] query params ≡ true
 
@@ -117,5 +118,5 @@ abbrev pub Finds : (old new : State) (text : List ℕ) (params : Row)
 Finds old new text params result =
     (tree : ℕ) (tests shows : List Term) (names : List (List ℕ)) (parameters : ℕ)
     → Means old.now.schema text (of_table tree tests shows []) names parameters
-    → Takes old.now.schema (of_table tree tests shows []) params parameters
+    → TakesParams old.now.schema (of_table tree tests shows []) params parameters
     → FindsRow old new tree tests shows params result

@@ -1,6 +1,6 @@
 -- The tables that the store keeps, and the schemas that they make (all this project's own). Version
 -- 2 is the schema of the store; version 1 has no rates, and is read to be migrated alone.
-use Rattle.std.specs.Prelude.{ℕ, ◌+◌, true, false, List, [], ◌∷◌, ◌++◌, codes, Some, None}
+use Rattle.std.specs.Prelude.{ℕ, ◌+◌, ℤ, pos, true, false, List, [], ◌∷◌, ◌++◌, codes, Some, None}
 use Rattle.sqlite_value.specs.declared.value.Value.TheVariants.{Null}
 use Rattle.sqlite_value.specs.declared.keys.Collation.TheVariants.{Binary}
 use Rattle.sqlite_value.specs.Keys.{plain}
@@ -13,7 +13,7 @@ use Rattle.sqlite_schema.specs.declared.schema.Schema.{Schema}
 
 -- a column of a STRICT table: every value is of its kind, texts are compared by bytes, and none is
 -- NULL
-abbrev pub column_of : Kind → List ℕ → Column
+abbrev pub column_of : (kind : Kind) (name : List ℕ) → Column
 column_of kind name = record {
   name = name;
   kind = kind;
@@ -100,7 +100,11 @@ rates = keyed (codes "rates") 11 (1 ∷ [])
 abbrev pub no_schema : Schema
 no_schema = record { tables = []; indexes = []; views = [] }
 
--- version 1
+-- ---- the version that a database tells, and its schema
+
+abbrev pub first_version : ℤ
+first_version = pos 1
+
 abbrev pub first_schema : Schema
 first_schema = record {
   tables = meta ∷ account ∷ job ∷ document ∷ grants ∷ device ∷ [];
@@ -109,13 +113,11 @@ first_schema = record {
   views = [];
 }
 
--- on the way from version 1: its tables and the rates
+-- on the way from version 1: its tables, and the rates
 abbrev pub rated_schema : Schema
-rated_schema = record {
-  tables = meta ∷ account ∷ job ∷ document ∷ grants ∷ device ∷ rates ∷ [];
-  indexes = index_of account ∷ index_of job ∷ index_of document ∷ index_of grants
-      ∷ index_of device ∷ index_of rates ∷ [];
-  views = [];
+rated_schema = record first_schema {
+  tables = first_schema.tables ++ rates ∷ [];
+  indexes = first_schema.indexes ++ index_of rates ∷ [];
 }
 
 -- an account's jobs by the moment of their end, and then by their number, in the tree after all
@@ -124,17 +126,14 @@ abbrev pub job_ended : Index
 job_ended = record {
   name = codes "job_ended";
   tree = 13;
-  table = 3;
+  table = job.tree;
   columns = 1 ∷ 17 ∷ 2 ∷ [];
   order = plain;
   is_unique = false;
 }
 
--- version 2
+abbrev pub room_version : ℤ
+room_version = pos 2
+
 abbrev pub room_schema : Schema
-room_schema = record {
-  tables = meta ∷ account ∷ job ∷ document ∷ grants ∷ device ∷ rates ∷ [];
-  indexes = index_of account ∷ index_of job ∷ index_of document ∷ index_of grants
-      ∷ index_of device ∷ index_of rates ∷ job_ended ∷ [];
-  views = [];
-}
+room_schema = record rated_schema { indexes = rated_schema.indexes ++ job_ended ∷ [] }

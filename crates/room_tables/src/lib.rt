@@ -1,4 +1,5 @@
-//! The shared tables: their schema, what their rows stand for, and how they are made, told and migrated.
+//! The shared tables: their schema, what their rows stand for, and how they are made, told and
+//! migrated.
 #![tactic(auto)]
 
 mod fault;

@@ -3,7 +3,7 @@
 ghost use Rattle.std.specs.Prelude.{◌≡◌, false};
 ghost use Rattle.room_tables.specs.Tables.{no_schema, first_schema, rated_schema, room_schema};
 ghost use Rattle.room_tables.specs.Calls.{IsWhole, Makes, StaysInside};
-ghost use Rattle.room_tables.specs.Making.{with_meta, with_account, with_job, with_document, with_grants, IsBlank, IsNew};
+ghost use Rattle.room_tables.specs.Making.{with_meta, with_account, with_job, with_documents, with_grants, IsBlank, IsNew};
 ghost use Rattle.room_tables.specs.Migrating.{AddsIndex, AddsRates};
 
 use crate::writing::write;
@@ -75,7 +75,7 @@ fn make_job<S: Alter>(transaction: &mut Transaction<'_, S>) -> Result<(), Error>
 
 fn make_document<S: Alter>(transaction: &mut Transaction<'_, S>) -> Result<(), Error>
     ensures made { Makes S.Store transaction.old.conn.now transaction.new.conn.now result
-        (λ before after. IsBlank with_job before → IsBlank with_document after) }
+        (λ before after. IsBlank with_job before → IsBlank with_documents after) }
     ensures inside { StaysInside S.Store transaction.old.conn transaction.new.conn result }
 {
     write(
@@ -87,7 +87,7 @@ fn make_document<S: Alter>(transaction: &mut Transaction<'_, S>) -> Result<(), E
 
 fn make_grants<S: Alter>(transaction: &mut Transaction<'_, S>) -> Result<(), Error>
     ensures made { Makes S.Store transaction.old.conn.now transaction.new.conn.now result
-        (λ before after. IsBlank with_document before → IsBlank with_grants after) }
+        (λ before after. IsBlank with_documents before → IsBlank with_grants after) }
     ensures inside { StaysInside S.Store transaction.old.conn transaction.new.conn result }
 {
     write(
@@ -109,8 +109,8 @@ fn make_device<S: Alter>(transaction: &mut Transaction<'_, S>) -> Result<(), Err
     )
 }
 
-/// What version 2 has beside the tables of version 1: the rates, and the index by which an account's jobs are
-/// found by their ends.
+/// What version 2 has beside the tables of version 1: the rates, and the index by which an
+/// account's jobs are found by their ends.
 pub(crate) fn extend_tables<S: Alter>(transaction: &mut Transaction<'_, S>) -> Result<(), Error>
     ensures made { Makes S.Store transaction.old.conn.now transaction.new.conn.now result
         (λ before after. IsBlank first_schema before → IsBlank room_schema after) }

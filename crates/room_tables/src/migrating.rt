@@ -3,10 +3,10 @@
 ghost use Rattle.std.specs.Prelude.{◌≡◌, ◌⊎◌, [], false, pos, OnOk, IfErr};
 ghost use Rattle.sqlite.specs.State.{HasCleanDisk};
 ghost use Rattle.sqlite.specs.Held.{state};
-ghost use Rattle.room_tables.specs.Tables.{room_schema, rates};
+ghost use Rattle.room_tables.specs.Tables.{room_schema, rates, first_version};
 ghost use Rattle.room_tables.specs.Calls.{IsSame, IsWhole, Makes, OnDisk, StaysInside};
 ghost use Rattle.room_tables.specs.Making.{HasVersion, IsOpened};
-ghost use Rattle.room_tables.specs.Migrating.{IsFirst, IsMigrated, IsMigrateFault, RatesDevices, NotesVersionTwo};
+ghost use Rattle.room_tables.specs.Migrating.{IsFirstVersion, IsMigrated, IsMigrateFault, RatesDevices, NotesVersionTwo};
 
 use crate::fault::OpenFault;
 use crate::making::extend_tables;
@@ -31,12 +31,12 @@ pub fn migrate_tables<S: Alter>(connection: &mut Connection<S>) -> Result<(), Op
     Ok(())
 }
 
-/// Gives a database of version 1 what version 2 has beside it, a rate of 1 for each device, and version 2, in one
-/// transaction.
+/// Gives a database of version 1 what version 2 has beside it, a rate of 1 for each device, and
+/// version 2, in one transaction.
 fn add_rates<S: Alter>(connection: &mut Connection<S>) -> Result<(), Error>
     requires mode { connection.old.in_transaction ≡ false }
     ensures migrated { Makes S.Store connection.old connection.new result
-        (λ before after. IsFirst before → IsMigrated before after) }
+        (λ before after. IsFirstVersion before → IsMigrated before after) }
     ensures whole { IsWhole S.Store connection.old connection.new result }
 {
     let mut transaction = connection.transaction();
@@ -46,7 +46,7 @@ fn add_rates<S: Alter>(connection: &mut Connection<S>) -> Result<(), Error>
 
 fn become_version_two<S: Alter>(transaction: &mut Transaction<'_, S>) -> Result<(), Error>
     ensures migrated { Makes S.Store transaction.old.conn.now transaction.new.conn.now result
-        (λ before after. IsFirst before → IsMigrated before after) }
+        (λ before after. IsFirstVersion before → IsMigrated before after) }
     ensures inside { StaysInside S.Store transaction.old.conn transaction.new.conn result }
 {
     extend_tables(transaction)?;
@@ -69,7 +69,7 @@ fn rate_devices<S: Alter>(transaction: &mut Transaction<'_, S>) -> Result<(), Er
 
 fn note_version_two<S: Alter>(transaction: &mut Transaction<'_, S>) -> Result<(), Error>
     ensures notes { Makes S.Store transaction.old.conn.now transaction.new.conn.now result
-        (λ before after. before.schema ≡ room_schema → HasVersion before (pos 1)
+        (λ before after. before.schema ≡ room_schema → HasVersion before first_version
         → NotesVersionTwo before after) }
     ensures inside { StaysInside S.Store transaction.old.conn transaction.new.conn result }
 {

@@ -1,6 +1,7 @@
 //! Whether a database is one of ours, and of which version.
 
 ghost use Rattle.std.specs.Prelude.{◌≡◌, ◌≢◌, ◌⊎◌, ⊤, ℤ, false, [], ◌∷◌, pos, IfOk, IfErr, OnOk, IsTrue, MatchOption};
+ghost use Rattle.room_tables.specs.Tables.{first_version, room_version};
 ghost use Rattle.sqlite_value.specs.declared.value.Value.TheVariants.{Int};
 ghost use Rattle.sqlite_value.specs.Order.{column};
 ghost use Rattle.sqlite_sql.specs.Term.{col};
@@ -9,7 +10,7 @@ ghost use Rattle.sqlite.specs.Held.{state};
 ghost use Rattle.room_tables.specs.Calls.{GoesOn, OnDisk, OnlyReads};
 ghost use Rattle.room_tables.specs.Queries.{FindsRow};
 ghost use Rattle.room_tables.specs.Making.{HasVersion, LacksVersion, KeepsVersion, IsEdition, IsNoEdition, IsOpened, IsOpenFault, version_tests};
-ghost use Rattle.room_tables.specs.Migrating.{IsFirst, IsMigrateFault};
+ghost use Rattle.room_tables.specs.Migrating.{IsFirstVersion, IsMigrateFault};
 
 use crate::fault::OpenFault;
 use crate::rows::find_row;
@@ -44,7 +45,7 @@ pub fn check<S: Alter>(connection: &mut Connection<S>) -> Result<(), OpenFault>
 /// Whether the database is to be migrated. If not, the store can be opened on it.
 pub(crate) fn is_older<S: Alter>(connection: &mut Connection<S>) -> Result<bool, OpenFault>
     ensures found { OnDisk S.Store connection.old connection.new (λ db.
-        IfOk result (λ older. (IsTrue older → IsFirst db) × (older ≡ false → IsOpened db))) }
+        IfOk result (λ older. (IsTrue older → IsFirstVersion db) × (older ≡ false → IsOpened db))) }
     ensures fault { OnDisk S.Store connection.old connection.new
         (λ db. IfErr result (IsMigrateFault db)) }
     ensures reads { OnlyReads S.Store connection.old connection.new (λ _. ⊤) result }
@@ -55,10 +56,11 @@ pub(crate) fn is_older<S: Alter>(connection: &mut Connection<S>) -> Result<bool,
 
 /// Whether it is an edition that the store can be opened on.
 fn judge(edition: Edition) -> Result<(), OpenFault>
-    ensures accepted { OnOk result ((edition.layout ≡ Layout.Current) × (edition.version ≡ pos 2)) }
+    ensures accepted { OnOk result
+        ((edition.layout ≡ Layout.Current) × (edition.version ≡ room_version)) }
     ensures refused { IfErr result (λ fault.
-        ((edition.version ≢ pos 2) × (fault ≡ OpenFault.WrongVersion edition.version))
-        ⊎ ((edition.version ≡ pos 2) × (edition.layout ≢ Layout.Current)
+        ((edition.version ≢ room_version) × (fault ≡ OpenFault.WrongVersion edition.version))
+        ⊎ ((edition.version ≡ room_version) × (edition.layout ≢ Layout.Current)
         × (fault ≡ OpenFault.NotOurs))) }
 {
     if edition.version != VERSION {
@@ -73,15 +75,16 @@ fn judge(edition: Edition) -> Result<(), OpenFault>
 /// Whether it is the edition that can be migrated. If not, it is judged as an open judges it.
 fn judge_older(edition: Edition) -> Result<bool, OpenFault>
     ensures accepted { IfOk result (λ older.
-        (IsTrue older → (edition.layout ≡ Layout.First) × (edition.version ≡ pos 1))
-        × (older ≡ false → (edition.layout ≡ Layout.Current) × (edition.version ≡ pos 2))) }
-    ensures refused { IfErr result (λ fault. ((edition.version ≢ pos 1) × (edition.version ≢ pos 2)
+        (IsTrue older → (edition.layout ≡ Layout.First) × (edition.version ≡ first_version))
+        × (older ≡ false → (edition.layout ≡ Layout.Current) × (edition.version ≡ room_version))) }
+    ensures refused { IfErr result (λ fault.
+        ((edition.version ≢ first_version) × (edition.version ≢ room_version)
         × (fault ≡ OpenFault.WrongVersion edition.version))
-        ⊎ (((edition.version ≡ pos 2) × (edition.layout ≢ Layout.Current)
+        ⊎ (((edition.version ≡ room_version) × (edition.layout ≢ Layout.Current)
         × (fault ≡ OpenFault.NotOurs))
-        ⊎ (((edition.version ≡ pos 1) × (edition.layout ≡ Layout.Other)
+        ⊎ (((edition.version ≡ first_version) × (edition.layout ≡ Layout.Other)
         × (fault ≡ OpenFault.NotOurs))
-        ⊎ ((edition.version ≡ pos 1) × (edition.layout ≡ Layout.Current)
+        ⊎ ((edition.version ≡ first_version) × (edition.layout ≡ Layout.Current)
         × (fault ≡ OpenFault.Storage))))) }
 {
     if edition.version != OLDER_VERSION {

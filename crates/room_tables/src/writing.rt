@@ -26,7 +26,8 @@ pub fn write<S: Alter>(
     Ok(())
 }
 
-/// Runs a statement that puts one row in. `Damaged` tells that the engine refused a second row of its key.
+/// Runs a statement that puts one row in. `Damaged` tells that the engine refused a second row of
+/// its key.
 pub fn put<S: Alter>(
     transaction: &mut Transaction<'_, S>,
     text: &str,

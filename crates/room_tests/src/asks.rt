@@ -1,6 +1,7 @@
 //! What a request asks, where it is read by itself.
 
 use crate::examples::REQUEST;
+use ipp_coding::HEADER_LENGTH;
 use room_asks::{AskFault, Operation, read_ask};
 use room_rules::{Name, Refusal, Word};
 use std::alloc::Global;
@@ -33,12 +34,13 @@ fn a_good_request_is_an_ask(rt: HostRuntime) -> Result<(), Fail> {
     Ok(())
 }
 
-/// Why the queue of alice refuses the request with so many bytes of data, and None where it does not.
+/// Why the queue of alice refuses the request with so many bytes of data, and None where it does
+/// not.
 fn refusal(alloc: Global, front: &[u8], data: usize) -> Result<Option<Refusal>, Fail> {
     let alice = Name::read(b"alice").ok_or("a name")?;
     let mut body = Vec::from_slice(alloc, front)?;
     body.resize(front.len().saturating_add(data), 0)?;
-    if body.len() < 8 {
+    if body.len() < HEADER_LENGTH {
         return Err(Fail::from("a body of at least 8 bytes"));
     }
     match read_ask(alloc, &body, alice) {

@@ -1,4 +1,5 @@
-//! One account's machine by itself: an account that is opened, events that do not fit, moments that are none.
+//! One account's machine by itself: an account that is opened, events that do not fit, moments that
+//! are none.
 
 ghost use Rattle.std.specs.List.{AllByRecursion};
 ghost use Rattle.std.specs.Prelude.{IsTrue};

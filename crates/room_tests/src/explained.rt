@@ -69,7 +69,8 @@ const MESSAGES: [(&str, &str); 9] = [
     ),
 ];
 
-/// Digits of no message, at which byte reading ended, and what is printed of a line of them alone but for its end.
+/// Digits of no message, at which byte reading ended, and what is printed of a line of them alone
+/// but for its end.
 const NO_MESSAGES: [(&str, usize, &str); 11] = [
     ("03", 0, "03"),
     ("01010004000000", 0, "01010004000000"),

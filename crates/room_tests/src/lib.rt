@@ -1,5 +1,5 @@
-//! Tests of calls by themselves: what is asked and answered outside events, what no event shows, and calls
-//! where memory is refused. What events show stands in the rows of `worked_rows`.
+//! Tests of calls by themselves: what is asked and answered outside events, what no event shows,
+//! and calls where memory is refused. What events show stands in the rows of `worked_rows`.
 #![tactic(auto)]
 
 #[cfg(test)]

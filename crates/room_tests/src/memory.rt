@@ -1,7 +1,8 @@
-//! Each call where a request for memory is refused: it answers its fault for memory and leaves what it was
-//! given as it was, and made again it gives the usual answer. Run as they are, these tests meet no refusal;
-//! `tools/refuse-memory` runs them once for each request that they make, and so the rows of `worked_rows` and
-//! `worked_tables`, which reach the machine as a whole, the store and what stands on it.
+//! Each call where a request for memory is refused: it answers its fault for memory and leaves what
+//! it was given as it was, and made again it gives the usual answer. Run as they are, these tests
+//! meet no refusal; `tools/refuse-memory` runs them once for each request that they make, and so
+//! the rows of `worked_rows` and `worked_tables`, which reach the machine as a whole, the store and
+//! what stands on it.
 
 ghost use Rattle.room_texts.specs.Limits.{IsPlace};
 ghost use Rattle.room_texts.specs.Places.{plain_place};

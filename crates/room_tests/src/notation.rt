@@ -1,4 +1,5 @@
-//! Attributes in the notation: what is printed of each kind of value, and that it stands for the same bytes.
+//! Attributes in the notation: what is printed of each kind of value, and that it stands for the
+//! same bytes.
 
 use ipp_notation::{NotationFault, explain, spell};
 use std::alloc::Global;

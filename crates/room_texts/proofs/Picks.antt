@@ -8,7 +8,7 @@ use Rattle.room_texts.specs.declared.job.JobAttribute.{JobAttribute}
 use Rattle.room_texts.specs.JobAttributes.{job_attributes, job_group}
 use Rattle.room_texts.specs.JobPlaces.{job_row, selected_group, wanted_rows, picked_text}
 use Rattle.room_texts.specs.Places.{PlainPlace}
-use Rattle.room_texts.specs.Tables.{Row, is_wanted, row_attribute}
+use Rattle.room_texts.specs.Tables.{ShownRow, is_wanted, row_attribute}
 use Rattle.room_texts.specs.RowTexts.{picked, text_where}
 
 -- flags that a test gives pick what passes it
@@ -21,7 +21,7 @@ picked_passing {A} test (x ∷ xs) =
 pub selected_as_wanted : (at : PlainPlace) (job : Job) (flags : List Bool) (wanted : Option (List (List ℕ))) → flags ≡ wanted_rows wanted → selected_group at job flags ≡ job_group at job wanted
 selected_as_wanted at job flags wanted are =
     ap (λ fs. selected_group at job fs) are
-    ∙ ap (λ (rows : List (Row Job)). record { tag = 0x02; attributes = map (row_attribute at job) rows }) (picked_passing (λ (row : Row Job). is_wanted wanted row.name row.group) job_attributes)
+    ∙ ap (λ (rows : List (ShownRow Job)). record { tag = 0x02; attributes = map (row_attribute at job) rows }) (picked_passing (λ (row : ShownRow Job). is_wanted wanted row.name row.group) job_attributes)
 
 -- one more flag, and what it is for
 before_rest : {A : Type 0} (flag : Bool) (x : A) (rest : List A) → cond flag (x ∷ rest) rest ≡ cond flag (x ∷ []) [] ++ rest
@@ -77,4 +77,4 @@ group_picked at job flags selected attributes old tagged new rows are begun appe
     appended ∙ ap (λ (t : List ℕ). t ++ picked_text at job flags attributes) begun
     ∙ append_assoc old (2 ∷ []) (picked_text at job flags attributes)
     ∙ ap (λ (t : List ℕ). old ++ 2 ∷ t) (ap (λ (fs : List Bool). picked_text at job fs attributes) are ∙ same_text at job selected attributes
-    ∙ ap (λ (rs : List (Row Job)). flat_map attribute_spelling (map (row_attribute at job) (picked selected rs))) rows)
+    ∙ ap (λ (rs : List (ShownRow Job)). flat_map attribute_spelling (map (row_attribute at job) (picked selected rs))) rows)

@@ -9,7 +9,7 @@ use Rattle.ipp_coding.specs.Plain.{PlainValue, PlainGroup}
 use Rattle.room_texts.specs.Attributes.{integer, enum, plain_name, keyword, uri, charset, language, unknown}
 use Rattle.room_texts.specs.Places.{PlainPlace, printer_uri, job_uri}
 use Rattle.room_texts.specs.Times.{up, moment_values}
-use Rattle.room_texts.specs.Tables.{Row, shown}
+use Rattle.room_texts.specs.Tables.{ShownRow, shown}
 
 -- job-state-reasons (RFC 8011 section 5.3.8), of a job in the state, open or not, to be stopped or
 -- not
@@ -36,13 +36,13 @@ reason_values standing =
 abbrev pub completed_values : Standing → List PlainValue
 completed_values standing = integer (standing.charged / standing.rate)
 
-abbrev pub described : List ℕ → (PlainPlace → Job → List PlainValue) → Row Job
+abbrev pub described : (name : List ℕ) (values : PlainPlace → Job → List PlainValue) → ShownRow Job
 described name values = record { name = name; group = codes "job-description"; values = values }
 
-abbrev pub templated : List ℕ → (PlainPlace → Job → List PlainValue) → Row Job
+abbrev pub templated : (name : List ℕ) (values : PlainPlace → Job → List PlainValue) → ShownRow Job
 templated name values = record { name = name; group = codes "job-template"; values = values }
 
-unfoldable pub job_attributes : List (Row Job)
+unfoldable pub job_attributes : List (ShownRow Job)
 job_attributes =
     described (codes "job-uri") (λ at job. uri (job_uri at job.job))
     ∷ described (codes "job-id") (λ at job. integer job.job)
@@ -65,5 +65,5 @@ job_attributes =
     ∷ []
 
 -- the group of a job, with the attributes of it that are wanted
-abbrev pub job_group : PlainPlace → Job → Option (List (List ℕ)) → PlainGroup
+abbrev pub job_group : (at : PlainPlace) (job : Job) (wanted : Option (List (List ℕ))) → PlainGroup
 job_group at job wanted = record { tag = 0x02; attributes = shown job_attributes wanted at job }

@@ -10,14 +10,15 @@ use Rattle.room_texts.specs.declared.job.JobAttribute.TheVariants as attribute
 use Rattle.room_texts.specs.JobAttributes.{described, job_attributes}
 use Rattle.room_texts.specs.Places.{PlainPlace}
 use Rattle.room_texts.specs.RowTexts.{picked}
-use Rattle.room_texts.specs.Tables.{Row, is_wanted, row_attribute}
+use Rattle.room_texts.specs.Tables.{ShownRow, is_wanted, row_attribute}
 
 -- which attributes of the table are wanted, one by one
 abbrev pub wanted_rows : Option (List (List ℕ)) → List Bool
-wanted_rows wanted = map (λ (row : Row Job). is_wanted wanted row.name row.group) job_attributes
+wanted_rows wanted =
+    map (λ (row : ShownRow Job). is_wanted wanted row.name row.group) job_attributes
 
 -- the group of a job, with the attributes of it that were picked before, by a flag for each
-abbrev pub selected_group : PlainPlace → Job → List Bool → PlainGroup
+abbrev pub selected_group : (at : PlainPlace) (job : Job) (flags : List Bool) → PlainGroup
 selected_group at job flags = record {
   tag = 0x02;
   attributes = map (row_attribute at job) (picked flags job_attributes);
@@ -43,7 +44,7 @@ job_place attribute.NaturalLanguage = 15
 job_place attribute.Copies = 16
 job_place attribute.HoldUntil = 17
 
-abbrev pub job_row : JobAttribute → Row Job
+abbrev pub job_row : JobAttribute → ShownRow Job
 job_row attribute =
     slice_index_or job_attributes (job_place attribute) (described [] (λ at job. []))
 

@@ -7,6 +7,7 @@ pub mod Times
 pub mod AskedNames
 pub mod Tables
 pub mod JobAttributes
+pub mod PrinterStates
 pub mod PrinterAttributes
 pub mod Limits
 pub mod Appends

@@ -1,6 +1,7 @@
 -- For the proof of the code alone: which attributes, places, jobs and printers can be shown (limits
 -- of this project's own, but for a name's).
 use Rattle.std.specs.Prelude.{ℕ, ◌*◌, ◌<◌, ◌≤◌, List, length, IfSome}
+use Rattle.room_texts.specs.PrinterStates.{idle, stopped}
 use Rattle.ipp_coding.specs.Spelling.{Fits}
 use Rattle.room_rules.specs.declared.job.Job.{Job}
 use Rattle.room_rules.specs.Limits.{IsMoment, last_job, longest_job_name, longest_uri, most_copies, most_documents, most_impressions, most_unfinished}
@@ -34,6 +35,6 @@ pub record IsShowable (job : Job) : Type 0 where
 
 -- the state is one of the three, and an account has few jobs that have not ended
 pub record IsPrinter (printer : PrinterNow) : Type 0 where
-  pub low : 3 ≤ printer.state
-  pub high : printer.state ≤ 5
+  pub low : idle ≤ printer.state
+  pub high : printer.state ≤ stopped
   pub queued : printer.queued ≤ most_unfinished

@@ -5,7 +5,7 @@ use Rattle.room_texts.specs.declared.printer.PrinterNow.{PrinterNow}
 use Rattle.room_texts.specs.declared.printer.PrinterAttribute.{PrinterAttribute}
 use Rattle.room_texts.specs.declared.printer.PrinterAttribute.TheVariants as attribute
 use Rattle.room_texts.specs.PrinterAttributes.{described, printer_attributes}
-use Rattle.room_texts.specs.Tables.{Row}
+use Rattle.room_texts.specs.Tables.{ShownRow}
 
 abbrev pub printer_place : PrinterAttribute → ℕ
 printer_place attribute.Uri = 0
@@ -35,7 +35,7 @@ printer_place attribute.CopiesSupported = 23
 printer_place attribute.HoldUntilDefault = 24
 printer_place attribute.HoldUntil = 25
 
-abbrev pub printer_row : PrinterAttribute → Row PrinterNow
+abbrev pub printer_row : PrinterAttribute → ShownRow PrinterNow
 printer_row attribute =
     slice_index_or
     printer_attributes

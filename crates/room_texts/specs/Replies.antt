@@ -1,6 +1,7 @@
 -- The reply to a request, up to the groups of jobs or of the printer.
 use Rattle.std.specs.Prelude.{ℕ, ◌==◌, ◌||◌, if◌then◌else◌, List, [], ◌∷◌, ◌++◌, Option, Some, None, codes}
 use Rattle.std.specs.List.{flat_map}
+use Rattle.ipp_coding.specs.Tags.{end_tag}
 use Rattle.ipp_coding.specs.declared.message.Header.{Header}
 use Rattle.ipp_coding.specs.Plain.{PlainAttribute, PlainGroup}
 use Rattle.ipp_coding.specs.Spelling.{header_spelling, group_spelling}
@@ -8,7 +9,7 @@ use Rattle.room_texts.specs.Attributes.{attribute_with}
 
 -- of the versions 1.1 and 2.0 the one nearest to the request's, by its major number (RFC 8011
 -- section 4.1.8)
-abbrev pub reply_header : Header → ℕ → Header
+abbrev pub reply_header : (request : Header) (status : ℕ) → Header
 reply_header request status =
     if request.major == 0 || request.major == 1
     then record { major = 1; minor = 1; code = status; request_id = request.request_id }
@@ -43,4 +44,5 @@ reply_text request status text unsupported =
 
 -- server-error-internal-error, whole (RFC 8011 section B.1.5.1); its word is this project's own
 abbrev pub internal_error_text : Header → List ℕ
-internal_error_text request = reply_text request 0x0500 (Some (codes "internal-error")) [] ++ 3 ∷ []
+internal_error_text request = reply_text request 0x0500 (Some (codes "internal-error")) []
+    ++ end_tag ∷ []

@@ -7,39 +7,15 @@ ghost use Rattle.ipp_coding.specs.Spelling.{attribute_spelling, further_spelling
 ghost use Rattle.ipp_coding.specs.Writing.{group_refusal};
 ghost use Rattle.room_rules.specs.Limits.{greatest_integer};
 ghost use Rattle.room_texts.specs.Appends.{Appends};
-ghost use Rattle.room_texts.specs.Attributes.{attribute_of, attribute_with, boolean, number};
+ghost use Rattle.room_texts.specs.Attributes.{attribute_of, attribute_with, boolean_bytes, number_bytes};
 ghost use Rattle.room_texts.specs.Limits.{IsAttributeName, IsPlace};
 ghost use Rattle.room_texts.specs.Places.{plain_place, printer_uri};
 ghost use Rattle.room_texts.specs.Times.{moment_values};
 
 use crate::place::Place;
+use ipp_coding::tags::{BOOLEAN, INTEGER, NO_VALUE, URI};
 use ipp_coding::{Attribute, Value, put_attribute, put_group, put_more};
 use room_rules::CoreFault;
-
-// Tags of values (RFC 8010 section 3.5.2).
-pub(crate) const UNKNOWN: u8 = 0x12;
-
-pub(crate) const NO_VALUE: u8 = 0x13;
-
-pub(crate) const INTEGER: u8 = 0x21;
-
-pub(crate) const BOOLEAN: u8 = 0x22;
-
-pub(crate) const ENUM: u8 = 0x23;
-
-pub(crate) const RANGE: u8 = 0x33;
-
-pub(crate) const NAME: u8 = 0x42;
-
-pub(crate) const KEYWORD: u8 = 0x44;
-
-pub(crate) const URI: u8 = 0x45;
-
-pub(crate) const CHARSET: u8 = 0x47;
-
-pub(crate) const LANGUAGE: u8 = 0x48;
-
-pub(crate) const MEDIA_TYPE: u8 = 0x49;
 
 /// Appends the tag that begins a group.
 pub(crate) fn begin_group(out: &mut Vec<u8>, tag: u8) -> Result<(), CoreFault>
@@ -80,7 +56,7 @@ pub(crate) fn put_number(
     requires tag { 0x10 ≤ tag }
     requires value { value ≤ greatest_integer }
     ensures appended { Appends result out.old.items out.new.items
-        (attribute_spelling (attribute_with name.now tag (number value))) }
+        (attribute_spelling (attribute_with name.now tag (number_bytes value))) }
     ensures memory { IfErr result (λ fault. fault ≡ CoreFault.Memory) }
     ensures unchanged { OnErr result (out.new.items ≡ out.old.items) }
 {
@@ -91,7 +67,7 @@ pub(crate) fn put_number(
 pub(crate) fn put_boolean(out: &mut Vec<u8>, name: &[u8], value: bool) -> Result<(), CoreFault>
     requires { IsAttributeName name.now }
     ensures appended { Appends result out.old.items out.new.items
-        (attribute_spelling (attribute_with name.now 0x22 (boolean value))) }
+        (attribute_spelling (attribute_with name.now 0x22 (boolean_bytes value))) }
     ensures memory { IfErr result (λ fault. fault ≡ CoreFault.Memory) }
     ensures unchanged { OnErr result (out.new.items ≡ out.old.items) }
 {

@@ -12,12 +12,12 @@ ghost use Rattle.room_texts.specs.Places.{plain_place, job_uri};
 ghost use Rattle.room_texts.specs.Tables.{asked_names, row_attribute};
 ghost use Rattle.room_texts.specs.RowTexts.{text_where};
 
-use crate::attribute::{
-    CHARSET, ENUM, INTEGER, KEYWORD, LANGUAGE, NAME, UNKNOWN, URI, begin_group, put_moment,
-    put_number, put_printer_uri, put_single,
-};
+use crate::attribute::{begin_group, put_moment, put_number, put_printer_uri, put_single};
 use crate::place::Place;
 use crate::selection::Selection;
+use ipp_coding::tags::{
+    self, CHARSET, ENUM, INTEGER, KEYWORD, NAME_WITHOUT_LANGUAGE, NATURAL_LANGUAGE, UNKNOWN, URI,
+};
 use room_rules::{CoreFault, Job, JobState, Standing};
 
 /// An attribute that a job shows.
@@ -43,8 +43,11 @@ pub(crate) enum JobAttribute {
     HoldUntil,
 }
 
-/// In the order in which they are shown.
-pub(crate) const JOB_ATTRIBUTES: [JobAttribute; 18] = [
+/// How many there are.
+pub(crate) const JOB_ATTRIBUTE_COUNT: usize = 18;
+
+/// All of them, in the order in which they are shown.
+pub(crate) const JOB_ATTRIBUTES: [JobAttribute; JOB_ATTRIBUTE_COUNT] = [
     JobAttribute::Uri,
     JobAttribute::Id,
     JobAttribute::PrinterUri,
@@ -157,7 +160,7 @@ fn append_job(
     ensures memory { IfErr result (λ fault. fault ≡ CoreFault.Memory) }
     ensures front { take (length out.old.items) out.new.items ≡ out.old.items }
 {
-    begin_group(out, 0x02)?;
+    begin_group(out, tags::JOB_ATTRIBUTES)?;
     put_job_attributes(out, at, job, selection.flags(), &JOB_ATTRIBUTES)?;
     Ok(())
 }
@@ -167,8 +170,8 @@ fn put_job_attributes(
     out: &mut Vec<u8>,
     at: &Place<'_>,
     job: &Job,
-    flags: &[bool; 18],
-    attributes: &[JobAttribute; 18],
+    flags: &[bool; JOB_ATTRIBUTE_COUNT],
+    attributes: &[JobAttribute; JOB_ATTRIBUTE_COUNT],
 ) -> Result<(), CoreFault>
     requires place { IsPlace (plain_place at.now) }
     requires job { IsShowable job.now }
@@ -177,7 +180,7 @@ fn put_job_attributes(
     ensures memory { IfErr result (λ fault. fault ≡ CoreFault.Memory) }
     ensures front { take (length out.old.items) out.new.items ≡ out.old.items }
 {
-    for index in 0..18 {
+    for index in 0..JOB_ATTRIBUTE_COUNT {
         put_where_set(out, at, job, flags[index], attributes[index])?;
     }
     Ok(())
@@ -224,8 +227,8 @@ fn put_job_attribute(
         JobAttribute::Uri => put_job_uri(out, name, at, job.job),
         JobAttribute::Id => put_number(out, INTEGER, name, job.job),
         JobAttribute::PrinterUri => put_printer_uri(out, name, at),
-        JobAttribute::Name => put_single(out, NAME, name, job.name.as_slice()),
-        JobAttribute::UserName => put_single(out, NAME, name, at.name.bytes()),
+        JobAttribute::Name => put_single(out, NAME_WITHOUT_LANGUAGE, name, job.name.as_slice()),
+        JobAttribute::UserName => put_single(out, NAME_WITHOUT_LANGUAGE, name, at.name.bytes()),
         JobAttribute::State => put_number(out, ENUM, name, standing.state.number()),
         JobAttribute::StateReasons => put_single(out, KEYWORD, name, state_reason(standing)),
         JobAttribute::Documents => put_number(out, INTEGER, name, standing.documents),
@@ -241,7 +244,7 @@ fn put_job_attribute(
         JobAttribute::Ended => put_moment(out, name, at, standing.ended),
         JobAttribute::UpTime => put_number(out, INTEGER, name, at.up(at.now)),
         JobAttribute::Charset => put_single(out, CHARSET, name, b"utf-8"),
-        JobAttribute::NaturalLanguage => put_single(out, LANGUAGE, name, b"en"),
+        JobAttribute::NaturalLanguage => put_single(out, NATURAL_LANGUAGE, name, b"en"),
         JobAttribute::Copies => put_number(out, INTEGER, name, standing.copies),
         JobAttribute::HoldUntil => put_single(out, KEYWORD, name, b"indefinite"),
     }

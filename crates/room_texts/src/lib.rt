@@ -13,6 +13,6 @@ mod selection;
 pub use job::{put_job, put_selected_job};
 pub use line::{Success, put_line, put_success};
 pub use place::Place;
-pub use printer::{PrinterNow, put_printer};
+pub use printer::{IDLE, PROCESSING, PrinterNow, STOPPED, put_printer};
 pub use reply::{internal_error, put_reply};
 pub use selection::Selection;

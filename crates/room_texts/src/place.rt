@@ -6,7 +6,7 @@ ghost use Rattle.room_texts.specs.Limits.{IsPlace};
 ghost use Rattle.room_texts.specs.Places.{plain_place, printer_uri, job_uri};
 ghost use Rattle.room_texts.specs.Times.{up};
 
-use room_rules::{GREATEST_INTEGER, Name};
+use room_rules::{GREATEST_INTEGER, Name, QUEUES};
 use std::alloc::{AllocError, Global};
 
 /// Where and when a job or a printer is shown.
@@ -31,7 +31,7 @@ impl<'a> Place<'a> {
     {
         let mut uri = Vec::new(alloc);
         uri.extend_from_slice(self.base)?;
-        uri.extend_from_slice(b"/ipp/print/")?;
+        uri.extend_from_slice(QUEUES)?;
         uri.extend_from_slice(self.name.bytes())?;
         Ok(uri)
     }

@@ -5,7 +5,7 @@ ghost use Rattle.std.specs.List.{flat_map};
 ghost use Rattle.ipp_coding.specs.Plain.{plain_value};
 ghost use Rattle.ipp_coding.specs.Spelling.{attribute_spelling, group_spelling, Fits, IsValue};
 ghost use Rattle.room_texts.specs.Appends.{Appends};
-ghost use Rattle.room_texts.specs.Attributes.{attribute_of, value_with};
+ghost use Rattle.room_texts.specs.Attributes.{attribute_of, value_with, range};
 ghost use Rattle.room_texts.specs.Limits.{IsAttributeName, IsPlace, IsPrinter};
 ghost use Rattle.room_rules.specs.Formats.{media_type};
 ghost use Rattle.room_texts.specs.Places.{plain_place};
@@ -15,18 +15,30 @@ ghost use Rattle.room_texts.specs.Tables.{asked_names, row_attribute};
 ghost use Rattle.room_texts.specs.RowTexts.{row_text};
 
 use crate::attribute::{
-    CHARSET, ENUM, INTEGER, KEYWORD, LANGUAGE, MEDIA_TYPE, NAME, RANGE, begin_group, put_boolean,
-    put_number, put_printer_uri, put_single, put_values,
+    begin_group, put_boolean, put_number, put_printer_uri, put_single, put_values,
 };
 use crate::place::Place;
 use crate::selection::is_wanted;
 use ipp_coding::Value;
-use room_rules::{CoreFault, Format, LONGEST_PASSWORD};
+use ipp_coding::tags::{
+    self, CHARSET, ENUM, INTEGER, KEYWORD, MIME_MEDIA_TYPE, NAME_WITHOUT_LANGUAGE,
+    NATURAL_LANGUAGE, RANGE_OF_INTEGER,
+};
+use room_rules::{CoreFault, Format, LONGEST_PASSWORD, MOST_COPIES};
+
+/// The printer-state of a printer that is idle (RFC 8011 section 5.4.11).
+pub const IDLE: u32 = 3;
+
+/// Of one that is printing.
+pub const PROCESSING: u32 = 4;
+
+/// Of one that prints nothing.
+pub const STOPPED: u32 = 5;
 
 /// What a printer is doing.
 #[derive(Clone, Copy, Debug, PartialEq, Eq)]
 pub struct PrinterNow {
-    /// The printer-state: 3 idle, 4 processing, 5 stopped.
+    /// The printer-state: `IDLE`, `PROCESSING` or `STOPPED`.
     pub state: u32,
     /// Whether it takes jobs.
     pub accepting: bool,
@@ -181,7 +193,7 @@ fn append_printer(
     ensures memory { IfErr result (λ fault. fault ≡ CoreFault.Memory) }
     ensures front { take (length out.old.items) out.new.items ≡ out.old.items }
 {
-    begin_group(out, 0x04)?;
+    begin_group(out, tags::PRINTER_ATTRIBUTES)?;
     put_printer_attributes(out, at, now, wanted, &PRINTER_ATTRIBUTES)?;
     Ok(())
 }
@@ -253,18 +265,18 @@ fn put_printer_attribute(
         PrinterAttribute::Uri => put_printer_uri(out, name, at),
         PrinterAttribute::Authentication => put_single(out, KEYWORD, name, b"none"),
         PrinterAttribute::Security => put_single(out, KEYWORD, name, b"none"),
-        PrinterAttribute::Name => put_single(out, NAME, name, at.name.bytes()),
+        PrinterAttribute::Name => put_single(out, NAME_WITHOUT_LANGUAGE, name, at.name.bytes()),
         PrinterAttribute::State => put_number(out, ENUM, name, now.state),
         PrinterAttribute::StateReasons => put_single(out, KEYWORD, name, state_reason(now.state)),
         PrinterAttribute::Versions => put_versions(out, name),
         PrinterAttribute::Operations => put_operations(out, name),
         PrinterAttribute::CharsetConfigured => put_single(out, CHARSET, name, b"utf-8"),
         PrinterAttribute::CharsetSupported => put_single(out, CHARSET, name, b"utf-8"),
-        PrinterAttribute::LanguageConfigured => put_single(out, LANGUAGE, name, b"en"),
-        PrinterAttribute::LanguageGenerated => put_single(out, LANGUAGE, name, b"en"),
+        PrinterAttribute::LanguageConfigured => put_single(out, NATURAL_LANGUAGE, name, b"en"),
+        PrinterAttribute::LanguageGenerated => put_single(out, NATURAL_LANGUAGE, name, b"en"),
         PrinterAttribute::FormatDefault => put_single(
             out,
-            MEDIA_TYPE,
+            MIME_MEDIA_TYPE,
             name,
             Format::OctetStream.media_type().as_bytes(),
         ),
@@ -278,12 +290,7 @@ fn put_printer_attribute(
         PrinterAttribute::Password => put_number(out, INTEGER, name, LONGEST_PASSWORD as u32),
         PrinterAttribute::PasswordEncryption => put_single(out, KEYWORD, name, b"none"),
         PrinterAttribute::CopiesDefault => put_number(out, INTEGER, name, 1),
-        PrinterAttribute::CopiesSupported => put_single(
-            out,
-            RANGE,
-            name,
-            b"\x00\x00\x00\x01\x00\x00\x03\xe7",
-        ),
+        PrinterAttribute::CopiesSupported => put_range(out, name, 1, MOST_COPIES),
         PrinterAttribute::HoldUntilDefault => put_single(out, KEYWORD, name, b"indefinite"),
         PrinterAttribute::HoldUntil => put_single(out, KEYWORD, name, b"indefinite"),
     }
@@ -293,7 +300,25 @@ fn state_reason(state: u32) -> &'static [u8]
     ensures reason { result.now ≡ printer_state_reason state }
     ensures fits { Fits result.now }
 {
-    if state == 5 { b"other" } else { b"none" }
+    if state == STOPPED { b"other" } else { b"none" }
+}
+
+/// Appends an attribute of one range of integers.
+fn put_range(out: &mut Vec<u8>, name: &[u8], low: u32, high: u32) -> Result<(), CoreFault>
+    requires name { IsAttributeName name.now }
+    ensures appended { Appends result out.old.items out.new.items
+        (attribute_spelling (attribute_of name.now (range low high))) }
+    ensures memory { IfErr result (λ fault. fault ≡ CoreFault.Memory) }
+    ensures unchanged { OnErr result (out.new.items ≡ out.old.items) }
+{
+    let [low_0, low_1, low_2, low_3] = low.to_be_bytes();
+    let [high_0, high_1, high_2, high_3] = high.to_be_bytes();
+    put_single(
+        out,
+        RANGE_OF_INTEGER,
+        name,
+        &[low_0, low_1, low_2, low_3, high_0, high_1, high_2, high_3],
+    )
 }
 
 fn put_versions(out: &mut Vec<u8>, name: &[u8]) -> Result<(), CoreFault>
@@ -390,7 +415,7 @@ fn format_value(format: Format) -> Value<'static>
     ensures value { IsValue (plain_value result) }
 {
     Value {
-        tag: MEDIA_TYPE,
+        tag: MIME_MEDIA_TYPE,
         bytes: format.media_type().as_bytes(),
     }
 }

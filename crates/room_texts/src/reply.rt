@@ -10,7 +10,10 @@ ghost use Rattle.room_texts.specs.Words.{word_text};
 
 use crate::attribute::{begin_group, put_attributes, put_single};
 use crate::line::put_line;
-use ipp_coding::{Attribute, Header, put_header};
+use ipp_coding::tags::{
+    CHARSET, NATURAL_LANGUAGE, OPERATION_ATTRIBUTES, TEXT_WITHOUT_LANGUAGE, UNSUPPORTED_ATTRIBUTES,
+};
+use ipp_coding::{Attribute, HEADER_LENGTH, Header, put_header};
 use room_rules::{CoreFault, Word};
 
 /// Appends the reply to the request that has the header `h`, up to the groups of jobs or of the
@@ -87,9 +90,9 @@ fn put_operation_group(out: &mut Vec<u8>, word: Option<Word>) -> Result<(), Core
     ensures memory { IfErr result (λ fault. fault ≡ CoreFault.Memory) }
     ensures front { take (length out.old.items) out.new.items ≡ out.old.items }
 {
-    begin_group(out, 0x01)?;
-    put_single(out, 0x47, b"attributes-charset", b"utf-8")?;
-    put_single(out, 0x48, b"attributes-natural-language", b"en")?;
+    begin_group(out, OPERATION_ATTRIBUTES)?;
+    put_single(out, CHARSET, b"attributes-charset", b"utf-8")?;
+    put_single(out, NATURAL_LANGUAGE, b"attributes-natural-language", b"en")?;
     put_status_message(out, word)?;
     Ok(())
 }
@@ -104,7 +107,7 @@ fn put_status_message(out: &mut Vec<u8>, word: Option<Word>) -> Result<(), CoreF
     if let Some(word) = word {
         let mut text = Vec::new(*out.allocator());
         put_line(&mut text, word)?;
-        put_single(out, 0x41, b"status-message", &text)?;
+        put_single(out, TEXT_WITHOUT_LANGUAGE, b"status-message", &text)?;
     }
     Ok(())
 }
@@ -120,7 +123,7 @@ fn put_unsupported(out: &mut Vec<u8>, unsupported: &[Attribute<'_>]) -> Result<(
     if unsupported.is_empty() {
         return Ok(());
     }
-    begin_group(out, 0x05)?;
+    begin_group(out, UNSUPPORTED_ATTRIBUTES)?;
     put_attributes(out, unsupported)
 }
 
@@ -139,7 +142,7 @@ pub fn internal_error(h: Header) -> [u8; 105]
     let [code_high, code_low] = header.code.to_be_bytes();
     let [id_0, id_1, id_2, id_3] = header.request_id.to_be_bytes();
     let mut text = [0; 105];
-    text[..8].copy_from_slice(&[
+    text[..HEADER_LENGTH].copy_from_slice(&[
         header.major,
         header.minor,
         code_high,
@@ -149,6 +152,6 @@ pub fn internal_error(h: Header) -> [u8; 105]
         id_2,
         id_3,
     ]);
-    text[8..].copy_from_slice(INTERNAL_ERROR);
+    text[HEADER_LENGTH..].copy_from_slice(INTERNAL_ERROR);
     text
 }

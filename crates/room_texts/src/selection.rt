@@ -7,14 +7,14 @@ ghost use Rattle.room_texts.specs.declared.job.JobAttribute.{JobAttribute};
 ghost use Rattle.room_texts.specs.JobPlaces.{job_row, wanted_rows};
 ghost use Rattle.room_texts.specs.Tables.{asks_for, asked_names, is_wanted};
 
-use crate::job::{JOB_ATTRIBUTES, JobAttribute};
+use crate::job::{JOB_ATTRIBUTE_COUNT, JOB_ATTRIBUTES, JobAttribute};
 use std::marker::Model;
 
 /// Which attributes of a job a requester wants: the names that are asked for, held against the
 /// attributes once. Contracts see a flag for each attribute, in their order.
 #[derive(Debug, Drop)]
 pub struct Selection {
-    flags: [bool; 18],
+    flags: [bool; JOB_ATTRIBUTE_COUNT],
 }
 
 impl Model for Selection {
@@ -33,24 +33,27 @@ impl Selection {
         }
     }
 
-    pub(crate) fn flags(&self) -> &[bool; 18]
+    pub(crate) fn flags(&self) -> &[bool; JOB_ATTRIBUTE_COUNT]
         ensures { result.now ≡ self.now }
     {
         &self.flags
     }
 }
 
-/// Whether each of the attributes is wanted. One that is wanted is held against the names no further
-/// than to the first that asks for it.
-fn is_each_wanted(wanted: Option<&[&[u8]]>, attributes: &[JobAttribute; 18]) -> [bool; 18]
+/// Whether each of the attributes is wanted. One that is wanted is held against the names no
+/// further than to the first that asks for it.
+fn is_each_wanted(
+    wanted: Option<&[&[u8]]>,
+    attributes: &[JobAttribute; JOB_ATTRIBUTE_COUNT],
+) -> [bool; JOB_ATTRIBUTE_COUNT]
     ensures { result
         ≡ map
         (λ (a : JobAttribute).
         is_wanted (asked_names wanted.entry) (job_row a).name (job_row a).group)
         attributes.now }
 {
-    let mut selected = [false; 18];
-    for index in 0..18 {
+    let mut selected = [false; JOB_ATTRIBUTE_COUNT];
+    for index in 0..JOB_ATTRIBUTE_COUNT {
         let attribute = attributes[index];
         selected[index] = is_wanted(wanted, attribute.name(), attribute.group());
     }

@@ -1,4 +1,5 @@
-//! Tests of what is served, over memory: requests of HTTP and lines, whole and in pieces; and of the client of lines.
+//! Tests of what is served, over memory: requests of HTTP and lines, whole and in pieces; and of
+//! the client of lines.
 #![tactic(auto)]
 
 #[cfg(test)]

@@ -28,7 +28,8 @@ const STATION_TOLD: &[u8] =
     b"not-pending\nok reserved 24 left 76\ndocuments 1\ndocument 1 1 application/octet-stream 5\nHello\n\
     ok charged 10 left 90\nnot-processing\nbad-line\nno-account\nbad-line\n";
 
-/// An operator's lines, a job, and a station's lines: a byte at a time, cut within lines, and all at once.
+/// An operator's lines, a job, and a station's lines: a byte at a time, cut within lines, and all
+/// at once.
 #[test]
 fn in_pieces_of_each_size(rt: HostRuntime) -> Result<(), Fail> {
     for piece in [1, 13, 100_000] {
@@ -61,7 +62,8 @@ fn a_line_that_is_cut_off(rt: HostRuntime) -> Result<(), Fail> {
     Ok(())
 }
 
-/// The longest line, which is a bad one whatever it says, and a longer one, which is not waited for.
+/// The longest line, which is a bad one whatever it says, and a longer one, which is not waited
+/// for.
 #[test]
 fn long_lines(rt: HostRuntime) -> Result<(), Fail> {
     let mut rooms = rooms(&rt)?;

@@ -1,4 +1,5 @@
-//! A connection of lines in memory: rooms answer what is written to it, and what is read from it are their answers.
+//! A connection of lines in memory: rooms answer what is written to it, and what is read from it
+//! are their answers.
 ghost use Rattle.std.specs.Prelude.{◌≤◌, IfOk, length};
 
 use crate::rooms::MANY;

@@ -50,8 +50,8 @@ const NOT_POST: &[u8] =
 
 const NOT_IPP: &[u8] = b"HTTP/1.1 415 Unsupported Media Type\r\ncontent-length: 0\r\n\r\n";
 
-/// Whether what the pieces make, and then the end, is answered by what the others make: cut into some 300 pieces, which
-/// are of one byte where it is short, and all at once.
+/// Whether what the pieces make, and then the end, is answered by what the others make: cut into
+/// some 300 pieces, which are of one byte where it is short, and all at once.
 fn is_answered(rt: &HostRuntime, input: &[&[u8]], due: &[&[u8]]) -> Result<bool, Fail> {
     let mut sent = Vec::new(rt.alloc());
     for piece in input {
@@ -215,8 +215,8 @@ const REFUSED: &[(&[u8], &[u8])] = &[
     ),
 ];
 
-/// What the rooms refuse, and in which order: behind the body, after which the connection goes on, and behind 413 and the
-/// 100 text.
+/// What the rooms refuse, and in which order: behind the body, after which the connection goes on,
+/// and behind 413 and the 100 text.
 #[test]
 fn refusals_of_the_rooms(rt: HostRuntime) -> Result<(), Fail> {
     for (head, due) in REFUSED {
@@ -259,7 +259,8 @@ const FRAGMENT: &[u8] =
 const QUERY: &[u8] =
     b"\r\nPOST /ipp/print/alice/1?/x HTTP/1.1\r\nHost: [::1]:80\r\nContent-Type: application/ipp\r\n";
 
-/// Heads before a body of 119 bytes that are taken: their beginnings, their other fields, and how the answers begin.
+/// Heads before a body of 119 bytes that are taken: their beginnings, their other fields, and how
+/// the answers begin.
 const TAKEN_HEADS: &[(&[u8], &[u8], &[u8])] = &[
     (
         QUEUE,
@@ -375,8 +376,8 @@ fn are_answered(rt: &HostRuntime, rows: &[Sent]) -> Result<bool, Fail> {
 /// What a head of 16384 bytes for the queue leaves to the value of one more field.
 const MOST_VALUE: usize = 16_384 - QUEUE.len() - SIZED.len() - 5;
 
-/// Heads of the most bytes and of the most fields, and of one more of each; and a first line that is too long, cut off
-/// and whole.
+/// Heads of the most bytes and of the most fields, and of one more of each; and a first line that
+/// is too long, cut off and whole.
 const LIMITS_OF_A_HEAD: &[Sent] = &[
     (
         &[
@@ -428,7 +429,8 @@ fn limits_of_a_head(rt: HostRuntime) -> Result<(), Fail> {
 /// The last chunk, behind a body of one.
 const LAST_CHUNK: &[u8] = b"\r\n0\r\n";
 
-/// Trailers of the most bytes and of the most fields, and of one more of each; and a line of a chunk of over 256 bytes.
+/// Trailers of the most bytes and of the most fields, and of one more of each; and a line of a
+/// chunk of over 256 bytes.
 const LIMITS_OF_CHUNKS: &[Sent] = &[
     (
         &[

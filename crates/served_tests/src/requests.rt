@@ -1,4 +1,5 @@
-//! Requests over HTTP: the first worked row, paths of no queue, one request behind another, and a long body.
+//! Requests over HTTP: the first worked row, paths of no queue, one request behind another, and a
+//! long body.
 
 use crate::rooms::{exchange, lines, rooms};
 use room_served::{Served, Side};
@@ -93,7 +94,8 @@ fn no_queue(rt: HostRuntime) -> Result<(), Fail> {
     Ok(())
 }
 
-/// Two requests, of which the second follows the first at once, and the second is of another account.
+/// Two requests, of which the second follows the first at once, and the second is of another
+/// account.
 #[test]
 fn one_behind_another(rt: HostRuntime) -> Result<(), Fail> {
     let mut body = Vec::new(rt.alloc());

@@ -21,7 +21,8 @@ pub fn rooms(rt: &HostRuntime) -> Result<Served<MemStore>, Fail> {
 /// More than a connection in these tests needs of reads, of lines or of writes, one after another.
 pub const MANY: u32 = 10_000;
 
-/// What goes out for what comes in on one connection of HTTP, in pieces of so many bytes, and then the end.
+/// What goes out for what comes in on one connection of HTTP, in pieces of so many bytes, and then
+/// the end.
 pub fn exchange(
     rt: &HostRuntime,
     rooms: &mut Served<MemStore>,

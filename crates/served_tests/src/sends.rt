@@ -43,7 +43,8 @@ fn to_rooms(
     Ok((Sent { outcome, output }, wired.into_rooms()))
 }
 
-/// Rooms in which alice and bob have accounts, one device is known, and alice has a job of one document.
+/// Rooms in which alice and bob have accounts, one device is known, and alice has a job of one
+/// document.
 fn rooms_with_job(rt: &HostRuntime) -> Result<Served<MemStore>, Fail> {
     let lines = b"open alice\nopen bob\ndevice d1 on\ngrant alice 2026-09 100\n";
     let (_, mut rooms) = to_rooms(rt, rooms(rt)?, Side::Operator, lines)?;
@@ -51,7 +52,8 @@ fn rooms_with_job(rt: &HostRuntime) -> Result<Served<MemStore>, Fail> {
     Ok(rooms)
 }
 
-/// A job from its release to its end, with a bad line among them, and a last line that no line feed ends.
+/// A job from its release to its end, with a bad line among them, and a last line that no line feed
+/// ends.
 #[test]
 fn lines_of_a_station(rt: HostRuntime) -> Result<(), Fail> {
     let rooms = rooms_with_job(&rt)?;
@@ -151,7 +153,8 @@ impl Keeper for Listed {
     }
 }
 
-/// Two documents of one job, the first with line feeds in it and the second with no byte, and then an answer of a line.
+/// Two documents of one job, the first with line feeds in it and the second with no byte, and then
+/// an answer of a line.
 #[test]
 fn documents_for_a_keeper(rt: HostRuntime) -> Result<(), Fail> {
     let alloc = rt.alloc();

@@ -1,4 +1,5 @@
-//! Turns of connections over a stream that makes them wait: how much one does, and what it waits for.
+//! Turns of connections over a stream that makes them wait: how much one does, and what it waits
+//! for.
 
 use crate::rooms::{NOW, lines, rooms};
 use room_connections::{HttpPeer, LinePeer, Next, Turn};
@@ -40,7 +41,8 @@ const NO_ROOM: Turn = Turn {
     is_last: false,
 };
 
-/// A stream in memory. What came is there at once, and behind it a read has to wait, or finds the end; a write takes all.
+/// A stream in memory. What came is there at once, and behind it a read has to wait, or finds the
+/// end; a write takes all.
 #[derive(Drop)]
 struct Tape<'a> {
     comes: &'a [u8],
@@ -125,7 +127,8 @@ fn a_few_requests_a_turn(rt: HostRuntime) -> Result<(), Fail> {
     Ok(())
 }
 
-/// Where there is no room a large request stops coming, a small one does not, and the large one goes on with room.
+/// Where there is no room a large request stops coming, a small one does not, and the large one
+/// goes on with room.
 #[test]
 fn a_large_request_waits_for_room(rt: HostRuntime) -> Result<(), Fail> {
     let mut rooms = open_rooms(&rt)?;
@@ -189,7 +192,8 @@ fn a_body_that_was_asked_for(rt: HostRuntime) -> Result<(), Fail> {
     Ok(())
 }
 
-/// How a connection ends: with its input, within a request, and with a refusal, behind which nothing more is answered.
+/// How a connection ends: with its input, within a request, and with a refusal, behind which
+/// nothing more is answered.
 #[test]
 fn ends(rt: HostRuntime) -> Result<(), Fail> {
     let mut rooms = open_rooms(&rt)?;
@@ -221,7 +225,8 @@ fn ends(rt: HostRuntime) -> Result<(), Fail> {
     Ok(())
 }
 
-/// Lines are answered one by one, a start waits for room, and a line that is too long ends the connection.
+/// Lines are answered one by one, a start waits for room, and a line that is too long ends the
+/// connection.
 #[test]
 fn lines_in_turns(rt: HostRuntime) -> Result<(), Fail> {
     let mut rooms = open_rooms(&rt)?;

@@ -1,4 +1,5 @@
-//! One event of each kind, and one request of each operation: two jobs are made, released and ended.
+//! One event of each kind, and one request of each operation: two jobs are made, released and
+//! ended.
 
 use crate::fault::Fault;
 use crate::filling::{DEVICE, OWN};
@@ -9,7 +10,8 @@ use room_store::Store;
 use sqlite::Alter;
 use std::io::Write;
 
-/// The first month in which a turn grants, after that of every event, so that it counts for no release.
+/// The first month in which a turn grants, after that of every event, so that it counts for no
+/// release.
 const FIRST_MONTH: u32 = 24_324;
 
 /// Whose events are timed, and the device.
@@ -27,8 +29,8 @@ impl Cycle {
         })
     }
 
-    /// The turn of this number, in which the account makes the two jobs from this one on. Prints the nanoseconds of
-    /// each event behind its kind.
+    /// The turn of this number, in which the account makes the two jobs from this one on. Prints
+    /// the nanoseconds of each event behind its kind.
     pub fn run<S: Alter>(
         &self,
         rt: &HostRuntime,

@@ -1,11 +1,14 @@
-//! The program `timed_events`: prints how long events take in a store, in nanoseconds, one a line. Without a word it
-//! does nothing.
+//! The program `timed_events`: prints how long events take in a store, in nanoseconds, one a line.
+//! Without a word it does nothing.
 //!
-//! - `memory OTHERS ENDED TURNS` and `file FILE OTHERS ENDED TURNS` make a database, in which other accounts have so
+//! - `memory OTHERS ENDED TURNS` and `file FILE OTHERS ENDED TURNS` make a database, in which other
+//! accounts have so
 //!   many jobs and the own one so many that have ended, and time one event of each kind in each of so many turns.
-//! - `open FILE ACCOUNTS` makes a database with so many accounts, and `print-jobs FILE ACCOUNTS JOBS` times so many
+//! - `open FILE ACCOUNTS` makes a database with so many accounts, and `print-jobs FILE ACCOUNTS
+//! JOBS` times so many
 //!   Print-Jobs of 5 bytes of each of them there, in turns.
-//! - `print FILE BYTES` makes a database and times a Print-Job of a document of so many bytes, and `start FILE` the
+//! - `print FILE BYTES` makes a database and times a Print-Job of a document of so many bytes, and
+//! `start FILE` the
 //!   start of that job.
 #![tactic(auto)]
 

@@ -71,7 +71,8 @@ pub const COMPLETED: &[Attribute] = &[
     (0x21, "limit", b"\x00\x00\x00\x0a"),
 ];
 
-/// A request to the queue of the account, on a job where one is named, with these operation attributes and this data.
+/// A request to the queue of the account, on a job where one is named, with these operation
+/// attributes and this data.
 pub fn request(
     alloc: Global,
     operation: Operation,

@@ -29,9 +29,9 @@ pub const WAYS: [Way; 5] = [
 ];
 
 impl Way {
-    /// What is printed of the answers, if this way is one of the conversation: rooms can't follow where rows are
-    /// changed by hand, a file is closed and opened again between any two steps where it says so, and the program is
-    /// given a script.
+    /// What is printed of the answers, if this way is one of the conversation: rooms can't follow
+    /// where rows are changed by hand, a file is closed and opened again between any two steps
+    /// where it says so, and the program is given a script.
     pub fn answers(
         self,
         rt: &HostRuntime,
@@ -82,8 +82,8 @@ fn by_rooms(rt: &HostRuntime, steps: &[Step]) -> Result<String, Fault> {
     text(output)
 }
 
-/// What a room answers to a line's event at the moment. One that is refused for want of memory is given once more:
-/// after a refusal everything is as before.
+/// What a room answers to a line's event at the moment. One that is refused for want of memory is
+/// given once more: after a refusal everything is as before.
 pub fn answered(
     rt: &HostRuntime,
     rooms: &mut Rooms,
@@ -171,7 +171,8 @@ fn print(output: &mut Vec<u8>, outcome: Result<Reply, StoreFault>) -> Result<(),
     Ok(())
 }
 
-/// What tables answered as rooms answer it, who never tell that storage failed or that rows are damaged.
+/// What tables answered as rooms answer it, who never tell that storage failed or that rows are
+/// damaged.
 pub fn as_of_rooms(outcome: Result<Reply, StoreFault>) -> Result<Result<Reply, CoreFault>, Fault> {
     match outcome {
         Ok(reply) => Ok(Ok(reply)),

@@ -1,6 +1,7 @@
-//! Two databases that agree on an account. In the first it is alone; in the second another has many jobs, and between
-//! any two of the account's events stands one of the other's. Each store is given its list whole, from one change by
-//! hand to the next, and in the end the account has to have been told the same, and to have the same rows.
+//! Two databases that agree on an account. In the first it is alone; in the second another has many
+//! jobs, and between any two of the account's events stands one of the other's. Each store is given
+//! its list whole, from one change by hand to the next, and in the end the account has to have been
+//! told the same, and to have the same rows.
 
 use crate::answers::{answered, set_next_job, skip_to, text};
 use crate::cells::differing;
@@ -19,7 +20,8 @@ const FIFTY_JOBS: &str = "\
   0101 0002 00000001 01 C U(bob) 03 48656c6c6f
 ";
 
-/// What the account asks last: that its devices are off, and then how the printer stands, which is stopped.
+/// What the account asks last: that its devices are off, and then how the printer stands, which is
+/// stopped.
 const ALL_OFF: &str = "\
 > device alice-1 off
 < ok
@@ -37,8 +39,8 @@ const ALL_OFF: &str = "\
   03
 ";
 
-/// One of the databases, the lines that wait for it, each with whether it is the account's own, and what was printed of
-/// the own ones.
+/// One of the databases, the lines that wait for it, each with whether it is the account's own, and
+/// what was printed of the own ones.
 #[derive(Drop)]
 struct Side<'a> {
     tables: Tables<MemStore>,
@@ -117,7 +119,8 @@ impl<'a> Side<'a> {
     }
 }
 
-/// Where what the account was told, or has, differs beside another, what it was beside the other and alone.
+/// Where what the account was told, or has, differs beside another, what it was beside the other
+/// and alone.
 pub fn differs_beside(
     rt: &HostRuntime,
     account: Name,
@@ -171,7 +174,8 @@ fn asked_between(rt: &HostRuntime, account: Name, steps: &[Step]) -> Result<Vec<
     Ok(all)
 }
 
-/// What the other asks between two events, in turns: a job, that the job of a number is canceled, a grant.
+/// What the other asks between two events, in turns: a job, that the job of a number is canceled, a
+/// grant.
 fn between(alloc: Global, at: usize, number: u32) -> Result<String, Fault> {
     Ok(match at % 3 {
         0 => String::from_str(

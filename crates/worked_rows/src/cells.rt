@@ -1,14 +1,17 @@
-//! Lists of events of two accounts, held against each account alone: the shared tables have to answer each event as
-//! the account's room does, and afterwards hold the rows of both rooms and of the devices, and no fault may come.
+//! Lists of events of two accounts, held against each account alone: the shared tables have to
+//! answer each event as the account's room does, and afterwards hold the rows of both rooms and of
+//! the devices, and no fault may come.
 //!
-//! Each step of a list, in the notation of conversations, is one of both accounts, whose name stands for `@`. The
-//! second account comes some steps behind the first, so that the two are in different states. In memory the rows are
-//! looked at after each step, and before each event the same event is refused at a moment that is out of range; in a
-//! file the rows are looked at in the end. Then the list is given to the store whole, over both; and the steps of the
-//! first account alone, over one database where it is alone and over one where another is beside it. Then the list comes
-//! over connections.
+//! Each step of a list, in the notation of conversations, is one of both accounts, whose name
+//! stands for `@`. The second account comes some steps behind the first, so that the two are in
+//! different states. In memory the rows are looked at after each step, and before each event the
+//! same event is refused at a moment that is out of range; in a file the rows are looked at in the
+//! end. Then the list is given to the store whole, over both; and the steps of the first account
+//! alone, over one database where it is alone and over one where another is beside it. Then the
+//! list comes over connections.
 //!
-//! A list `NAME.events` has to reach, for both accounts, all that `NAME.reached` names, a name a line.
+//! A list `NAME.events` has to reach, for both accounts, all that `NAME.reached` names, a name a
+//! line.
 
 use crate::answers::{answered, as_of_rooms, set_next_job, skip_to, text};
 use crate::beside::differs_beside;
@@ -31,7 +34,8 @@ const ACCOUNTS: [&str; 2] = ["alice", "bob"];
 /// How many steps the second account comes behind the first.
 const BEHIND: usize = 5;
 
-/// Whether the list holds over memory and over a file, and reaches what it has to. Prints what it reached.
+/// Whether the list holds over memory and over a file, and reaches what it has to. Prints what it
+/// reached.
 pub fn hold(rt: &HostRuntime, name: &str) -> Result<bool, Fault> {
     let file = format!(in rt.alloc(); "{name}.events")?;
     let list = fs::read_to_string(rt, file.as_str())?;
@@ -57,8 +61,9 @@ pub fn hold(rt: &HostRuntime, name: &str) -> Result<bool, Fault> {
     in_memory.reaches(rt, due.as_str())
 }
 
-/// Whether the list holds as one that the store is given whole, in memory and in a file, whether the first account
-/// is told the same, and has the same rows, beside another, and whether requests are answered the same over HTTP.
+/// Whether the list holds as one that the store is given whole, in memory and in a file, whether
+/// the first account is told the same, and has the same rows, beside another, and whether requests
+/// are answered the same over HTTP.
 fn holds_whole(rt: &HostRuntime, players: &[Player; 2]) -> Result<bool, Fault> {
     let [first, second] = players;
     let (firsts, seconds) = (first.steps.as_slice(), second.steps.as_slice());
@@ -119,7 +124,8 @@ fn account_of(name: &str) -> Result<Name, Fault> {
     }
 }
 
-/// The rooms and the shared tables, and what each account reached: its name, a space, and what it is called.
+/// The rooms and the shared tables, and what each account reached: its name, a space, and what it
+/// is called.
 #[derive(Drop)]
 struct Trial<S: Alter> {
     rooms: Rooms,
@@ -139,8 +145,8 @@ impl<S: Alter + Drop> Trial<S> {
         }
     }
 
-    /// Whether each step of both accounts holds, in turns, those of the second behind, and the rows at the end. Stops
-    /// at the first that does not, and prints it.
+    /// Whether each step of both accounts holds, in turns, those of the second behind, and the rows
+    /// at the end. Stops at the first that does not, and prints it.
     fn run(&mut self, rt: &HostRuntime, players: &[Player; 2]) -> Result<bool, Fault> {
         let [first, second] = players;
         for at in 0..first.steps.len().saturating_add(BEHIND) {
@@ -254,7 +260,8 @@ impl<S: Alter + Drop> Trial<S> {
     }
 }
 
-/// Where the tables hold other rows than those of the rooms and the devices, the first that differs.
+/// Where the tables hold other rows than those of the rooms and the devices, the first that
+/// differs.
 pub fn rows_differ<S: Alter + Drop>(
     rt: &HostRuntime,
     tables: &mut Tables<S>,

@@ -1,5 +1,5 @@
-//! A database in two files in memory, of which one stops after so many calls: each call behind these fails, and changes
-//! nothing.
+//! A database in two files in memory, of which one stops after so many calls: each call behind
+//! these fails, and changes nothing.
 
 use crate::fault::Fault;
 use room_commands::Opener;
@@ -71,7 +71,8 @@ impl Disks {
         })
     }
 
-    /// Those with the same bytes, which do not stop, as the next run finds them behind a program that ended.
+    /// Those with the same bytes, which do not stop, as the next run finds them behind a program
+    /// that ended.
     pub fn copied(&self) -> Result<Disks, Fault> {
         let Some(files) = &self.files else {
             return Err(Fault::Away);

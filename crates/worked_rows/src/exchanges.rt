@@ -1,5 +1,5 @@
-//! Exchanges over one connection of HTTP, held against `serve_one` over tables in memory: alice and bob have accounts,
-//! and the device d1 is on.
+//! Exchanges over one connection of HTTP, held against `serve_one` over tables in memory: alice and
+//! bob have accounts, and the device d1 is on.
 
 use crate::cells::print_rows;
 use crate::fault::Fault;
@@ -13,7 +13,8 @@ use std::alloc::Global;
 /// The text that asks for a body that waits for it (RFC 9110, section 10.1.1).
 const GO_ON: &[u8] = b"HTTP/1.1 100 Continue\r\n\r\n";
 
-/// The end of a head, and how an answer begins whose status is server-error-internal-error (RFC 8011, section B.1.5.1).
+/// The end of a head, and how an answer begins whose status is server-error-internal-error (RFC
+/// 8011, section B.1.5.1).
 const INTERNAL_ERROR: &[u8] = b"\r\n\r\n\x01\x01\x05\x00";
 
 /// How many bytes a call of the reader or the writer gives or takes at most.
@@ -41,8 +42,8 @@ impl Pieces {
     }
 }
 
-/// What is told of the calls of the exchange. A single call that is refused memory, and leaves all rows as they were, is
-/// made once more.
+/// What is told of the calls of the exchange. A single call that is refused memory, and leaves all
+/// rows as they were, is made once more.
 pub fn answers(
     rt: &HostRuntime,
     exchange: &Exchange,
@@ -83,7 +84,8 @@ fn served(
     )
 }
 
-/// Whether a call was refused memory, or its event was: then at most the 100 text is written, or an internal-error.
+/// Whether a call was refused memory, or its event was: then at most the 100 text is written, or an
+/// internal-error.
 fn is_refused(served: &Served) -> bool {
     let written = served.written.as_slice();
     match served.ends.as_slice() {

@@ -1,7 +1,7 @@
-//! An exchange over a connection of which one call fails, for each call in turn. The call of `serve_one` in which that
-//! comes tells it, and each behind it that the connection has ended. What was written is a front of what the exchange
-//! writes, and not all of it. Where a read failed, the rows are those before the message; where a write did, those before
-//! or behind it.
+//! An exchange over a connection of which one call fails, for each call in turn. The call of
+//! `serve_one` in which that comes tells it, and each behind it that the connection has ended. What
+//! was written is a front of what the exchange writes, and not all of it. Where a read failed, the
+//! rows are those before the message; where a write did, those before or behind it.
 
 use crate::exchanges::{PIECES, opened_tables, rows_of};
 use crate::fault::Fault;

@@ -1,4 +1,5 @@
-//! What one process serves to everybody, over memory: each request over HTTP and each line comes on a connection of its own.
+//! What one process serves to everybody, over memory: each request over HTTP and each line comes on
+//! a connection of its own.
 
 use crate::fault::Fault;
 use crate::tables::Tables;

@@ -1,6 +1,7 @@
 //! The program `worked_rows`: holds the files that its words name against the print room.
 //!
-//! - Of a file of conversations, `NAME.rows`, of exchanges over HTTP, `NAME.exchanges`, of runs of the program,
+//! - Of a file of conversations, `NAME.rows`, of exchanges over HTTP, `NAME.exchanges`, of runs of
+//! the program,
 //!   `NAME.runs`, or of runs over storage that stops, `NAME.stops`, it prints how many rows hold, and of each row that
 //!   does not what differs.
 //! - Of a list of events, `NAME.events`, it prints what the list reached.

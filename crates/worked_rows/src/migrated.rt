@@ -1,5 +1,5 @@
-//! A database of version 1 that is migrated over storage that stops: it is found as one of version 1 or of version 2
-//! then, and every account has the rows that it had.
+//! A database of version 1 that is migrated over storage that stops: it is found as one of version
+//! 1 or of version 2 then, and every account has the rows that it had.
 
 use crate::answers::take;
 use crate::cells::print_accounts;

@@ -1,4 +1,5 @@
-//! Scripts that the program runs, over memory and over a file, and runs of the program over disks in memory.
+//! Scripts that the program runs, over memory and over a file, and runs of the program over disks
+//! in memory.
 
 use crate::answers::{answered, text};
 use crate::disks::{Disks, Lent};
@@ -33,7 +34,8 @@ pub struct Told {
 }
 
 impl Told {
-    /// Nothing yet, with room for what most runs print, so that want of memory is no failed write of theirs.
+    /// Nothing yet, with room for what most runs print, so that want of memory is no failed write
+    /// of theirs.
     fn with_room(alloc: Global) -> Result<Told, Fault> {
         Ok(Told {
             output: Vec::with_capacity(alloc, ROOM)?,
@@ -63,8 +65,8 @@ impl Told {
     }
 }
 
-/// What the program prints of the script in memory. A run that was refused memory is made once more, unless it printed
-/// something else than events that failed among those that did not.
+/// What the program prints of the script in memory. A run that was refused memory is made once
+/// more, unless it printed something else than events that failed among those that did not.
 pub fn by_program_in_memory(
     rt: &HostRuntime,
     script: &str,
@@ -88,8 +90,8 @@ pub fn by_program_in_file(rt: &HostRuntime, script: &str, steps: &[Step]) -> Res
     told.whole()
 }
 
-/// How many steps were answered before the first whose event failed, where what is printed is nothing, or what rooms answer
-/// that are not given the events that failed.
+/// How many steps were answered before the first whose event failed, where what is printed is
+/// nothing, or what rooms answer that are not given the events that failed.
 pub fn answered_before_failed(
     rt: &HostRuntime,
     steps: &[Step],

@@ -1,6 +1,6 @@
-//! Files of rows. The line `# TITLE` begins a row; the lines behind it are those of its conversation, in a file
-//! `NAME.exchanges` of its exchange over HTTP, in a file `NAME.runs` of its runs of the program, and in a file
-//! `NAME.stops` of a run over storage that stops.
+//! Files of rows. The line `# TITLE` begins a row; the lines behind it are those of its
+//! conversation, in a file `NAME.exchanges` of its exchange over HTTP, in a file `NAME.runs` of its
+//! runs of the program, and in a file `NAME.stops` of a run over storage that stops.
 
 use crate::answers::WAYS;
 use crate::exchanges::{PIECES, answers};
@@ -65,9 +65,10 @@ pub fn hold(rt: &HostRuntime, file: &str) -> Result<bool, Fault> {
     Ok(failing == 0)
 }
 
-/// Where a conversation does not hold: rooms in memory, the shared tables, in memory and where the row says so in a file,
-/// and the program on a script, in memory and on a file, each in a run of its own, have to answer what the row says. A
-/// row that changes tables by hand says nothing of rooms.
+/// Where a conversation does not hold: rooms in memory, the shared tables, in memory and where the
+/// row says so in a file, and the program on a script, in memory and on a file, each in a run of
+/// its own, have to answer what the row says. A row that changes tables by hand says nothing of
+/// rooms.
 fn conversation_differs(rt: &HostRuntime, lines: &str) -> Result<Option<String>, Fault> {
     let talk = Conversation::read(rt.alloc(), lines)?;
     let steps = talk.steps(rt.alloc())?;
@@ -92,8 +93,9 @@ fn explained_differs(rt: &HostRuntime, talk: &Conversation) -> Result<Option<Str
     }
 }
 
-/// Where an exchange does not hold: `serve_one` has to answer what the row says, also where each read and each write is
-/// of one byte, and where the row says so, also over connections of which a call fails.
+/// Where an exchange does not hold: `serve_one` has to answer what the row says, also where each
+/// read and each write is of one byte, and where the row says so, also over connections of which a
+/// call fails.
 fn exchange_differs(rt: &HostRuntime, lines: &str) -> Result<Option<String>, Fault> {
     let exchange = Exchange::read(rt.alloc(), lines)?;
     let due = exchange.due(rt.alloc())?;

@@ -5,7 +5,8 @@ use crate::files::Files;
 use room_commands::run_on;
 use room_rows::{Run, RunStep, run_steps};
 
-/// Where a row of runs differs first. They share a file, which is not there before the first of them, and is removed.
+/// Where a row of runs differs first. They share a file, which is not there before the first of
+/// them, and is removed.
 pub fn differs(rt: &HostRuntime, lines: &str) -> Result<Option<String>, Fault> {
     let steps = run_steps(rt.alloc(), lines)?;
     let mut files = Files::new(rt);

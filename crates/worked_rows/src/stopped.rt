@@ -1,9 +1,10 @@
-//! Rows of runs over storage that stops, held against the program: one of the two files of a database takes so many
-//! calls and no more, for each number of calls up to one that suffices. Then the program tells `memory` or `store`, with
-//! status 3, and the database is found as it was before the event that was stopped or as it is behind it.
+//! Rows of runs over storage that stops, held against the program: one of the two files of a
+//! database takes so many calls and no more, for each number of calls up to one that suffices. Then
+//! the program tells `memory` or `store`, with status 3, and the database is found as it was before
+//! the event that was stopped or as it is behind it.
 //!
-//! A row is a script, which runs on a new database. Behind the line `migrated` its steps make a database of version 1
-//! instead, and the program migrates it.
+//! A row is a script, which runs on a new database. Behind the line `migrated` its steps make a
+//! database of version 1 instead, and the program migrates it.
 
 use crate::answers::{take, text};
 use crate::cells::differing;

@@ -16,8 +16,8 @@ use std::alloc::Global;
 use std::fs;
 use std::io::Write;
 
-/// The file of a database that stands in one. It is made in the current folder, and removed, and so is the log beside
-/// it.
+/// The file of a database that stands in one. It is made in the current folder, and removed, and so
+/// is the log beside it.
 pub const FILE: &str = "worked_rows.db";
 
 const LOG: &str = "worked_rows.db-wal";
@@ -96,8 +96,8 @@ impl<S: Alter + Drop> Tables<S> {
         self.waiting.ok_or(Fault::Away)
     }
 
-    /// What is answered to a line's event at the moment. One that is refused for want of memory is given once more:
-    /// after a refusal everything is as before.
+    /// What is answered to a line's event at the moment. One that is refused for want of memory is
+    /// given once more: after a refusal everything is as before.
     pub fn apply(
         &mut self,
         rt: &HostRuntime,
@@ -199,8 +199,9 @@ impl<S: Alter + Drop> Tables<S> {
     }
 }
 
-/// Tells that a call is made once more, since the first was refused. No call is where memory and storage are there, so
-/// that in the gate each such line is a row that fails; `tools/refuse-memory` has requests for memory refused.
+/// Tells that a call is made once more, since the first was refused. No call is where memory and
+/// storage are there, so that in the gate each such line is a row that fails; `tools/refuse-memory`
+/// has requests for memory refused.
 pub fn tell_again(rt: &HostRuntime) {
     let _ = writeln!(rt.stdout(), "asked again");
 }

@@ -1,4 +1,5 @@
-//! A list of events of both accounts that is given to the store whole, from one change by hand to the next.
+//! A list of events of both accounts that is given to the store whole, from one change by hand to
+//! the next.
 
 use crate::answers::{answered, set_next_job, skip_to, text};
 use crate::cells::{differing, in_turns, rows_differ};
@@ -26,7 +27,8 @@ impl<'a, S: Alter + Drop> Whole<'a, S> {
         }
     }
 
-    /// Where the tables answer another than the rooms, or hold other rows in the end, what is found and what is due.
+    /// Where the tables answer another than the rooms, or hold other rows in the end, what is found
+    /// and what is due.
     pub fn run(
         mut self,
         rt: &HostRuntime,
@@ -64,7 +66,8 @@ impl<'a, S: Alter + Drop> Whole<'a, S> {
         }
     }
 
-    /// Gives the lines that wait to the store as one list, and to the rooms one by one. No event may fail.
+    /// Gives the lines that wait to the store as one list, and to the rooms one by one. No event
+    /// may fail.
     fn give(&mut self, rt: &HostRuntime) -> Result<Option<String>, Fault> {
         let (mut found, mut due) = (Vec::new(rt.alloc()), Vec::new(rt.alloc()));
         let outcomes = self.tables.run(rt, self.waiting.as_slice())?;

@@ -1,6 +1,7 @@
-//! A list of events of both accounts that comes over connections, beside the same list given to a store event by event:
-//! each answer has to be the store's, and in the end the rows have to be the same. It comes in two ways: as `listen` takes
-//! it, IPP over HTTP and the other events beside it; and to one process that serves everybody, IPP over HTTP and lines.
+//! A list of events of both accounts that comes over connections, beside the same list given to a
+//! store event by event: each answer has to be the store's, and in the end the rows have to be the
+//! same. It comes in two ways: as `listen` takes it, IPP over HTTP and the other events beside it;
+//! and to one process that serves everybody, IPP over HTTP and lines.
 
 use crate::answers::{set_next_job, text};
 use crate::cells::{differing, in_turns, print_rows};
@@ -38,8 +39,8 @@ impl Wired {
         })
     }
 
-    /// Where the databases differ in an answer, or in their rows in the end, what is found over connections and what is
-    /// due.
+    /// Where the databases differ in an answer, or in their rows in the end, what is found over
+    /// connections and what is due.
     pub fn run(
         mut self,
         rt: &HostRuntime,

@@ -1,5 +1,5 @@
-//! Connections of HTTP over memory, of which a side may fail: what is read from one is there at once, and what is written
-//! is kept.
+//! Connections of HTTP over memory, of which a side may fail: what is read from one is there at
+//! once, and what is written is kept.
 
 use crate::fault::Fault;
 use room_serve::{After, Wire, WireFault, serve_one};
@@ -99,7 +99,8 @@ impl Read for Given<'_> {
     }
 }
 
-/// The bytes for which a writer has room from its beginning, so that want of memory is no failed write of most exchanges.
+/// The bytes for which a writer has room from its beginning, so that want of memory is no failed
+/// write of most exchanges.
 const ROOM: usize = 65_536;
 
 #[derive(Drop)]

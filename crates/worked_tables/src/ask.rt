@@ -1,9 +1,11 @@
 //! The commands that read rows, each of which makes one call:
 //!
-//! - `account NAME` answers `opened MOMENT next NUMBER`, `device NAME` whether it is `on` or `off`, `rate NAME`
+//! - `account NAME` answers `opened MOMENT next NUMBER`, `device NAME` whether it is `on` or `off`,
+//! `rate NAME`
 //!   and `grant NAME MONTH` a number, each of them `none` where there is no row;
 //! - `is-device-on` answers `yes` or `no`, `granted NAME MONTH` a number;
-//! - `tally NAME` answers `unfinished COUNT idle|processing reserved UNITS charged UNITS` of all jobs, `queue NAME`
+//! - `tally NAME` answers `unfinished COUNT idle|processing reserved UNITS charged UNITS` of all
+//! jobs, `queue NAME`
 //!   of those that have not ended;
 //! - `job NAME NUMBER` answers the words that `add-job` takes behind the account;
 //! - `unfinished NAME LIMIT` and `ended NAME LIMIT` answer the number and the name of each job;

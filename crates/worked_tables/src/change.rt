@@ -1,8 +1,11 @@
-//! The commands that write rows, each of which makes one call in a transaction of its own and answers `ok`:
+//! The commands that write rows, each of which makes one call in a transaction of its own and
+//! answers `ok`:
 //!
-//! - `set-account NAME OPENED NEXT` and `set-next NAME NEXT`, `set-device NAME on|off`, `set-rate NAME UNITS`;
+//! - `set-account NAME OPENED NEXT` and `set-next NAME NEXT`, `set-device NAME on|off`, `set-rate
+//! NAME UNITS`;
 //! - `set-grant NAME MONTH PAGES`;
-//! - `add-job NAME NUMBER HEX PASSWORD STATE open|closed stopping|going COPIES IMPRESSIONS RESERVED CHARGED
+//! - `add-job NAME NUMBER HEX PASSWORD STATE open|closed stopping|going COPIES IMPRESSIONS RESERVED
+//! CHARGED
 //!   DOCUMENTS RATE DEVICE CREATED STARTED ENDED`, and `set-standing NAME NUMBER` with the words from STATE on;
 //! - `add-document NAME JOB NUMBER FORMAT HEX` and `remove-documents NAME JOB`.
 

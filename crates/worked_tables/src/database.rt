@@ -1,5 +1,5 @@
-//! The database that the commands of a row run on. A call that is refused memory is made once more, so that a
-//! row answers the same where one request for memory is refused.
+//! The database that the commands of a row run on. A call that is refused memory is made once more,
+//! so that a row answers the same where one request for memory is refused.
 
 use crate::answer::Answer;
 use crate::command::{Command, StoreCall};
@@ -115,8 +115,8 @@ fn answered<S: Alter>(
     }
 }
 
-/// Tells that a call is made once more, since the first was refused memory. None is where memory is there, so that in
-/// the gate such a line is a fault.
+/// Tells that a call is made once more, since the first was refused memory. None is where memory is
+/// there, so that in the gate such a line is a fault.
 pub fn tell_again(rt: &HostRuntime) {
     let _ = writeln!(rt.stdout(), "asked again");
 }
@@ -147,7 +147,8 @@ fn tables<S: Alter>(connection: &Connection<S>) -> usize {
     connection.schema().tables.as_slice().len()
 }
 
-/// A call that the storage refuses is made once more as well, since the storage may have been refused memory.
+/// A call that the storage refuses is made once more as well, since the storage may have been
+/// refused memory.
 fn store<S: Alter + Drop>(
     rt: &HostRuntime,
     connection: Connection<S>,

@@ -9,7 +9,8 @@ use room_statements::{
 use sqlite::{Alter, Connection, Transaction};
 use std::alloc::Global;
 
-/// How much is filled in: rows of other accounts in each table of accounts, and the own jobs that have ended.
+/// How much is filled in: rows of other accounts in each table of accounts, and the own jobs that
+/// have ended.
 #[derive(Clone, Copy)]
 pub struct Size {
     pub others: u32,
@@ -44,8 +45,8 @@ pub const HELD: Standing = Standing {
     ended: None,
 };
 
-/// The account and the device that are asked for, the first number that no job of the account has, and the job that
-/// is added under numbers from this one on.
+/// The account and the device that are asked for, the first number that no job of the account has,
+/// and the job that is added under numbers from this one on.
 #[derive(Drop)]
 pub struct Own {
     pub account: Name,
@@ -70,7 +71,8 @@ impl Own {
     }
 }
 
-/// Fills the rows in, half of those of other accounts before the own in the order of names and half behind it.
+/// Fills the rows in, half of those of other accounts before the own in the order of names and half
+/// behind it.
 pub fn fill<S: Alter>(
     alloc: Global,
     connection: &mut Connection<S>,
@@ -145,8 +147,8 @@ fn fill_others<S: Alter>(
     Ok(())
 }
 
-/// An account with its jobs, of which those that have ended were canceled in the order of their numbers and the others
-/// have one document each, and a grant a month.
+/// An account with its jobs, of which those that have ended were canceled in the order of their
+/// numbers and the others have one document each, and a grant a month.
 fn fill_account<S: Alter>(
     alloc: Global,
     transaction: &mut Transaction<'_, S>,

@@ -1,10 +1,13 @@
-//! The program `worked_tables`: holds files of worked rows against the shared tables, and prints of each file
-//! how many rows hold, and of each row that does not what was answered instead. Without a word it does nothing.
+//! The program `worked_tables`: holds files of worked rows against the shared tables, and prints of
+//! each file how many rows hold, and of each row that does not what was answered instead. Without a
+//! word it does nothing.
 //!
-//! - `measure` prints how long each statement takes beside ever more rows of other accounts, and ever more own jobs
+//! - `measure` prints how long each statement takes beside ever more rows of other accounts, and
+//! ever more own jobs
 //!   that have ended.
 //! - `fill FILE OTHERS` makes a database in a file, with so many rows of other accounts.
-//! - `print-jobs FILE COUNT` makes so many Print-Jobs there, each committed, and prints the nanoseconds of each.
+//! - `print-jobs FILE COUNT` makes so many Print-Jobs there, each committed, and prints the
+//! nanoseconds of each.
 #![tactic(auto)]
 
 mod answer;
@@ -32,7 +35,8 @@ use std::io::Write;
 use std::process::ExitCode;
 use std::{env, fs};
 
-/// Of each table of times the rows of other accounts in each table of accounts, and the own jobs that have ended.
+/// Of each table of times the rows of other accounts in each table of accounts, and the own jobs
+/// that have ended.
 const SIZES: [[(u32, u32); 3]; 2] = [
     [(1_000, 10), (10_000, 10), (100_000, 10)],
     [(1_000, 10), (1_000, 1_000), (1_000, 10_000)],

@@ -99,8 +99,8 @@ fn times_of_reads<S: Alter>(
     Ok(times)
 }
 
-/// In each round every write comes in its turn, since documents are added before they are removed, and adds rows of
-/// its own.
+/// In each round every write comes in its turn, since documents are added before they are removed,
+/// and adds rows of its own.
 fn times_of_writes<S: Alter>(
     rt: &HostRuntime,
     connection: &mut Connection<S>,

@@ -1,7 +1,7 @@
-//! Files of rows. The line `# TITLE` begins a row, which starts on an empty database in memory; the lines behind
-//! it are its commands and what they answer. Where memory is refused outside of the calls, the row is held once
-//! more. So a row should hold whichever one request for memory is refused: `tools/refuse-memory` refuses one after
-//! the other.
+//! Files of rows. The line `# TITLE` begins a row, which starts on an empty database in memory; the
+//! lines behind it are its commands and what they answer. Where memory is refused outside of the
+//! calls, the row is held once more. So a row should hold whichever one request for memory is
+//! refused: `tools/refuse-memory` refuses one after the other.
 
 use crate::command::Command;
 use crate::database::{Database, read_text, tell_again};

@@ -1,5 +1,5 @@
-//! The notation of a row: `> COMMAND` begins a command, a line that begins with two spaces goes on with it, and
-//! `< ANSWER` is a line that it answers. An empty line stands for nothing.
+//! The notation of a row: `> COMMAND` begins a command, a line that begins with two spaces goes on
+//! with it, and `< ANSWER` is a line that it answers. An empty line stands for nothing.
 
 use crate::fault::{Fault, Wrong};
 use std::alloc::Global;

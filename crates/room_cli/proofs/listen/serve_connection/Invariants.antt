@@ -1,11 +1,11 @@
 use Rattle.std.proofs.Common.{◌≡◌, false}
-use Rattle.room_serve.specs.Wires.{has_ended, reader_of, writer_of}
+use Rattle.room_serve.specs.Wires.{wire_has_ended, reader_of, writer_of}
 use Rattle.room_streams.specs.Counts.{failures_of}
 use Rattle.room_cli.proofs.listen.serve_connection.Given as goal
 
 abbrev pub invariant-messages : goal.invariant-messages
 invariant-messages g l = record {
-  going : has_ended l.wire ≡ false;
+  going : wire_has_ended l.wire ≡ false;
   reads : failures_of (reader_of l.wire) ≡ 0;
   writes : failures_of (writer_of l.wire) ≡ 0;
 }

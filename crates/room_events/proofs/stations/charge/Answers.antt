@@ -1,7 +1,7 @@
 use Rattle.std.proofs.Common.{◌≡◌, to_z, of_z, w64, sym, subst, ◌∙◌, arith, rules}
 use Rattle.sqlite.specs.State.{HasCleanDisk}
 use Rattle.sqlite.specs.Held.{state}
-use Rattle.room_core.specs.Stations.{settled}
+use Rattle.room_core.specs.Stations.{settling_told}
 use Rattle.room_core.specs.Steps.{telling, with_moved}
 use Rattle.room_texts.specs.declared.line.Success.TheVariants.{Settled}
 use Rattle.room_events.specs.Known.{IsThere}
@@ -22,7 +22,7 @@ returns-clause-served g c known =
     let name = c.args.name in
     let job = c.args.job.now in
     let passed = look_passed g.S.Store old mid _ c.in_ok-left.ensures.looks in
-    steps_as g.S.Store old new name (λ room devices. telling (with_moved room job.job c.in-Ok.settled) (Settled c.in-Ok.settled.charged (to_z w64 (of_z w64 c.left_after.result)))) (λ room devices. settled room c.args.now job.job c.args.decided) c.tell.result
+    steps_as g.S.Store old new name (λ room devices. telling (with_moved room job.job c.in-Ok.settled) (Settled c.in-Ok.settled.charged (to_z w64 (of_z w64 c.left_after.result)))) (λ room devices. settling_told room c.args.now job.job c.args.decided) c.tell.result
     (λ clean has of held.
     let was : HasCleanDisk (state g.S.Store mid) = omega (arith, c.tell.ensures.going.goes.clean, clean) in
     let same : to_z w64 (of_z w64 c.in_ok-left.left) ≡ c.in_ok-left.left = search rules in

@@ -1,7 +1,7 @@
 use Rattle.std.proofs.Common.{◌≡◌, to_z, of_z, w64, sym, subst, ◌∙◌, arith, rules}
 use Rattle.sqlite.specs.State.{HasCleanDisk}
 use Rattle.sqlite.specs.Held.{state}
-use Rattle.room_core.specs.Stations.{by_word, released}
+use Rattle.room_core.specs.Stations.{by_word, release_told}
 use Rattle.room_core.specs.Steps.{telling, with_moved}
 use Rattle.room_rules.specs.StateLaws.{kept_to_quota}
 use Rattle.room_state.specs.Sums.{left_in}
@@ -24,7 +24,7 @@ returns-clause-served g c known =
     let name = c.args.name in
     let job = c.args.job.now in
     let passed = look_passed g.S.Store old mid _ c.in_ok-left.ensures.looks in
-    steps_as g.S.Store old new name (λ room devices. telling (with_moved room job.job c.in-Ok.released) (Released c.in-Ok.released.reserved (to_z w64 (of_z w64 c.left_after.result)))) (λ room devices. released room c.args.now job.job (by_word (kept_to_quota job.standing.state (left_in room c.args.now) c.args.asked))) c.tell.result
+    steps_as g.S.Store old new name (λ room devices. telling (with_moved room job.job c.in-Ok.released) (Released c.in-Ok.released.reserved (to_z w64 (of_z w64 c.left_after.result)))) (λ room devices. release_told room c.args.now job.job (by_word (kept_to_quota job.standing.state (left_in room c.args.now) c.args.asked))) c.tell.result
     (λ clean has of held.
     let was : HasCleanDisk (state g.S.Store mid) = omega (arith, c.tell.ensures.going.goes.clean, clean) in
     let same : to_z w64 (of_z w64 c.in_ok-left.left) ≡ c.in_ok-left.left = search rules in

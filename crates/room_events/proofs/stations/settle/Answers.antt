@@ -4,7 +4,7 @@ use Rattle.std.specs.FinMap.{get}
 use Rattle.sqlite.specs.Effect.{Database}
 use Rattle.sqlite.specs.State.{HasCleanDisk}
 use Rattle.sqlite.specs.Held.{state}
-use Rattle.room_core.specs.Stations.{station, station_settle, settled}
+use Rattle.room_core.specs.Stations.{station, station_settle, settling_told}
 use Rattle.room_rules.specs.declared.job.Job.{Job}
 use Rattle.room_statements.specs.Queues.{IsNumbered}
 use Rattle.room_statements.proofs.SoundReads.{sound_rows_are_read}
@@ -20,8 +20,8 @@ use Rattle.room_events.proofs.stations.settle.Goals as goal
 pub returns-in-Err : goal.returns-in-Err
 returns-in-Err g c =
     record {
-      served = refuses_as g.S.Store c.args.connection.now c.find_device.new.connection c.args.name (read_passed g.S.Store c.args.connection.now c.find_device.new.connection _ c.in_ok-find_device.ensures.reads) (λ room devices. settled room c.args.now c.args.number (station_settle room (station devices c.args.device c.args.now) c.args.number c.args.impressions c.args.failed)) c.in-Err.word c.refusing.result c.refusing.ensures.line c.refusing.ensures.memory
-          (λ clean has of held. ap (settled of.0 c.args.now c.args.number) (settle_refused of.0 (station of.1 c.args.device c.args.now) c.args.number c.args.impressions c.args.failed _ held.devices c.in_ok-find_device.field-0 (c.in_ok-find_device.ensures.found clean has) c.in-Err.word (sym c.known_device.ensures ∙ c.in-Err.is)));
+      served = refuses_as g.S.Store c.args.connection.now c.find_device.new.connection c.args.name (read_passed g.S.Store c.args.connection.now c.find_device.new.connection _ c.in_ok-find_device.ensures.reads) (λ room devices. settling_told room c.args.now c.args.number (station_settle room (station devices c.args.device c.args.now) c.args.number c.args.impressions c.args.failed)) c.in-Err.word c.refusing.result c.refusing.ensures.line c.refusing.ensures.memory
+          (λ clean has of held. ap (settling_told of.0 c.args.now c.args.number) (settle_refused of.0 (station of.1 c.args.device c.args.now) c.args.number c.args.impressions c.args.failed _ held.devices c.in_ok-find_device.field-0 (c.in_ok-find_device.ensures.found clean has) c.in-Err.word (sym c.known_device.ensures ∙ c.in-Err.is)));
     }
 
 pub returns : goal.returns
@@ -38,14 +38,14 @@ returns g c =
     let passed = passed_then (state g.S.Store old) (state g.S.Store mid) (state g.S.Store last) first second in
     let numbered = subst (λ (o : Option Job). IfSome o (λ job. (job.job ≡ c.args.number) × IsNumbered job)) c.in-Some.is looked.in_range in
     record {
-      served = steps_as g.S.Store old new name (λ room devices. settled room c.args.now job.job c.settled-decided.result) (λ room devices. settled room c.args.now c.args.number (station_settle room (station devices c.args.device c.args.now) c.args.number c.args.impressions c.args.failed)) c.charge.result
+      served = steps_as g.S.Store old new name (λ room devices. settling_told room c.args.now job.job c.settled-decided.result) (λ room devices. settling_told room c.args.now c.args.number (station_settle room (station devices c.args.device c.args.now) c.args.number c.args.impressions c.args.failed)) c.charge.result
           (λ clean has of held.
           let last_clean : HasCleanDisk (state g.S.Store last) = omega (arith, c.charge.ensures.going.goes.clean, clean) in
           let mid_clean : HasCleanDisk (state g.S.Store mid) = omega (arith, looked.looks.going.goes.clean, last_clean) in
           let same = (first.same mid_clean has).0 in
           let there : get of.0.jobs c.args.number ≡ Some job = sym (looked.found last_clean (subst HasSchema (sym same) has) of.0 (subst (λ (db : Database). HoldsRoom db name of.0) (sym same) held.room)) ∙ c.in-Some.is in
-          ap (λ (n : ℕ). settled of.0 c.args.now n c.settled-decided.result) numbered.0
-          ∙ ap (settled of.0 c.args.now c.args.number) (settle_found of.0 (station of.1 c.args.device c.args.now) c.args.number c.args.impressions c.args.failed _ held.devices c.in_ok-find_device.field-0 (c.in_ok-find_device.ensures.found mid_clean has) c.in_default.field-0 (sym c.known_device.ensures ∙ c.in_default.is) job there c.settled-decided.result c.settled-decided.ensures.moved))
+          ap (λ (n : ℕ). settling_told of.0 c.args.now n c.settled-decided.result) numbered.0
+          ∙ ap (settling_told of.0 c.args.now c.args.number) (settle_found of.0 (station of.1 c.args.device c.args.now) c.args.number c.args.impressions c.args.failed _ held.devices c.in_ok-find_device.field-0 (c.in_ok-find_device.ensures.found mid_clean has) c.in_default.field-0 (sym c.known_device.ensures ∙ c.in_default.is) job there c.settled-decided.result c.settled-decided.ensures.moved))
           (serves_after_so _ _ _ _ g.S.Store old last passed new c.charge.result (IsThere name job) c.charge.ensures.going
           (λ clean _ has.
           let mid_clean : HasCleanDisk (state g.S.Store mid) = omega (arith, looked.looks.going.goes.clean, clean) in

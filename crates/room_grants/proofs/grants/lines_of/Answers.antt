@@ -4,7 +4,7 @@ use Rattle.csv.proofs.ReadFacts.{rows-end, rows-more}
 use Rattle.csv.specs.Reading.{Reached, default_config, strip_bom}
 use Rattle.csv.specs.Records.{fields_of}
 use Rattle.csv.specs.declared.parser.State.TheVariants as st
-use Rattle.room_grants.specs.Files.{records_of}
+use Rattle.room_grants.specs.Files.{most_records, records_of}
 use Rattle.room_grants.specs.Lines.{IsInRange, grant_line, grant_lines}
 use Rattle.room_grants.specs.declared.line.GrantLine.{GrantLine}
 use Rattle.room_grants.proofs.LineLemmas.{All-one, length-lines_from, lines_from-append}
@@ -57,7 +57,7 @@ returns-then-len-eq-MOST_RECORDS-clause-many c =
     let few = records-some default_config c.read_byte_record.new.self.state (strip_bom c.args.text.now) more.0 (inv.read.0 ++ fields_of c.read_byte_record.new.row ∷ []) more.2 in
     let all : length (inv.read.0 ++ fields_of c.read_byte_record.new.row ∷ []) ≡ length inv.read.0 + 1 = length-append inv.read.0 (fields_of c.read_byte_record.new.row ∷ []) in
     let lines : length c.loop-found.lines.items ≡ length inv.read.0 = ap length inv.read.4 ∙ length-lines_from 1 inv.read.0 in
-    let full : length c.loop-found.lines.items ≡ 100000 = sym c.loop-found.lines.ok.0 ∙ sym c.len.ensures ∙ c.if-len-eq-MOST_RECORDS.true in
+    let full : length c.loop-found.lines.items ≡ most_records = sym c.loop-found.lines.ok.0 ∙ sym c.len.ensures ∙ c.if-len-eq-MOST_RECORDS.true in
     λ many. omega arith
 
 -- one record more was read, and its line is the last
@@ -70,7 +70,7 @@ loop-found-preserved c =
     let items = c.in_ok-push.ensures.items in
     let grown : length c.push.new.self.items ≡ length c.loop-found.lines.items + 1 = ap length items ∙ length-append c.loop-found.lines.items (c.grant_line.result ∷ []) in
     let few = inv.few in
-    let room : length c.loop-found.lines.items ≢ 100000 = λ full. c.if-len-eq-MOST_RECORDS.false (c.len.ensures ∙ c.loop-found.lines.ok.0 ∙ full) in
+    let room : length c.loop-found.lines.items ≢ most_records = λ full. c.if-len-eq-MOST_RECORDS.false (c.len.ensures ∙ c.loop-found.lines.ok.0 ∙ full) in
     let size : c.len-in-loop-found.result ≡ length inv.read.0 = c.len-in-loop-found.ensures ∙ c.loop-found.lines.ok.0 ∙ lines in
     let number : c.len-in-loop-found.result + 1 ≡ 1 + length inv.read.0 = omega arith in
     record {

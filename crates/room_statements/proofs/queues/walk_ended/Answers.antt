@@ -1,6 +1,6 @@
 use Rattle.std.proofs.Common.{sym, subst, refl}
 use Rattle.sqlite.specs.Held.{state}
-use Rattle.room_tables.specs.Queries.{Means, Takes}
+use Rattle.room_tables.specs.Queries.{Means, TakesParams}
 use Rattle.room_statements.specs.Queues.{AreListed}
 use Rattle.room_statements.specs.SoundRows.{ended_rows}
 use Rattle.room_state.specs.Queues.{completed, at_most}
@@ -13,6 +13,6 @@ pub returns-clause-walks : goal.returns-clause-walks
 returns-clause-walks g c clean has =
     let old = state g.S.Store c.args.connection.now in
     let means = subst (λ s. Means s ended_text ended_query names 2) (sym has.schema_is) ended_is in
-    let takes = subst (λ s. Takes s ended_query (params c.args.name c.args.limit) 2) (sym has.schema_is) (ended_takes c.args.name c.args.limit) in
+    let takes = subst (λ s. TakesParams s ended_query (params c.args.name c.args.limit) 2) (sym has.schema_is) (ended_takes c.args.name c.args.limit) in
     told_as _ _ old _ _ _ _ (AreListed (λ all. at_most c.args.limit (completed all)) (ended_rows old.now c.args.name) old.now c.args.name) (ended_listed c.args.name c.args.limit old.now has) c.walk.result
     ((rw (c.bytes.ensures.value, c.limit_of.ensures) at (c.walk.ensures.walks clean)) ended_query names 2 (record { ungrouped = refl; unfolded = refl }) means takes)

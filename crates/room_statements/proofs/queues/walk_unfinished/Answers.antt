@@ -1,6 +1,6 @@
 use Rattle.std.proofs.Common.{sym, subst, refl}
 use Rattle.sqlite.specs.Held.{state}
-use Rattle.room_tables.specs.Queries.{Means, Takes}
+use Rattle.room_tables.specs.Queries.{Means, TakesParams}
 use Rattle.room_statements.specs.Queues.{AreListed}
 use Rattle.room_statements.specs.SoundRows.{unfinished_rows}
 use Rattle.room_state.specs.Queues.{not_completed, at_most}
@@ -13,6 +13,6 @@ pub returns-clause-walks : goal.returns-clause-walks
 returns-clause-walks g c clean has =
     let old = state g.S.Store c.args.connection.now in
     let means = subst (λ s. Means s unfinished_text unfinished_query names 2) (sym has.schema_is) unfinished_is in
-    let takes = subst (λ s. Takes s unfinished_query (params c.args.name c.args.limit) 2) (sym has.schema_is) (unfinished_takes c.args.name c.args.limit) in
+    let takes = subst (λ s. TakesParams s unfinished_query (params c.args.name c.args.limit) 2) (sym has.schema_is) (unfinished_takes c.args.name c.args.limit) in
     told_as _ _ old _ _ _ _ (AreListed (λ all. at_most c.args.limit (not_completed all)) (unfinished_rows old.now c.args.name) old.now c.args.name) (unfinished_listed c.args.name c.args.limit old.now has) c.walk.result
     ((rw (c.bytes.ensures.value, c.limit_of.ensures) at (c.walk.ensures.walks clean)) unfinished_query names 2 (record { ungrouped = refl; unfolded = refl }) means takes)

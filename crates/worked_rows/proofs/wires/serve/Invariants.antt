@@ -1,10 +1,10 @@
 use Rattle.std.proofs.Common.{◌≡◌, false}
-use Rattle.room_serve.specs.Wires.{has_ended, reader_of, writer_of}
+use Rattle.room_serve.specs.Wires.{wire_has_ended, reader_of, writer_of}
 use Rattle.room_streams.specs.Counts.{failures_of}
 use Rattle.worked_rows.proofs.wires.serve.Given as goal
 
 abbrev pub invariant-calls : goal.invariant-calls
 invariant-calls g l = record {
-  reads : has_ended l.wire ≡ false → failures_of (reader_of l.wire) ≡ 0;
-  writes : has_ended l.wire ≡ false → failures_of (writer_of l.wire) ≡ 0;
+  reads : wire_has_ended l.wire ≡ false → failures_of (reader_of l.wire) ≡ 0;
+  writes : wire_has_ended l.wire ≡ false → failures_of (writer_of l.wire) ≡ 0;
 }

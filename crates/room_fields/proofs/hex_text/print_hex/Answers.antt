@@ -2,8 +2,8 @@ use Rattle.std.proofs.Common.{[], ◌++◌, refl, ap, sym, subst, ◌∙◌, app
 use Rattle.hex.specs.Hex.{encode_lower}
 use Rattle.std.specs.Io.KnownBytes.{Appends}
 use Rattle.std.proofs.KnownBytes.{Appends-nil, Appends-trans}
-use Rattle.room_client.proofs.Digits.{encode_lower-append, encode_lower-nil, split_front}
-use Rattle.room_client.proofs.hex_lines.print_digits.Goals as goal
+use Rattle.room_fields.proofs.Digits.{encode_lower-append, encode_lower-nil, split_front}
+use Rattle.room_fields.proofs.hex_text.print_hex.Goals as goal
 
 pub loop-rest-init : goal.loop-rest-init
 loop-rest-init g c = ([], refl, subst (Appends _ _) (sym encode_lower-nil) (Appends-nil _))

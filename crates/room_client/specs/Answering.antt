@@ -1,0 +1,61 @@
+-- For the proof of the code alone: how one answer, document or record is heard and printed.
+use Rattle.std.specs.Prelude.{◌≡◌, ℕ, List, ◌++◌, codes, decimal, length, Some, IfSome}
+use Rattle.std.specs.List.{flat_map}
+use Rattle.std.specs.Io.KnownBytes.{Appends, Consumes}
+use Rattle.room_grants.specs.declared.line.GrantLine.{GrantLine}
+use Rattle.room_client.specs.declared.answer.Answer.{Answer}
+use Rattle.room_client.specs.Answers.{answer_said}
+use Rattle.room_client.specs.GrantReplies.{AnswersLine, line_heard, line_printed}
+use Rattle.room_client.specs.Replies.{Document, IsReply, Known, Reply, Shows, document_heard, document_printed, documents_printed, documents_said, heard, printed, printed_as}
+
+-- one answer was heard and printed
+pub record AnsweredOnce (shown : Shows) (heard_before heard_after : Known)
+    (printed_before printed_after : Known) (answer : Answer) : Type 0 where
+  pub reply : Reply
+  pub said : IsReply reply
+  pub heard_whole : Consumes heard_before heard_after (heard reply)
+  pub printed_whole : IfSome (printed shown reply) (Appends printed_before printed_after)
+  pub came_to : answer ≡ reply.says
+
+-- so many documents of the job were heard and printed
+abbrev pub TakesDocuments : (shown : Shows) (heard_before heard_after : Known)
+    → (printed_before printed_after : Known) (account : List ℕ) (job count : ℕ) → Type 0
+TakesDocuments shown heard_before heard_after printed_before printed_after account job count =
+    (documents : List Document) × (length documents ≡ count)
+    × Consumes heard_before heard_after (flat_map document_heard documents)
+    × IfSome (documents_printed shown account job 1 documents)
+    (Appends printed_before printed_after)
+
+-- the document of the number was
+abbrev pub HearsDocument : (shown : Shows) (heard_before heard_after : Known)
+    → (printed_before printed_after : Known) (account : List ℕ) (job number : ℕ) → Type 0
+HearsDocument shown heard_before heard_after printed_before printed_after account job number =
+    (document : Document) × Consumes heard_before heard_after (document_heard document)
+    × IfSome (document_printed shown account job number document)
+    (Appends printed_before printed_after)
+
+-- the answer of the text was printed, and its documents heard
+abbrev pub PrintsAnswer : (shown : Shows) (heard_before heard_after : Known)
+    → (printed_before printed_after : Known) (text : List ℕ) → Answer → Type 0
+PrintsAnswer shown heard_before heard_after printed_before printed_after text says =
+    (account : List ℕ) × (job : ℕ) × (documents : List Document)
+    × (length documents ≡ documents_said says)
+    × Consumes heard_before heard_after (flat_map document_heard documents)
+    × IfSome (printed_as says (documents_printed shown account job 1 documents)
+    (Some (text ++ codes "\n"))) (Appends printed_before printed_after)
+
+-- the answer to the record of the number was heard and printed, or it is bad and `bad` was
+pub record GrantAnswered (asked : GrantLine) (number : ℕ) (heard_before heard_after : Known)
+    (printed_before printed_after : Known) (says : Answer) : Type 0 where
+  pub line : List ℕ
+  pub said : AnswersLine asked line says
+  pub heard : Consumes heard_before heard_after (line_heard asked line)
+  pub printed : Appends printed_before printed_after (line_printed number asked line)
+
+-- an answer was heard, and printed behind the number of its record
+abbrev pub HearsResult : (number : ℕ) (heard_before heard_after : Known)
+    → (printed_before printed_after : Known) → Answer → Type 0
+HearsResult number heard_before heard_after printed_before printed_after says =
+    (line : List ℕ) × (answer_said line ≡ Some says)
+    × Consumes heard_before heard_after (line ++ codes "\n")
+    × Appends printed_before printed_after ((decimal number ++ codes " ") ++ (line ++ codes "\n"))
