@@ -1,10 +1,10 @@
 //! `listen`: connections on a port of this machine, served one after another.
 
 use room_commands::{Begin, Fault, InFile, InMemory, Listening, MEMORY, Opener, store_of};
+use room_input::Counted;
 use room_serve::{After, Wire, serve_one};
 use room_sockets::moment;
 use room_store::Store;
-use room_streams::Counted;
 use sqlite::{Alter, Connection};
 use std::io::{BufReader, Read, Write};
 use std::net::{Ipv4Addr, Shutdown, TcpListener, TcpStream};

@@ -3,7 +3,7 @@
 use crate::folder::Folder;
 use room_client::{HexLines, Outcome, Peer, send_grants, send_lines};
 use room_commands::{Address, Fault, Sending};
-use room_streams::Counted;
+use room_input::Counted;
 use std::fs;
 use std::io::{BufReader, BufWriter, Read, Write};
 use std::net::{Ipv4Addr, TcpStream};

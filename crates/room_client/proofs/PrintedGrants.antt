@@ -7,8 +7,8 @@ use Rattle.std.proofs.KnownBytes.{Appends-nil, Appends-trans, Consumes-nil, Cons
 use Rattle.std.proofs.lemmas.Grind.{flat_map-append}
 use Rattle.std.proofs.lemmas.List.{map-append}
 use Rattle.std.proofs.lemmas.List.Elements.{All-append, All-cons, All-nil}
-use Rattle.room_grants.specs.declared.line.GrantLine.{GrantLine}
-use Rattle.room_grants.specs.declared.line.GrantLine.TheVariants.{Good, Bad}
+use Rattle.room_input.specs.declared.grant_line.GrantLine.{GrantLine}
+use Rattle.room_input.specs.declared.grant_line.GrantLine.TheVariants.{Good, Bad}
 use Rattle.room_client.specs.declared.answer.Answer.{Answer}
 use Rattle.room_client.specs.declared.answer.Answer.TheVariants.{Told}
 use Rattle.room_client.specs.Answering.{GrantAnswered, HearsResult}

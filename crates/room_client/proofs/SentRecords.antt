@@ -4,8 +4,8 @@ use Rattle.std.specs.Prelude.{Some}
 use Rattle.std.proofs.lemmas.Grind.{flat_map-append}
 use Rattle.std.proofs.Math.Seq.{drop-cons}
 use Rattle.std.proofs.lemmas.List.{take_more}
-use Rattle.room_grants.specs.declared.line.GrantLine.{GrantLine}
-use Rattle.room_grants.specs.declared.line.GrantLine.TheVariants.{Good, Bad}
+use Rattle.room_input.specs.declared.grant_line.GrantLine.{GrantLine}
+use Rattle.room_input.specs.declared.grant_line.GrantLine.TheVariants.{Good, Bad}
 use Rattle.room_client.specs.Grants.{line_asked, record_sent, records_sent}
 
 pub record_sent-line : (one : GrantLine) (line : List ℕ) → Some line ≡ line_asked one

@@ -2,7 +2,7 @@
 use Rattle.std.specs.Prelude.{◌≡◌, ℕ, List, ◌++◌, codes, decimal, length, Some, IfSome}
 use Rattle.std.specs.List.{flat_map}
 use Rattle.std.specs.Io.KnownBytes.{Appends, Consumes}
-use Rattle.room_grants.specs.declared.line.GrantLine.{GrantLine}
+use Rattle.room_input.specs.declared.grant_line.GrantLine.{GrantLine}
 use Rattle.room_client.specs.declared.answer.Answer.{Answer}
 use Rattle.room_client.specs.Answers.{answer_said}
 use Rattle.room_client.specs.GrantReplies.{AnswersLine, line_heard, line_printed}

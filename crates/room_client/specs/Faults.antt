@@ -3,8 +3,8 @@ use Rattle.std.specs.declared.io.ErrorKind.{ErrorKind}
 use Rattle.std.specs.declared.io.ErrorKind.TheVariants.{OutOfMemory}
 use Rattle.room_client.specs.declared.fault.ClientFault.{ClientFault}
 use Rattle.room_client.specs.declared.fault.ClientFault.TheVariants as client
-use Rattle.room_grants.specs.declared.fault.GrantFault.{GrantFault}
-use Rattle.room_grants.specs.declared.fault.GrantFault.TheVariants as grants
+use Rattle.room_input.specs.declared.grant_fault.GrantFault.{GrantFault}
+use Rattle.room_input.specs.declared.grant_fault.GrantFault.TheVariants as grants
 
 -- a call that failed with an error of the kind
 abbrev pub io_fault : ErrorKind → ClientFault

@@ -3,16 +3,16 @@
 use Rattle.std.specs.Prelude.{All, ◌≡◌, ℕ, ◌+◌, List, [], ◌∷◌, ◌++◌, codes, decimal, map, Some}
 use Rattle.std.specs.List.{flat_map}
 use Rattle.std.specs.Io.KnownBytes.{Appends, Consumes}
-use Rattle.room_grants.specs.declared.line.GrantLine.{GrantLine}
-use Rattle.room_grants.specs.declared.line.GrantLine.TheVariants.{Good, Bad}
+use Rattle.room_input.specs.declared.grant_line.GrantLine.{GrantLine}
+use Rattle.room_input.specs.declared.grant_line.GrantLine.TheVariants.{Good, Bad}
 use Rattle.room_client.specs.declared.answer.Answer.{Answer}
 use Rattle.room_client.specs.declared.answer.Answer.TheVariants.{Told}
 use Rattle.room_client.specs.declared.outcome.Outcome.{Outcome}
 use Rattle.room_client.specs.declared.outcome.Outcome.TheVariants.{Fine}
 use Rattle.room_client.specs.Answers.{answer_said}
 use Rattle.room_client.specs.Outcomes.{outcome_after}
-use Rattle.room_grants.specs.Files.{records_of}
-use Rattle.room_grants.specs.Lines.{grant_lines}
+use Rattle.room_input.specs.GrantFiles.{records_of}
+use Rattle.room_input.specs.GrantLines.{grant_lines}
 use Rattle.room_client.specs.Replies.{Known}
 
 -- a record, the line that answered it, and what that says

@@ -2,11 +2,11 @@
 use Rattle.std.specs.Prelude.{ℕ, ◌+◌, ◌/◌, ◌%◌, List, [], ◌∷◌, ◌++◌, codes, decimal, Option, None, Some}
 use Rattle.std.specs.List.{flat_map}
 use Rattle.std.specs.Io.KnownBytes.{Appends}
-use Rattle.room_grants.specs.Files.{records_of}
-use Rattle.room_grants.specs.Lines.{grant_lines}
+use Rattle.room_input.specs.GrantFiles.{records_of}
+use Rattle.room_input.specs.GrantLines.{grant_lines}
 use Rattle.room_client.specs.Sending.{AppendsUpTo}
-use Rattle.room_grants.specs.declared.line.GrantLine.{GrantLine}
-use Rattle.room_grants.specs.declared.line.GrantLine.TheVariants.{Good, Bad}
+use Rattle.room_input.specs.declared.grant_line.GrantLine.{GrantLine}
+use Rattle.room_input.specs.declared.grant_line.GrantLine.TheVariants.{Good, Bad}
 
 abbrev pub two_digits : ℕ → List ℕ
 two_digits number = (48 + number / 10) ∷ (48 + number % 10) ∷ []

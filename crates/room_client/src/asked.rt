@@ -2,7 +2,7 @@
 ghost use Rattle.std.specs.Prelude.{◌≡◌, IfOk, string_bytes};
 ghost use Rattle.room_client.specs.Names.{document_name};
 
-use room_fields::number;
+use room_input::number;
 use room_rules::{LAST_JOB, Name};
 use std::alloc::{AllocError, Global};
 use std::str;

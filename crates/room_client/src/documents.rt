@@ -7,7 +7,7 @@ use crate::asked::Asked;
 use crate::fault::ClientFault;
 use crate::keeper::Keeper;
 use crate::peer::Peer;
-use room_fields::number;
+use room_input::number;
 use room_rules::{LONGEST_DOCUMENT, MOST_COPIES};
 use std::alloc::Global;
 use std::io::{BufRead, Write};

@@ -5,7 +5,7 @@ ghost use Rattle.std.specs.IoError.{error_kind};
 ghost use Rattle.room_client.specs.Faults.{grant_fault, io_fault};
 ghost use Rattle.room_client.specs.declared.fault.ClientFault.TheVariants.{Memory};
 
-use room_grants::GrantFault;
+use room_input::GrantFault;
 use std::alloc::{AllocError, AllocFailed};
 use std::io;
 use std::io::ErrorKind;

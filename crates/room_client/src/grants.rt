@@ -8,16 +8,15 @@ ghost use Rattle.room_client.specs.Grants.{SendsFile, SendsFileFront, grant_text
 ghost use Rattle.room_client.specs.GrantReplies.{FileAnswered, GrantsAnswered};
 ghost use Rattle.room_client.specs.Peers.{reader_of, writer_of};
 ghost use Rattle.room_client.specs.Sending.{AppendsUpTo};
-ghost use Rattle.room_grants.specs.Lines.{IsInRange};
+ghost use Rattle.room_input.specs.GrantLines.{IsInRange};
 
 use crate::answer::Answer;
 use crate::fault::ClientFault;
 use crate::month::month_text;
 use crate::outcome::Outcome;
 use crate::peer::Peer;
-use room_grants::{GrantLine, read_grants};
+use room_input::{GrantLine, Source, read_grants};
 use room_rules::Name;
-use room_streams::Source;
 use std::alloc::{AllocError, Global};
 use std::io::{BufRead, Write};
 

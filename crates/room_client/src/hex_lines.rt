@@ -3,7 +3,7 @@ ghost use Rattle.hex.specs.Hex.{encode_lower};
 ghost use Rattle.std.specs.Prelude.{◌++◌, Some, codes};
 
 use crate::keeper::Keeper;
-use room_fields::print_hex;
+use room_input::print_hex;
 use std::io;
 use std::io::Write;
 

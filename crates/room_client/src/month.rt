@@ -1,6 +1,6 @@
 //! Months as lines write them.
 ghost use Rattle.std.specs.Prelude.{◌≡◌, ◌+◌, ◌<◌, ◌≤◌, slice_index};
-ghost use Rattle.room_fields.specs.Fields.{digit_said, month_said, two_digits_said};
+ghost use Rattle.room_input.specs.Fields.{digit_said, month_said, two_digits_said};
 ghost use Rattle.room_rules.specs.Limits.{first_month, last_month};
 ghost use Rattle.room_client.specs.Grants.{month_text, two_digits};
 

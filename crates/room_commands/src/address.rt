@@ -22,7 +22,7 @@ impl<'a> Address<'a> {
         if !word.bytes().all(|byte| byte.is_ascii_digit()) {
             return Some(Address::Path(word));
         }
-        let port = room_fields::number(word.as_bytes(), least, LAST_PORT)?;
+        let port = room_input::number(word.as_bytes(), least, LAST_PORT)?;
         Some(Address::Port(u16::try_from(port).ok()?))
     }
 }

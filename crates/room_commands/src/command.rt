@@ -219,5 +219,5 @@ fn number(
 ) -> Result<u32, Unfit>
     ensures { IfOk result (λ number. (least ≤ number) × (number ≤ most)) }
 {
-    room_fields::number(word(words, id)?.as_bytes(), least, most).ok_or(unfit)
+    room_input::number(word(words, id)?.as_bytes(), least, most).ok_or(unfit)
 }

@@ -3,11 +3,10 @@ ghost use Rattle.std.specs.Prelude.{◌≡◌};
 ghost use Rattle.room_commands.specs.Statuses.{exit_status_of};
 
 use room_client::ClientFault;
-use room_grants::GrantFault;
+use room_input::{GrantFault, StreamFault};
 use room_lines::LineFault;
 use room_serve::RunFault;
 use room_store::{OpenFault, StoreFault};
-use room_streams::StreamFault;
 use std::alloc::AllocError;
 use std::io;
 use std::io::{ErrorKind, Write};

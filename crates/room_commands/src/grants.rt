@@ -1,10 +1,10 @@
 //! Records of grants as events.
 ghost use Rattle.std.specs.Prelude.{All, IfOk, IfSome, IsTrue};
 ghost use Rattle.room_core.specs.Fits.{fits};
-ghost use Rattle.room_grants.specs.Lines.{IsInRange};
+ghost use Rattle.room_input.specs.GrantLines.{IsInRange};
 
 use room_core::Event;
-use room_grants::GrantLine;
+use room_input::GrantLine;
 use std::alloc::{AllocError, Global};
 
 /// The good ones at the moment, in order.

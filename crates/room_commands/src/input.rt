@@ -1,11 +1,10 @@
 //! What standard input has for a command.
 ghost use Rattle.std.specs.Prelude.{IfOk, All};
-ghost use Rattle.room_grants.specs.Lines.{IsInRange};
+ghost use Rattle.room_input.specs.GrantLines.{IsInRange};
 
 use crate::fault::Fault;
-use room_grants::{GrantLine, read_grants};
+use room_input::{Counted, GrantLine, read_grants, read_whole};
 use room_lines::{Grammar, Line};
-use room_streams::{Counted, read_whole};
 use std::alloc::Global;
 use std::io::Read;
 

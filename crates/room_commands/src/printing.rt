@@ -1,6 +1,6 @@
 //! What a run prints.
 
-use room_grants::GrantLine;
+use room_input::GrantLine;
 use room_lines::print_answer;
 use room_serve::Outcome;
 use std::alloc::Global;

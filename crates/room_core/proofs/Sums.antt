@@ -6,7 +6,7 @@ use Rattle.std.specs.FinMap.{FinMap, get, insert, entries, values}
 use Rattle.std.proofs.lemmas.List.Sums.{sum_by-cons}
 use Rattle.std.proofs.lemmas.Int.{ints}
 use Rattle.room_rules.specs.JobStates.{is_unfinished}
-use Rattle.room_answers.specs.Stations.{left_after}
+use Rattle.room_replies.specs.Stations.{left_after}
 use Rattle.room_core.specs.Steps.{with_moved}
 use Rattle.room_rules.specs.declared.job.Job.{Job}
 use Rattle.room_rules.specs.declared.job.Standing.{Standing}

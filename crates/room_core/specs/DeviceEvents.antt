@@ -7,9 +7,9 @@ use Rattle.room_core.specs.declared.event.Reply.{Reply}
 use Rattle.room_core.specs.declared.event.Reply.TheVariants as reply
 use Rattle.room_rules.specs.declared.refusal.Word.TheVariants.{NoDevice}
 use Rattle.room_rules.specs.Devices.{Devices, turned, rated}
-use Rattle.room_texts.specs.declared.line.Success.TheVariants as success
-use Rattle.room_texts.specs.Lines.{success_text}
-use Rattle.room_texts.specs.Words.{word_text}
+use Rattle.room_replies.specs.declared.station_line.Success.TheVariants as success
+use Rattle.room_replies.specs.Lines.{success_text}
+use Rattle.room_replies.specs.Words.{word_text}
 
 -- a reply, and what devices there are after it
 pub record DeviceAnswer : Type 0 where

@@ -3,7 +3,7 @@ use Rattle.std.specs.Prelude.{◌≡◌, ℕ, nat_lt, if◌then◌else◌, List,
 use Rattle.ipp_coding.specs.declared.message.Header.{Header}
 use Rattle.ipp_coding.specs.Limits.{header_length}
 use Rattle.ipp_coding.specs.Reading.{header_in}
-use Rattle.room_answers.specs.Responses.{refused_text}
+use Rattle.room_replies.specs.Responses.{refused_text}
 use Rattle.room_asks.specs.declared.operation.Operation.{Operation}
 use Rattle.room_asks.specs.declared.operation.Operation.TheVariants.{PrintJob, ValidateJob, CreateJob, SendDocument, CancelJob, GetJobAttributes, GetJobs, GetPrinterAttributes, HoldJob, ReleaseJob}
 use Rattle.room_asks.specs.Asks.{PlainAsk, PlainRefusal, ask_of}
@@ -22,9 +22,9 @@ use Rattle.room_core.specs.Steps.{Step, refusing}
 use Rattle.room_rules.specs.declared.refusal.Word.TheVariants.{NoAccount, Exists}
 use Rattle.room_rules.specs.Devices.{Devices}
 use Rattle.room_state.specs.Rooms.{RoomValue, empty_room}
-use Rattle.room_texts.specs.declared.line.Success.TheVariants as success
-use Rattle.room_texts.specs.Lines.{success_text}
-use Rattle.room_texts.specs.Words.{word_text}
+use Rattle.room_replies.specs.declared.station_line.Success.TheVariants as success
+use Rattle.room_replies.specs.Lines.{success_text}
+use Rattle.room_replies.specs.Words.{word_text}
 
 -- ---- an IPP request
 

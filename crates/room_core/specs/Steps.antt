@@ -7,9 +7,9 @@ use Rattle.room_rules.specs.declared.job.Standing.{Standing}
 use Rattle.room_rules.specs.declared.refusal.Word.{Word}
 use Rattle.room_state.specs.Changes.{with_standing, with_ended}
 use Rattle.room_state.specs.Rooms.{RoomValue}
-use Rattle.room_texts.specs.declared.line.Success.{Success}
-use Rattle.room_texts.specs.Lines.{success_text}
-use Rattle.room_texts.specs.Words.{word_text}
+use Rattle.room_replies.specs.declared.station_line.Success.{Success}
+use Rattle.room_replies.specs.Lines.{success_text}
+use Rattle.room_replies.specs.Words.{word_text}
 
 pub record Step : Type 0 where
   pub reply : Reply

@@ -8,9 +8,8 @@ ghost use Rattle.room_rules.specs.Devices.{device_map};
 ghost use Rattle.room_rules.specs.Limits.{last_moment, IsRate};
 
 use crate::event::{Event, Reply};
-use room_answers::{line, success};
+use room_replies::{Success, line, success};
 use room_rules::{CoreFault, Device, LAST_MOMENT, Name, Word, set_device, set_rate};
-use room_texts::Success;
 use std::alloc::Global;
 
 /// What a `Device` or a `Rate` event at the moment `now` is answered. Of the devices, that of its

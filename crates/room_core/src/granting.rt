@@ -6,10 +6,9 @@ ghost use Rattle.room_core.specs.Steps.{IsStep};
 ghost use Rattle.room_state.specs.RoomRules.{IsGrant};
 
 use crate::event::Reply;
-use room_answers::{check_grant, line, success};
+use room_replies::{Success, check_grant, line, success};
 use room_rules::CoreFault;
 use room_state::Room;
-use room_texts::Success;
 use std::alloc::Global;
 
 /// Grants the pages from the month on, where nothing was granted for it yet.

@@ -29,11 +29,12 @@ pub use moving::{canceled, held, released, released_at, settled, started};
 pub use queue::jobs_told;
 pub use quota::left_with;
 pub use respond::{asked_at, made_names, no_job, wanted_names};
-pub use room_answers::{
-    Part, check_accepting, check_grant, check_on, done, handed, known_device, left_after, line,
-    printer_now, refused, success, with_job, with_printer,
-};
 pub use room_asks::{Ask, AskFault, Operation, Which, new_job, read_ask};
+pub use room_replies::{
+    Part, Place, PrinterNow, Success, check_accepting, check_grant, check_on, done, handed,
+    internal_error, known_device, left_after, line, printer_now, put_job, put_line, put_printer,
+    put_reply, put_success, refused, success, with_job, with_printer,
+};
 pub use room_rules::{
     Account, CoreFault, Device, Document, FIRST_MONTH, Format, Grant, Job, JobState, LAST_JOB,
     LAST_MOMENT, LAST_MONTH, MOST_IMPRESSIONS, MOST_PAGES, MOST_RATE, Name, Refusal, Standing,
@@ -41,7 +42,3 @@ pub use room_rules::{
     set_device, set_rate, settle, start, within_quota,
 };
 pub use room_state::{Room, Tally};
-pub use room_texts::{
-    Place, PrinterNow, Success, internal_error, put_job, put_line, put_printer, put_reply,
-    put_success,
-};

@@ -19,11 +19,10 @@ use crate::making::{make, validate};
 use crate::stations::{self, Station};
 use crate::{printer, queue};
 use ipp_coding::{HEADER_LENGTH, Header, List, read_header};
-use room_answers::{line, refused, success};
 use room_asks::{Ask, AskFault, Operation, read_ask};
+use room_replies::{Success, line, refused, success};
 use room_rules::{CoreFault, Device, LAST_MOMENT, Name, Word};
 use room_state::Room;
-use room_texts::Success;
 use std::alloc::Global;
 
 /// What one account answers to one event at the moment `now`, among these devices. The room is None

@@ -6,12 +6,12 @@ ghost use Rattle.room_asks.specs.Operations.{is_print_job};
 ghost use Rattle.room_core.specs.NewJobs.{accepts, made, validated, new_job, new_document};
 ghost use Rattle.room_core.specs.Requests.{IsResponse};
 ghost use Rattle.room_rules.specs.Limits.{last_moment, last_next_job};
-ghost use Rattle.room_texts.specs.Limits.{IsShowable};
+ghost use Rattle.room_replies.specs.Limits.{IsShowable};
 
 use crate::respond::{asked_at, copied, made_names};
 use ipp_coding::List;
-use room_answers::{check_accepting, done, refused, with_job};
 use room_asks::{Ask, Operation, new_job};
+use room_replies::{check_accepting, done, refused, with_job};
 use room_rules::{CoreFault, Document, Job, Name, Refusal};
 use room_state::Room;
 use std::alloc::Global;

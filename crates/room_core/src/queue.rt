@@ -6,23 +6,22 @@ ghost use Rattle.std.specs.FinMap.{values};
 ghost use Rattle.std.specs.List.{AllByRecursion};
 ghost use Rattle.std.specs.Ordering.{is_lt};
 ghost use Rattle.room_rules.specs.JobStates.{is_unfinished};
-ghost use Rattle.room_answers.specs.Responses.{job_groups};
+ghost use Rattle.room_replies.specs.Responses.{job_groups};
 ghost use Rattle.room_asks.specs.Asks.{IsAsk, plain_ask};
 ghost use Rattle.room_core.specs.Queues.{chosen, asked_jobs, listed, listed_names, plain_jobs};
 ghost use Rattle.room_core.specs.Requests.{answer_to};
 ghost use Rattle.room_rules.specs.declared.job.Job.{Job};
 ghost use Rattle.room_rules.specs.Limits.{last_moment, last_next_job};
 ghost use Rattle.room_state.specs.Queues.{is_later, not_completed, completed, at_most};
-ghost use Rattle.room_texts.specs.Limits.{IsPlace, IsShowable};
-ghost use Rattle.room_texts.specs.Places.{plain_place};
+ghost use Rattle.room_replies.specs.Limits.{IsPlace, IsShowable};
+ghost use Rattle.room_replies.specs.Places.{plain_place};
 
 use crate::respond::{asked_at, wanted_names};
 use ipp_coding::List;
-use room_answers::{AsJob, with_jobs};
 use room_asks::{Ask, Which};
+use room_replies::{AsJob, Place, with_jobs};
 use room_rules::{CoreFault, Job, Name};
 use room_state::Room;
-use room_texts::Place;
 use std::alloc::Global;
 use std::cmp::Ordering;
 

@@ -9,7 +9,7 @@ ghost use Rattle.room_rules.specs.Quota.{left_of, least_left, most_left};
 ghost use Rattle.room_rules.specs.StateLaws.{kept_to_quota};
 ghost use Rattle.room_state.specs.Sums.{granted_to, left_in};
 
-use room_answers::left_after;
+use room_replies::left_after;
 use room_rules::{JobState, Refusal, Standing, left, month_of, within_quota};
 use room_state::{Room, Tally};
 

@@ -8,14 +8,14 @@ ghost use Rattle.room_core.specs.NewJobs.{made_names};
 ghost use Rattle.room_core.specs.Requests.{asked_at};
 ghost use Rattle.room_rules.specs.declared.refusal.Word.TheVariants.{NoJob};
 ghost use Rattle.room_rules.specs.Limits.{last_moment};
-ghost use Rattle.room_texts.specs.Limits.{IsPlace};
-ghost use Rattle.room_texts.specs.Places.{plain_place};
-ghost use Rattle.room_texts.specs.Tables.{asked_names};
+ghost use Rattle.room_replies.specs.Limits.{IsPlace};
+ghost use Rattle.room_replies.specs.Places.{plain_place};
+ghost use Rattle.room_replies.specs.Tables.{asked_names};
 
 use ipp_coding::List;
 use room_asks::Ask;
+use room_replies::Place;
 use room_rules::{CoreFault, Name, Refusal, Word};
-use room_texts::Place;
 use std::alloc::Global;
 
 /// Where and when the request is answered, of an account that was opened then.

@@ -4,7 +4,7 @@ ghost use Rattle.std.specs.Prelude.{◌≡◌, ◌≤◌, IfOk, IfErr, OnErr, ma
 ghost use Rattle.std.specs.List.{flat_map};
 ghost use Rattle.std.specs.Option.{option_to_list};
 ghost use Rattle.std.specs.FinMap.{get};
-ghost use Rattle.room_answers.specs.Parts.{part_of};
+ghost use Rattle.room_replies.specs.Parts.{part_of};
 ghost use Rattle.room_core.specs.Moving.{CanMove};
 ghost use Rattle.room_core.specs.Rates.{AreRated};
 ghost use Rattle.room_core.specs.Stations.{plain_station, station_release, release_told, station_start, start_told, station_settle, settling_told};
@@ -19,10 +19,9 @@ use crate::moving::{self, stand};
 use crate::quota::{kept_to_quota, left_once};
 use crate::respond::copied;
 use ipp_coding::List;
-use room_answers::{Part, handed, known_device, line, ready_device, success};
+use room_replies::{Part, Success, handed, known_device, line, ready_device, success};
 use room_rules::{CoreFault, Device, Document, MOST_DOCUMENTS, Name, Standing, Word};
 use room_state::Room;
-use room_texts::Success;
 use std::alloc::Global;
 
 /// The numbers that a job's documents may have, in their order.

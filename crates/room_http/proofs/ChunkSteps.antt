@@ -4,7 +4,7 @@ use Rattle.std.proofs.lemmas.List.{append-nil, flat_map_more}
 use Rattle.std.specs.List.{AllByRecursion}
 use Rattle.httparse.specs.Ascii.{crlf_bytes}
 use Rattle.httparse.specs.Grammar.{ChunkLine, print_chunk_line, chunk_size}
-use Rattle.room_streams.specs.Streams.{IsSpent, Yields}
+use Rattle.room_input.specs.Streams.{IsSpent, Yields}
 use Rattle.room_http.specs.Bodies.{HasBehindChunks, IsChunkedBody, IsNoBody, has_no_trailers, is_short}
 use Rattle.room_http.specs.Chunks.{AreChunks, Chunk, HasNoLineEnd, IsChunk, IsNoChunk, IsSizeLine, IsTooLongWith, has_no_end, is_cut, print_chunk}
 use Rattle.room_http.specs.Exchange.{Takes}

@@ -3,7 +3,7 @@ use Rattle.std.proofs.Common.{◌≡◌, ℕ, ◌+◌, List, [], ◌++◌, lengt
 use Rattle.std.proofs.Math.Seq.{take-append-add}
 use Rattle.std.proofs.lemmas.List.{append-nil, take-append-le}
 use Rattle.std.specs.Io.KnownBytes.{Appends}
-use Rattle.room_streams.specs.Streams.{Yields}
+use Rattle.room_input.specs.Streams.{Yields}
 use Rattle.room_http.specs.Exchange.{AppendsFront}
 
 pub Yields_more : (a b c : List ℕ → Type 0) (xs ys : List ℕ) → Yields a b xs → Yields b c ys → Yields a c (xs ++ ys)

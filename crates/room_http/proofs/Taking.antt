@@ -3,7 +3,7 @@ use Rattle.std.proofs.Common.{◌≡◌, ℕ, ◌+◌, ◌*◌, ◌<◌, ◌≤�
 use Rattle.std.specs.List.{AllByRecursion, flat_map}
 use Rattle.httparse.specs.Ascii.{crlf_bytes}
 use Rattle.httparse.specs.Grammar.{print_chunk_line}
-use Rattle.room_streams.specs.Streams.{Yields}
+use Rattle.room_input.specs.Streams.{Yields}
 use Rattle.room_http.specs.Chunks.{AreChunks, Chunk, IsChunk, print_chunk}
 use Rattle.room_http.specs.Exchange.{TakesAtMost, most_of_chunks}
 use Rattle.room_http.proofs.Streams.{Yields_more}

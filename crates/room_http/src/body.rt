@@ -8,7 +8,7 @@ use crate::chunks::{Chunks, read_chunks};
 use crate::fault::WireFault;
 use crate::framing::Framing;
 use crate::trailers::read_trailers;
-use room_streams::Source;
+use room_input::Source;
 use std::alloc::Global;
 
 /// How many bytes are asked for at once.

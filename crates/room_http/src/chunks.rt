@@ -9,7 +9,7 @@ use crate::framing::BODY_LIMIT;
 use crate::head::read_byte;
 use arrayvec::ArrayVec;
 use httparse::{Status, parse_chunk_size};
-use room_streams::Source;
+use room_input::Source;
 
 /// The most bytes of a line that tells a size, its end among them.
 const LINE_LIMIT: usize = 256;

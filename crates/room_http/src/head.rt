@@ -1,14 +1,14 @@
 //! Reading the head of a request, byte by byte, so that nothing behind it is taken.
 ghost use Rattle.std.specs.Prelude.{◌≡◌, ◌+◌, ◌-◌, ◌^◌, ◌<◌, ◌≤◌, ◌&&◌, [], length, IfErr, IfOk, IfNone, OnOk};
 ghost use Rattle.room_http.specs.Kinds.{ends_empty_line};
-ghost use Rattle.room_streams.specs.Streams.{IsSpent, Yields};
+ghost use Rattle.room_input.specs.Streams.{IsSpent, Yields};
 ghost use Rattle.room_http.specs.Exchange.{TakesAtMost, read_faults};
 ghost use Rattle.room_http.specs.Reading.{HeadIs, IsReading, byte_list};
 
 use crate::fault::WireFault;
 use httparse::spans::{HeaderSpan, RequestSpans, parse_request};
 use httparse::{Error, Status};
-use room_streams::Source;
+use room_input::Source;
 
 /// The most bytes of a head.
 pub const HEAD_LIMIT: usize = 16_384;

@@ -17,7 +17,7 @@ use crate::refusal::Refusal;
 use crate::send::send_interim;
 use arrayvec::ArrayVec;
 use httparse::spans::{EMPTY_HEADER_SPAN, HeaderSpan, RequestSpans};
-use room_streams::{Sink, Source};
+use room_input::{Sink, Source};
 use std::alloc::Global;
 
 /// The most fields of a head.

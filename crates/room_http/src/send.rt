@@ -8,7 +8,7 @@ use crate::answer::{put, put_answer_head, refusal_text};
 use crate::fault::WireFault;
 use crate::refusal::Refusal;
 use arrayvec::ArrayVec;
-use room_streams::Sink;
+use room_input::Sink;
 
 /// The most bytes of the first piece of an answer.
 const FIRST_PIECE: usize = 65536;

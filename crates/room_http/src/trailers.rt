@@ -9,7 +9,7 @@ use crate::head::read_byte;
 use arrayvec::ArrayVec;
 use httparse::Status;
 use httparse::spans::{EMPTY_HEADER_SPAN, parse_headers};
-use room_streams::Source;
+use room_input::Source;
 
 /// The most bytes of the trailers, the empty line behind them included.
 pub const TRAILERS_LIMIT: usize = 4_096;

@@ -3,7 +3,7 @@ use Rattle.std.specs.Prelude.{◌≡◌, ◌≢◌, ◌⊎◌, ℕ, ◌<◌, Boo
 use Rattle.std.specs.List.{AllZip, join_with_byte}
 use Rattle.std.specs.Str.Parse.{digits_value}
 use Rattle.hex.specs.Hex.{decode_of}
-use Rattle.room_fields.specs.Fields.{IsDecimal, choice_said, month_said}
+use Rattle.room_input.specs.Fields.{IsDecimal, choice_said, month_said}
 use Rattle.room_lines.specs.declared.action.Action.{Action}
 use Rattle.room_lines.specs.declared.action.Action.TheVariants.{Open, Device, Rate, Grant, Ipp, Release, Start, Settle}
 use Rattle.room_lines.specs.declared.lines.Grammar.{Grammar}

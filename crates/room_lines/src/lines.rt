@@ -12,7 +12,7 @@ use crate::action::Action;
 use crate::fault::LineFault;
 use crate::line::Line;
 use room_core::{LAST_JOB, LAST_MOMENT, MOST_IMPRESSIONS, MOST_PAGES, MOST_RATE, Name};
-use room_fields::FieldFault;
+use room_input::FieldFault;
 use std::alloc::Global;
 
 /// Which lines an input may have.
@@ -184,7 +184,7 @@ impl<'a> Fields<'a> {
         ensures said { IfOk result (λ moment.
             TakesOne (left self.old) (left self.new) (λ field. SaysNumber field moment)) }
     {
-        match room_fields::decimal(self.take()?) {
+        match room_input::decimal(self.take()?) {
             Some(moment) if moment <= LAST_MOMENT => Ok(moment),
             _ => Err(FieldFault::Malformed),
         }
@@ -201,7 +201,7 @@ impl<'a> Fields<'a> {
         ensures said { IfOk result (λ number.
             TakesOne (left self.old) (left self.new) (λ field. SaysNumber field number)) }
     {
-        room_fields::number(self.take()?, least, most).ok_or(FieldFault::Malformed)
+        room_input::number(self.take()?, least, most).ok_or(FieldFault::Malformed)
     }
 
     fn month(&mut self) -> Result<u32, FieldFault>
@@ -209,21 +209,21 @@ impl<'a> Fields<'a> {
         ensures said { IfOk result (λ month.
             TakesOne (left self.old) (left self.new) (λ field. SaysMonth field month)) }
     {
-        room_fields::month(self.take()?).ok_or(FieldFault::Malformed)
+        room_input::month(self.take()?).ok_or(FieldFault::Malformed)
     }
 
     fn choice(&mut self, yes: &[u8], no: &[u8]) -> Result<bool, FieldFault>
         ensures said { IfOk result (λ it.
             TakesOne (left self.old) (left self.new) (λ field. SaysWord yes.now no.now field it)) }
     {
-        room_fields::choice(self.take()?, yes, no).ok_or(FieldFault::Malformed)
+        room_input::choice(self.take()?, yes, no).ok_or(FieldFault::Malformed)
     }
 
     fn bytes(&mut self, alloc: Global) -> Result<Vec<u8>, FieldFault>
         ensures said { IfOk result (λ bytes.
             TakesOne (left self.old) (left self.new) (λ field. SaysBytes field bytes.items)) }
     {
-        room_fields::bytes(alloc, self.take()?)
+        room_input::bytes(alloc, self.take()?)
     }
 
     fn password(&mut self, alloc: Global) -> Result<Vec<u8>, FieldFault>
@@ -232,7 +232,7 @@ impl<'a> Fields<'a> {
     {
         match self.take()? {
             b"-" => Ok(Vec::new(alloc)),
-            digits => room_fields::bytes(alloc, digits),
+            digits => room_input::bytes(alloc, digits),
         }
     }
 
@@ -244,7 +244,7 @@ impl<'a> Fields<'a> {
         match self.take()? {
             b"-" => Ok(None),
             digits => {
-                let impressions = room_fields::number(digits, 1, MOST_IMPRESSIONS);
+                let impressions = room_input::number(digits, 1, MOST_IMPRESSIONS);
                 Ok(Some(impressions.ok_or(FieldFault::Malformed)?))
             }
         }

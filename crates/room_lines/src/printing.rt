@@ -1,7 +1,7 @@
 //! What the program prints for each event, with no memory taken.
 
 use room_core::{Part, Reply};
-use room_fields::print_hex;
+use room_input::print_hex;
 use std::io;
 use std::io::Write;
 

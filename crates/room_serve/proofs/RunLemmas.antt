@@ -9,7 +9,7 @@ use Rattle.room_core.specs.Machine.{answered}
 use Rattle.room_core.specs.declared.event.Event.{Event}
 use Rattle.room_core.specs.declared.event.Reply.{Reply}
 use Rattle.room_core.specs.declared.event.Reply.TheVariants.{Short}
-use Rattle.room_events.specs.Events.{IsOf, IsOfNone, IsShort}
+use Rattle.room_store.specs.Events.{IsOf, IsOfNone, IsShort}
 use Rattle.room_rules.specs.Devices.{Devices}
 use Rattle.room_state.specs.Rooms.{RoomValue}
 use Rattle.room_store.specs.declared.fault.StoreFault.{StoreFault}

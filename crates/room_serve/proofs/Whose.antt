@@ -7,7 +7,7 @@ use Rattle.room_core.specs.Machine.{answered}
 use Rattle.room_core.specs.declared.event.Event.{Event}
 use Rattle.room_core.specs.declared.event.Event.TheVariants as event
 use Rattle.room_core.specs.declared.event.Reply.TheVariants as reply
-use Rattle.room_events.specs.Events.{IsOf, IsOfNone, IsShort}
+use Rattle.room_store.specs.Events.{IsOf, IsOfNone, IsShort}
 use Rattle.room_rules.specs.Devices.{Devices}
 use Rattle.room_state.specs.Rooms.{RoomValue}
 use Rattle.room_serve.specs.Own.{is_of, is_of_device}

@@ -28,7 +28,7 @@ use Rattle.room_tables.specs.Calls.{OfStore}
 use Rattle.room_tables.specs.Devices.{AgreeOnDevices, HoldsDevices}
 use Rattle.room_tables.specs.Keyed.{HasSchema}
 use Rattle.room_tables.specs.Tables.{meta}
-use Rattle.room_texts.specs.Replies.{internal_error_text}
+use Rattle.room_replies.specs.Replies.{internal_error_text}
 use Rattle.room_serve.specs.declared.wire.After.{After}
 use Rattle.room_serve.specs.declared.wire.After.TheVariants.{Again, Close}
 

@@ -14,8 +14,8 @@ use crate::wire::{After, Wire};
 use ipp_coding::header_in;
 use room_core::{Event, Reply, internal_error};
 use room_http::{Order, Received, Refusal, WireFault, receive, send_answer, send_refusal};
+use room_input::{Sink, Source};
 use room_store::{Store, StoreFault};
-use room_streams::{Sink, Source};
 use sqlite::Alter;
 use std::alloc::Global;
 

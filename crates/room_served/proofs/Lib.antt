@@ -2,3 +2,4 @@ pub mod Placing
 pub mod Journaling
 pub mod Running
 pub mod LineEnds
+pub mod LineCalls

@@ -14,7 +14,7 @@ use Rattle.room_http.specs.Texts.{status_of}
 use Rattle.room_http.specs.declared.refusal.Refusal.{Refusal}
 use Rattle.room_http.specs.declared.refusal.Refusal.TheVariants.{MethodNotAllowed, NotFound}
 use Rattle.room_store.specs.declared.fault.StoreFault.{StoreFault}
-use Rattle.room_texts.specs.Replies.{internal_error_text}
+use Rattle.room_replies.specs.Replies.{internal_error_text}
 use Rattle.room_served.specs.declared.entry.Entry.TheVariants as entry
 use Rattle.room_served.specs.declared.served.Served.{Served}
 use Rattle.room_served.specs.Journals.{Applies, journal, moment_of, store_of}

@@ -9,7 +9,7 @@ use Rattle.room_core.specs.Machine.{answered}
 use Rattle.room_core.specs.declared.event.Event.{Event}
 use Rattle.room_core.specs.declared.event.Reply.{Reply}
 use Rattle.room_core.specs.declared.event.Reply.TheVariants as reply_is
-use Rattle.room_events.specs.Events.{IsOf, IsOfNone, IsShort}
+use Rattle.room_store.specs.Events.{IsOf, IsOfNone, IsShort}
 use Rattle.room_rules.specs.Devices.{Devices}
 use Rattle.room_rules.specs.Limits.{last_moment}
 use Rattle.room_state.specs.Rooms.{RoomValue}

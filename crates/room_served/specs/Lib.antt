@@ -4,3 +4,7 @@ pub mod Requests
 pub mod Answers
 pub mod LineTexts
 pub mod Lines
+pub mod Patience
+pub mod HttpPeers
+pub mod LinePeers
+pub mod LineSteps

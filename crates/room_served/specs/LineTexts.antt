@@ -1,7 +1,7 @@
 -- What is sent for a line (all this project's own).
 use Rattle.std.specs.Prelude.{ℕ, List, ◌++◌, codes, decimal, length, Result, Ok, Err}
 use Rattle.std.specs.List.{flat_map}
-use Rattle.room_answers.specs.declared.part.Part.{Part}
+use Rattle.room_replies.specs.declared.part.Part.{Part}
 use Rattle.room_core.specs.declared.event.Reply.{Reply}
 use Rattle.room_core.specs.declared.event.Reply.TheVariants as reply_is
 use Rattle.room_store.specs.declared.fault.StoreFault.{StoreFault}

@@ -9,7 +9,7 @@ use crate::line_text::{put_bad, put_told};
 use crate::served::Served;
 use bytes::{Buf, BufMut, BytesMut};
 use http_server::Rope;
-use room_fields::FieldFault;
+use room_input::FieldFault;
 use room_lines::Grammar;
 use sqlite::Alter;
 use std::alloc::{AllocError, Global};

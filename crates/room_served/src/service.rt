@@ -3,7 +3,7 @@ ghost use Rattle.std.specs.Prelude.{◌≡◌, ◌⊎◌, ◌≤◌, ◌++◌, [
 ghost use Rattle.http.specs.Request.{body_of};
 ghost use Rattle.http_server.specs.Response.{IsBlank, IsResponse, fields_of};
 ghost use Rattle.ipp_coding.specs.Limits.{header_length};
-ghost use Rattle.room_texts.specs.Replies.{internal_error_text};
+ghost use Rattle.room_replies.specs.Replies.{internal_error_text};
 ghost use Rattle.room_served.specs.Answers.{Answers, IsLost, IsRefusal, IsTold, Sends, answer_fields, close_fields};
 
 use crate::entry::Entry;

@@ -3,7 +3,7 @@ use Rattle.std.specs.Prelude.{◌≡◌, ◌≢◌, ⊤, ℕ, None}
 use Rattle.slab.specs.Slab.{Slab, get}
 use Rattle.room_served.specs.Lines.{side_of}
 use Rattle.room_served.specs.declared.line_connection.Side.TheVariants as side_is
-use Rattle.room_connections.specs.LinePeers.{lines_of}
+use Rattle.room_served.specs.LinePeers.{lines_of}
 use Rattle.room_sockets.specs.declared.guest.Guest.{Guest}
 use Rattle.room_sockets.specs.declared.guest.Peer.{Peer}
 use Rattle.room_sockets.specs.declared.guest.Peer.TheVariants.{Http, Lines}

@@ -4,8 +4,7 @@ ghost use Rattle.room_served.specs.Journals.{Continues};
 
 use crate::stream::Stream;
 use mio::{Interest, Registry, Token};
-use room_connections::{HttpPeer, LARGE, LinePeer, Next, Patience, Turn};
-use room_served::Served;
+use room_served::{HttpPeer, LARGE, LinePeer, Next, Patience, Served, Turn};
 use sqlite::Alter;
 use std::io;
 

@@ -3,7 +3,7 @@
 ghost use Rattle.std.specs.Prelude.{◌≡◌, ◌≢◌, ◌⊎◌, ◌↔◌, ◌+◌, ◌-◌, ◌<◌, ◌^◌, true, false, IsFalse, IsSome, IsTrue, None, Some};
 ghost use Rattle.room_sockets.specs.Stocks.{favoured_of, has_plenty, held_of, holds_back_of, most_held};
 
-use room_connections::LONGEST;
+use room_served::LONGEST;
 
 /// The bytes that all connections hold together, at most, but for the documents of one start.
 const MOST_HELD: usize = 268_435_456;

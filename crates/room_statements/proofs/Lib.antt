@@ -22,3 +22,10 @@ pub mod QueuedText
 pub mod QueuedWalk
 pub mod DocumentWalk
 pub mod SoundReads
+pub mod KeyTests
+pub mod MapsSet
+pub mod LeftAlone
+pub mod OwnRows
+pub mod OwnRooms
+pub mod DevicesHeld
+pub mod Inside

@@ -5,3 +5,6 @@ pub mod Totals
 pub mod Queues
 pub mod SoundRows
 pub mod Updates
+pub mod Alone
+pub mod Rows
+pub mod NewDocuments

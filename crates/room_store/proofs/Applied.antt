@@ -7,8 +7,8 @@ use Rattle.room_core.specs.Machine.{answered}
 use Rattle.room_core.specs.declared.event.Event.{Event}
 use Rattle.room_core.specs.declared.event.Event.TheVariants as event
 use Rattle.room_core.specs.declared.event.Reply.{Reply}
-use Rattle.room_events.specs.Events.{IsOf, IsOfNone}
-use Rattle.room_events.specs.Serving.{Answers, GoesFrom, ServesDevices}
+use Rattle.room_store.specs.Events.{IsOf, IsOfNone}
+use Rattle.room_store.specs.Serving.{Answers, GoesFrom, ServesDevices}
 use Rattle.room_tables.specs.Accounts.{AgreeOnRows}
 use Rattle.room_tables.specs.Calls.{OfStore, Stays}
 use Rattle.room_tables.specs.Devices.{AgreeOnDevices}

@@ -2,7 +2,7 @@
 use Rattle.std.specs.Prelude.{ℕ, List, Option}
 use Rattle.sqlite.specs.Effect.{Database}
 use Rattle.room_core.specs.declared.event.Event.{Event}
-use Rattle.room_events.specs.Events.{IsOf, IsOfNone}
+use Rattle.room_store.specs.Events.{IsOf, IsOfNone}
 use Rattle.room_rules.specs.Devices.{Devices}
 use Rattle.room_state.specs.Rooms.{RoomValue}
 use Rattle.room_tables.specs.Accounts.{Holds}

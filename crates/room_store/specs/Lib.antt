@@ -1,2 +1,5 @@
 pub mod Faults
 pub mod Damage
+pub mod Serving
+pub mod Known
+pub mod Events

@@ -1,9 +1,8 @@
 //! Answers that no event brings: a store that fails, and a queue whose last number is given.
 
 use ipp_coding::Header;
-use room_answers::{check_accepting, is_accepting};
+use room_replies::{check_accepting, internal_error, is_accepting};
 use room_rules::{Refusal, Word};
-use room_texts::internal_error;
 
 #[test]
 fn a_store_that_fails(rt: HostRuntime) {

@@ -4,8 +4,8 @@
 //! the rows of `worked_rows` and `worked_tables`, which reach the machine as a whole, the store and
 //! what stands on it.
 
-ghost use Rattle.room_texts.specs.Limits.{IsPlace};
-ghost use Rattle.room_texts.specs.Places.{plain_place};
+ghost use Rattle.room_replies.specs.Limits.{IsPlace};
+ghost use Rattle.room_replies.specs.Places.{plain_place};
 
 use crate::examples::REQUEST;
 use ipp_coding::{
@@ -13,12 +13,11 @@ use ipp_coding::{
     put_header, put_more, read_message,
 };
 use room_asks::{AskFault, read_ask};
-use room_grants::{GrantFault, GrantLine, read_grants};
-use room_rules::{CoreFault, Device, Job, JobState, Name, Standing, Word, set_device};
-use room_streams::Counted;
-use room_texts::{
+use room_input::{Counted, GrantFault, GrantLine, read_grants};
+use room_replies::{
     Place, PrinterNow, Success, put_job, put_line, put_printer, put_reply, put_success,
 };
+use room_rules::{CoreFault, Device, Job, JobState, Name, Standing, Word, set_device};
 use std::process::Abort;
 use std::test::Fail;
 

@@ -1,12 +1,12 @@
 //! Texts of answers, each writer by itself.
 
 ghost use Rattle.std.specs.Prelude.{◌≡◌, IfOk, codes};
-ghost use Rattle.room_texts.specs.Limits.{IsPlace, IsShowable};
-ghost use Rattle.room_texts.specs.Places.{plain_place};
+ghost use Rattle.room_replies.specs.Limits.{IsPlace, IsShowable};
+ghost use Rattle.room_replies.specs.Places.{plain_place};
 
 use ipp_coding::{Header, List, put_end};
+use room_replies::{Place, PrinterNow, put_job, put_line, put_printer, put_reply};
 use room_rules::{Job, JobState, Name, Standing, Word};
-use room_texts::{Place, PrinterNow, put_job, put_line, put_printer, put_reply};
 use std::alloc::{AllocError, Global};
 use std::process::Abort;
 use std::test::Fail;

@@ -2,8 +2,7 @@
 //! for.
 
 use crate::rooms::{NOW, lines, rooms};
-use room_connections::{HttpPeer, LinePeer, Next, Turn};
-use room_served::{MOST_LINE, Served, Side};
+use room_served::{HttpPeer, LinePeer, MOST_LINE, Next, Served, Side, Turn};
 use sqlite::MemStore;
 use std::hash::RandomState;
 use std::io;

@@ -2,9 +2,9 @@
 //! once, and what is written is kept.
 
 use crate::fault::Fault;
+use room_input::Counted;
 use room_serve::{After, Wire, WireFault, serve_one};
 use room_store::Store;
-use room_streams::Counted;
 use sqlite::Alter;
 use std::alloc::Global;
 use std::io;

@@ -1,5 +1,5 @@
 //! Why nothing could be measured, or no row held.
-use room_fields::FieldFault;
+use room_input::FieldFault;
 use room_statements::TableFault;
 use room_store::OpenFault;
 use sqlite::ErrorCode;

@@ -1,7 +1,7 @@
 //! The words of a command, parted by one space. `-` stands for no value, and for no bytes.
 
 use crate::fault::{Fault, Wrong};
-use room_fields::{bytes, choice, decimal, number};
+use room_input::{bytes, choice, decimal, number};
 use room_rules::{Format, JobState, Name};
 use std::alloc::Global;
 

@@ -29,7 +29,7 @@ use crate::filling::Size;
 use crate::measuring::{Column, filled, measured, times_of_print_jobs};
 use crate::report::print_report;
 use crate::rows::hold;
-use room_fields::number;
+use room_input::number;
 use sqlite::Connection;
 use std::io::Write;
 use std::process::ExitCode;

@@ -1,5 +1,5 @@
 use Rattle.std.proofs.Common.{◌≡◌, ◌-◌, ◌≤◌, List, ℕ, length}
-use Rattle.room_streams.specs.Streams.{Yields}
+use Rattle.room_input.specs.Streams.{Yields}
 use Rattle.room_http.specs.Chunks.{AreChunks, Chunk}
 use Rattle.room_http.proofs.chunks.read_chunks.Given as goal
 

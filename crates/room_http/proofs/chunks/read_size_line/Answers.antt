@@ -4,7 +4,7 @@ use Rattle.httparse.specs.Outcome.{IfComplete}
 use Rattle.httparse.specs.Spans.{IsChunkLineAt}
 use Rattle.httparse.specs.declared.InvalidChunkSize.{InvalidChunkSize}
 use Rattle.httparse.specs.declared.Status.{Status}
-use Rattle.room_streams.specs.Streams.{Yields}
+use Rattle.room_input.specs.Streams.{Yields}
 use Rattle.room_http.proofs.Lines.{line_cut, line_refused, line_too_long, no_line_in_nothing, no_line_with_byte, size_line_found}
 use Rattle.room_http.proofs.Streams.{Yields_more}
 use Rattle.room_http.proofs.Taking.{takes_more}

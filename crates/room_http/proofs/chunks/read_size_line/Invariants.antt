@@ -1,7 +1,7 @@
 use Rattle.std.proofs.Common.{◌≡◌, ◌-◌, ◌≤◌, length}
 use Rattle.arrayvec.specs.ArrayVec.{array_vec_len}
 use Rattle.httparse.specs.Grammar.{HasNoChunkLine}
-use Rattle.room_streams.specs.Streams.{Yields}
+use Rattle.room_input.specs.Streams.{Yields}
 use Rattle.room_http.proofs.chunks.read_size_line.Given as goal
 
 abbrev pub invariant-bytes : goal.invariant-bytes

@@ -3,7 +3,7 @@ use Rattle.httparse.specs.Outcome.{IfComplete}
 use Rattle.httparse.specs.Spans.{IsSectionOf, IsSectionWithin}
 use Rattle.httparse.specs.declared.Error.{Error}
 use Rattle.httparse.specs.declared.Status.{Status}
-use Rattle.room_streams.specs.Streams.{Yields}
+use Rattle.room_input.specs.Streams.{Yields}
 use Rattle.room_http.proofs.Sections.{no_section_in_nothing, no_section_with_byte, trailers_cut, trailers_found, trailers_refused, trailers_too_long}
 use Rattle.room_http.proofs.Streams.{Yields_more}
 use Rattle.room_http.proofs.Taking.{takes_more}

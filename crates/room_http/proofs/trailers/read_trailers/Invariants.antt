@@ -1,7 +1,7 @@
 use Rattle.std.proofs.Common.{◌≡◌, ◌-◌, ◌≤◌, length}
 use Rattle.arrayvec.specs.ArrayVec.{array_vec_len}
 use Rattle.httparse.specs.Grammar.{HasNoSection}
-use Rattle.room_streams.specs.Streams.{Yields}
+use Rattle.room_input.specs.Streams.{Yields}
 use Rattle.room_http.proofs.trailers.read_trailers.Given as goal
 
 abbrev pub invariant-bytes : goal.invariant-bytes

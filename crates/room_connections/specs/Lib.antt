@@ -1,4 +1,0 @@
-pub mod Patience
-pub mod HttpPeers
-pub mod LinePeers
-pub mod LineSteps

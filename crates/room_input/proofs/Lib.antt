@@ -1,0 +1,5 @@
+pub mod Digits
+pub mod Leaving
+pub mod LineLemmas
+pub mod RecordLemmas
+pub mod FaultLemmas

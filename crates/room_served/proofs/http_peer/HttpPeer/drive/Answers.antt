@@ -1,0 +1,33 @@
+use Rattle.std.proofs.Common.{Some, ap, sym, subst, ◌∙◌}
+use Rattle.http_server.proofs.StreamLemmas.{Calls-then}
+use Rattle.http_server.specs.Connection.{config_of, history}
+use Rattle.http_server.specs.History.{History, Rests}
+use Rattle.http_server.specs.declared.state.Config.{Config}
+use Rattle.room_served.specs.HttpPeers.{connection_of}
+use Rattle.room_served.proofs.Journaling.{then}
+use Rattle.room_served.specs.Answers.{Answers}
+use Rattle.room_served.proofs.http_peer.HttpPeer.drive.Goals as goal
+
+pub returns-in-Some-clause-calls : goal.returns-in-Some-clause-calls
+returns-in-Some-clause-calls g c =
+    let all = Calls-then (Answers g.S.Store) _ _ _ _ _ _ c.loop.invariant.calls c.answer_requests.ensures.calls in
+    (all.0, c.in-Some.ensures.calls ∙ all.1, all.2)
+
+pub returns-in-Some-clause-continues : goal.returns-in-Some-clause-continues
+returns-in-Some-clause-continues g c = then g.S.Store _ _ _ c.loop.invariant.continues c.answer_requests.ensures.continues
+
+-- the step that could not go on left the connection as it was answered
+pub returns-in-Some-clause-rests : goal.returns-in-Some-clause-rests
+returns-in-Some-clause-rests g c = λ waits.
+    let same = c.in-Some.ensures.waits (ap Some waits) in
+    let there = subst (λ (h : History). Rests (config_of c.answer_requests.new.connection) h) (sym same) c.answer_requests.ensures.rests in
+    subst (λ (k : Config). Rests k (history (connection_of c.step.new.self))) (sym c.in-Some.ensures.limits) there
+
+pub loop-preserved : goal.loop-preserved
+loop-preserved g c =
+    let all = Calls-then (Answers g.S.Store) _ _ _ _ _ _ c.loop.invariant.calls c.answer_requests.ensures.calls in
+    record {
+      calls = (all.0, c.in_default.ensures.calls ∙ all.1, all.2);
+      continues = then g.S.Store _ _ _ c.loop.invariant.continues c.answer_requests.ensures.continues;
+      limits = c.in_default.ensures.limits ∙ c.answer_requests.ensures.config ∙ c.loop.invariant.limits;
+    }

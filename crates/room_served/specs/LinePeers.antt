@@ -1,0 +1,58 @@
+-- What a connection of lines has taken and told (all this project's own).
+use Rattle.std.specs.Prelude.{◌≡◌, ◌≢◌, ◌⊎◌, ℕ, List, [], ◌∷◌, ◌++◌, None}
+use Rattle.std.specs.List.{flat_map}
+use Rattle.sqlite_trees.specs.declared.store.Store.{Ghosts}
+use Rattle.room_served.specs.Lines.{Asks, IsBad, input_of, line_end, output_of, side_of}
+use Rattle.room_served.specs.declared.line_connection.LineConnection.{LineConnection}
+use Rattle.room_served.specs.declared.line_connection.Side.{Side}
+use Rattle.room_served.specs.declared.served.Served.{Served}
+use Rattle.room_served.specs.declared.line_peer.LinePeer.{LinePeer}
+use Rattle.room_served.specs.declared.patience.Patience.{Patience}
+use Rattle.room_served.specs.declared.step.Next.{Next}
+use Rattle.room_served.specs.declared.step.Next.TheVariants.{Close}
+
+abbrev pub lines_of : LinePeer → LineConnection
+lines_of peer = peer.connection
+
+abbrev pub patience_of : LinePeer → Patience
+patience_of peer = peer.patience
+
+-- a line as it came, with what ended it, and what was told
+abbrev pub LineCall : Type 0
+LineCall = List ℕ × List ℕ
+
+abbrev pub taken : List LineCall → List ℕ
+taken calls = flat_map (λ (call : LineCall). call.0) calls
+
+abbrev pub bytes_told : List LineCall → List ℕ
+bytes_told calls = flat_map (λ (call : LineCall). call.1) calls
+
+module _ {S : Type 0} (store : Ghosts S) (side : Side) where
+  -- what each line says is applied, once, and told, or it is a bad one, which changes nothing, and
+  -- is told of
+  abbrev pub Chain : Served S → List LineCall → Served S → Type 0
+  Chain old [] new = new ≡ old
+  Chain old (call ∷ calls) new = (next : Served S)
+      × (Asks store side call.0 old call.1 next ⊎ IsBad store old call.1 next)
+      × Chain next calls new
+
+module _ {S : Type 0} (store : Ghosts S) where
+  -- Bytes came, and the lines in them were taken in order; what was told of each waits behind the
+  -- others, and goes in order.
+  pub record TakesTurn (before after : LineConnection) (old new : Served S) : Type 0 where
+    pub came : List ℕ
+    pub calls : List LineCall
+    pub went : List ℕ
+    pub input : input_of before ++ came ≡ taken calls ++ input_of after
+    pub output : output_of before ++ bytes_told calls ≡ went ++ output_of after
+    pub chain : Chain store (side_of before) old calls new
+    pub side : side_of after ≡ side_of before
+
+  -- a connection that is over may have lost an answer
+  abbrev pub TurnGoesOn : (next : Next) (before after : LinePeer) (old new : Served S) → Type 0
+  TurnGoesOn next before after old new =
+      next ≢ Close → TakesTurn (lines_of before) (lines_of after) old new
+
+-- each line that came was taken, unless what was told before waits to go
+abbrev pub HasTaken : LineConnection → Type 0
+HasTaken connection = (output_of connection ≢ []) ⊎ (line_end (input_of connection) ≡ None)

@@ -1,0 +1,186 @@
+//! A connection of HTTP: where it stands, how long it may take, and how much it holds.
+
+ghost use Rattle.std.specs.Prelude.{◌≡◌, ◌≢◌, IsFalse, Some};
+ghost use Rattle.room_http.specs.Limits.{longest_body, longest_head};
+ghost use Rattle.http_server.specs.Connection.{config_of, history};
+ghost use Rattle.http_server.specs.History.{new_history};
+ghost use Rattle.room_served.specs.Journals.{Continues};
+
+use crate::load::{LARGE, Load};
+use crate::patience::Patience;
+use crate::step::{Next, STEPS, Turn, after, drain, was_all};
+use crate::{Served, answer_requests, connection_config};
+use http_server::{Connection, Reason, State};
+use sqlite::Alter;
+use std::alloc::Global;
+use std::hash::RandomState;
+use std::io::{Read, Write};
+
+/// What begins the text that asks a client for the body of its request.
+const INVITATION: &[u8] = b"HTTP/1.1 100 ";
+
+/// A peer that speaks HTTP.
+#[derive(Drop)]
+pub struct HttpPeer {
+    connection: Connection,
+    patience: Patience,
+    load: Load,
+    /// All that came was read.
+    has_all: bool,
+    /// All was said, and what it still sends is dropped.
+    parts: bool,
+}
+
+impl HttpPeer {
+    ghost use Rattle.room_served.specs.HttpPeers.{IsAtRest, IsStill, KeepsLimits, MakesCalls, calls_of, connection_of, patience_of};
+
+    /// A peer that came just now. It takes no memory.
+    pub fn new(alloc: Global, keys: RandomState, now: u64) -> HttpPeer
+        ensures history { history (connection_of result) ≡ new_history }
+        ensures head { (config_of (connection_of result)).limits.max_head_len ≡ longest_head }
+        ensures body { (config_of (connection_of result)).max_body_len ≡ longest_body }
+        ensures pending { (config_of (connection_of result)).max_pending ≡ 0 }
+    {
+        HttpPeer {
+            connection: Connection::new(alloc, keys, connection_config()),
+            patience: Patience::new(now),
+            load: Load::new(),
+            has_all: false,
+            parts: false,
+        }
+    }
+
+    /// Reads, answers and writes as far as it goes now, but a few steps at most. Each request is
+    /// one call: it is applied, once, or refused. A peer is left to wait only where each request
+    /// that came has its call.
+    pub fn drive<S: Alter, T: Read + Write>(
+        &mut self,
+        stream: &mut T,
+        served: &mut Served<S>,
+        turn: Turn,
+    ) -> Next
+        ensures calls { MakesCalls S.Store self.old self.new served.old served.new }
+        ensures continues { Continues S.Store served.old served.new }
+        ensures rests { result ≡ Next.Wait → IsAtRest self.new }
+        ensures holds { result ≡ Next.Hold → IsFalse turn.has_room }
+        ensures limits { KeepsLimits self.old self.new }
+    {
+        if self.parts {
+            return drain(stream);
+        }
+        self.has_all = false;
+        for _ in 0..STEPS {
+            answer_requests(&mut self.connection, served);
+            if let Some(next) = self.step(stream, turn) {
+                return next;
+            }
+        }
+        Next::Again
+    }
+
+    /// One read or one write. Answers what to wait for, where it can't go on.
+    fn step<T: Read + Write>(&mut self, stream: &mut T, turn: Turn) -> Option<Next>
+        ensures calls { calls_of self.new ≡ calls_of self.old }
+        ensures waits { result ≡ Some Next.Wait → IsStill self.old self.new }
+        ensures holds { result ≡ Some Next.Hold → IsFalse turn.has_room }
+        ensures limits { KeepsLimits self.old self.new }
+    {
+        if self.connection.is_done() {
+            return Some(self.finish(turn.now));
+        }
+        if self.connection.wants_write() {
+            return self.send(stream, turn.now);
+        }
+        if self.load.is_large() && !turn.has_room {
+            self.patience.held_back(turn.now);
+            return Some(Next::Hold);
+        }
+        if self.has_all {
+            return Some(Next::Wait);
+        }
+        self.patience.let_on(turn.now);
+        self.receive(stream, turn)
+    }
+
+    fn send<T: Write>(&mut self, stream: &mut T, now: u64) -> Option<Next>
+        ensures calls { calls_of self.new ≡ calls_of self.old }
+        ensures waits { result ≡ Some Next.Wait → IsStill self.old self.new }
+        ensures moves { result ≢ Some Next.Hold }
+        ensures limits { KeepsLimits self.old self.new }
+    {
+        self.load.answered();
+        let invites = self.connection.output().starts_with(INVITATION);
+        match self.connection.write_to(stream) {
+            Ok(0) => Some(Next::Close),
+            Ok(count) => {
+                self.patience.moved(count, now);
+                if !self.connection.wants_write() {
+                    self.patience.rested(now);
+                    // The body of what was begun is to come.
+                    if invites {
+                        self.patience.moved(0, now);
+                    }
+                }
+                None
+            }
+            Err(error) => after(&error),
+        }
+    }
+
+    fn receive<T: Read>(&mut self, stream: &mut T, turn: Turn) -> Option<Next>
+        ensures calls { calls_of self.new ≡ calls_of self.old }
+        ensures waits { result ≡ Some Next.Wait → IsStill self.old self.new }
+        ensures moves { result ≢ Some Next.Hold }
+        ensures limits { KeepsLimits self.old self.new }
+    {
+        match self.connection.read_from(stream) {
+            Ok(count) => {
+                self.load.came(count);
+                self.patience.moved(count, turn.now);
+                self.has_all = was_all(count, turn);
+                None
+            }
+            Err(error) => after(&error),
+        }
+    }
+
+    /// Ends what is sent. Where the peer has ended too, or memory ran out, nothing is waited for.
+    fn finish(&mut self, now: u64) -> Next
+        ensures connection { connection_of self.new ≡ connection_of self.old }
+        ensures ends { result ≢ Next.Wait }
+        ensures moves { result ≢ Next.Hold }
+    {
+        match self.connection.state() {
+            State::Closing(Reason::EndOfInput) | State::Aborted => Next::Close,
+            _ => {
+                self.parts = true;
+                self.patience.parted(now);
+                Next::Part
+            }
+        }
+    }
+
+    /// How long it may take still.
+    pub fn patience(&self) -> Patience
+        ensures { result ≡ patience_of self.now }
+    {
+        self.patience
+    }
+
+    /// The bytes for which it has room. The buffer of an answer grows to twice what it has to hold,
+    /// as that of a request.
+    pub fn held(&self) -> usize {
+        let waiting = self.connection.output().len();
+        self.load.held().saturating_add(waiting.saturating_mul(2))
+    }
+
+    /// Whether a large answer waits to go.
+    pub fn has_large_answer(&self) -> bool {
+        self.connection.output().len() > LARGE
+    }
+
+    /// Whether a large request is coming.
+    pub fn is_large(&self) -> bool {
+        self.load.is_large()
+    }
+}

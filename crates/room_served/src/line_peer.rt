@@ -1,0 +1,173 @@
+//! A connection of lines: where it stands, and how long it may take.
+
+ghost use Rattle.std.specs.Prelude.{◌≡◌, ◌≢◌, [], IsFalse, Some};
+ghost use Rattle.room_served.specs.Journals.{Continues};
+ghost use Rattle.room_served.specs.Lines.{input_of, output_of, side_of};
+
+use crate::patience::Patience;
+use crate::step::{Next, STEPS, Turn, after, drain, was_all};
+use crate::{LineConnection, Served, Side};
+use sqlite::Alter;
+use std::alloc::Global;
+use std::io::{Read, Write};
+
+/// A peer that speaks lines.
+#[derive(Drop)]
+pub struct LinePeer {
+    connection: LineConnection,
+    patience: Patience,
+    /// All that came was read.
+    has_all: bool,
+    /// No more is read: the peer has ended, or sent a line that is too long.
+    has_ended: bool,
+    /// All was said, and what it still sends is dropped.
+    parts: bool,
+}
+
+impl LinePeer {
+    ghost use Rattle.room_served.specs.LinePeers.{HasTaken, TurnGoesOn, lines_of, patience_of};
+    ghost use Rattle.room_served.specs.LineSteps.{IsEnded, ReceivesBytes, SendsBytes, StepGoesOn};
+
+    /// A peer that came just now. It takes no memory.
+    pub fn new(alloc: Global, side: Side, now: u64) -> LinePeer
+        ensures side { side_of (lines_of result) ≡ side }
+        ensures input { input_of (lines_of result) ≡ [] }
+        ensures output { output_of (lines_of result) ≡ [] }
+    {
+        LinePeer {
+            connection: LineConnection::new(alloc, side),
+            patience: Patience::new(now),
+            has_all: false,
+            has_ended: false,
+            parts: false,
+        }
+    }
+
+    /// Reads, answers and writes as far as it goes now, but a few steps at most: what came is taken
+    /// line by line, each is applied, once, or is a bad one, and what is told goes in order. A
+    /// connection that is over may have lost an answer.
+    pub fn drive<S: Alter, T: Read + Write>(
+        &mut self,
+        stream: &mut T,
+        served: &mut Served<S>,
+        turn: Turn,
+    ) -> Next
+        ensures goes_on { TurnGoesOn S.Store result self.old self.new served.old served.new }
+        ensures continues { Continues S.Store served.old served.new }
+        ensures rests { result ≡ Next.Wait → HasTaken (lines_of self.new) }
+        ensures holds { result ≡ Next.Hold → IsFalse turn.has_room }
+    {
+        if self.parts {
+            return drain(stream);
+        }
+        self.has_all = false;
+        for _ in 0..STEPS {
+            if let Some(next) = self.step(stream, served, turn) {
+                return next;
+            }
+        }
+        Next::Again
+    }
+
+    /// One read, one line or one write: a line is answered once the answers before it have gone.
+    /// Answers what to wait for, where it can't go on.
+    fn step<S: Alter, T: Read + Write>(
+        &mut self,
+        stream: &mut T,
+        served: &mut Served<S>,
+        turn: Turn,
+    ) -> Option<Next>
+        ensures goes_on { StepGoesOn S.Store result self.old self.new served.old served.new }
+        ensures continues { Continues S.Store served.old served.new }
+        ensures rests { result ≡ Some Next.Wait → HasTaken (lines_of self.new) }
+        ensures holds { result ≡ Some Next.Hold → IsFalse turn.has_room }
+    {
+        if self.connection.wants_write() {
+            return self.send(stream, turn.now);
+        }
+        if !turn.has_room && self.connection.begins_start() {
+            self.patience.held_back(turn.now);
+            return Some(Next::Hold);
+        }
+        self.patience.let_on(turn.now);
+        match self.connection.answer(served) {
+            Ok(true) => None,
+            Ok(false) if self.has_ended || self.connection.is_too_long() => self.end(turn.now),
+            Ok(false) if self.has_all => Some(Next::Wait),
+            Ok(false) => self.receive(stream, turn),
+            Err(_) => Some(Next::Close),
+        }
+    }
+
+    fn send<T: Write>(&mut self, stream: &mut T, now: u64) -> Option<Next>
+        ensures sends { SendsBytes (lines_of self.old) (lines_of self.new) }
+        ensures waits { result ≡ Some Next.Wait → lines_of self.new ≡ lines_of self.old }
+        ensures moves { result ≢ Some Next.Hold }
+    {
+        match self.connection.write_to(stream) {
+            Ok(0) => Some(Next::Close),
+            Ok(count) => {
+                self.patience.moved(count, now);
+                if !self.connection.wants_write() {
+                    self.patience.rested(now);
+                    // What came behind the line has a time of its own.
+                    if self.connection.has_rest() {
+                        self.patience.moved(0, now);
+                    }
+                }
+                None
+            }
+            Err(error) => after(&error),
+        }
+    }
+
+    fn receive<T: Read>(&mut self, stream: &mut T, turn: Turn) -> Option<Next>
+        ensures receives { ReceivesBytes (lines_of self.old) (lines_of self.new) }
+        ensures waits { result ≡ Some Next.Wait
+            → input_of (lines_of self.new) ≡ input_of (lines_of self.old) }
+        ensures moves { result ≢ Some Next.Hold }
+    {
+        match self.connection.read_from(stream) {
+            Ok(0) => {
+                self.has_ended = true;
+                None
+            }
+            Ok(count) => {
+                self.patience.moved(count, turn.now);
+                self.has_all = was_all(count, turn);
+                None
+            }
+            Err(error) => after(&error),
+        }
+    }
+
+    /// No more is read: what is left and is no line is answered as a bad one.
+    fn end(&mut self, now: u64) -> Option<Next>
+        ensures ended { result ≢ Some Next.Close → IsEnded (lines_of self.old) (lines_of self.new) }
+        ensures waits { result ≢ Some Next.Wait }
+        ensures moves { result ≢ Some Next.Hold }
+    {
+        self.has_ended = true;
+        if self.connection.has_rest() {
+            return match self.connection.refuse_rest() {
+                Ok(()) => None,
+                Err(_) => Some(Next::Close),
+            };
+        }
+        self.parts = true;
+        self.patience.parted(now);
+        Some(Next::Part)
+    }
+
+    /// How long it may take still.
+    pub fn patience(&self) -> Patience
+        ensures { result ≡ patience_of self.now }
+    {
+        self.patience
+    }
+
+    /// How many bytes it holds.
+    pub fn held(&self) -> usize {
+        self.connection.held()
+    }
+}

@@ -1,0 +1,47 @@
+//! An account is opened.
+
+ghost use Rattle.std.specs.Prelude.{◌≡◌, ◌≤◌, false};
+ghost use Rattle.room_rules.specs.Limits.{last_moment};
+ghost use Rattle.room_state.specs.Rooms.{empty_room};
+ghost use Rattle.room_tables.specs.Accounts.{HoldsNothing, HoldsRoom};
+ghost use Rattle.room_tables.specs.Calls.{Changes, IsWhole};
+ghost use Rattle.room_tables.specs.Cells.{account_cells};
+ghost use Rattle.room_tables.specs.Keyed.{SetsRow};
+ghost use Rattle.room_tables.specs.Tables.{account as account_table};
+ghost use Rattle.room_statements.specs.Alone.{OnlyAccount};
+
+use crate::set_account;
+use room_rules::{Account, Name};
+use sqlite::{Alter, Connection, Error};
+
+/// Opens the account at the moment `now`, at most `LAST_MOMENT`.
+pub fn open_account<S: Alter>(
+    connection: &mut Connection<S>,
+    name: Name,
+    now: u64,
+) -> Result<(), Error>
+    requires mode { connection.old.in_transaction ≡ false }
+    requires moment { now ≤ last_moment }
+    ensures room { Changes S.Store connection.old connection.new result
+        (λ before after. HoldsNothing before name → HoldsRoom after name (empty_room now)) }
+    ensures alone { Changes S.Store connection.old connection.new result (OnlyAccount name) }
+    ensures whole { IsWhole S.Store connection.old connection.new result }
+{
+    put_account(connection, name, now)
+}
+
+fn put_account<S: Alter>(connection: &mut Connection<S>, name: Name, now: u64) -> Result<(), Error>
+    requires mode { connection.old.in_transaction ≡ false }
+    requires moment { now ≤ last_moment }
+    ensures sets { Changes S.Store connection.old connection.new result
+        (SetsRow account_table (account_cells name (record { opened = now; next_job = 1 }))) }
+    ensures whole { IsWhole S.Store connection.old connection.new result }
+{
+    let account = Account {
+        opened: now,
+        next_job: 1,
+    };
+    let mut transaction = connection.transaction();
+    set_account(&mut transaction, name, account)?;
+    transaction.commit()
+}

@@ -1,0 +1,91 @@
+-- A document that a job takes is the next of its room.
+use Rattle.std.proofs.Common.{◌≡◌, ℕ, ◌+◌, ◌≤◌, pos, Bool, true, false, ◌&&◌, nat_le, if◌then◌else◌, List, [], ◌∷◌, length, Option, Some, None, IfSome, IsSome, Result, Ok, option_map, refl, sym, ap, subst, ◌∙◌, arith}
+use Rattle.std.specs.FinMap.{get}
+use Rattle.std.proofs.lemmas.Bool.Decides.{nat_tests}
+use Rattle.sqlite.specs.Effect.{Database}
+use Rattle.room_rules.specs.JobStates.{is_unfinished}
+use Rattle.room_replies.specs.Responses.{done_text}
+use Rattle.room_asks.specs.Asks.{PlainAsk}
+use Rattle.room_statements.specs.Rows.{IsFree}
+use Rattle.room_core.specs.JobActs.{job_or_refusal}
+use Rattle.room_core.specs.JobRequests.{document_taken, has_data, sent, sent_document}
+use Rattle.room_core.specs.NewJobs.{made_names}
+use Rattle.room_core.specs.Requests.{Response, asked_at, refusing_ask_or}
+use Rattle.room_rules.specs.declared.account.Account.{Account}
+use Rattle.room_rules.specs.declared.job.Document.{Document}
+use Rattle.room_rules.specs.declared.job.Job.{Job}
+use Rattle.room_rules.specs.declared.job.Standing.{Standing}
+use Rattle.room_rules.specs.declared.refusal.Refusal.{Refusal}
+use Rattle.room_rules.specs.Limits.{longest_document}
+use Rattle.room_rules.specs.Acts.{SendDocument}
+use Rattle.room_rules.specs.Moves.{move}
+use Rattle.room_rules.specs.Standings.{IsStanding}
+use Rattle.room_state.specs.Changes.{with_standing}
+use Rattle.room_state.specs.Conditions.{CanRestand, GoesOn}
+use Rattle.room_state.specs.RoomRules.{has_document}
+use Rattle.room_state.specs.Rooms.{RoomValue}
+use Rattle.room_tables.specs.Accounts.{account_of_room, HoldsRoom}
+use Rattle.room_tables.specs.Cells.{document_cells}
+use Rattle.room_replies.specs.JobAttributes.{job_group}
+use Rattle.room_replies.specs.Places.{PlainPlace}
+use Rattle.room_store.specs.Known.{TakesDocument}
+use Rattle.room_store.proofs.Made.{none_of}
+
+module _ (room : RoomValue) (ask : PlainAsk) (job : Job) (there : get room.jobs ask.job ≡ Some job) (standing : Standing) (takes : TakesDocument (has_data ask) job.standing standing) where
+  abbrev document_if : Bool → Option Document
+  document_if brings = if brings then Some (record { job = ask.job; number = job.standing.documents + 1; format = ask.format; bytes = ask.payload }) else None
+
+  goes_on : (brings : Bool) → standing.documents ≡ job.standing.documents + (if brings then 1 else 0) → length ask.payload ≤ longest_document → GoesOn ask.job job.standing.documents standing.documents (document_if brings)
+  goes_on true is fits = (is, record { of_job = refl; numbered = refl; fits = fits })
+  goes_on false is fits = omega (arith, is)
+
+  in_some : (P : Job → Type 0) → P job → IfSome (get room.jobs ask.job) P
+  in_some P p = subst (λ (o : Option Job). IfSome o P) (sym there) p
+
+  pub can_take : IsStanding standing → length ask.payload ≤ longest_document → CanRestand room ask.job standing (sent_document ask job)
+  can_take in_range fits = record {
+    is_there = subst (λ (o : Option Job). IsSome o) (sym there) refl;
+    was_unfinished = in_some (λ (j : Job). is_unfinished j.standing.state ≡ true) takes.was_unfinished;
+    in_range = in_range;
+    stays_unfinished = takes.stays_unfinished;
+    documents = in_some (λ (j : Job). GoesOn ask.job j.standing.documents standing.documents (sent_document ask job)) (goes_on (has_data ask) takes.documents fits);
+  }
+
+  -- the place behind its documents is free
+  past : (unfinished : Bool) (n : ℕ) → (unfinished && nat_le 1 (n + 1) && nat_le (n + 1) n) ≡ false
+  past unfinished n = grind (arith, nat_tests)
+
+  pub next_place_is_free : (db : Database) (name : List ℕ) → HoldsRoom db name room → IsFree name (sent_document ask job) db
+  next_place_is_free db name holds = free (has_data ask)
+    where
+      free : (brings : Bool) → IsFree name (document_if brings) db
+      free true =
+          holds.rows.document_rows (pos ask.job) (pos (job.standing.documents + 1))
+          ∙ ap (option_map (document_cells name)) (none_of (get room.documents (ask.job, job.standing.documents + 1))
+          (holds.is_room.all_documents ask.job (job.standing.documents + 1) ∙ ap (λ (o : Option Job). has_document o (job.standing.documents + 1)) there ∙ past (is_unfinished job.standing.state) job.standing.documents))
+      free false = tt
+
+  module _ (name : List ℕ) (now : ℕ) (decided : Result Standing Refusal) (is : decided ≡ Ok standing) where
+    abbrev response : Result Standing Refusal → Response
+    response d = refusing_ask_or room ask d (document_taken room name now ask job)
+
+    -- the room is that with the document
+    pub taken : (first : Option Document) → first ≡ sent_document ask job → IsStanding standing → length ask.payload ≤ longest_document → (after : Database)
+        → (CanRestand room ask.job standing first → HoldsRoom after name (with_standing room ask.job standing first)) → HoldsRoom after name (response decided).room
+    taken first same in_range fits after holds =
+        subst (λ (d : Result Standing Refusal). HoldsRoom after name (response d).room) (sym is)
+        (subst (λ (d : Option Document). HoldsRoom after name (with_standing room ask.job standing d)) same (holds (subst (λ (d : Option Document). CanRestand room ask.job standing d) (sym same) (can_take in_range fits))))
+
+    pub told : (account : Account) → account ≡ account_of_room room → (at : PlainPlace) → at ≡ asked_at account.opened name now ask → (names : Option (List (List ℕ))) → names ≡ made_names
+        → done_text ask.header ask.unsupported (job_group at (record job { standing = standing }) names ∷ []) ≡ (response decided).text
+    told account own at place names same =
+        ap (λ (p : PlainPlace). done_text ask.header ask.unsupported (job_group p (record job { standing = standing }) names ∷ [])) (place ∙ ap (λ (a : Account). asked_at a.opened name now ask) own)
+        ∙ ap (λ (n : Option (List (List ℕ))). done_text ask.header ask.unsupported (job_group (asked_at room.opened name now ask) (record job { standing = standing }) n ∷ [])) same
+        ∙ ap (λ (d : Result Standing Refusal). (response d).text) (sym is)
+
+-- what is decided of the job that was found is what is decided of the room
+pub sent_found : (room : RoomValue) (name : List ℕ) (now : ℕ) (ask : PlainAsk) (job : Job) → get room.jobs ask.job ≡ Some job → (decided : Result Standing Refusal) → decided ≡ move (SendDocument ask.last (has_data ask)) job.standing
+    → refusing_ask_or room ask decided (document_taken room name now ask job) ≡ sent room name now ask
+sent_found room name now ask job there decided moved =
+    ap (λ (d : Result Standing Refusal). refusing_ask_or room ask d (document_taken room name now ask job)) moved
+    ∙ ap (λ (o : Option Job). refusing_ask_or room ask (job_or_refusal o) (λ (job : Job). refusing_ask_or room ask (move (SendDocument ask.last (has_data ask)) job.standing) (document_taken room name now ask job))) (sym there)

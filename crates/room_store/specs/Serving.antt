@@ -1,0 +1,112 @@
+-- What an event comes to over the tables: what is answered, and what becomes of the rows (all this
+-- project's own).
+use Rattle.std.specs.Prelude.{◌≡◌, ℕ, List, Option, Result, Err, IfOk, OnOk, OnErr, IsTrue}
+use Rattle.sqlite_trees.specs.declared.store.Store.{Ghosts}
+use Rattle.sqlite.specs.Effect.{Database}
+use Rattle.sqlite.specs.State.{HasCleanDisk}
+use Rattle.sqlite.specs.Held.{Held, state}
+use Rattle.room_core.specs.DeviceEvents.{DeviceAnswer}
+use Rattle.room_core.specs.Machine.{Answer}
+use Rattle.room_core.specs.Requests.{Response}
+use Rattle.room_core.specs.Steps.{Step}
+use Rattle.room_core.specs.declared.event.Reply.{Reply}
+use Rattle.room_rules.specs.Devices.{Devices}
+use Rattle.room_state.specs.Rooms.{RoomValue}
+use Rattle.room_tables.specs.Accounts.{Holds, HoldsRoom}
+use Rattle.room_tables.specs.Calls.{Goes, IsSame, OfStore, Stays}
+use Rattle.room_tables.specs.Devices.{HoldsDevices}
+use Rattle.room_tables.specs.Keyed.{HasSchema}
+use Rattle.room_tables.specs.declared.fault.TableFault.{TableFault}
+use Rattle.room_tables.specs.declared.fault.TableFault.TheVariants.{Damaged}
+use Rattle.room_statements.specs.Alone.{OnlyAccount, OnlyDevices}
+
+-- the rows of the account are those of the room, and the devices' those of the map
+pub record RowsHold (name : List ℕ) (of : RoomValue × Devices) (db : Database) : Type 0 where
+  pub room : HoldsRoom db name of.0
+  pub devices : HoldsDevices db of.1
+
+-- the same of an account that may not be open
+pub record MayBeHeld
+    (name : List ℕ) (of : Option RoomValue × Devices) (db : Database) : Type 0 where
+  pub room : Holds db name of.0
+  pub devices : HoldsDevices db of.1
+
+module _ {S : Type 0} (store : Ghosts S) (old new : Held S) where
+  -- what a connection keeps, whether it was asked or not; one that is open stays so where there is
+  -- an answer
+  pub record GoesFrom {T : Type 0} (result : Result T TableFault) : Type 0 where
+    pub goes : Goes (state store old) (state store new)
+    pub opened : HasCleanDisk (state store new) →
+        OnOk result (IsTrue (state store old).is_open → IsTrue (state store new).is_open)
+
+  -- it is answered only where the connection was open
+  abbrev pub WasOpen : {T : Type 0} (result : Result T TableFault) → Type 0
+  WasOpen result = HasCleanDisk (state store new) → OnOk result (IsTrue (state store old).is_open)
+
+  -- a look-up, which may ask the tables or not
+  pub record LooksUp {T : Type 0} (result : Result T TableFault) : Type 0 where
+    pub going : GoesFrom result
+    pub same : OfStore store old new (λ db.
+        OnOk result (IsSame (state store old) (state store new)))
+    pub undone : OfStore store old new (λ db.
+        OnErr result (Stays (state store old) (state store new)))
+
+  -- Of rows that are held this is answered and that is left; besides, only these change; after a
+  -- fault nothing has changed, and damage is told of no sound rows.
+  pub record ComesTo
+      {R T : Type 0} (Before : R → Database → Type 0) (Alone : Database → Database → Type 0)
+      (told : R → T) (After : R → Database → Type 0) (result : Result T TableFault) : Type 0 where
+    pub going : GoesFrom result
+    pub schema : OfStore store old new (λ db. OnOk result (HasSchema (state store new).now))
+    pub answer : OfStore store old new (λ db.
+        IfOk result (λ it. (of : R) → Before of db → it ≡ told of))
+    pub left : OfStore store old new (λ db.
+        OnOk result ((of : R) → Before of db → After of (state store new).now))
+    pub alone : OfStore store old new (λ db. OnOk result (Alone db (state store new).now))
+    pub undone : OfStore store old new (λ db.
+        OnErr result (Stays (state store old) (state store new)))
+    pub damaged : OfStore store old new (λ db. result ≡ Err Damaged → (of : R) → Before of db → ⊥)
+
+  -- of an account that is open: no other account's rows change, and no device's
+  abbrev pub Serves :
+      {T : Type 0} (name : List ℕ) (told : RoomValue → Devices → T)
+      (left : RoomValue → Devices → RoomValue) (result : Result T TableFault) →
+      Type 0
+  Serves name told left result =
+      ComesTo (RowsHold name) (OnlyAccount name) (λ of. told of.0 of.1)
+      (λ of db. HoldsRoom db name (left of.0 of.1)) result
+
+  -- by the step that an event comes to
+  abbrev pub ServesStep :
+      (name : List ℕ) (step : RoomValue → Devices → Step) (result : Result Reply TableFault) →
+      Type 0
+  ServesStep name step result =
+      Serves name (λ room devices. (step room devices).reply)
+      (λ room devices. (step room devices).room) result
+
+  -- and by the response to a request
+  abbrev pub ServesResponse :
+      (name : List ℕ) (response : RoomValue → Devices → Response)
+      (result : Result (List ℕ) TableFault) →
+      Type 0
+  ServesResponse name response result =
+      Serves name (λ room devices. (response room devices).text)
+      (λ room devices. (response room devices).room) result
+
+  -- of one that may not be
+  abbrev pub Answers :
+      (name : List ℕ) (answered : Option RoomValue → Devices → Answer)
+      (result : Result Reply TableFault) →
+      Type 0
+  Answers name answered result =
+      ComesTo (MayBeHeld name) (OnlyAccount name) (λ of. (answered of.0 of.1).reply)
+      (λ of db. Holds db name (answered of.0 of.1).room) result
+
+  -- and of a device: no account's rows change
+  abbrev pub ServesDevices :
+      (answered : Devices → DeviceAnswer) (result : Result Reply TableFault) →
+      Type 0
+  ServesDevices answered result =
+      ComesTo (λ devices db. HoldsDevices db devices) OnlyDevices
+      (λ devices. (answered devices).reply)
+      (λ devices db. HoldsDevices db (answered devices).devices) result

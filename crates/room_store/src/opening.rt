@@ -1,0 +1,35 @@
+//! An account is opened.
+
+ghost use Rattle.std.specs.Prelude.{◌≡◌, ◌≤◌, false};
+ghost use Rattle.room_core.specs.Machine.{answered};
+ghost use Rattle.room_core.specs.declared.event.Event.TheVariants as event;
+ghost use Rattle.room_rules.specs.Limits.{last_moment};
+ghost use Rattle.room_store.specs.Serving.{Answers, WasOpen};
+
+use crate::told::{refusing, telling};
+use room_core::{Name, Reply, Success, Word};
+use room_statements::{find_account, open_account};
+use room_tables::TableFault;
+use sqlite::{Alter, Connection};
+use std::alloc::Global;
+
+/// Opens the account, unless it is open.
+pub fn open<S: Alter>(
+    alloc: Global,
+    connection: &mut Connection<S>,
+    name: Name,
+    now: u64,
+) -> Result<Reply, TableFault>
+    requires mode { connection.old.in_transaction ≡ false }
+    requires moment { now ≤ last_moment }
+    ensures served { Answers S.Store connection.old connection.new name
+        (λ room devices. answered room devices now (event.Open name)) result }
+    ensures asks { WasOpen S.Store connection.old connection.new result }
+{
+    if find_account(connection, name)?.is_some() {
+        return refusing(alloc, Word::Exists);
+    }
+    let reply = telling(alloc, Success::Ok)?;
+    open_account(connection, name, now)?;
+    Ok(reply)
+}
