@@ -20,7 +20,6 @@ use std::io::{Read, Write};
 const INVITATION: &[u8] = b"HTTP/1.1 100 ";
 
 /// A peer that speaks HTTP.
-#[derive(Drop)]
 pub struct HttpPeer {
     connection: Connection,
     patience: Patience,
@@ -29,6 +28,19 @@ pub struct HttpPeer {
     has_all: bool,
     /// All was said, and what it still sends is dropped.
     parts: bool,
+}
+
+// It is written out, so that a caller does not prove again how each part is dropped.
+impl Drop for HttpPeer {
+    fn drop(self) {
+        let HttpPeer {
+            connection: _,
+            patience: _,
+            load: _,
+            has_all: _,
+            parts: _,
+        } = self;
+    }
 }
 
 impl HttpPeer {
