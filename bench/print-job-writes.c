@@ -3,8 +3,8 @@
      print-job-writes FILE ACCOUNTS COUNT SET_NEXT_JOB ADD_JOB ADD_DOCUMENT
 
    Makes COUNT Print-Jobs in FILE by these three texts, of the accounts m000000, m000001 and so on in turns, whose next
-   number is the same, and prints the nanoseconds of each. The rows are those of `worked_tables print-jobs` and of
-   `timed_events print-jobs`. Each text is prepared once. */
+   number is the same, and prints the nanoseconds of each. The rows are those of `worked_tables print-jobs`, and of
+   Print-Jobs that the program itself makes. Each text is prepared once. */
 #include <sqlite3.h>
 #include <stdio.h>
 #include <stdlib.h>
