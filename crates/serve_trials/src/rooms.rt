@@ -1,24 +1,32 @@
 //! Rooms in memory, and connections to them.
 
+use crate::fault::Fault;
 use http_server::Connection;
 use room_served::{LineConnection, Served, Side, answer_requests, connection_config};
 use room_store::Store;
 use sqlite::MemStore;
+use std::alloc::Global;
 use std::hash::RandomState;
-use std::test::Fail;
 
-pub const NOW: u64 = 1_788_220_800;
+const NOW: u64 = 1_788_220_800;
 
 /// Rooms of which none is open yet.
-pub fn rooms(rt: &HostRuntime) -> Result<Served<MemStore>, Fail> {
+pub fn rooms(rt: &HostRuntime) -> Result<Served<MemStore>, Fault> {
     let connection = sqlite::Connection::open_in_memory(rt.alloc())?;
     match Store::create(connection) {
         Ok(store) => Ok(Served::new(rt.alloc(), store, NOW)),
-        Err(refused) => Err(Fail::from(refused.fault)),
+        Err(refused) => Err(Fault::from(refused.fault)),
     }
 }
 
-/// More than a connection in these tests needs of reads, of lines or of writes, one after another.
+/// Rooms of which alice's is open.
+pub fn open_rooms(rt: &HostRuntime) -> Result<Served<MemStore>, Fault> {
+    let mut rooms = rooms(rt)?;
+    lines(rt, &mut rooms, Side::Operator, b"open alice\n", 100)?;
+    Ok(rooms)
+}
+
+/// More than a connection in these trials needs of reads, of lines or of writes, one after another.
 pub const MANY: u32 = 10_000;
 
 /// What goes out for what comes in on one connection of HTTP, in pieces of so many bytes, and then
@@ -28,14 +36,26 @@ pub fn exchange(
     rooms: &mut Served<MemStore>,
     input: &[u8],
     piece: usize,
-) -> Result<Vec<u8>, Fail> {
-    let mut connection = Connection::new(rt.alloc(), RandomState::new(rt)?, connection_config());
-    let mut output = Vec::new(rt.alloc());
+) -> Result<Vec<u8>, Fault> {
+    let keys = RandomState::new(rt)?;
+    let mut connection = Connection::new(rt.alloc(), keys, connection_config());
+    converse(rt.alloc(), &mut connection, rooms, input, piece)
+}
+
+/// The same on a connection that is there: its drop is long, and `exchange` has one exit behind it.
+fn converse(
+    alloc: Global,
+    connection: &mut Connection,
+    rooms: &mut Served<MemStore>,
+    input: &[u8],
+    piece: usize,
+) -> Result<Vec<u8>, Fault> {
+    let mut output = Vec::new(alloc);
     for bytes in input.chunks(piece.max(1)) {
-        hear(&mut connection, rooms, bytes, &mut output)?;
+        hear(connection, rooms, bytes, &mut output)?;
     }
     if connection.wants_read() {
-        read_once(&mut connection, rooms, &mut b"".as_slice(), &mut output)?;
+        read_once(connection, rooms, &mut b"".as_slice(), &mut output)?;
     }
     Ok(output)
 }
@@ -45,7 +65,7 @@ fn hear(
     rooms: &mut Served<MemStore>,
     bytes: &[u8],
     output: &mut Vec<u8>,
-) -> Result<(), Fail> {
+) -> Result<(), Fault> {
     let mut reader = bytes;
     for _ in 0..MANY {
         if reader.is_empty() || !connection.wants_read() {
@@ -61,7 +81,7 @@ fn read_once(
     rooms: &mut Served<MemStore>,
     reader: &mut &[u8],
     output: &mut Vec<u8>,
-) -> Result<(), Fail> {
+) -> Result<(), Fault> {
     connection.read_from(reader)?;
     answer_requests(connection, rooms);
     for _ in 0..MANY {
@@ -80,7 +100,7 @@ pub fn lines(
     side: Side,
     input: &[u8],
     piece: usize,
-) -> Result<Vec<u8>, Fail> {
+) -> Result<Vec<u8>, Fault> {
     let mut connection = LineConnection::new(rt.alloc(), side);
     let mut output = Vec::new(rt.alloc());
     for bytes in input.chunks(piece.max(1)) {
@@ -94,7 +114,7 @@ pub fn hear_lines(
     rooms: &mut Served<MemStore>,
     bytes: &[u8],
     output: &mut Vec<u8>,
-) -> Result<(), Fail> {
+) -> Result<(), Fault> {
     let mut reader = bytes;
     for _ in 0..MANY {
         if reader.is_empty() {
@@ -113,7 +133,7 @@ pub fn hear_lines(
 }
 
 /// Answers each line that came.
-fn answer_all(connection: &mut LineConnection, rooms: &mut Served<MemStore>) -> Result<(), Fail> {
+fn answer_all(connection: &mut LineConnection, rooms: &mut Served<MemStore>) -> Result<(), Fault> {
     for _ in 0..MANY {
         if !connection.answer(rooms)? {
             break;

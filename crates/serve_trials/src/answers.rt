@@ -1,0 +1,229 @@
+//! Lines and grants that a client sends to what gives other answers than rooms do.
+
+use crate::due::{due, due_bytes, holds, of_case};
+use crate::fault::Fault;
+use crate::report::Report;
+use crate::sends::Sent;
+use room_client::{ClientFault, HexLines, Keeper, Outcome, Peer, send_grants, send_lines};
+use room_input::Counted;
+use room_served::MOST_LINE;
+use std::io;
+use std::io::{BufReader, Write};
+
+pub fn hold<W: Write>(rt: &HostRuntime, report: &mut Report<'_, W>) {
+    report.tell("outcomes", outcomes(rt));
+    report.tell("documents for a keeper", documents_for_a_keeper(rt));
+    report.tell("broken answers", broken_answers(rt));
+    report.tell("documents of no start", documents_of_no_start(rt));
+    report.tell("answers to grants", answers_to_grants(rt));
+    report.tell("long lines of the input", long_lines_of_the_input(rt));
+    report.tell("long answers", long_answers(rt));
+}
+
+/// Sends lines where these bytes come, whatever is sent. They come in pieces of 7.
+fn to_bytes(rt: &HostRuntime, input: &[u8], answers: &[u8]) -> Result<(Sent, Vec<u8>), Fault> {
+    let alloc = rt.alloc();
+    let mut output = Vec::new(alloc);
+    let mut written = Vec::new(alloc);
+    let mut input = input;
+    let outcome = {
+        let reader = BufReader::with_capacity(alloc, 7, answers)?;
+        let mut peer = Peer::new(reader, &mut written);
+        send_lines(alloc, &mut input, &mut peer, &mut HexLines, &mut output)
+    };
+    Ok((Sent { outcome, output }, written))
+}
+
+/// Lines, what answers them, and how it went.
+const OUTCOMES: &[(&[u8], &[u8], Outcome)] = &[
+    (
+        b"a\nb\nc\n",
+        b"ok\nbad-line\nbad-line\n",
+        Outcome::BadLine(2),
+    ),
+    (b"a\nb\nc\n", b"bad-line\nfailed\nok\n", Outcome::Failed),
+    (
+        b"a\nb\nc",
+        b"failed\nbad-line\nbad-lines\n",
+        Outcome::Failed,
+    ),
+    (b"a\n", b"conflict 100\n", Outcome::Fine),
+];
+
+/// An event that failed comes before a bad line, and the first of two bad lines counts.
+fn outcomes(rt: &HostRuntime) -> Result<(), Fault> {
+    for (input, answers, outcome) in OUTCOMES {
+        let (sent, written) = to_bytes(rt, *input, *answers)?;
+        of_case(rt, *input, sent.is(rt, Ok(*outcome), *answers))?;
+        holds(rt, written.starts_with(*input), "the input is sent")?;
+        due(rt, written.last().copied(), Some(b'\n'))?;
+    }
+    Ok(())
+}
+
+/// Keeps documents in a list of bytes, each behind its name.
+#[derive(Drop)]
+struct Listed {
+    list: Vec<u8>,
+}
+
+impl Keeper for Listed {
+    fn keep<O: Write>(&mut self, output: &mut O, name: &str, bytes: Vec<u8>) -> io::Result<()> {
+        self.list.extend_from_slice(name.as_bytes())?;
+        self.list.push(b':')?;
+        self.list.extend_from_slice(bytes.as_slice())?;
+        self.list.push(b';')?;
+        writeln!(output, "here/{name}")
+    }
+}
+
+/// Two documents of one job, the first with line feeds in it and the second with no byte, and then
+/// an answer of a line.
+fn documents_for_a_keeper(rt: &HostRuntime) -> Result<(), Fault> {
+    let mut keeper = Listed {
+        list: Vec::new(rt.alloc()),
+    };
+    let sent = documents_to(rt, &mut keeper)?;
+    let printed = b"document 999999 3 application/pdf 4\nhere/alice-2-999999-1\n\
+        document 999999 3 text/plain 0\nhere/alice-2-999999-2\nnot-pending\n";
+    sent.is(rt, Ok(Outcome::Fine), printed)?;
+    let kept = b"alice-2-999999-1:a\nb\n;alice-2-999999-2:;";
+    due_bytes(rt, keeper.list.as_slice(), kept)
+}
+
+fn documents_to(rt: &HostRuntime, keeper: &mut Listed) -> Result<Sent, Fault> {
+    let alloc = rt.alloc();
+    let mut output = Vec::new(alloc);
+    let mut written = Vec::new(alloc);
+    let mut input = b"start d1 alice-2 999999\nstart d1 alice-2 7\n".as_slice();
+    let answers =
+        b"documents 2\ndocument 999999 3 application/pdf 4\na\nb\n\ndocument 999999 3 text/plain 0\n\n\
+        not-pending\n"
+            .as_slice();
+    let outcome = {
+        let reader = BufReader::with_capacity(alloc, 7, answers)?;
+        let mut peer = Peer::new(reader, &mut written);
+        send_lines(alloc, &mut input, &mut peer, keeper, &mut output)
+    };
+    Ok(Sent { outcome, output })
+}
+
+/// Connections that end before an answer is whole, and answers that are none.
+const BROKEN: &[&[u8]] = &[
+    b"",
+    b"\n",
+    b"ok",
+    b"\x1b[2J\n",
+    b"o\x00k\n",
+    b"documents \n",
+    b"documents 9\n",
+    b"documents +1\n",
+    b"documents 1",
+    b"documents 1\n",
+    b"documents 1\nok\n",
+    b"documents 1\ndocument 4 1 text/plain 1\n",
+    b"documents 1\ndocument 4 1 text/plain 1\na",
+    b"documents 1\ndocument 4 1 text/plain 1\nab\n",
+    b"documents 1\ndocument 4 1 text/plain 2\na\n",
+    b"documents 1\ndocument 5 1 text/plain 1\na\n",
+    b"documents 1\ndocument 4 0 text/plain 1\na\n",
+    b"documents 1\ndocument 4 1 text/plain 01\na\n",
+    b"documents 1\ndocument 4 1 text/plain\na\n",
+    b"documents 1\ndocument 4 1 text/plain 1 \na\n",
+    b"documents 1\ndocument 4 1 text/plain 16777217\na\n",
+];
+
+/// Lines that start no job of which documents could come.
+const OF_NO_START: &[&[u8]] = &[
+    b"start d1 alice 4 \n",
+    b"start d1 alice\n",
+    b"start d1 Alice 4\n",
+    b"start d1 .. 4\n",
+    b"start d1 alice 04\n",
+    b"settle d1 alice 4\n",
+];
+
+/// Each of them ends what is sent, and nothing of it is printed.
+fn broken_answers(rt: &HostRuntime) -> Result<(), Fault> {
+    for answers in BROKEN {
+        let (sent, _) = to_bytes(rt, b"start d1 alice 4\n", *answers)?;
+        of_case(rt, *answers, sent.is(rt, Err(ClientFault::Broken), b""))?;
+    }
+    Ok(())
+}
+
+fn documents_of_no_start(rt: &HostRuntime) -> Result<(), Fault> {
+    for line in OF_NO_START {
+        let (sent, _) = to_bytes(rt, *line, b"documents 1\ndocument 4 1 text/plain 1\na\n")?;
+        of_case(rt, *line, sent.is(rt, Err(ClientFault::Broken), b""))?;
+    }
+    Ok(())
+}
+
+/// What answers two lines of grants, how it went, and what is printed.
+const GRANTED: &[(&[u8], Result<Outcome, ClientFault>, &[u8])] = &[
+    (
+        b"failed\nok\n",
+        Ok(Outcome::Failed),
+        b"1 failed\n2 bad\n3 ok\n",
+    ),
+    (
+        b"bad-line\nok\n",
+        Ok(Outcome::BadLine(1)),
+        b"1 bad-line\n2 bad\n3 ok\n",
+    ),
+    (
+        b"ok\ndocuments 0\n",
+        Err(ClientFault::Broken),
+        b"1 ok\n2 bad\n",
+    ),
+    (b"ok\n", Err(ClientFault::Broken), b"1 ok\n2 bad\n"),
+];
+
+/// Documents to a line of grants, and grants of which one failed.
+fn answers_to_grants(rt: &HostRuntime) -> Result<(), Fault> {
+    for (answers, outcome, printed) in GRANTED {
+        let (sent, written) = grants_to(rt, *answers)?;
+        of_case(rt, *answers, sent.is(rt, *outcome, *printed))?;
+        let due = b"grant a 1970-01 0\ngrant c 2099-12 1000000000\n";
+        due_bytes(rt, written.as_slice(), due)?;
+    }
+    Ok(())
+}
+
+fn grants_to(rt: &HostRuntime, answers: &[u8]) -> Result<(Sent, Vec<u8>), Fault> {
+    let alloc = rt.alloc();
+    let mut output = Vec::new(alloc);
+    let mut written = Vec::new(alloc);
+    let mut input = Counted::new(b"a,1970-01,0\nb,2000-00,1\nc,2099-12,1000000000".as_slice());
+    let outcome = {
+        let mut peer = Peer::new(BufReader::new(alloc, answers)?, &mut written);
+        send_grants(alloc, &mut input, &mut peer, &mut output)
+    };
+    Ok((Sent { outcome, output }, written))
+}
+
+/// The longest line of the input is sent, and of a longer one nothing.
+fn long_lines_of_the_input(rt: &HostRuntime) -> Result<(), Fault> {
+    let mut line = Vec::new(rt.alloc());
+    line.resize(MOST_LINE, b'a')?;
+    let (sent, written) = to_bytes(rt, line.as_slice(), b"bad-line\n")?;
+    sent.is(rt, Ok(Outcome::BadLine(1)), b"bad-line\n")?;
+    due(rt, written.len(), MOST_LINE + 1)?;
+    line.push(b'a')?;
+    let (sent, written) = to_bytes(rt, line.as_slice(), b"bad-line\n")?;
+    sent.is(rt, Err(ClientFault::TooLong), b"")?;
+    due(rt, written.len(), 0)
+}
+
+/// The longest line of an answer, and a longer one.
+fn long_answers(rt: &HostRuntime) -> Result<(), Fault> {
+    let mut answer = Vec::new(rt.alloc());
+    answer.resize(MOST_LINE, b'a')?;
+    answer.push(b'\n')?;
+    let (sent, _) = to_bytes(rt, b"a\n", answer.as_slice())?;
+    sent.is(rt, Ok(Outcome::Fine), answer.as_slice())?;
+    answer.insert(0, b'a')?;
+    let (sent, _) = to_bytes(rt, b"a\n", answer.as_slice())?;
+    sent.is(rt, Err(ClientFault::Broken), b"")
+}

@@ -1,0 +1,244 @@
+//! How a run of the program ends over input that is too long, and over readers and writers that
+//! fail. How it ends on others, rows of runs show.
+
+use crate::due::{due, due_bytes, of_case};
+use crate::fault::Fault;
+use crate::report::Report;
+use room_commands::run_on;
+use std::io;
+use std::io::{ErrorKind, Read, Write};
+
+const NOW: u64 = 1_788_220_800;
+
+/// A moment that is past all that are served.
+const LATE: u64 = 4_102_444_800;
+
+/// The most bytes that a run reads.
+const MOST_INPUT: usize = 67_108_864;
+
+const INPUT: &str = "ipp-room: input\n";
+
+const STORE: &str = "ipp-room: store\n";
+
+const IO: &str = "ipp-room: io\n";
+
+/// What a run reads: so many bytes of one line, as they come, then a text byte by byte, and then
+/// the end, or a failure.
+#[derive(Clone, Copy)]
+struct Input<'a> {
+    line: usize,
+    text: &'a [u8],
+    fails: bool,
+}
+
+impl<'a> Input<'a> {
+    /// A line of so many bytes, which is of no grammar.
+    fn of_line(line: usize) -> Input<'a> {
+        Input {
+            line,
+            text: b"",
+            fails: false,
+        }
+    }
+
+    fn of_text(text: &'a [u8]) -> Input<'a> {
+        Input {
+            line: 0,
+            text,
+            fails: false,
+        }
+    }
+
+    fn failing(self) -> Input<'a> {
+        Input {
+            fails: true,
+            ..self
+        }
+    }
+}
+
+impl Read for Input<'_> {
+    fn read(&mut self, buf: &mut [u8]) -> io::Result<usize> {
+        if self.line > 0 {
+            let count = buf.len().min(self.line);
+            self.line -= count;
+            return Ok(count);
+        }
+        if self.text.is_empty() && self.fails {
+            return Err(io::Error::from(ErrorKind::Other));
+        }
+        let count = self.text.len().min(buf.len()).min(1);
+        let (piece, left) = self.text.split_at(count);
+        buf[..count].copy_from_slice(piece);
+        self.text = left;
+        Ok(count)
+    }
+}
+
+/// Takes so many bytes, and then fails; and fails when it is flushed, if it is to.
+#[derive(Drop)]
+struct Output {
+    room: usize,
+    flushes: bool,
+    went: Vec<u8>,
+}
+
+impl Output {
+    /// One that takes all.
+    fn wide(rt: &HostRuntime) -> Output {
+        Output::narrow(rt, usize::MAX, true)
+    }
+
+    fn narrow(rt: &HostRuntime, room: usize, flushes: bool) -> Output {
+        Output {
+            room,
+            flushes,
+            went: Vec::new(rt.alloc()),
+        }
+    }
+}
+
+impl Write for Output {
+    fn write(&mut self, buf: &[u8]) -> io::Result<usize> {
+        let count = buf.len().min(self.room);
+        if count == 0 && !buf.is_empty() {
+            return Err(io::Error::from(ErrorKind::BrokenPipe));
+        }
+        self.went.extend_from_slice(&buf[..count])?;
+        self.room -= count;
+        Ok(count)
+    }
+
+    fn flush(&mut self) -> io::Result<()> {
+        if self.flushes {
+            Ok(())
+        } else {
+            Err(io::Error::from(ErrorKind::BrokenPipe))
+        }
+    }
+}
+
+pub fn hold<W: Write>(rt: &HostRuntime, report: &mut Report<'_, W>) {
+    report.tell("inputs over the limit", inputs_over_the_limit(rt));
+    report.tell("inputs at the limit", inputs_at_the_limit(rt));
+    report.tell("readers that fail", readers_that_fail(rt));
+    report.tell("writers that fail", writers_that_fail(rt));
+    report.tell(
+        "help to a writer that fails",
+        help_to_a_writer_that_fails(rt),
+    );
+    report.tell(
+        "failed events come before writing",
+        failed_events_come_before_writing(rt),
+    );
+    report.tell("standard error that fails", standard_error_that_fails(rt));
+}
+
+/// The status of a run. Its words stand in one text, parted by a space.
+fn status_of(
+    rt: &HostRuntime,
+    words: &str,
+    now: u64,
+    input: Input<'_>,
+    output: &mut Output,
+    errors: &mut Output,
+) -> Result<u8, Fault> {
+    let words: Vec<&str> = words.split(' ').collect(rt.alloc())?;
+    Ok(run_on(rt, words.as_slice(), Some(now), input, output, errors))
+}
+
+/// That a run over the input ends with the status, the output and the text of its fault.
+fn ends(
+    rt: &HostRuntime,
+    words: &str,
+    input: Input<'_>,
+    status: u8,
+    printed: &str,
+    fault: &str,
+) -> Result<(), Fault> {
+    let mut output = Output::wide(rt);
+    let mut errors = Output::wide(rt);
+    let found = status_of(rt, words, NOW, input, &mut output, &mut errors)?;
+    of_case(rt, words.as_bytes(), due(rt, found, status))?;
+    due_bytes(rt, output.went.as_slice(), printed.as_bytes())?;
+    due_bytes(rt, errors.went.as_slice(), fault.as_bytes())
+}
+
+fn inputs_over_the_limit(rt: &HostRuntime) -> Result<(), Fault> {
+    for words in ["script :memory:", "station a.db", "grants a.db"] {
+        ends(rt, words, Input::of_line(usize::MAX), 2, "", INPUT)?;
+    }
+    let one_more = Input {
+        line: MOST_INPUT,
+        text: b"\n",
+        fails: true,
+    };
+    ends(rt, "script :memory:", one_more, 2, "", INPUT)
+}
+
+/// The bytes are those of one line that is none.
+fn inputs_at_the_limit(rt: &HostRuntime) -> Result<(), Fault> {
+    let most = Input::of_line(MOST_INPUT);
+    ends(rt, "script :memory:", most, 2, "", "ipp-room: line 1\n")?;
+    ends(rt, "grants :memory:", most, 0, "1 bad\n", "")
+}
+
+fn readers_that_fail(rt: &HostRuntime) -> Result<(), Fault> {
+    for words in ["script :memory:", "station :memory:", "grants :memory:"] {
+        for text in [b"".as_slice(), b"\n".as_slice(), b"\n\n".as_slice()] {
+            ends(rt, words, Input::of_text(text).failing(), 4, "", IO)?;
+        }
+    }
+    Ok(())
+}
+
+/// What is printed has 20 bytes.
+fn writers_that_fail(rt: &HostRuntime) -> Result<(), Fault> {
+    for (room, flushes, status) in [
+        (0, true, 4),
+        (7, true, 4),
+        (19, true, 4),
+        (20, true, 0),
+        (20, false, 4),
+    ] {
+        writes(rt, room, flushes, status)?;
+    }
+    Ok(())
+}
+
+fn writes(rt: &HostRuntime, room: usize, flushes: bool, status: u8) -> Result<(), Fault> {
+    let input = Input::of_text(b"1 open a\n1 ipp a 00\n1 ipp b 0101000400000001");
+    let mut output = Output::narrow(rt, room, flushes);
+    let mut errors = Output::wide(rt);
+    let found = status_of(rt, "script :memory:", NOW, input, &mut output, &mut errors)?;
+    due(rt, (room, found), (room, status))?;
+    let fault = if status == 0 { "" } else { IO };
+    due_bytes(rt, errors.went.as_slice(), fault.as_bytes())
+}
+
+fn help_to_a_writer_that_fails(rt: &HostRuntime) -> Result<(), Fault> {
+    let mut output = Output::narrow(rt, 3, true);
+    let mut errors = Output::wide(rt);
+    let input = Input::of_text(b"");
+    let found = status_of(rt, "--help", NOW, input, &mut output, &mut errors)?;
+    due(rt, found, 4)
+}
+
+fn failed_events_come_before_writing(rt: &HostRuntime) -> Result<(), Fault> {
+    let mut output = Output::narrow(rt, 0, false);
+    let mut errors = Output::wide(rt);
+    let words = "open :memory: alice";
+    let input = Input::of_text(b"");
+    let found = status_of(rt, words, LATE, input, &mut output, &mut errors)?;
+    due(rt, found, 3)?;
+    due_bytes(rt, errors.went.as_slice(), STORE.as_bytes())
+}
+
+fn standard_error_that_fails(rt: &HostRuntime) -> Result<(), Fault> {
+    let mut output = Output::narrow(rt, 0, false);
+    let mut errors = Output::narrow(rt, 0, false);
+    let words = "open :memory: Alice";
+    let input = Input::of_text(b"");
+    let found = status_of(rt, words, NOW, input, &mut output, &mut errors)?;
+    due(rt, found, 2)
+}

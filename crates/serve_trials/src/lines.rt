@@ -1,0 +1,114 @@
+//! Lines of stations and operators.
+
+use crate::due::{due_bytes, holds};
+use crate::fault::Fault;
+use crate::report::Report;
+use crate::rooms::{exchange, hear_lines, lines, rooms};
+use room_served::{LineConnection, MOST_LINE, Served, Side};
+use sqlite::MemStore;
+use std::io::Write;
+
+/// Print-Job of the five bytes `Hello` for the queue of alice: 124 bytes.
+pub const PRINT: &[u8] =
+    b"POST /ipp/print/alice HTTP/1.1\r\nHost: localhost\r\nContent-Type: application/ipp\r\nContent-Length: 124\r\n\r\n\
+    \x01\x01\x00\x02\x00\x00\x00\x02\x01\
+    \x47\x00\x12attributes-charset\x00\x05utf-8\
+    \x48\x00\x1battributes-natural-language\x00\x02en\
+    \x45\x00\x0bprinter-uri\x00\x1fipp://localhost/ipp/print/alice\x03Hello";
+
+const OPERATOR: &[u8] = b"open alice\nopen alice\ndevice d1 on\nrate d1 2\nrate d9 2\n\
+    grant alice 2026-09 100\ngrant alice 2026-09 100\ngrant alice 2026-09 90\ngrant carol 2026-09 1\n\
+    rate d1 101\nrelease d1 alice 1 - -\nipp alice 00\n\nopen alice \n";
+
+const OPERATOR_TOLD: &[u8] = b"ok\nexists\nok\nok\nno-device\nok\nsame\nconflict 100\nno-account\n\
+    bad-line\nbad-line\nbad-line\nbad-line\nbad-line\n";
+
+const STATION: &[u8] =
+    b"start d1 alice 1\nrelease d1 alice 1 - 12\nstart d1 alice 1\nsettle d1 alice 1 5 done\n\
+    settle d1 alice 1 5 done\nopen bob\nrelease d1 bob 1 - -\nrelease d1 alice 1 - - -\r\n";
+
+const STATION_TOLD: &[u8] =
+    b"not-pending\nok reserved 24 left 76\ndocuments 1\ndocument 1 1 application/octet-stream 5\nHello\n\
+    ok charged 10 left 90\nnot-processing\nbad-line\nno-account\nbad-line\n";
+
+pub fn hold<W: Write>(rt: &HostRuntime, report: &mut Report<'_, W>) {
+    report.tell("lines in pieces of each size", in_pieces_of_each_size(rt));
+    report.tell("a line that is cut off", a_line_that_is_cut_off(rt));
+    report.tell("long lines", long_lines(rt));
+}
+
+/// An operator's lines, a job, and a station's lines: a byte at a time, cut within lines, and all
+/// at once.
+fn in_pieces_of_each_size(rt: &HostRuntime) -> Result<(), Fault> {
+    for piece in [1, 13, 100_000] {
+        in_pieces(rt, piece)?;
+    }
+    Ok(())
+}
+
+fn in_pieces(rt: &HostRuntime, piece: usize) -> Result<(), Fault> {
+    let mut rooms = rooms(rt)?;
+    hear_all(rt, &mut rooms, piece)
+}
+
+fn hear_all(rt: &HostRuntime, rooms: &mut Served<MemStore>, piece: usize) -> Result<(), Fault> {
+    let told = lines(rt, rooms, Side::Operator, OPERATOR, piece)?;
+    due_bytes(rt, told.as_slice(), OPERATOR_TOLD)?;
+    exchange(rt, rooms, PRINT, piece)?;
+    let told = lines(rt, rooms, Side::Station, STATION, piece)?;
+    due_bytes(rt, told.as_slice(), STATION_TOLD)
+}
+
+/// A line that no line feed ends changes nothing, even if it is one of the grammar.
+fn a_line_that_is_cut_off(rt: &HostRuntime) -> Result<(), Fault> {
+    let mut rooms = rooms(rt)?;
+    let mut connection = LineConnection::new(rt.alloc(), Side::Operator);
+    cut_off(rt, &mut connection, &mut rooms)
+}
+
+fn cut_off(
+    rt: &HostRuntime,
+    connection: &mut LineConnection,
+    rooms: &mut Served<MemStore>,
+) -> Result<(), Fault> {
+    connection.read_from(&mut b"open alice".as_slice())?;
+    holds(rt, !connection.answer(rooms)?, "the line waits for its end")?;
+    holds(rt, connection.has_rest(), "it is kept")?;
+    connection.refuse_rest()?;
+    let mut output = Vec::new(rt.alloc());
+    connection.write_to(&mut output)?;
+    due_bytes(rt, output.as_slice(), b"bad-line\n")?;
+    holds(rt, !connection.has_rest(), "nothing of it is left")?;
+    let told = lines(rt, rooms, Side::Operator, b"open alice\n", 100)?;
+    due_bytes(rt, told.as_slice(), b"ok\n")
+}
+
+/// The longest line, which is a bad one whatever it says, and a longer one, which is not waited
+/// for.
+fn long_lines(rt: &HostRuntime) -> Result<(), Fault> {
+    let mut rooms = rooms(rt)?;
+    let mut connection = LineConnection::new(rt.alloc(), Side::Station);
+    hear_long(rt, &mut connection, &mut rooms)
+}
+
+fn hear_long(
+    rt: &HostRuntime,
+    connection: &mut LineConnection,
+    rooms: &mut Served<MemStore>,
+) -> Result<(), Fault> {
+    let mut line = Vec::new(rt.alloc());
+    line.resize(MOST_LINE, b'a')?;
+    let mut output = Vec::new(rt.alloc());
+    hear_lines(connection, rooms, line.as_slice(), &mut output)?;
+    due_bytes(rt, output.as_slice(), b"")?;
+    holds(
+        rt,
+        !connection.is_too_long(),
+        "the longest line is not too long",
+    )?;
+    connection.read_from(&mut b"a".as_slice())?;
+    holds(rt, connection.is_too_long(), "one byte more is too long")?;
+    line.push(b'\n')?;
+    let told = lines(rt, rooms, Side::Station, line.as_slice(), 100_000)?;
+    due_bytes(rt, told.as_slice(), b"bad-line\n")
+}
