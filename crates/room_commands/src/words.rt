@@ -1,7 +1,7 @@
 //! The words of the command line, as its parser and its help know them.
 
 use clap::builder::ValueParser;
-use clap::{Arg, ArgAction};
+use clap::{Arg, ArgAction, Command};
 use std::alloc::{AllocError, Global};
 
 const PROGRAM: &str = "ipp-room";
@@ -60,59 +60,95 @@ pub(crate) const ADDRESS: &str = "ADDRESS";
 pub(crate) const FOLDER: &str = "FOLDER";
 
 /// The program, with all its commands.
-pub(crate) fn program<'a>(alloc: Global) -> Result<clap::Command<'a>, AllocError> {
-    clap::Command::new(alloc, PROGRAM)
+pub(crate) fn program<'a>(alloc: Global) -> Result<Command<'a>, AllocError> {
+    let commands = commands(alloc)?;
+    Command::new(alloc, PROGRAM)
         .about("Keeps IPP printers whose jobs wait until they are released")
         .version(VERSION)
         .no_binary_name(true)
         .bin_name(PROGRAM)?
         .subcommand_required(true)
-        .subcommand(on_database(alloc, CREATE, "Makes the tables of a database")?)?
-        .subcommand(open(alloc)?)?
-        .subcommand(on_database(alloc, MIGRATE, "Brings older tables up to date")?)?
-        .subcommand(device(alloc)?)?
-        .subcommand(rate(alloc)?)?
-        .subcommand(on_database(alloc, GRANTS, "Takes the grants of standard input")?)?
-        .subcommand(on_database(alloc, STATION, "Runs the lines of a station")?)?
-        .subcommand(on_database(alloc, SCRIPT, "Runs lines that have moments")?)?
-        .subcommand(listen(alloc)?)?
-        .subcommand(serve(alloc)?)?
-        .subcommand(send(alloc)?)?
-        .subcommand(explain(alloc))
+        .subcommands(commands)
 }
 
-fn open<'a>(alloc: Global) -> Result<clap::Command<'a>, AllocError> {
+fn commands<'a>(alloc: Global) -> Result<Vec<Command<'a>>, AllocError> {
+    let mut commands = Vec::new(alloc);
+    put_commands(alloc, &mut commands)?;
+    Ok(commands)
+}
+
+// In the order in which the help lists them.
+fn put_commands(alloc: Global, commands: &mut Vec<Command<'_>>) -> Result<(), AllocError> {
+    put(
+        commands,
+        on_database(alloc, CREATE, "Makes the tables of a database"),
+    )?;
+    put(commands, open(alloc))?;
+    put(
+        commands,
+        on_database(alloc, MIGRATE, "Brings older tables up to date"),
+    )?;
+    put(commands, device(alloc))?;
+    put(commands, rate(alloc))?;
+    put(
+        commands,
+        on_database(alloc, GRANTS, "Takes the grants of standard input"),
+    )?;
+    put(
+        commands,
+        on_database(alloc, STATION, "Runs the lines of a station"),
+    )?;
+    put(
+        commands,
+        on_database(alloc, SCRIPT, "Runs lines that have moments"),
+    )?;
+    put(commands, listen(alloc))?;
+    put(commands, serve(alloc))?;
+    put(commands, send(alloc))?;
+    put(commands, Ok(explain(alloc)))
+}
+
+// So no exit of the list's maker has a command of its own to drop.
+fn put<'a>(
+    commands: &mut Vec<Command<'a>>,
+    command: Result<Command<'a>, AllocError>,
+) -> Result<(), AllocError> {
+    commands.push(command?)?;
+    Ok(())
+}
+
+fn open<'a>(alloc: Global) -> Result<Command<'a>, AllocError> {
     on_database(alloc, OPEN, "Opens an account")?.arg(required(alloc, ACCOUNT))
 }
 
-fn device<'a>(alloc: Global) -> Result<clap::Command<'a>, AllocError> {
+fn device<'a>(alloc: Global) -> Result<Command<'a>, AllocError> {
     let switch = ValueParser::Names(SWITCHES.as_slice());
     on_database(alloc, DEVICE, "Turns a device on or off")?
         .arg(required(alloc, NAME))?
         .arg(required(alloc, SWITCH).value_parser(switch))
 }
 
-fn rate<'a>(alloc: Global) -> Result<clap::Command<'a>, AllocError> {
+fn rate<'a>(alloc: Global) -> Result<Command<'a>, AllocError> {
     on_database(alloc, RATE, "Sets a device's units per impression")?
         .arg(required(alloc, NAME))?
         .arg(required(alloc, UNITS).help("1 to 100"))
 }
 
-fn listen<'a>(alloc: Global) -> Result<clap::Command<'a>, AllocError> {
+fn listen<'a>(alloc: Global) -> Result<Command<'a>, AllocError> {
     let count = "How many connections are served before it ends, 0 to 1000000";
     on_database(alloc, LISTEN, "Serves connections on 127.0.0.1")?
         .arg(required(alloc, PORT).help("1 to 65535"))?
         .arg(required(alloc, COUNT).help(count))
 }
 
-fn serve<'a>(alloc: Global) -> Result<clap::Command<'a>, AllocError> {
+fn serve<'a>(alloc: Global) -> Result<Command<'a>, AllocError> {
     on_database(alloc, SERVE, "Serves HTTP and lines on this machine")?
         .arg(required(alloc, PORT).help("0 to 65535, where 0 takes a free one"))?
         .arg(required(alloc, STATIONS).help("A port, or the path of a socket"))?
         .arg(required(alloc, OPERATORS).help("A port, or the path of a socket"))
 }
 
-fn send<'a>(alloc: Global) -> Result<clap::Command<'a>, AllocError> {
+fn send<'a>(alloc: Global) -> Result<Command<'a>, AllocError> {
     let grants = Arg::new(alloc, GRANTS)
         .long(GRANTS)
         .action(ArgAction::SetTrue)
@@ -121,25 +157,25 @@ fn send<'a>(alloc: Global) -> Result<clap::Command<'a>, AllocError> {
     let folder = Arg::new(alloc, FOLDER)
         .long("into")
         .help("Where documents go that are not to be printed");
-    clap::Command::new(alloc, SEND)
+    Command::new(alloc, SEND)
         .about("Sends the lines of standard input to what serves them")
         .arg(required(alloc, ADDRESS).help("A port, or the path of a socket"))?
         .arg(grants)?
         .arg(folder)
 }
 
-fn explain<'a>(alloc: Global) -> clap::Command<'a> {
+fn explain<'a>(alloc: Global) -> Command<'a> {
     let about = "Prints the IPP messages of standard input as people read them";
-    clap::Command::new(alloc, EXPLAIN).about(about)
+    Command::new(alloc, EXPLAIN).about(about)
 }
 
 fn on_database<'a>(
     alloc: Global,
     name: &'a str,
     about: &'a str,
-) -> Result<clap::Command<'a>, AllocError> {
+) -> Result<Command<'a>, AllocError> {
     let database = required(alloc, DATABASE).help("A file, or :memory: for this run alone");
-    clap::Command::new(alloc, name).about(about).arg(database)
+    Command::new(alloc, name).about(about).arg(database)
 }
 
 fn required<'a>(alloc: Global, name: &'a str) -> Arg<'a> {

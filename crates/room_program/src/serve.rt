@@ -1,9 +1,12 @@
 //! `serve`: one process for clients over HTTP, stations and operators.
 
-use room_commands::{Address, Begin, Fault, InFile, InMemory, MEMORY, Opener, Serving, store_of};
+use crate::database::serve_over;
+use crate::front::Front;
+use room_commands::{Address, Fault, Serving};
 use room_served::Served;
 use room_sockets::{Door, Doors, Hall, moment};
-use sqlite::{Alter, Connection};
+use room_store::Store;
+use sqlite::Alter;
 use std::hash::RandomState;
 use std::io;
 use std::io::Write;
@@ -11,30 +14,32 @@ use std::io::Write;
 /// Serves everybody until the process is ended. Writes `serving PORT STATIONS OPERATORS` once all
 /// can connect.
 pub fn serve<W: Write>(rt: &HostRuntime, asked: &Serving<'_>, output: &mut W) -> Result<(), Fault> {
-    if asked.database == MEMORY {
-        let alloc = rt.alloc();
-        return serve_over(rt, InMemory { alloc }, asked, output);
-    }
-    serve_over(rt, InFile { rt, is_new: false }, asked, output)
+    let moment = moment(rt).ok_or(Fault::Io)?;
+    let front = Begun {
+        asked: *asked,
+        moment,
+    };
+    serve_over(rt, asked.database, &front, output)
 }
 
-fn serve_over<S, F, W>(
-    rt: &HostRuntime,
-    mut opener: F,
-    asked: &Serving<'_>,
-    output: &mut W,
-) -> Result<(), Fault>
-where
-    S: Alter + Drop,
-    F: Opener<Kept = Connection<S>> + Drop,
-    W: Write,
-{
-    let moment = moment(rt).ok_or(Fault::Io)?;
-    let store = store_of(&mut opener, asked.database, Begin::Open)?;
-    let mut served = Served::new(rt.alloc(), store, moment);
-    let ended = serve_all(rt, &mut served, asked, output);
-    opener.close(served.into_store().close());
-    ended
+// The command, begun at a moment.
+#[derive(Clone, Copy)]
+struct Begun<'a> {
+    asked: Serving<'a>,
+    moment: u64,
+}
+
+impl Front for Begun<'_> {
+    fn serve<S: Alter + Drop, W: Write>(
+        &self,
+        rt: &HostRuntime,
+        store: Store<S>,
+        output: &mut W,
+    ) -> (Store<S>, Result<(), Fault>) {
+        let mut served = Served::new(rt.alloc(), store, self.moment);
+        let ended = serve_all(rt, &mut served, &self.asked, output);
+        (served.into_store(), ended)
+    }
 }
 
 fn serve_all<S: Alter, W: Write>(
@@ -43,14 +48,23 @@ fn serve_all<S: Alter, W: Write>(
     asked: &Serving<'_>,
     output: &mut W,
 ) -> Result<(), Fault> {
-    let doors = Doors {
+    let mut hall = open(rt, asked, output)?;
+    Ok(hall.run(rt, served)?)
+}
+
+/// The hall behind the three doors, at which all can connect.
+fn open<W: Write>(rt: &HostRuntime, asked: &Serving<'_>, output: &mut W) -> io::Result<Hall> {
+    let doors = doors_at(rt, asked)?;
+    tell(output, asked, &doors)?;
+    Hall::open(rt, doors, RandomState::new(rt)?)
+}
+
+fn doors_at(rt: &HostRuntime, asked: &Serving<'_>) -> io::Result<Doors> {
+    Ok(Doors {
         http: Door::at_port(rt, asked.port)?,
         stations: door_at(rt, asked.stations)?,
         operators: door_at(rt, asked.operators)?,
-    };
-    tell(output, asked, &doors)?;
-    let mut hall = Hall::open(rt, doors, RandomState::new(rt)?)?;
-    Ok(hall.run(rt, served)?)
+    })
 }
 
 fn door_at(rt: &HostRuntime, address: Address<'_>) -> io::Result<Door> {

@@ -1,11 +1,13 @@
 //! `listen`: connections on a port of this machine, served one after another.
 
-use room_commands::{Begin, Fault, InFile, InMemory, Listening, MEMORY, Opener, store_of};
+use crate::database::serve_over;
+use crate::front::Front;
+use room_commands::{Fault, Listening};
 use room_input::Counted;
 use room_serve::{After, Wire, serve_one};
 use room_sockets::moment;
 use room_store::Store;
-use sqlite::{Alter, Connection};
+use sqlite::Alter;
 use std::io::{BufReader, Read, Write};
 use std::net::{Ipv4Addr, Shutdown, TcpListener, TcpStream};
 use std::time::Duration;
@@ -41,28 +43,19 @@ pub fn listen<W: Write>(
     asked: &Listening<'_>,
     output: &mut W,
 ) -> Result<(), Fault> {
-    if asked.database == MEMORY {
-        let alloc = rt.alloc();
-        return listen_over(rt, InMemory { alloc }, asked, output);
-    }
-    listen_over(rt, InFile { rt, is_new: false }, asked, output)
+    serve_over(rt, asked.database, asked, output)
 }
 
-fn listen_over<S, F, W>(
-    rt: &HostRuntime,
-    mut opener: F,
-    asked: &Listening<'_>,
-    output: &mut W,
-) -> Result<(), Fault>
-where
-    S: Alter + Drop,
-    F: Opener<Kept = Connection<S>> + Drop,
-    W: Write,
-{
-    let mut store = store_of(&mut opener, asked.database, Begin::Open)?;
-    let served = serve_all(rt, &mut store, asked, output);
-    opener.close(store.close());
-    served
+impl Front for Listening<'_> {
+    fn serve<S: Alter + Drop, W: Write>(
+        &self,
+        rt: &HostRuntime,
+        mut store: Store<S>,
+        output: &mut W,
+    ) -> (Store<S>, Result<(), Fault>) {
+        let served = serve_all(rt, &mut store, self, output);
+        (store, served)
+    }
 }
 
 fn serve_all<S: Alter, W: Write>(

@@ -1,0 +1,40 @@
+//! A front over the database that its command names.
+
+use crate::front::Front;
+use room_commands::{Begin, Fault, InFile, InMemory, MEMORY, Opener, store_of};
+use sqlite::{Alter, Connection};
+use std::io::Write;
+
+/// Lets the front serve over this machine's memory where the database is `:memory:`, and over its
+/// file otherwise, whose tables have to be there. It is closed once the front has ended.
+pub fn serve_over<T: Front, W: Write>(
+    rt: &HostRuntime,
+    database: &str,
+    front: &T,
+    output: &mut W,
+) -> Result<(), Fault> {
+    if database == MEMORY {
+        let alloc = rt.alloc();
+        return serve_by(rt, InMemory { alloc }, database, front, output);
+    }
+    serve_by(rt, InFile { rt, is_new: false }, database, front, output)
+}
+
+fn serve_by<S, F, T, W>(
+    rt: &HostRuntime,
+    mut opener: F,
+    database: &str,
+    front: &T,
+    output: &mut W,
+) -> Result<(), Fault>
+where
+    S: Alter + Drop,
+    F: Opener<Kept = Connection<S>> + Drop,
+    T: Front,
+    W: Write,
+{
+    let store = store_of(&mut opener, database, Begin::Open)?;
+    let (store, served) = front.serve(rt, store, output);
+    opener.close(store.close());
+    served
+}

@@ -1,0 +1,17 @@
+//! What serves others over a store, whatever storage that is on.
+
+use room_commands::Fault;
+use room_store::Store;
+use sqlite::Alter;
+use std::io::Write;
+
+/// A command that has the store for as long as it serves.
+pub trait Front {
+    /// Serves to the end, writing what the command tells of itself, and hands the store back.
+    fn serve<S: Alter + Drop, W: Write>(
+        &self,
+        rt: &HostRuntime,
+        store: Store<S>,
+        output: &mut W,
+    ) -> (Store<S>, Result<(), Fault>);
+}

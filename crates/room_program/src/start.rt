@@ -1,0 +1,48 @@
+//! One run of the program, from its words to its exit status.
+
+use crate::listen::listen;
+use crate::send::send;
+use crate::serve::serve;
+use room_commands::{Fault, Listening, Sending, Serving, run_on};
+use room_sockets::moment;
+use std::env;
+use std::io::{BufWriter, Write};
+
+/// Does what the words after the program's name ask for, over the standard streams, and answers the
+/// exit status. Where that is not 0, standard error has why.
+pub fn start(rt: &HostRuntime) -> u8 {
+    match begin(rt) {
+        Ok(status) => status,
+        Err(fault) => {
+            // The status tells of the fault even where its text can't be written.
+            let _ = fault.report(&mut rt.stderr());
+            fault.status()
+        }
+    }
+}
+
+// The exit status of a run, or why it could not begin.
+fn begin(rt: &HostRuntime) -> Result<u8, Fault> {
+    let alloc = rt.alloc();
+    let arguments: Vec<String> = env::args(rt)?.skip(1).collect(alloc)?;
+    let words: Vec<&str> = arguments.iter().map(|word| word.as_str()).collect(alloc)?;
+    let mut output = BufWriter::new(alloc, rt.stdout())?;
+    run(rt, words.as_slice(), &mut output)
+}
+
+fn run<W: Write>(rt: &HostRuntime, words: &[&str], output: &mut W) -> Result<u8, Fault> {
+    let alloc = rt.alloc();
+    if let Some(asked) = Listening::read(alloc, words)? {
+        listen(rt, &asked, output)?;
+        return Ok(0);
+    }
+    if let Some(asked) = Serving::read(alloc, words)? {
+        serve(rt, &asked, output)?;
+        return Ok(0);
+    }
+    if let Some(asked) = Sending::read(alloc, words)? {
+        send(rt, &asked, output)?;
+        return Ok(0);
+    }
+    Ok(run_on(rt, words, moment(rt), rt.stdin(), output, &mut rt.stderr()))
+}
