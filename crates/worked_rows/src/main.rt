@@ -7,33 +7,31 @@
 //! - Of a list of events, `NAME.events`, it prints what the list reached.
 #![tactic(auto)]
 
-mod answers;
-mod beside;
-mod cells;
-mod disks;
-mod exchanges;
-mod failing;
-mod fault;
-mod files;
-mod found;
-mod front;
-mod migrated;
-mod program;
-mod rows;
-mod runs;
-mod stopped;
-mod tables;
-mod whole;
-mod wired;
-mod wires;
-
-use crate::fault::Fault;
-use std::env;
+use row_trials::{FileTables, hold_all};
+use sqlite::{Connection, Error, File, FileStore};
 use std::io::Write;
 use std::process::ExitCode;
 
+/// The files of this machine.
+#[derive(Clone, Copy)]
+struct OnDisk<'a> {
+    rt: &'a HostRuntime,
+}
+
+impl FileTables for OnDisk<'_> {
+    type Kept = Connection<FileStore<File>>;
+
+    fn open(&self, file: &str) -> Result<Connection<FileStore<File>>, Error> {
+        Connection::open(self.rt, file)
+    }
+
+    fn close(&self, kept: Connection<FileStore<File>>) -> Result<(), Error> {
+        kept.close()
+    }
+}
+
 fn main(rt: HostRuntime) -> ExitCode {
-    match hold_all(&rt) {
+    match hold_all(&rt, &OnDisk { rt: &rt }) {
         Ok(true) => ExitCode::SUCCESS,
         Ok(false) => ExitCode::FAILURE,
         Err(fault) => {
@@ -41,17 +39,4 @@ fn main(rt: HostRuntime) -> ExitCode {
             ExitCode::FAILURE
         }
     }
-}
-
-/// Whether every file holds.
-fn hold_all(rt: &HostRuntime) -> Result<bool, Fault> {
-    let mut all = true;
-    let files: Vec<String> = env::args(rt)?.skip(1).collect(rt.alloc())?;
-    for file in files.as_slice() {
-        all &= match file.as_str().strip_suffix(".events") {
-            Some(name) => cells::hold(rt, name)?,
-            None => rows::hold(rt, file.as_str())?,
-        };
-    }
-    Ok(all)
 }

@@ -1,14 +1,16 @@
 //! What is printed of the answers to the steps of a conversation.
 
+use crate::comparing::text;
 use crate::fault::Fault;
+use crate::file_tables::FileTables;
 use crate::program::{by_program_in_file, by_program_in_memory};
 use crate::tables::{Tables, remove_files, tell_again};
 use room_core::{CoreFault, LAST_JOB, Name, Reply};
 use room_lines::{Line, print_answer};
 use room_rows::{Conversation, Rooms, Step};
 use room_store::StoreFault;
-use sqlite::Alter;
 use sqlite::types::ValueRef;
+use sqlite::{Alter, Connection};
 
 /// Who answers.
 #[derive(Clone, Copy)]
@@ -32,18 +34,23 @@ impl Way {
     /// What is printed of the answers, if this way is one of the conversation: rooms can't follow
     /// where rows are changed by hand, a file is closed and opened again between any two steps
     /// where it says so, and the program is given a script.
-    pub fn answers(
+    pub fn answers<S, F>(
         self,
         rt: &HostRuntime,
+        files: &F,
         talk: &Conversation,
         steps: &[Step],
-    ) -> Result<Option<String>, Fault> {
+    ) -> Result<Option<String>, Fault>
+    where
+        S: Alter + Drop,
+        F: FileTables<Kept = Connection<S>>,
+    {
         match self {
             Way::Rooms if steps.iter().any(Step::is_by_hand) => Ok(None),
             Way::Rooms => Ok(Some(by_rooms(rt, steps)?)),
             Way::TablesInMemory => Ok(Some(by_tables_in_memory(rt, steps)?)),
             Way::TablesInFile if !talk.is_reopened() => Ok(None),
-            Way::TablesInFile => Ok(Some(by_tables_in_file(rt, steps)?)),
+            Way::TablesInFile => Ok(Some(by_tables_in_file(rt, files, steps)?)),
             Way::ProgramInMemory => match talk.script(rt.alloc())? {
                 Some(script) => Ok(Some(by_program_in_memory(rt, script.as_str(), steps)?)),
                 None => Ok(None),
@@ -120,11 +127,15 @@ fn by_tables_in_memory(rt: &HostRuntime, steps: &[Step]) -> Result<String, Fault
     text(output)
 }
 
-fn by_tables_in_file(rt: &HostRuntime, steps: &[Step]) -> Result<String, Fault> {
-    let mut tables = Tables::in_file(rt)?;
+fn by_tables_in_file<S, F>(rt: &HostRuntime, files: &F, steps: &[Step]) -> Result<String, Fault>
+where
+    S: Alter + Drop,
+    F: FileTables<Kept = Connection<S>>,
+{
+    let mut tables = Tables::in_file(rt, files)?;
     let mut output = Vec::new(rt.alloc());
     for step in steps {
-        tables.reopen(rt)?;
+        tables.reopen(rt, files)?;
         take(rt, &mut tables, step, &mut output)?;
     }
     remove_files(rt);
@@ -180,9 +191,4 @@ pub fn as_of_rooms(outcome: Result<Reply, StoreFault>) -> Result<Result<Reply, C
         Err(StoreFault::Memory) => Ok(Err(CoreFault::Memory)),
         Err(fault) => Err(Fault::Tables(fault)),
     }
-}
-
-/// What was printed.
-pub fn text(output: Vec<u8>) -> Result<String, Fault> {
-    String::from_utf8(output).map_err(|_| Fault::Answer)
 }

@@ -9,6 +9,7 @@ use room_lines::Line;
 use room_rows::line_text;
 use room_served::{LineConnection, Served, Side, answer_requests, connection_config};
 use sqlite::MemStore;
+use std::alloc::Global;
 use std::hash::RandomState;
 
 /// More than one connection needs of reads, of lines or of writes, one after another.
@@ -27,15 +28,26 @@ pub fn answer_request(
     request: &[u8],
 ) -> Result<Vec<u8>, Fault> {
     served.set_moment(moment);
-    let mut connection = Connection::new(rt.alloc(), RandomState::new(rt)?, connection_config());
+    let hashing = RandomState::new(rt)?;
+    let mut connection = Connection::new(rt.alloc(), hashing, connection_config());
+    carry_request(rt.alloc(), &mut connection, served, request)
+}
+
+// The connection is the caller's: this has many exits, at which it would be dropped.
+fn carry_request(
+    alloc: Global,
+    connection: &mut Connection,
+    served: &mut Served<MemStore>,
+    request: &[u8],
+) -> Result<Vec<u8>, Fault> {
     let mut left = request;
-    let mut output = Vec::new(rt.alloc());
+    let mut output = Vec::new(alloc);
     for _ in 0..MANY {
         if left.is_empty() || !connection.wants_read() {
             break;
         }
         connection.read_from(&mut left)?;
-        answer_requests(&mut connection, served);
+        answer_requests(connection, served);
         for _ in 0..MANY {
             if !connection.wants_write() {
                 break;
@@ -53,10 +65,19 @@ pub fn answer_line(
     line: &Line,
 ) -> Result<Vec<u8>, Fault> {
     served.set_moment(line.moment);
-    let mut connection = LineConnection::new(rt.alloc(), side_of(&line.action.event()));
     let text = line_text(rt.alloc(), &line.action)?;
-    let mut left = text.as_slice();
-    let mut output = Vec::new(rt.alloc());
+    let mut connection = LineConnection::new(rt.alloc(), side_of(&line.action.event()));
+    carry_line(rt.alloc(), &mut connection, served, text.as_slice())
+}
+
+fn carry_line(
+    alloc: Global,
+    connection: &mut LineConnection,
+    served: &mut Served<MemStore>,
+    text: &[u8],
+) -> Result<Vec<u8>, Fault> {
+    let mut left = text;
+    let mut output = Vec::new(alloc);
     for _ in 0..MANY {
         if left.is_empty() {
             break;

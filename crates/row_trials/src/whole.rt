@@ -1,8 +1,9 @@
 //! A list of events of both accounts that is given to the store whole, from one change by hand to
 //! the next.
 
-use crate::answers::{answered, set_next_job, skip_to, text};
-use crate::cells::{differing, in_turns, rows_differ};
+use crate::accounts::in_turns;
+use crate::answers::{answered, set_next_job, skip_to};
+use crate::comparing::{differing, rows_differ, text};
 use crate::fault::Fault;
 use crate::tables::Tables;
 use room_lines::{Line, print_answer};
@@ -11,11 +12,21 @@ use room_serve::Outcome;
 use sqlite::Alter;
 
 /// The rooms and the shared tables, and the lines that neither was given yet.
-#[derive(Drop)]
 pub struct Whole<'a, S: Alter> {
     rooms: Rooms,
     tables: Tables<S>,
     waiting: Vec<&'a Line>,
+}
+
+// It is written out, so that no caller proves again how each part is dropped.
+impl<S: Alter + Drop> Drop for Whole<'_, S> {
+    fn drop(self) {
+        let Whole {
+            rooms: _,
+            tables: _,
+            waiting: _,
+        } = self;
+    }
 }
 
 impl<'a, S: Alter + Drop> Whole<'a, S> {
@@ -35,7 +46,8 @@ impl<'a, S: Alter + Drop> Whole<'a, S> {
         firsts: &'a [Step],
         seconds: &'a [Step],
     ) -> Result<Option<String>, Fault> {
-        for step in in_turns(rt.alloc(), firsts, seconds)?.as_slice() {
+        let steps = in_turns(rt.alloc(), firsts, seconds)?;
+        for step in steps.as_slice() {
             if let Some(differs) = self.take(rt, step)? {
                 return Ok(Some(differs));
             }

@@ -3,7 +3,8 @@
 //! was written is a front of what the exchange writes, and not all of it. Where a read failed, the
 //! rows are those before the message; where a write did, those before or behind it.
 
-use crate::exchanges::{PIECES, opened_tables, rows_of};
+use crate::comparing::rows_of;
+use crate::exchanges::{PIECES, Pieces, opened_tables};
 use crate::fault::Fault;
 use crate::wires::{Failing, Served, Sides, WHOLE};
 use room_rows::Exchange;
@@ -58,29 +59,16 @@ pub fn differs(rt: &HostRuntime, exchange: &Exchange) -> Result<Option<String>, 
     for calls in 0..=exchange.count() {
         states.push(state_behind(rt, exchange, input.as_slice(), calls)?)?;
     }
+    let trial = Trial {
+        exchange,
+        input: input.as_slice(),
+        states: states.as_slice(),
+    };
     for pieces in PIECES {
         for side in SIDES {
-            for at in 0..u64::MAX {
-                let sides = Sides {
-                    most: pieces.most(),
-                    failing: Some(side.failing(at)),
-                };
-                let mut tables = opened_tables(rt)?;
-                let served = tables.serve(
-                    rt,
-                    exchange.moment(),
-                    input.as_slice(),
-                    sides,
-                    exchange.count(),
-                )?;
-                if !served.has_failed {
-                    break;
-                }
-                let rows = rows_of(rt.alloc(), &mut tables)?;
-                if !is_due(side, &served, rows.as_slice(), states.as_slice()) {
-                    let (side, pieces) = (side.name(), pieces.name());
-                    return Ok(Some(format!(in rt.alloc(); "{side} {at} that fails, {pieces}")?));
-                }
+            if let Some(at) = trial.differs(rt, pieces, side)? {
+                let (side, pieces) = (side.name(), pieces.name());
+                return Ok(Some(format!(in rt.alloc(); "{side} {at} that fails, {pieces}")?));
             }
         }
     }
@@ -99,6 +87,56 @@ fn state_behind(
         written: served.written,
         rows: rows_of(rt.alloc(), &mut tables)?,
     })
+}
+
+/// What came of an exchange with a call that may fail.
+#[derive(Clone, Copy)]
+enum Came {
+    /// There is no such call.
+    Whole,
+    Due,
+    Otherwise,
+}
+
+/// An exchange, and its states behind no call up to behind the last.
+#[derive(Clone, Copy)]
+struct Trial<'a> {
+    exchange: &'a Exchange,
+    input: &'a [u8],
+    states: &'a [State],
+}
+
+impl Trial<'_> {
+    /// The first call of the side that comes to something else where it fails.
+    fn differs(&self, rt: &HostRuntime, pieces: Pieces, side: Side) -> Result<Option<u64>, Fault> {
+        for at in 0..u64::MAX {
+            let sides = Sides {
+                most: pieces.most(),
+                failing: Some(side.failing(at)),
+            };
+            match self.run(rt, side, sides)? {
+                Came::Whole => break,
+                Came::Due => {}
+                Came::Otherwise => return Ok(Some(at)),
+            }
+        }
+        Ok(None)
+    }
+
+    fn run(&self, rt: &HostRuntime, side: Side, sides: Sides) -> Result<Came, Fault> {
+        let exchange = self.exchange;
+        let mut tables = opened_tables(rt)?;
+        let served = tables.serve(rt, exchange.moment(), self.input, sides, exchange.count())?;
+        if !served.has_failed {
+            return Ok(Came::Whole);
+        }
+        let rows = rows_of(rt.alloc(), &mut tables)?;
+        Ok(if is_due(side, &served, rows.as_slice(), self.states) {
+            Came::Due
+        } else {
+            Came::Otherwise
+        })
+    }
 }
 
 /// Whether so came what has to come where a side fails.

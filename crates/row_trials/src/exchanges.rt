@@ -1,7 +1,7 @@
 //! Exchanges over one connection of HTTP, held against `serve_one` over tables in memory: alice and
 //! bob have accounts, and the device d1 is on.
 
-use crate::cells::print_rows;
+use crate::comparing::rows_of;
 use crate::fault::Fault;
 use crate::tables::{Tables, tell_again};
 use crate::wires::{Served, Sides};
@@ -53,15 +53,18 @@ pub fn answers(
     let mut tables = opened_tables(rt)?;
     let first = served(rt, &mut tables, exchange, pieces)?;
     let answered = told_of(rt.alloc(), &first)?;
-    if answered.as_str() == due || !is_refused(&first) {
-        return Ok(answered);
-    }
-    let before = rows_of(rt.alloc(), &mut opened_tables(rt)?)?;
-    if rows_of(rt.alloc(), &mut tables)?.as_slice() != before.as_slice() {
+    if answered.as_str() == due || !is_refused(&first) || !is_unchanged(rt, &mut tables)? {
         return Ok(answered);
     }
     tell_again(rt);
     told_of(rt.alloc(), &served(rt, &mut tables, exchange, pieces)?)
+}
+
+/// Whether the tables have the rows that they began with.
+fn is_unchanged(rt: &HostRuntime, tables: &mut Tables<MemStore>) -> Result<bool, Fault> {
+    let mut opened = opened_tables(rt)?;
+    let before = rows_of(rt.alloc(), &mut opened)?;
+    Ok(rows_of(rt.alloc(), tables)?.as_slice() == before.as_slice())
 }
 
 fn served(
@@ -119,13 +122,6 @@ fn name_of(end: Result<After, WireFault>) -> &'static str {
         Err(WireFault::Memory) => "memory",
         Err(WireFault::Ended) => ENDED,
     }
-}
-
-/// The rows of both accounts and of the devices.
-pub fn rows_of(alloc: Global, tables: &mut Tables<MemStore>) -> Result<Vec<u8>, Fault> {
-    let mut rows = Vec::new(alloc);
-    print_rows(tables, &mut rows)?;
-    Ok(rows)
 }
 
 /// Tables in memory in which two accounts are open and a device is on.

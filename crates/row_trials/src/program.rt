@@ -1,7 +1,8 @@
 //! Scripts that the program runs, over memory and over a file, and runs of the program over disks
 //! in memory.
 
-use crate::answers::{answered, text};
+use crate::answers::answered;
+use crate::comparing::text;
 use crate::disks::{Disks, Lent};
 use crate::fault::Fault;
 use crate::tables::{FILE, remove_files, tell_again};

@@ -4,6 +4,7 @@ ghost use Rattle.std.specs.Prelude.{All, IfOk, IsTrue};
 ghost use Rattle.room_core.specs.Fits.{fits};
 
 use crate::fault::Fault;
+use crate::file_tables::FileTables;
 use crate::wires::{Served, Sides, serve};
 use room_core::{Event, Name, Reply};
 use room_lines::Line;
@@ -11,7 +12,7 @@ use room_rows::print_hex;
 use room_serve::{Outcome, run_events};
 use room_store::{Refused, Store, StoreFault};
 use sqlite::types::ValueRef;
-use sqlite::{Alter, Connection, File, FileStore, MemStore, Row};
+use sqlite::{Alter, Connection, MemStore, Row};
 use std::alloc::Global;
 use std::fs;
 use std::io::Write;
@@ -41,9 +42,15 @@ const OF_DEVICES: &str =
     "SELECT name, accepting, units FROM device, rates WHERE device = name ORDER BY device.rowid";
 
 /// Tables of any store. The connection is away during a use.
-#[derive(Drop)]
 pub struct Tables<S: Alter> {
     waiting: Option<Connection<S>>,
+}
+
+// It is written out, so that no caller proves again how a connection is dropped.
+impl<S: Alter + Drop> Drop for Tables<S> {
+    fn drop(self) {
+        let Tables { waiting: _ } = self;
+    }
 }
 
 impl Tables<MemStore> {
@@ -53,24 +60,29 @@ impl Tables<MemStore> {
     }
 }
 
-impl Tables<FileStore<File>> {
+impl<S: Alter + Drop> Tables<S> {
     /// New tables in the file.
-    pub fn in_file(rt: &HostRuntime) -> Result<Tables<FileStore<File>>, Fault> {
+    pub fn in_file<F: FileTables<Kept = Connection<S>>>(
+        rt: &HostRuntime,
+        files: &F,
+    ) -> Result<Tables<S>, Fault> {
         remove_files(rt);
-        Tables::create(rt, file(rt)?)
+        Tables::create(rt, file(rt, files)?)
     }
 
     /// Closes the file and opens it again.
-    pub fn reopen(&mut self, rt: &HostRuntime) -> Result<(), Fault> {
+    pub fn reopen<F: FileTables<Kept = Connection<S>>>(
+        &mut self,
+        rt: &HostRuntime,
+        files: &F,
+    ) -> Result<(), Fault> {
         if let Some(connection) = self.waiting.take() {
-            connection.close()?;
+            files.close(connection)?;
         }
-        self.waiting = Some(file(rt)?);
+        self.waiting = Some(file(rt, files)?);
         Ok(())
     }
-}
 
-impl<S: Alter + Drop> Tables<S> {
     /// Those that a connection has.
     pub fn of(connection: Connection<S>) -> Tables<S> {
         Tables {
@@ -93,7 +105,8 @@ impl<S: Alter + Drop> Tables<S> {
 
     /// The connection, at the end of all uses.
     pub fn end(self) -> Result<Connection<S>, Fault> {
-        self.waiting.ok_or(Fault::Away)
+        let Tables { waiting } = self;
+        waiting.ok_or(Fault::Away)
     }
 
     /// What is answered to a line's event at the moment. One that is refused for want of memory is
@@ -207,12 +220,12 @@ pub fn tell_again(rt: &HostRuntime) {
 }
 
 /// A connection to the file. Where it can't be opened, it is opened once more.
-fn file(rt: &HostRuntime) -> Result<Connection<FileStore<File>>, Fault> {
-    match Connection::open(rt, FILE) {
+fn file<F: FileTables>(rt: &HostRuntime, files: &F) -> Result<F::Kept, Fault> {
+    match files.open(FILE) {
         Ok(connection) => Ok(connection),
         Err(_) => {
             tell_again(rt);
-            Ok(Connection::open(rt, FILE)?)
+            Ok(files.open(FILE)?)
         }
     }
 }

@@ -1,10 +1,11 @@
 //! What is done by hand to the file of a row of runs.
 
 use crate::fault::Fault;
+use crate::file_tables::FileTables;
 use room_lines::Line;
 use room_rows::FileStep;
 use room_store::{Refused, Store};
-use sqlite::{Connection, File, FileStore};
+use sqlite::{Alter, Connection};
 use std::fs;
 
 /// It is made in the current folder, and removed, and so is the log beside it.
@@ -12,21 +13,32 @@ const FILE: &str = "room.db";
 
 const LOG: &str = "room.db-wal";
 
-/// A connection to it that is held open, if one is.
-#[derive(Drop)]
-pub struct Files {
-    held: Option<Connection<FileStore<File>>>,
+/// The file, with a connection to it that is held open, if one is.
+pub struct RoomFile<S: Alter> {
+    held: Option<Connection<S>>,
 }
 
-impl Files {
+// It is written out, so that no caller proves again how a connection is dropped.
+impl<S: Alter + Drop> Drop for RoomFile<S> {
+    fn drop(self) {
+        let RoomFile { held: _ } = self;
+    }
+}
+
+impl<S: Alter + Drop> RoomFile<S> {
     /// No file is there.
-    pub fn new(rt: &HostRuntime) -> Files {
+    pub fn new(rt: &HostRuntime) -> RoomFile<S> {
         remove(rt);
-        Files { held: None }
+        RoomFile { held: None }
     }
 
     /// Does the step, and tells what it looks for and is not so.
-    pub fn differs(&mut self, rt: &HostRuntime, step: &FileStep) -> Result<Option<String>, Fault> {
+    pub fn differs<F: FileTables<Kept = Connection<S>>>(
+        &mut self,
+        rt: &HostRuntime,
+        files: &F,
+        step: &FileStep,
+    ) -> Result<Option<String>, Fault> {
         let missing = match step {
             FileStep::Is(text) if fs::read_to_string(rt, FILE)?.as_str() != text.as_str() => {
                 "another text"
@@ -34,26 +46,27 @@ impl Files {
             FileStep::NoFile if fs::metadata(rt, FILE).is_ok() => "a file is there",
             FileStep::ALog if fs::metadata(rt, LOG).is_err() => "no log is there",
             step => {
-                self.take(rt, step)?;
+                self.take(rt, files, step)?;
                 return Ok(None);
             }
         };
         Ok(Some(String::from_str(rt.alloc(), missing)?))
     }
 
-    fn take(&mut self, rt: &HostRuntime, step: &FileStep) -> Result<(), Fault> {
+    fn take<F: FileTables<Kept = Connection<S>>>(
+        &mut self,
+        rt: &HostRuntime,
+        files: &F,
+        step: &FileStep,
+    ) -> Result<(), Fault> {
         match step {
-            FileStep::Sql(sql) => {
-                let mut connection = Connection::open(rt, FILE)?;
-                connection.execute(sql.as_str(), &[])?;
-                connection.close()?;
-            }
-            FileStep::Stopped(lines) => stop_behind(rt, lines.as_slice())?,
+            FileStep::Sql(sql) => change(files, sql.as_str())?,
+            FileStep::Stopped(lines) => stop_behind(rt, files, lines.as_slice())?,
             FileStep::Text(text) => fs::write(rt, FILE, text.as_bytes())?,
-            FileStep::Hold => self.held = Some(Connection::open(rt, FILE)?),
+            FileStep::Hold => self.held = Some(files.open(FILE)?),
             FileStep::LetGo => {
                 if let Some(connection) = self.held.take() {
-                    connection.close()?;
+                    files.close(connection)?;
                 }
             }
             FileStep::Is(_) | FileStep::NoFile | FileStep::ALog => {}
@@ -63,14 +76,28 @@ impl Files {
 
     /// Removes the file.
     pub fn end(self, rt: &HostRuntime) {
-        drop(self.held);
+        drop(self);
         remove(rt);
     }
 }
 
+fn change<S, F>(files: &F, sql: &str) -> Result<(), Fault>
+where
+    S: Alter + Drop,
+    F: FileTables<Kept = Connection<S>>,
+{
+    let mut connection = files.open(FILE)?;
+    connection.execute(sql, &[])?;
+    Ok(files.close(connection)?)
+}
+
 /// Gives the lines to a store over the file, which is not closed.
-fn stop_behind(rt: &HostRuntime, lines: &[Line]) -> Result<(), Fault> {
-    let mut store = match Store::open(Connection::open(rt, FILE)?) {
+fn stop_behind<S, F>(rt: &HostRuntime, files: &F, lines: &[Line]) -> Result<(), Fault>
+where
+    S: Alter + Drop,
+    F: FileTables<Kept = Connection<S>>,
+{
+    let mut store = match Store::open(files.open(FILE)?) {
         Ok(store) => store,
         Err(Refused { fault, .. }) => return Err(Fault::Open(fault)),
     };

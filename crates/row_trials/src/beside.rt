@@ -3,8 +3,8 @@
 //! its list whole, from one change by hand to the next, and in the end the account has to have been
 //! told the same, and to have the same rows.
 
-use crate::answers::{answered, set_next_job, skip_to, text};
-use crate::cells::differing;
+use crate::answers::{answered, set_next_job, skip_to};
+use crate::comparing::{differing, text};
 use crate::fault::Fault;
 use crate::tables::Tables;
 use room_core::Name;
@@ -41,12 +41,23 @@ const ALL_OFF: &str = "\
 
 /// One of the databases, the lines that wait for it, each with whether it is the account's own, and
 /// what was printed of the own ones.
-#[derive(Drop)]
 struct Side<'a> {
     tables: Tables<MemStore>,
     lines: Vec<&'a Line>,
     is_own: Vec<bool>,
     printed: Vec<u8>,
+}
+
+// It is written out, so that no caller proves again how each part is dropped.
+impl Drop for Side<'_> {
+    fn drop(self) {
+        let Side {
+            tables: _,
+            lines: _,
+            is_own: _,
+            printed: _,
+        } = self;
+    }
 }
 
 impl<'a> Side<'a> {
@@ -63,7 +74,8 @@ impl<'a> Side<'a> {
         match step {
             Step::Event(line) => {
                 self.lines.push(line)?;
-                Ok(self.is_own.push(is_own)?)
+                self.is_own.push(is_own)?;
+                Ok(())
             }
             Step::NextJob { account, number } => {
                 self.give(rt)?;
@@ -83,6 +95,12 @@ impl<'a> Side<'a> {
             self.take(rt, step, are_own)?;
         }
         Ok(())
+    }
+
+    /// Takes the account's last steps, and gives them.
+    fn take_last(&mut self, rt: &HostRuntime, steps: &'a [Step]) -> Result<(), Fault> {
+        self.take_all(rt, steps, true)?;
+        self.give(rt)
     }
 
     /// Gives the lines that wait to the store as one list.
@@ -111,7 +129,8 @@ impl<'a> Side<'a> {
         let Side {
             mut tables,
             mut printed,
-            ..
+            lines: _,
+            is_own: _,
         } = self;
         tables.print_account(account, &mut printed)?;
         tables.print_devices(&mut printed)?;
@@ -126,25 +145,37 @@ pub fn differs_beside(
     account: Name,
     steps: &[Step],
 ) -> Result<Option<String>, Fault> {
-    let fifty_jobs = steps_of(rt.alloc(), FIFTY_JOBS)?;
-    let between = asked_between(rt, account, steps)?;
     let ending = Conversation::read(rt.alloc(), ALL_OFF)?;
     let last = ending.steps(rt.alloc())?;
-    let (mut alone, mut beside) = (Side::new(rt)?, Side::new(rt)?);
-    beside.take_all(rt, fifty_jobs.as_slice(), false)?;
-    for (step, asked) in steps.iter().zip(between.iter()) {
-        alone.take(rt, step, true)?;
-        beside.take(rt, step, true)?;
-        beside.take_all(rt, asked.as_slice(), false)?;
-    }
-    alone.take_all(rt, last.as_slice(), true)?;
-    beside.take_all(rt, last.as_slice(), true)?;
-    alone.give(rt)?;
-    beside.give(rt)?;
+    let mut alone = Side::new(rt)?;
+    alone.take_all(rt, steps, true)?;
+    alone.take_last(rt, last.as_slice())?;
     if !alone.ends_with(ending.expected()) {
         return Ok(Some(String::from_str(rt.alloc(), "the printer is not stopped")?));
     }
-    differing(rt.alloc(), beside.whole(account)?, alone.whole(account)?)
+    let due = alone.whole(account)?;
+    let between = asked_between(rt, account, steps)?;
+    let found = told_beside(rt, account, steps, between.as_slice(), last.as_slice())?;
+    differing(rt.alloc(), found, due)
+}
+
+/// What the account was told beside the other, and its rows and those of devices.
+fn told_beside(
+    rt: &HostRuntime,
+    account: Name,
+    steps: &[Step],
+    between: &[Vec<Step>],
+    last: &[Step],
+) -> Result<String, Fault> {
+    let fifty_jobs = steps_of(rt.alloc(), FIFTY_JOBS)?;
+    let mut beside = Side::new(rt)?;
+    beside.take_all(rt, fifty_jobs.as_slice(), false)?;
+    for (step, asked) in steps.iter().zip(between.iter()) {
+        beside.take(rt, step, true)?;
+        beside.take_all(rt, asked.as_slice(), false)?;
+    }
+    beside.take_last(rt, last)?;
+    beside.whole(account)
 }
 
 fn steps_of(alloc: Global, asked: &str) -> Result<Vec<Step>, Fault> {

@@ -41,15 +41,27 @@ impl Display for DiskFile {
     }
 }
 
-/// What a connection over the two files stands on.
+/// What a connection over the two files stands on. A call on it takes long to prove, and one on any
+/// store does not: here are the calls that open and close it, and else each is one for a whole
+/// work.
 pub type OnDisks = FileStore<Fuse<Memory>>;
 
 /// The two files, which are away while a connection has them.
-#[derive(Drop)]
 pub struct Disks {
     alloc: Global,
     files: Option<Files<Fuse<Memory>>>,
     is_stopped: bool,
+}
+
+// It is written out, so that no caller proves again how the files are dropped.
+impl Drop for Disks {
+    fn drop(self) {
+        let Disks {
+            alloc: _,
+            files: _,
+            is_stopped: _,
+        } = self;
+    }
 }
 
 impl Disks {

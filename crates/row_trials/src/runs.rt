@@ -1,27 +1,46 @@
 //! Rows of runs, held against the program.
 
 use crate::fault::Fault;
-use crate::files::Files;
+use crate::file_tables::FileTables;
+use crate::room_file::RoomFile;
 use room_commands::run_on;
 use room_rows::{Run, RunStep, run_steps};
+use sqlite::{Alter, Connection};
 
 /// Where a row of runs differs first. They share a file, which is not there before the first of
 /// them, and is removed.
-pub fn differs(rt: &HostRuntime, lines: &str) -> Result<Option<String>, Fault> {
+pub fn differs<S, F>(rt: &HostRuntime, files: &F, lines: &str) -> Result<Option<String>, Fault>
+where
+    S: Alter + Drop,
+    F: FileTables<Kept = Connection<S>>,
+{
     let steps = run_steps(rt.alloc(), lines)?;
-    let mut files = Files::new(rt);
-    let mut differs = None;
-    for step in steps.as_slice() {
-        differs = match step {
+    let mut room = RoomFile::new(rt);
+    let differs = first_that_differs(rt, files, steps.as_slice(), &mut room)?;
+    room.end(rt);
+    Ok(differs)
+}
+
+fn first_that_differs<S, F>(
+    rt: &HostRuntime,
+    files: &F,
+    steps: &[RunStep],
+    room: &mut RoomFile<S>,
+) -> Result<Option<String>, Fault>
+where
+    S: Alter + Drop,
+    F: FileTables<Kept = Connection<S>>,
+{
+    for step in steps {
+        let differs = match step {
             RunStep::Run(run) => run_differs(rt, run)?,
-            RunStep::File(step) => files.differs(rt, step)?,
+            RunStep::File(step) => room.differs(rt, files, step)?,
         };
         if differs.is_some() {
-            break;
+            return Ok(differs);
         }
     }
-    files.end(rt);
-    Ok(differs)
+    Ok(None)
 }
 
 fn run_differs(rt: &HostRuntime, run: &Run) -> Result<Option<String>, Fault> {

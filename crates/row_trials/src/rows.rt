@@ -5,8 +5,10 @@
 use crate::answers::WAYS;
 use crate::exchanges::{PIECES, answers};
 use crate::fault::Fault;
+use crate::file_tables::FileTables;
 use crate::{failing, runs, stopped};
 use room_rows::{Conversation, Exchange, difference};
+use sqlite::{Alter, Connection};
 use std::fs;
 use std::io::Write;
 
@@ -33,18 +35,31 @@ impl Kind {
     }
 
     /// Where a row with these lines does not hold, what differs.
-    fn differs(self, rt: &HostRuntime, lines: &str) -> Result<Option<String>, Fault> {
+    fn differs<S, F>(
+        self,
+        rt: &HostRuntime,
+        files: &F,
+        lines: &str,
+    ) -> Result<Option<String>, Fault>
+    where
+        S: Alter + Drop,
+        F: FileTables<Kept = Connection<S>>,
+    {
         match self {
-            Kind::Conversations => conversation_differs(rt, lines),
+            Kind::Conversations => conversation_differs(rt, files, lines),
             Kind::Exchanges => exchange_differs(rt, lines),
-            Kind::Runs => runs::differs(rt, lines),
+            Kind::Runs => runs::differs(rt, files, lines),
             Kind::Stops => stopped::differs(rt, lines),
         }
     }
 }
 
 /// Whether each row of the file holds. Of one that does not what differs is printed.
-pub fn hold(rt: &HostRuntime, file: &str) -> Result<bool, Fault> {
+pub fn hold<S, F>(rt: &HostRuntime, files: &F, file: &str) -> Result<bool, Fault>
+where
+    S: Alter + Drop,
+    F: FileTables<Kept = Connection<S>>,
+{
     let text = fs::read_to_string(rt, file)?;
     let Some(text) = text.as_str().strip_prefix("# ") else {
         return Err(Fault::NoTitle);
@@ -53,7 +68,7 @@ pub fn hold(rt: &HostRuntime, file: &str) -> Result<bool, Fault> {
     let (mut holding, mut failing) = (0u64, 0u64);
     for row in text.split("\n# ") {
         let (title, lines) = row.split_once('\n').unwrap_or((row, ""));
-        match kind.differs(rt, lines)? {
+        match kind.differs(rt, files, lines)? {
             None => holding = holding.saturating_add(1),
             Some(differs) => {
                 failing = failing.saturating_add(1);
@@ -69,11 +84,19 @@ pub fn hold(rt: &HostRuntime, file: &str) -> Result<bool, Fault> {
 /// row says so in a file, and the program on a script, in memory and on a file, each in a run of
 /// its own, have to answer what the row says. A row that changes tables by hand says nothing of
 /// rooms.
-fn conversation_differs(rt: &HostRuntime, lines: &str) -> Result<Option<String>, Fault> {
+fn conversation_differs<S, F>(
+    rt: &HostRuntime,
+    files: &F,
+    lines: &str,
+) -> Result<Option<String>, Fault>
+where
+    S: Alter + Drop,
+    F: FileTables<Kept = Connection<S>>,
+{
     let talk = Conversation::read(rt.alloc(), lines)?;
     let steps = talk.steps(rt.alloc())?;
     for way in WAYS {
-        let Some(answered) = way.answers(rt, &talk, steps.as_slice())? else {
+        let Some(answered) = way.answers(rt, files, &talk, steps.as_slice())? else {
             continue;
         };
         if let Some((answered, expected)) = difference(answered.as_str(), talk.expected()) {

@@ -6,10 +6,9 @@
 //! A row is a script, which runs on a new database. Behind the line `migrated` its steps make a
 //! database of version 1 instead, and the program migrates it.
 
-use crate::answers::{take, text};
-use crate::cells::differing;
-use crate::disks::{DISK_FILES, Disks};
-use crate::exchanges::rows_of;
+use crate::answers::take;
+use crate::comparing::{differing, rows_of, text};
+use crate::disks::{DISK_FILES, DiskFile, Disks};
 use crate::fault::Fault;
 use crate::found::Found;
 use crate::migrated;
@@ -41,18 +40,10 @@ fn script_differs(rt: &HostRuntime, talk: &Conversation) -> Result<Option<String
         return Ok(Some(differs));
     }
     for file in DISK_FILES {
-        for calls in 0..u64::MAX {
-            let mut disks = Disks::stopping(rt.alloc(), file, calls, b"")?;
-            let end = whole.run(rt, &mut disks, script.as_str())?;
-            let is_stopped = disks.is_stopped() || !whole.is_last(end);
-            if !whole.is_due(rt.alloc(), end, disks)? {
-                return Ok(Some(format!(in rt.alloc();
-                    "{file} that stops behind {calls} calls, {end}"
-                )?));
-            }
-            if !is_stopped {
-                break;
-            }
+        if let Some((calls, end)) = whole.differs(rt, file, script.as_str())? {
+            return Ok(Some(format!(in rt.alloc();
+                "{file} that stops behind {calls} calls, {end}"
+            )?));
         }
     }
     Ok(None)
@@ -120,6 +111,28 @@ impl Whole {
         })
     }
 
+    /// Behind how many calls a run comes to something else, where the file stops behind them, and
+    /// what it comes to.
+    fn differs(
+        &self,
+        rt: &HostRuntime,
+        file: DiskFile,
+        script: &str,
+    ) -> Result<Option<(u64, End)>, Fault> {
+        for calls in 0..u64::MAX {
+            let mut disks = Disks::stopping(rt.alloc(), file, calls, b"")?;
+            let end = self.run(rt, &mut disks, script)?;
+            let is_stopped = disks.is_stopped() || !self.is_last(end);
+            if !self.is_due(rt.alloc(), end, disks)? {
+                return Ok(Some((calls, end)));
+            }
+            if !is_stopped {
+                break;
+            }
+        }
+        Ok(None)
+    }
+
     /// A run of the program on a new database over the disks.
     fn run(&self, rt: &HostRuntime, disks: &mut Disks, script: &str) -> Result<End, Fault> {
         let created = on_disks(rt.alloc(), disks, "create", "")?;
@@ -156,26 +169,21 @@ impl Whole {
             End::Answered(events) => (events, false),
             End::Other => return Ok(false),
         };
-        let mut both = Found::both(disks)?;
-        for found in both.iter_mut() {
-            match found.fault {
-                None => {}
-                Some(OpenFault::NotOurs) if may_be_none => continue,
-                Some(_) => return Ok(false),
-            }
-            let rows = found.rows(alloc)?;
-            let is_before = self.has_rows(events, rows.as_slice());
-            if !is_before && !self.has_rows(events.saturating_add(1), rows.as_slice()) {
-                return Ok(false);
-            }
-        }
-        Ok(true)
+        let both = Found::both(alloc, disks)?;
+        Ok(
+            both.iter().all(|found| match found.fault {
+                None => self.is_behind(events, found)
+                    || self.is_behind(events.saturating_add(1), found),
+                Some(OpenFault::NotOurs) => may_be_none,
+                Some(_) => false,
+            }),
+        )
     }
 
-    /// Whether these are the rows behind so many events.
-    fn has_rows(&self, events: usize, rows: &[u8]) -> bool {
+    /// Whether what is found has the rows behind so many events.
+    fn is_behind(&self, events: usize, found: &Found) -> bool {
         match self.rows.get(events) {
-            Some(due) => due.as_slice() == rows,
+            Some(due) => found.has_rows(due.as_slice()),
             None => false,
         }
     }

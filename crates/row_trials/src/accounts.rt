@@ -1,0 +1,55 @@
+//! The two accounts of a list of events, and the steps of each.
+
+use crate::fault::Fault;
+use room_core::Name;
+use room_rows::{Conversation, Step};
+use std::alloc::Global;
+
+pub const ACCOUNTS: [&str; 2] = ["alice", "bob"];
+
+/// How many steps the second account comes behind the first.
+pub const BEHIND: usize = 5;
+
+/// One of the accounts, and its steps.
+#[derive(Drop)]
+pub struct Player {
+    pub account: Name,
+    pub steps: Vec<Step>,
+}
+
+impl Player {
+    pub fn of(alloc: Global, list: &str, name: &str) -> Result<Player, Fault> {
+        let list = list.replace(alloc, "@", name)?;
+        Ok(Player {
+            account: account_of(name)?,
+            steps: Conversation::read(alloc, list.as_str())?.steps(alloc)?,
+        })
+    }
+}
+
+pub fn account_of(name: &str) -> Result<Name, Fault> {
+    match Name::read(name.as_bytes()) {
+        Some(account) => Ok(account),
+        None => Err(Fault::Name),
+    }
+}
+
+/// The steps of both accounts in turns, those of the second behind.
+pub fn in_turns<'a>(
+    alloc: Global,
+    firsts: &'a [Step],
+    seconds: &'a [Step],
+) -> Result<Vec<&'a Step>, Fault> {
+    let mut steps = Vec::new(alloc);
+    for at in 0..firsts.len().saturating_add(BEHIND) {
+        if let Some(step) = firsts.get(at) {
+            steps.push(step)?;
+        }
+        if BEHIND <= at
+            && let Some(step) = seconds.get(at - BEHIND)
+        {
+            steps.push(step)?;
+        }
+    }
+    Ok(steps)
+}

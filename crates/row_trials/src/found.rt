@@ -1,0 +1,75 @@
+//! A database as the next run finds it behind one over disks that stopped.
+
+use crate::comparing::print_accounts;
+use crate::disks::{Disks, Lent};
+use crate::fault::Fault;
+use crate::tables::{FILE, Tables};
+use room_commands::Opener;
+use room_store::{OpenFault, Refused, Store};
+use sqlite::{Alter, Connection};
+use std::alloc::Global;
+
+/// What is found.
+#[derive(Drop)]
+pub struct Found {
+    /// Why there is no store over it, if there is none.
+    pub fault: Option<OpenFault>,
+    /// The rows of both accounts, in a store and in a database of version 1.
+    pub accounts: Vec<u8>,
+    /// Those of the devices, in a store.
+    devices: Vec<u8>,
+}
+
+impl Found {
+    /// Where all that was written is there, and where what was not synced is lost.
+    pub fn both(alloc: Global, disks: Disks) -> Result<[Found; 2], Fault> {
+        let copied = disks.copied()?;
+        Ok([
+            Found::on(alloc, copied)?,
+            Found::on(alloc, disks.crashed())?,
+        ])
+    }
+
+    fn on(alloc: Global, mut disks: Disks) -> Result<Found, Fault> {
+        Found::by(alloc, Lent(&mut disks))
+    }
+
+    fn by<S, F>(alloc: Global, mut opener: F) -> Result<Found, Fault>
+    where
+        S: Alter + Drop,
+        F: Opener<Kept = Connection<S>> + Drop,
+    {
+        let opened = opener.open(FILE).map_err(Fault::Open)?;
+        let (connection, fault) = match Store::open(opened) {
+            Ok(store) => (store.close(), None),
+            Err(Refused { connection, fault }) => (connection, Some(fault)),
+        };
+        let mut found = Found {
+            fault,
+            accounts: Vec::new(alloc),
+            devices: Vec::new(alloc),
+        };
+        found.read(&mut Tables::of(connection))?;
+        Ok(found)
+    }
+
+    /// Reads the rows that can be there.
+    fn read<S: Alter + Drop>(&mut self, tables: &mut Tables<S>) -> Result<(), Fault> {
+        match self.fault {
+            None => {
+                print_accounts(tables, &mut self.accounts)?;
+                tables.print_devices(&mut self.devices)
+            }
+            Some(OpenFault::WrongVersion(1)) => print_accounts(tables, &mut self.accounts),
+            Some(_) => Ok(()),
+        }
+    }
+
+    /// Whether these are the rows of both accounts and of the devices.
+    pub fn has_rows(&self, rows: &[u8]) -> bool {
+        match rows.strip_prefix(self.accounts.as_slice()) {
+            Some(devices) => devices == self.devices.as_slice(),
+            None => false,
+        }
+    }
+}

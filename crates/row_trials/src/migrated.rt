@@ -1,0 +1,140 @@
+//! A database of version 1 that is migrated over storage that stops: it is found as one of version
+//! 1 or of version 2 then, and every account has the rows that it had.
+
+use crate::answers::take;
+use crate::comparing::print_accounts;
+use crate::disks::{DISK_FILES, DiskFile, Disks, Lent};
+use crate::fault::Fault;
+use crate::found::Found;
+use crate::program::on_disks;
+use crate::stopped::unexpected;
+use crate::tables::{FILE, Tables};
+use room_commands::Opener;
+use room_rows::Conversation;
+use room_store::OpenFault;
+use sqlite::{Alter, Connection};
+use std::alloc::Global;
+
+/// Where the row differs first.
+pub fn differs(rt: &HostRuntime, talk: &Conversation) -> Result<Option<String>, Fault> {
+    let first = match First::made(rt, talk)? {
+        Ok(first) => first,
+        Err(differs) => return Ok(Some(differs)),
+    };
+    for file in DISK_FILES {
+        if let Some(calls) = first.differs(rt.alloc(), file)? {
+            return Ok(Some(format!(in rt.alloc(); "{file} that stops behind {calls} calls")?));
+        }
+    }
+    Ok(None)
+}
+
+/// What a run came to that may be stopped.
+#[derive(Clone, Copy)]
+enum Came {
+    /// Nothing stopped it.
+    Whole,
+    Due,
+    Otherwise,
+}
+
+/// A database of version 1.
+#[derive(Drop)]
+struct First {
+    /// The bytes of its file.
+    database: Vec<u8>,
+    /// The rows of both accounts.
+    rows: Vec<u8>,
+}
+
+impl First {
+    /// That of the steps, or where they are answered otherwise than expected.
+    fn made(rt: &HostRuntime, talk: &Conversation) -> Result<Result<First, String>, Fault> {
+        let alloc = rt.alloc();
+        let mut disks = Disks::stopping(alloc, DiskFile::Log, u64::MAX, b"")?;
+        let made = match made(rt, talk, Lent(&mut disks))? {
+            Ok(rows) => rows,
+            Err(differs) => return Ok(Err(differs)),
+        };
+        let mut database = Vec::new(alloc);
+        database.extend_from_slice(disks.database()?)?;
+        Ok(Ok(First {
+            database,
+            rows: made,
+        }))
+    }
+
+    /// Behind how many calls the run comes to something else, where the file stops behind them.
+    fn differs(&self, alloc: Global, file: DiskFile) -> Result<Option<u64>, Fault> {
+        for calls in 0..u64::MAX {
+            match self.run(alloc, file, calls)? {
+                Came::Whole => break,
+                Came::Due => {}
+                Came::Otherwise => return Ok(Some(calls)),
+            }
+        }
+        Ok(None)
+    }
+
+    fn run(&self, alloc: Global, file: DiskFile, calls: u64) -> Result<Came, Fault> {
+        let mut disks = Disks::stopping(alloc, file, calls, self.database.as_slice())?;
+        let told = on_disks(alloc, &mut disks, "migrate", "")?;
+        let is_ok = told.is_ok();
+        let is_told = is_ok || told.gave_up() && told.output.is_empty();
+        let is_stopped = disks.is_stopped() || !is_ok;
+        if !is_told || !self.is_due(alloc, is_ok, disks)? {
+            return Ok(Came::Otherwise);
+        }
+        Ok(if is_stopped { Came::Due } else { Came::Whole })
+    }
+
+    /// Whether it is found as a run may leave it, which told that it was migrated or did not.
+    fn is_due(&self, alloc: Global, is_told: bool, disks: Disks) -> Result<bool, Fault> {
+        let both = Found::both(alloc, disks)?;
+        Ok(
+            both.iter().all(|found| {
+                let is_due = match found.fault {
+                    None => true,
+                    Some(OpenFault::WrongVersion(1)) => !is_told,
+                    Some(_) => false,
+                };
+                is_due && found.accounts.as_slice() == self.rows.as_slice()
+            }),
+        )
+    }
+}
+
+/// Makes the database, and tells the rows of both accounts, or where the steps are answered
+/// otherwise than expected.
+fn made<S, F>(
+    rt: &HostRuntime,
+    talk: &Conversation,
+    mut opener: F,
+) -> Result<Result<Vec<u8>, String>, Fault>
+where
+    S: Alter + Drop,
+    F: Opener<Kept = Connection<S>> + Drop,
+{
+    let mut tables = Tables::create(rt, opener.open(FILE).map_err(Fault::Open)?)?;
+    let printed = printed_by(rt, talk, &mut tables)?;
+    if let Some(differs) = unexpected(rt.alloc(), printed.as_slice(), talk)? {
+        return Ok(Err(differs));
+    }
+    let mut rows = Vec::new(rt.alloc());
+    print_accounts(&mut tables, &mut rows)?;
+    opener.close(tables.end()?);
+    Ok(Ok(rows))
+}
+
+fn printed_by<S: Alter + Drop>(
+    rt: &HostRuntime,
+    talk: &Conversation,
+    tables: &mut Tables<S>,
+) -> Result<Vec<u8>, Fault> {
+    let steps = talk.steps(rt.alloc())?;
+    let mut printed = Vec::new(rt.alloc());
+    for step in steps.as_slice() {
+        take(rt, tables, step, &mut printed)?;
+    }
+    Ok(printed)
+}

@@ -1,0 +1,187 @@
+//! A list of events of both accounts that comes over connections, beside the same list given to a
+//! store event by event: each answer has to be the store's, and in the end the rows have to be the
+//! same. It comes in two ways: as `listen` takes it, IPP over HTTP and the other events beside it;
+//! and to one process that serves everybody, IPP over HTTP and lines.
+
+use crate::accounts::in_turns;
+use crate::answers::set_next_job;
+use crate::comparing::{differing, rows_text};
+use crate::fault::Fault;
+use crate::front::{answer_line, answer_request, serve};
+use crate::tables::Tables;
+use crate::wires::WHOLE;
+use room_core::{Event, Name, Reply};
+use room_lines::Line;
+use room_rows::{Carriage, Step, http_answer, http_request, line_answer, served_answer};
+use room_served::Served;
+use sqlite::MemStore;
+use std::alloc::Global;
+
+/// A body of more bytes ends the connection to one process that serves everybody.
+const LONG_BODY: usize = 1_048_576;
+
+/// The three databases, and how many requests came so far.
+pub struct Wired {
+    by_http: Tables<MemStore>,
+    /// Away while rows are changed by hand.
+    by_front: Option<Served<MemStore>>,
+    by_store: Tables<MemStore>,
+    requests: u64,
+}
+
+// It is written out, so that no caller proves again how each part is dropped.
+impl Drop for Wired {
+    fn drop(self) {
+        let Wired {
+            by_http: _,
+            by_front: _,
+            by_store: _,
+            requests: _,
+        } = self;
+    }
+}
+
+impl Wired {
+    pub fn new(rt: &HostRuntime) -> Result<Wired, Fault> {
+        Ok(Wired {
+            by_http: Tables::in_memory(rt)?,
+            by_front: Some(serve(rt, Tables::in_memory(rt)?)?),
+            by_store: Tables::in_memory(rt)?,
+            requests: 0,
+        })
+    }
+
+    /// Where the databases differ in an answer, or in their rows in the end, what is found over
+    /// connections and what is due.
+    pub fn run(
+        mut self,
+        rt: &HostRuntime,
+        firsts: &[Step],
+        seconds: &[Step],
+    ) -> Result<Option<String>, Fault> {
+        let steps = in_turns(rt.alloc(), firsts, seconds)?;
+        for step in steps.as_slice() {
+            if let Some(differs) = self.take(rt, step)? {
+                return Ok(Some(differs));
+            }
+        }
+        self.rows_differ(rt.alloc())
+    }
+
+    fn rows_differ(&mut self, alloc: Global) -> Result<Option<String>, Fault> {
+        let due = rows_text(alloc, &mut self.by_store)?;
+        let found = rows_text(alloc, &mut self.front_tables()?)?;
+        if let Some(differs) = differing(alloc, found, due.clone()?)? {
+            return Ok(Some(differs));
+        }
+        differing(alloc, rows_text(alloc, &mut self.by_http)?, due)
+    }
+
+    fn take(&mut self, rt: &HostRuntime, step: &Step) -> Result<Option<String>, Fault> {
+        match step {
+            Step::Event(line) => self.take_event(rt, line),
+            Step::NextJob { account, number } => {
+                self.skip_to(rt, *account, *number)?;
+                Ok(None)
+            }
+            Step::Sql(_) => Err(Fault::ByHand),
+        }
+    }
+
+    fn skip_to(&mut self, rt: &HostRuntime, account: Name, number: u32) -> Result<(), Fault> {
+        let mut tables = self.front_tables()?;
+        set_next_job(&mut tables, account, number)?;
+        self.by_front = Some(serve(rt, tables)?);
+        set_next_job(&mut self.by_http, account, number)?;
+        set_next_job(&mut self.by_store, account, number)
+    }
+
+    /// The tables of the process that serves everybody, which is away then.
+    fn front_tables(&mut self) -> Result<Tables<MemStore>, Fault> {
+        match self.by_front.take() {
+            Some(served) => Ok(Tables::of(served.into_store().close())),
+            None => Err(Fault::Away),
+        }
+    }
+
+    fn take_event(&mut self, rt: &HostRuntime, line: &Line) -> Result<Option<String>, Fault> {
+        let reply = self
+            .by_store
+            .apply(rt, line.moment, line)?
+            .map_err(Fault::Tables)?;
+        match line.action.event() {
+            Event::Ipp { account, body } => {
+                self.take_request(rt, line.moment, account, body, &reply)
+            }
+            _ => self.take_line(rt, line, &reply),
+        }
+    }
+
+    fn take_line(
+        &mut self,
+        rt: &HostRuntime,
+        line: &Line,
+        reply: &Reply,
+    ) -> Result<Option<String>, Fault> {
+        let _ = self.by_http.apply(rt, line.moment, line)?;
+        let Some(served) = &mut self.by_front else {
+            return Err(Fault::Away);
+        };
+        let told = answer_line(rt, served, line)?;
+        let due = line_answer(rt.alloc(), reply)?;
+        other_answer(rt.alloc(), "a line", told.as_slice() == due.as_slice())
+    }
+
+    fn take_request(
+        &mut self,
+        rt: &HostRuntime,
+        moment: u64,
+        account: Name,
+        body: &[u8],
+        reply: &Reply,
+    ) -> Result<Option<String>, Fault> {
+        self.requests = self.requests.saturating_add(1);
+        let requests = self.requests;
+        let carriage = Carriage::of_turn(requests);
+        let request = http_request(rt.alloc(), account, body, carriage)?;
+        let request = request.as_slice();
+        let by_http = self.is_due_by_http(rt, moment, request, reply)?;
+        let due = served_answer(rt.alloc(), reply, body.len() > LONG_BODY)?;
+        let by_front = self.is_due_by_front(rt, moment, request, due.as_slice())?;
+        let place = format!(in rt.alloc(); "request {requests}")?;
+        other_answer(rt.alloc(), place.as_str(), by_http && by_front)
+    }
+
+    fn is_due_by_http(
+        &mut self,
+        rt: &HostRuntime,
+        moment: u64,
+        request: &[u8],
+        reply: &Reply,
+    ) -> Result<bool, Fault> {
+        let served = self.by_http.serve(rt, moment, request, WHOLE, 1)?;
+        let due = http_answer(rt.alloc(), reply)?;
+        Ok(served.written.as_slice() == due.as_slice() && served.left == 0)
+    }
+
+    fn is_due_by_front(
+        &mut self,
+        rt: &HostRuntime,
+        moment: u64,
+        request: &[u8],
+        due: &[u8],
+    ) -> Result<bool, Fault> {
+        let Some(served) = &mut self.by_front else {
+            return Err(Fault::Away);
+        };
+        Ok(answer_request(rt, served, moment, request)?.as_slice() == due)
+    }
+}
+
+/// What differs where an answer is not the one that is due.
+fn other_answer(alloc: Global, place: &str, is_due: bool) -> Result<Option<String>, Fault> {
+    if is_due {
+        return Ok(None);
+    }
+    Ok(Some(format!(in alloc; "another answer to {place}")?))
+}
