@@ -140,7 +140,7 @@ impl Change {
                     || account.next_job < 1
                     || account.next_job > LAST_JOB + 1
                 {
-                    return Err(Fault::Filling);
+                    return Err(Fault::Range);
                 }
                 set_account(transaction, *name, *account)
             }
@@ -150,7 +150,7 @@ impl Change {
             Change::Grant { name, month, pages } => set_grant(transaction, *name, *month, *pages),
             Change::NewJob { name, job } => {
                 if !job.standing.is_in_range() {
-                    return Err(Fault::Filling);
+                    return Err(Fault::Range);
                 }
                 add_job(transaction, *name, job)?;
                 Ok(())
@@ -161,7 +161,7 @@ impl Change {
                 standing,
             } => {
                 if !standing.is_in_range() {
-                    return Err(Fault::Filling);
+                    return Err(Fault::Range);
                 }
                 set_standing(transaction, *name, *job, standing)
             }

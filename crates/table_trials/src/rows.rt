@@ -6,18 +6,25 @@
 use crate::command::Command;
 use crate::database::{Database, read_text, tell_again};
 use crate::fault::{Fault, Wrong};
+use crate::file_tables::FileTables;
 use crate::script::Script;
+use sqlite::{Alter, Connection};
 use std::io::Write;
 
-/// Whether each row of the file holds.
-pub fn hold(rt: &HostRuntime, file: &str) -> Result<bool, Fault> {
+/// Whether each row of the file holds. Prints how many do, and of one that does not what is
+/// answered instead. `files` has the databases that rows keep in files.
+pub fn hold<S, F>(rt: &HostRuntime, file: &str, files: &F) -> Result<bool, Fault>
+where
+    S: Alter + Drop,
+    F: FileTables<Kept = Connection<S>>,
+{
     let text = read_text(rt, file)?;
     let Some(text) = text.as_str().strip_prefix("# ") else {
         return Err(Fault::Notation(Wrong::NoTitle));
     };
     let (mut holding, mut failing) = (0u64, 0u64);
     for row in text.split("\n# ") {
-        if holds(rt, file, row)? {
+        if holds(rt, file, row, files)? {
             holding = holding.saturating_add(1);
         } else {
             failing = failing.saturating_add(1);
@@ -28,16 +35,13 @@ pub fn hold(rt: &HostRuntime, file: &str) -> Result<bool, Fault> {
 }
 
 /// Whether a row holds. Where it does not, the first line that is another is printed.
-fn holds(rt: &HostRuntime, file: &str, row: &str) -> Result<bool, Fault> {
+fn holds<S, F>(rt: &HostRuntime, file: &str, row: &str, files: &F) -> Result<bool, Fault>
+where
+    S: Alter + Drop,
+    F: FileTables<Kept = Connection<S>>,
+{
     let (title, lines) = row.split_once('\n').unwrap_or((row, ""));
-    let outcome = match run(rt, lines) {
-        Err(Fault::Memory) => {
-            tell_again(rt);
-            run(rt, lines)
-        }
-        outcome => outcome,
-    };
-    let outcome = match outcome {
+    let outcome = match outcome_of(rt, lines, files) {
         Ok(outcome) => outcome,
         Err(fault) => {
             writeln!(rt.stderr(), "{file}: {title}")?;
@@ -64,13 +68,28 @@ struct Outcome {
     expected: String,
 }
 
-fn run(rt: &HostRuntime, lines: &str) -> Result<Outcome, Fault> {
+fn outcome_of<S, F>(rt: &HostRuntime, lines: &str, files: &F) -> Result<Outcome, Fault>
+where
+    S: Alter + Drop,
+    F: FileTables<Kept = Connection<S>>,
+{
+    match run(rt, lines, files) {
+        Err(Fault::Memory) => {
+            tell_again(rt);
+            run(rt, lines, files)
+        }
+        outcome => outcome,
+    }
+}
+
+fn run<S, F>(rt: &HostRuntime, lines: &str, files: &F) -> Result<Outcome, Fault>
+where
+    S: Alter + Drop,
+    F: FileTables<Kept = Connection<S>>,
+{
     let script = Script::read(rt.alloc(), lines)?;
     let mut output = Vec::new(rt.alloc());
-    let mut database = Database::new(rt)?;
-    for line in script.commands.as_slice() {
-        database = run_line(rt, database, line.as_str(), &mut output)?;
-    }
+    run_lines(rt, script.commands.as_slice(), files, &mut output)?;
     let Ok(answered) = String::from_utf8(output) else {
         return Err(Fault::Notation(Wrong::Answer));
     };
@@ -80,23 +99,51 @@ fn run(rt: &HostRuntime, lines: &str) -> Result<Outcome, Fault> {
     })
 }
 
-fn run_line(
+fn run_lines<S, F>(
     rt: &HostRuntime,
-    database: Database,
-    line: &str,
+    lines: &[String],
+    files: &F,
     output: &mut Vec<u8>,
-) -> Result<Database, Fault> {
-    let command = match Command::read(rt.alloc(), line) {
-        Err(Fault::Notation(why)) => {
-            writeln!(rt.stderr(), "{line}")?;
-            return Err(Fault::Notation(why));
-        }
-        command => command?,
-    };
-    let (database, answer) = database.run(rt, &command)?;
+) -> Result<(), Fault>
+where
+    S: Alter + Drop,
+    F: FileTables<Kept = Connection<S>>,
+{
+    let mut database = Database::new(rt)?;
+    for line in lines {
+        database = run_line(rt, database, line.as_str(), files, output)?;
+    }
+    Ok(())
+}
+
+/// The database behind a line, whose answer is printed.
+fn run_line<S, F>(
+    rt: &HostRuntime,
+    database: Database<S>,
+    line: &str,
+    files: &F,
+    output: &mut Vec<u8>,
+) -> Result<Database<S>, Fault>
+where
+    S: Alter + Drop,
+    F: FileTables<Kept = Connection<S>>,
+{
+    let command = command_of(rt, line)?;
+    let (database, answer) = database.run(rt, &command, files)?;
     match answer.print(output) {
         Ok(()) => Ok(database),
         Err(_) => Err(Fault::Memory),
+    }
+}
+
+/// The command that a line is. One that is none is told.
+fn command_of<'a>(rt: &HostRuntime, line: &'a str) -> Result<Command<'a>, Fault> {
+    match Command::read(rt.alloc(), line) {
+        Err(Fault::Notation(why)) => {
+            writeln!(rt.stderr(), "{line}")?;
+            Err(Fault::Notation(why))
+        }
+        command => command,
     }
 }
 

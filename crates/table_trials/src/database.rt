@@ -4,39 +4,59 @@
 use crate::answer::Answer;
 use crate::command::{Command, StoreCall};
 use crate::fault::{Fault, Wrong};
+use crate::file_tables::FileTables;
 use room_store::{OpenFault, Refused, Store};
-use sqlite::{Alter, Connection, File, FileStore, MemStore};
+use sqlite::{Alter, Connection, MemStore};
 use std::fs;
 use std::io::Write;
 
-#[derive(Drop)]
-pub enum Database {
+/// In memory, or in a file whose store is an `S`.
+pub enum Database<S: Alter> {
     Memory(Connection<MemStore>),
-    File(Connection<FileStore<File>>),
+    File(Connection<S>),
 }
 
-impl Database {
+// It is written out, so that a function does not prove at each of its exits how either is dropped.
+impl<S: Alter + Drop> Drop for Database<S> {
+    fn drop(self) {
+        match self {
+            Database::Memory(_) => {}
+            Database::File(_) => {}
+        }
+    }
+}
+
+impl<S: Alter + Drop> Database<S> {
     /// An empty one in memory.
-    pub fn new(rt: &HostRuntime) -> Result<Database, Fault> {
+    pub fn new(rt: &HostRuntime) -> Result<Database<S>, Fault> {
         Ok(Database::Memory(Connection::open_in_memory(rt.alloc())?))
     }
 
-    fn in_file(rt: &HostRuntime, name: &str) -> Result<Database, Fault> {
-        match Connection::open(rt, name) {
+    fn in_file<F: FileTables<Kept = Connection<S>>>(
+        rt: &HostRuntime,
+        name: &str,
+        files: &F,
+    ) -> Result<Database<S>, Fault> {
+        match files.open(name) {
             Ok(connection) => Ok(Database::File(connection)),
             Err(_) => {
                 tell_again(rt);
-                Ok(Database::File(Connection::open(rt, name)?))
+                Ok(Database::File(files.open(name)?))
             }
         }
     }
 
     /// The database after a command, and what the command answers.
-    pub fn run(self, rt: &HostRuntime, command: &Command<'_>) -> Result<(Database, Answer), Fault> {
+    pub fn run<F: FileTables<Kept = Connection<S>>>(
+        self,
+        rt: &HostRuntime,
+        command: &Command<'_>,
+        files: &F,
+    ) -> Result<(Database<S>, Answer), Fault> {
         match command {
             Command::File(name) => {
                 drop(self);
-                Ok((Database::in_file(rt, name)?, Answer::Ok))
+                Ok((Database::in_file(rt, name, files)?, Answer::Ok))
             }
             Command::Memory => Ok((Database::new(rt)?, Answer::Ok)),
             Command::Remove(name) => {
@@ -44,16 +64,24 @@ impl Database {
                 let _ = fs::remove_file(rt, name);
                 Ok((Database::new(rt)?, Answer::Ok))
             }
-            _ => match self {
-                Database::Memory(connection) => {
-                    let (connection, answer) = run_on(rt, connection, command)?;
-                    Ok((Database::Memory(connection), answer))
-                }
-                Database::File(connection) => {
-                    let (connection, answer) = run_on(rt, connection, command)?;
-                    Ok((Database::File(connection), answer))
-                }
-            },
+            command => self.run_here(rt, command),
+        }
+    }
+
+    fn run_here(
+        self,
+        rt: &HostRuntime,
+        command: &Command<'_>,
+    ) -> Result<(Database<S>, Answer), Fault> {
+        match self {
+            Database::Memory(connection) => {
+                let (connection, answer) = run_on(rt, connection, command)?;
+                Ok((Database::Memory(connection), answer))
+            }
+            Database::File(connection) => {
+                let (connection, answer) = run_on(rt, connection, command)?;
+                Ok((Database::File(connection), answer))
+            }
         }
     }
 }
@@ -67,16 +95,25 @@ fn run_on<S: Alter + Drop>(
         return store(rt, connection, *call);
     }
     let mut connection = connection;
-    let mut answer = answered(rt, &mut connection, command);
+    let answer = answer_of(rt, &mut connection, command)?;
+    Ok((connection, answer))
+}
+
+/// What a command answers that leaves the connection where it is.
+fn answer_of<S: Alter>(
+    rt: &HostRuntime,
+    connection: &mut Connection<S>,
+    command: &Command<'_>,
+) -> Result<Answer, Fault> {
+    let mut answer = answered(rt, connection, command);
     if is_refused_memory(&answer) {
         tell_again(rt);
-        answer = answered(rt, &mut connection, command);
+        answer = answered(rt, connection, command);
     }
     match answer {
-        Ok(answer) => Ok((connection, answer)),
-        Err(Fault::Table(fault)) => Ok((connection, Answer::Table(fault))),
-        Err(Fault::Statement(error)) => Ok((connection, Answer::Statement(error))),
-        Err(fault) => Err(fault),
+        Err(Fault::Table(fault)) => Ok(Answer::Table(fault)),
+        Err(Fault::Statement(error)) => Ok(Answer::Statement(error)),
+        answer => answer,
     }
 }
 
@@ -99,10 +136,7 @@ fn answered<S: Alter>(
             Ok(Answer::Ok)
         }
         Command::Sql(text) => run_batch(connection, text),
-        Command::Read(file) => {
-            let text = read_text(rt, file)?;
-            run_batch(connection, text.as_str())
-        }
+        Command::Read(file) => run_file(rt, connection, file),
         Command::Number(text) => number(connection, text),
         Command::Begin => {
             connection.execute_batch("BEGIN")?;
@@ -127,6 +161,15 @@ pub fn read_text(rt: &HostRuntime, file: &str) -> Result<String, Fault> {
         Ok(text) => Ok(text),
         Err(_) => Ok(fs::read_to_string(rt, file)?),
     }
+}
+
+fn run_file<S: Alter>(
+    rt: &HostRuntime,
+    connection: &mut Connection<S>,
+    file: &str,
+) -> Result<Answer, Fault> {
+    let text = read_text(rt, file)?;
+    run_batch(connection, text.as_str())
 }
 
 fn run_batch<S: Alter>(connection: &mut Connection<S>, text: &str) -> Result<Answer, Fault> {

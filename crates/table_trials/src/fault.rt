@@ -1,4 +1,5 @@
-//! Why nothing could be measured, or no row held.
+//! Why it can't be told whether rows hold.
+
 use room_input::FieldFault;
 use room_statements::TableFault;
 use room_store::OpenFault;
@@ -18,9 +19,9 @@ pub enum Fault {
     Open(OpenFault),
     #[error("{0}")]
     Statement(sqlite::Error),
-    /// What is filled in or set is not what the tables take.
-    #[error("the rows that are filled in are not sound")]
-    Filling,
+    /// What a row sets is out of the range that the tables take.
+    #[error("what is set is out of range")]
+    Range,
     /// A call that was refused left other tables behind.
     #[error("a call that was refused changed the tables")]
     Changed,
