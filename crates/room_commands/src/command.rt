@@ -5,12 +5,12 @@ ghost use Rattle.room_commands.specs.Commands.{is_rated_in_range};
 use crate::address::{Address, LAST_PORT};
 use crate::fault::Fault;
 use crate::listening::Listening;
+use crate::parser::program;
 use crate::sending::Sending;
 use crate::serving::Serving;
 use crate::words::{
     ACCOUNT, ADDRESS, COUNT, CREATE, DATABASE, DEVICE, EXPLAIN, FOLDER, GRANTS, LISTEN, MIGRATE,
     NAME, ON, OPEN, OPERATORS, PORT, RATE, SCRIPT, SEND, SERVE, STATION, STATIONS, SWITCH, UNITS,
-    program,
 };
 use clap::ArgMatches;
 use clap::error::ErrorKind;
@@ -23,7 +23,7 @@ pub const MEMORY: &str = ":memory:";
 const MOST_CONNECTIONS: u32 = 1_000_000;
 
 /// A command line of the program. `database` is the path of a file, or `:memory:`.
-#[derive(Debug, Drop)]
+#[derive(Drop)]
 pub enum Command<'a> {
     /// Prints the parser's help, or the version.
     Help {
@@ -105,6 +105,17 @@ impl Unfit {
             Unfit::Name => None,
         }
     }
+
+    // The fault, with the usage of the program where the words are no command line of it.
+    fn fault(self, program: &mut clap::Command<'_>) -> Fault {
+        let Some(text) = self.usage() else {
+            return Fault::Name;
+        };
+        match program.error(ErrorKind::ValueValidation, text) {
+            Ok(error) => Fault::Usage(error),
+            Err(error) => Fault::from(error),
+        }
+    }
 }
 
 impl<'a> Command<'a> {
@@ -114,78 +125,123 @@ impl<'a> Command<'a> {
         ensures { IfOk result (λ command. IsTrue (is_rated_in_range command)) }
     {
         let mut program = program(alloc)?;
-        let matches = match program.try_get_matches_from_mut(words) {
-            Ok(matches) => matches,
-            Err(error) if error.use_stderr() => return Err(Fault::from(error)),
-            Err(help) => {
-                let text = format!(in alloc; "{help}")?;
-                return Ok(Command::Help { text });
-            }
-        };
-        match of_matches(&matches) {
-            Ok(command) => Ok(command),
-            Err(unfit) => match unfit.usage() {
-                Some(text) => Err(Fault::Usage(program.error(ErrorKind::ValueValidation, text)?)),
-                None => Err(Fault::Name),
-            },
-        }
+        read_by(alloc, &mut program, words)
     }
+}
+
+fn read_by<'a>(
+    alloc: Global,
+    program: &mut clap::Command<'a>,
+    words: &'a [&'a str],
+) -> Result<Command<'a>, Fault>
+    ensures { IfOk result (λ command. IsTrue (is_rated_in_range command)) }
+{
+    match program.try_get_matches_from_mut(words) {
+        Ok(matches) => of_matches(&matches).map_err(|unfit| unfit.fault(program)),
+        Err(error) => help_of(alloc, error),
+    }
+}
+
+// What the parser tells in place of a command line, where that is what the words ask for.
+fn help_of<'a>(alloc: Global, told: clap::Error) -> Result<Command<'a>, Fault>
+    ensures { IfOk result (λ command. IsTrue (is_rated_in_range command)) }
+{
+    if told.use_stderr() {
+        return Err(Fault::from(told));
+    }
+    let text = format!(in alloc; "{told}")?;
+    Ok(Command::Help { text })
 }
 
 fn of_matches<'a>(matches: &ArgMatches<'a>) -> Result<Command<'a>, Unfit>
     ensures { IfOk result (λ command. IsTrue (is_rated_in_range command)) }
 {
-    let Some((command, words)) = matches.subcommand() else {
-        return Err(Unfit::Missing);
-    };
-    if command == SEND {
-        return Ok(Command::Send(sending(words)?));
+    match matches.subcommand() {
+        Some((SEND, words)) => sending(words),
+        Some((EXPLAIN, _)) => Ok(Command::Explain),
+        Some((command, words)) => on_database(command, words, word(words, DATABASE)?),
+        None => Err(Unfit::Missing),
     }
-    if command == EXPLAIN {
-        return Ok(Command::Explain);
-    }
-    let database = word(words, DATABASE)?;
+}
+
+fn on_database<'a>(
+    command: &str,
+    words: &ArgMatches<'a>,
+    database: &'a str,
+) -> Result<Command<'a>, Unfit>
+    ensures { IfOk result (λ command. IsTrue (is_rated_in_range command)) }
+{
     match command {
         CREATE => Ok(Command::Create { database }),
-        OPEN => Ok(Command::Open {
-            database,
-            account: name(words, ACCOUNT)?,
-        }),
+        OPEN => opening(words, database),
         MIGRATE => Ok(Command::Migrate { database }),
-        DEVICE => Ok(Command::Device {
-            database,
-            on: word(words, SWITCH)? == ON,
-            name: name(words, NAME)?,
-        }),
-        RATE => Ok(Command::Rate {
-            database,
-            units: number(words, UNITS, 1, MOST_RATE, Unfit::Units)?,
-            name: name(words, NAME)?,
-        }),
+        DEVICE => turning(words, database),
+        RATE => rating(words, database),
         GRANTS => Ok(Command::Grants { database }),
         STATION => Ok(Command::Station { database }),
         SCRIPT => Ok(Command::Script { database }),
-        LISTEN => Ok(Command::Listen(Listening {
-            database,
-            port: port(words, 1, Unfit::Port)?,
-            connections: number(words, COUNT, 0, MOST_CONNECTIONS, Unfit::Count)?,
-        })),
-        SERVE => Ok(Command::Serve(Serving {
-            database,
-            port: port(words, 0, Unfit::ServedPort)?,
-            stations: address(words, STATIONS, 0, Unfit::ServedAddress)?,
-            operators: address(words, OPERATORS, 0, Unfit::ServedAddress)?,
-        })),
+        LISTEN => listening(words, database),
+        SERVE => serving(words, database),
         _ => Err(Unfit::Missing),
     }
 }
 
-fn sending<'a>(words: &ArgMatches<'a>) -> Result<Sending<'a>, Unfit> {
-    Ok(Sending {
+fn opening<'a>(words: &ArgMatches<'a>, database: &'a str) -> Result<Command<'a>, Unfit>
+    ensures { IfOk result (λ command. IsTrue (is_rated_in_range command)) }
+{
+    let account = name(words, ACCOUNT)?;
+    Ok(Command::Open { database, account })
+}
+
+fn turning<'a>(words: &ArgMatches<'a>, database: &'a str) -> Result<Command<'a>, Unfit>
+    ensures { IfOk result (λ command. IsTrue (is_rated_in_range command)) }
+{
+    let on = word(words, SWITCH)? == ON;
+    let name = name(words, NAME)?;
+    Ok(Command::Device { database, name, on })
+}
+
+fn rating<'a>(words: &ArgMatches<'a>, database: &'a str) -> Result<Command<'a>, Unfit>
+    ensures { IfOk result (λ command. IsTrue (is_rated_in_range command)) }
+{
+    let units = number(words, UNITS, 1, MOST_RATE, Unfit::Units)?;
+    let name = name(words, NAME)?;
+    Ok(Command::Rate {
+        database,
+        name,
+        units,
+    })
+}
+
+fn listening<'a>(words: &ArgMatches<'a>, database: &'a str) -> Result<Command<'a>, Unfit>
+    ensures { IfOk result (λ command. IsTrue (is_rated_in_range command)) }
+{
+    Ok(Command::Listen(Listening {
+        database,
+        port: port(words, 1, Unfit::Port)?,
+        connections: number(words, COUNT, 0, MOST_CONNECTIONS, Unfit::Count)?,
+    }))
+}
+
+fn serving<'a>(words: &ArgMatches<'a>, database: &'a str) -> Result<Command<'a>, Unfit>
+    ensures { IfOk result (λ command. IsTrue (is_rated_in_range command)) }
+{
+    Ok(Command::Serve(Serving {
+        database,
+        port: port(words, 0, Unfit::ServedPort)?,
+        stations: address(words, STATIONS, 0, Unfit::ServedAddress)?,
+        operators: address(words, OPERATORS, 0, Unfit::ServedAddress)?,
+    }))
+}
+
+fn sending<'a>(words: &ArgMatches<'a>) -> Result<Command<'a>, Unfit>
+    ensures { IfOk result (λ command. IsTrue (is_rated_in_range command)) }
+{
+    Ok(Command::Send(Sending {
         address: address(words, ADDRESS, 1, Unfit::Address)?,
         grants: words.get_flag(GRANTS),
         folder: words.get_str(FOLDER),
-    })
+    }))
 }
 
 fn word<'a>(words: &ArgMatches<'a>, id: &str) -> Result<&'a str, Unfit> {

@@ -10,6 +10,7 @@ mod grants;
 mod input;
 mod listening;
 mod opener;
+mod parser;
 mod printing;
 mod program;
 mod sending;

@@ -67,18 +67,9 @@ where
 {
     match Command::read(alloc, words)? {
         Command::Help { text } => Ok(print_text(output, text.as_str())?),
-        Command::Explain => {
-            let text = read_text(alloc, input)?;
-            Ok(print_explained(alloc, output, text.as_slice())?)
-        }
-        Command::Create { database } => {
-            prepare(opener, database, Begin::Create)?;
-            Ok(print_text(output, "ok\n")?)
-        }
-        Command::Migrate { database } => {
-            prepare(opener, database, Begin::Migrate)?;
-            Ok(print_text(output, "ok\n")?)
-        }
+        Command::Explain => explain(alloc, input, output),
+        Command::Create { database } => make(opener, database, Begin::Create, output),
+        Command::Migrate { database } => make(opener, database, Begin::Migrate, output),
         Command::Open { database, account } => {
             let action = Action::Open { account };
             run_now(alloc, now, opener, database, action, output)
@@ -96,20 +87,28 @@ where
             run_now(alloc, now, opener, database, action, output)
         }
         Command::Script { database } => {
-            let lines = read_lines(alloc, input, Grammar::Script)?;
-            run_lines(alloc, opener, database, lines.as_slice(), output)
+            run_input(alloc, Grammar::Script, opener, database, input, output)
         }
-        Command::Station { database } => {
-            let moment = now.ok_or(Fault::Io)?;
-            let lines = read_lines(alloc, input, Grammar::Station { moment })?;
-            run_lines(alloc, opener, database, lines.as_slice(), output)
-        }
-        Command::Grants { database } => {
-            let moment = now.ok_or(Fault::Io)?;
-            run_grants(alloc, moment, opener, database, input, output)
-        }
+        Command::Station { database } => run_station(alloc, now, opener, database, input, output),
+        Command::Grants { database } => run_grants(alloc, now, opener, database, input, output),
         Command::Listen(_) | Command::Serve(_) | Command::Send(_) => Err(Fault::Io),
     }
+}
+
+fn explain<R: Read + Drop, W: Write>(alloc: Global, input: R, output: &mut W) -> Result<(), Fault> {
+    let text = read_text(alloc, input)?;
+    Ok(print_explained(alloc, output, text.as_slice())?)
+}
+
+// The tables, made or brought up to date.
+fn make<S, F, W>(opener: F, database: &str, how: Begin, output: &mut W) -> Result<(), Fault>
+where
+    S: Alter + Drop,
+    F: Opener<Kept = Connection<S>> + Drop,
+    W: Write,
+{
+    prepare(opener, database, how)?;
+    Ok(print_text(output, "ok\n")?)
 }
 
 // One action at the clock's moment.
@@ -131,6 +130,45 @@ where
     run_lines(alloc, opener, database, &[Line { moment, action }], output)
 }
 
+// The station's lines of standard input, at the clock's moment.
+fn run_station<S, F, R, W>(
+    alloc: Global,
+    now: Option<u64>,
+    opener: F,
+    database: &str,
+    input: R,
+    output: &mut W,
+) -> Result<(), Fault>
+where
+    S: Alter + Drop,
+    F: Opener<Kept = Connection<S>> + Drop,
+    R: Read + Drop,
+    W: Write,
+{
+    let moment = now.ok_or(Fault::Io)?;
+    let grammar = Grammar::Station { moment };
+    run_input(alloc, grammar, opener, database, input, output)
+}
+
+// The lines of standard input.
+fn run_input<S, F, R, W>(
+    alloc: Global,
+    grammar: Grammar,
+    opener: F,
+    database: &str,
+    input: R,
+    output: &mut W,
+) -> Result<(), Fault>
+where
+    S: Alter + Drop,
+    F: Opener<Kept = Connection<S>> + Drop,
+    R: Read + Drop,
+    W: Write,
+{
+    let lines = read_lines(alloc, input, grammar)?;
+    run_lines(alloc, opener, database, lines.as_slice(), output)
+}
+
 // Runs all lines and then prints all outcomes.
 fn run_lines<S, F, W>(
     alloc: Global,
@@ -150,10 +188,10 @@ where
     ended(first_failure(outcomes.as_slice()), printed)
 }
 
-// Runs all good records and then prints what all records came to.
+// Runs all good records at the clock's moment and then prints what all records came to.
 fn run_grants<S, F, R, W>(
     alloc: Global,
-    moment: u64,
+    now: Option<u64>,
     opener: F,
     database: &str,
     input: R,
@@ -165,6 +203,7 @@ where
     R: Read + Drop,
     W: Write,
 {
+    let moment = now.ok_or(Fault::Io)?;
     let records = read_records(alloc, input)?;
     let events = grants_of(alloc, moment, records.as_slice())?;
     let outcomes = outcomes_of(alloc, opener, database, events.as_slice())?;

@@ -1,13 +1,5 @@
 //! The words of the command line, as its parser and its help know them.
 
-use clap::builder::ValueParser;
-use clap::{Arg, ArgAction, Command};
-use std::alloc::{AllocError, Global};
-
-const PROGRAM: &str = "ipp-room";
-
-const VERSION: &str = "1.0.0";
-
 pub(crate) const CREATE: &str = "create";
 
 pub(crate) const OPEN: &str = "open";
@@ -35,7 +27,7 @@ pub(crate) const SEND: &str = "send";
 
 pub(crate) const ON: &str = "on";
 
-const SWITCHES: [&str; 2] = [ON, "off"];
+pub(crate) const SWITCHES: [&str; 2] = [ON, "off"];
 
 pub(crate) const DATABASE: &str = "DB";
 
@@ -59,125 +51,172 @@ pub(crate) const ADDRESS: &str = "ADDRESS";
 
 pub(crate) const FOLDER: &str = "FOLDER";
 
-/// The program, with all its commands.
-pub(crate) fn program<'a>(alloc: Global) -> Result<Command<'a>, AllocError> {
-    let commands = commands(alloc)?;
-    Command::new(alloc, PROGRAM)
-        .about("Keeps IPP printers whose jobs wait until they are released")
-        .version(VERSION)
-        .no_binary_name(true)
-        .bin_name(PROGRAM)?
-        .subcommand_required(true)
-        .subcommands(commands)
+/// A command, as the help shows it.
+#[derive(Clone, Copy)]
+pub(crate) struct CommandWords {
+    pub(crate) name: &'static str,
+    pub(crate) about: &'static str,
+    /// In the order of the command line.
+    pub(crate) arguments: &'static [Argument],
 }
 
-fn commands<'a>(alloc: Global) -> Result<Vec<Command<'a>>, AllocError> {
-    let mut commands = Vec::new(alloc);
-    put_commands(alloc, &mut commands)?;
-    Ok(commands)
+#[derive(Clone, Copy)]
+pub(crate) struct Argument {
+    pub(crate) name: &'static str,
+    pub(crate) help: Option<&'static str>,
+    pub(crate) kind: Kind,
 }
 
-// In the order in which the help lists them.
-fn put_commands(alloc: Global, commands: &mut Vec<Command<'_>>) -> Result<(), AllocError> {
-    put(
-        commands,
-        on_database(alloc, CREATE, "Makes the tables of a database"),
-    )?;
-    put(commands, open(alloc))?;
-    put(
-        commands,
-        on_database(alloc, MIGRATE, "Brings older tables up to date"),
-    )?;
-    put(commands, device(alloc))?;
-    put(commands, rate(alloc))?;
-    put(
-        commands,
-        on_database(alloc, GRANTS, "Takes the grants of standard input"),
-    )?;
-    put(
-        commands,
-        on_database(alloc, STATION, "Runs the lines of a station"),
-    )?;
-    put(
-        commands,
-        on_database(alloc, SCRIPT, "Runs lines that have moments"),
-    )?;
-    put(commands, listen(alloc))?;
-    put(commands, serve(alloc))?;
-    put(commands, send(alloc))?;
-    put(commands, Ok(explain(alloc)))
+#[derive(Clone, Copy)]
+pub(crate) enum Kind {
+    /// A word that has to be there.
+    Required,
+    /// A word that has to be there, and is one of the switches.
+    Switch,
+    /// A flag of its own name, with which the other argument can't be.
+    FlagWithout(&'static str),
+    /// A word that follows this flag.
+    After(&'static str),
 }
 
-// So no exit of the list's maker has a command of its own to drop.
-fn put<'a>(
-    commands: &mut Vec<Command<'a>>,
-    command: Result<Command<'a>, AllocError>,
-) -> Result<(), AllocError> {
-    commands.push(command?)?;
-    Ok(())
-}
+const ON_DATABASE: Argument = Argument {
+    name: DATABASE,
+    help: Some("A file, or :memory: for this run alone"),
+    kind: Kind::Required,
+};
 
-fn open<'a>(alloc: Global) -> Result<Command<'a>, AllocError> {
-    on_database(alloc, OPEN, "Opens an account")?.arg(required(alloc, ACCOUNT))
-}
+const OF_ACCOUNT: Argument = Argument {
+    name: ACCOUNT,
+    help: None,
+    kind: Kind::Required,
+};
 
-fn device<'a>(alloc: Global) -> Result<Command<'a>, AllocError> {
-    let switch = ValueParser::Names(SWITCHES.as_slice());
-    on_database(alloc, DEVICE, "Turns a device on or off")?
-        .arg(required(alloc, NAME))?
-        .arg(required(alloc, SWITCH).value_parser(switch))
-}
+const OF_DEVICE: Argument = Argument {
+    name: NAME,
+    help: None,
+    kind: Kind::Required,
+};
 
-fn rate<'a>(alloc: Global) -> Result<Command<'a>, AllocError> {
-    on_database(alloc, RATE, "Sets a device's units per impression")?
-        .arg(required(alloc, NAME))?
-        .arg(required(alloc, UNITS).help("1 to 100"))
-}
+const ON_OR_OFF: Argument = Argument {
+    name: SWITCH,
+    help: None,
+    kind: Kind::Switch,
+};
 
-fn listen<'a>(alloc: Global) -> Result<Command<'a>, AllocError> {
-    let count = "How many connections are served before it ends, 0 to 1000000";
-    on_database(alloc, LISTEN, "Serves connections on 127.0.0.1")?
-        .arg(required(alloc, PORT).help("1 to 65535"))?
-        .arg(required(alloc, COUNT).help(count))
-}
+const AT_UNITS: Argument = Argument {
+    name: UNITS,
+    help: Some("1 to 100"),
+    kind: Kind::Required,
+};
 
-fn serve<'a>(alloc: Global) -> Result<Command<'a>, AllocError> {
-    on_database(alloc, SERVE, "Serves HTTP and lines on this machine")?
-        .arg(required(alloc, PORT).help("0 to 65535, where 0 takes a free one"))?
-        .arg(required(alloc, STATIONS).help("A port, or the path of a socket"))?
-        .arg(required(alloc, OPERATORS).help("A port, or the path of a socket"))
-}
+const AT_PORT: Argument = Argument {
+    name: PORT,
+    help: Some("1 to 65535"),
+    kind: Kind::Required,
+};
 
-fn send<'a>(alloc: Global) -> Result<Command<'a>, AllocError> {
-    let grants = Arg::new(alloc, GRANTS)
-        .long(GRANTS)
-        .action(ArgAction::SetTrue)
-        .help("Standard input is a file of grants")
-        .conflicts_with(FOLDER)?;
-    let folder = Arg::new(alloc, FOLDER)
-        .long("into")
-        .help("Where documents go that are not to be printed");
-    Command::new(alloc, SEND)
-        .about("Sends the lines of standard input to what serves them")
-        .arg(required(alloc, ADDRESS).help("A port, or the path of a socket"))?
-        .arg(grants)?
-        .arg(folder)
-}
+const AT_ANY_PORT: Argument = Argument {
+    name: PORT,
+    help: Some("0 to 65535, where 0 takes a free one"),
+    kind: Kind::Required,
+};
 
-fn explain<'a>(alloc: Global) -> Command<'a> {
-    let about = "Prints the IPP messages of standard input as people read them";
-    Command::new(alloc, EXPLAIN).about(about)
-}
+const SO_MANY: Argument = Argument {
+    name: COUNT,
+    help: Some("How many connections are served before it ends, 0 to 1000000"),
+    kind: Kind::Required,
+};
 
-fn on_database<'a>(
-    alloc: Global,
-    name: &'a str,
-    about: &'a str,
-) -> Result<Command<'a>, AllocError> {
-    let database = required(alloc, DATABASE).help("A file, or :memory: for this run alone");
-    Command::new(alloc, name).about(about).arg(database)
-}
+const FOR_STATIONS: Argument = Argument {
+    name: STATIONS,
+    help: Some("A port, or the path of a socket"),
+    kind: Kind::Required,
+};
 
-fn required<'a>(alloc: Global, name: &'a str) -> Arg<'a> {
-    Arg::new(alloc, name).required(true)
-}
+const FOR_OPERATORS: Argument = Argument {
+    name: OPERATORS,
+    help: Some("A port, or the path of a socket"),
+    kind: Kind::Required,
+};
+
+const TO_ADDRESS: Argument = Argument {
+    name: ADDRESS,
+    help: Some("A port, or the path of a socket"),
+    kind: Kind::Required,
+};
+
+const AS_GRANTS: Argument = Argument {
+    name: GRANTS,
+    help: Some("Standard input is a file of grants"),
+    kind: Kind::FlagWithout(FOLDER),
+};
+
+const INTO_FOLDER: Argument = Argument {
+    name: FOLDER,
+    help: Some("Where documents go that are not to be printed"),
+    kind: Kind::After("into"),
+};
+
+/// All commands, in the order of the help.
+pub(crate) const COMMANDS: [CommandWords; 12] = [
+    CommandWords {
+        name: CREATE,
+        about: "Makes the tables of a database",
+        arguments: &[ON_DATABASE],
+    },
+    CommandWords {
+        name: OPEN,
+        about: "Opens an account",
+        arguments: &[ON_DATABASE, OF_ACCOUNT],
+    },
+    CommandWords {
+        name: MIGRATE,
+        about: "Brings older tables up to date",
+        arguments: &[ON_DATABASE],
+    },
+    CommandWords {
+        name: DEVICE,
+        about: "Turns a device on or off",
+        arguments: &[ON_DATABASE, OF_DEVICE, ON_OR_OFF],
+    },
+    CommandWords {
+        name: RATE,
+        about: "Sets a device's units per impression",
+        arguments: &[ON_DATABASE, OF_DEVICE, AT_UNITS],
+    },
+    CommandWords {
+        name: GRANTS,
+        about: "Takes the grants of standard input",
+        arguments: &[ON_DATABASE],
+    },
+    CommandWords {
+        name: STATION,
+        about: "Runs the lines of a station",
+        arguments: &[ON_DATABASE],
+    },
+    CommandWords {
+        name: SCRIPT,
+        about: "Runs lines that have moments",
+        arguments: &[ON_DATABASE],
+    },
+    CommandWords {
+        name: LISTEN,
+        about: "Serves connections on 127.0.0.1",
+        arguments: &[ON_DATABASE, AT_PORT, SO_MANY],
+    },
+    CommandWords {
+        name: SERVE,
+        about: "Serves HTTP and lines on this machine",
+        arguments: &[ON_DATABASE, AT_ANY_PORT, FOR_STATIONS, FOR_OPERATORS],
+    },
+    CommandWords {
+        name: SEND,
+        about: "Sends the lines of standard input to what serves them",
+        arguments: &[TO_ADDRESS, AS_GRANTS, INTO_FOLDER],
+    },
+    CommandWords {
+        name: EXPLAIN,
+        about: "Prints the IPP messages of standard input as people read them",
+        arguments: &[],
+    },
+];
