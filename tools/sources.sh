@@ -29,7 +29,5 @@ is_stale() {
 
 # Puts a program that was begun when the file `begun` was made at a path, whole or not at all.
 put_program() {
-    cp "$1" "$2.new"
-    touch -r "$begun" "$2.new"
-    mv "$2.new" "$2"
+    cp "$1" "$2.new" && touch -r "$begun" "$2.new" && mv "$2.new" "$2"
 }
