@@ -2,7 +2,6 @@
 
 use crate::comparing::text;
 use crate::fault::Fault;
-use crate::file_tables::FileTables;
 use crate::program::{by_program_in_file, by_program_in_memory};
 use crate::tables::{Tables, remove_files, tell_again};
 use room_core::{CoreFault, LAST_JOB, Name, Reply};
@@ -11,6 +10,7 @@ use room_rows::{Conversation, Rooms, Step};
 use room_store::StoreFault;
 use sqlite::types::ValueRef;
 use sqlite::{Alter, Connection};
+use table_trials::FileTables;
 
 /// Who answers.
 #[derive(Clone, Copy)]

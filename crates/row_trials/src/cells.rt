@@ -17,7 +17,6 @@ use crate::accounts::{ACCOUNTS, Player};
 use crate::beside::differs_beside;
 use crate::comparing::print_differing;
 use crate::fault::Fault;
-use crate::file_tables::FileTables;
 use crate::tables::{Tables, remove_files};
 use crate::trial::Trial;
 use crate::whole::Whole;
@@ -25,6 +24,7 @@ use crate::wired::Wired;
 use sqlite::{Alter, Connection, MemStore};
 use std::fs;
 use std::io::Write;
+use table_trials::FileTables;
 
 /// Whether the list holds over memory and over a file, and reaches what it has to. Prints what it
 /// reached.

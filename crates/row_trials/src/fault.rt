@@ -24,6 +24,9 @@ pub enum Fault {
     Name,
     #[error("an answer is no text")]
     Answer,
+    /// A row of statements could not be held.
+    #[error("{0}")]
+    Statements(table_trials::Fault),
     /// There are no tables to hold the row against, or the file of its runs can't be had.
     #[error("tables: {0}")]
     Open(OpenFault),
@@ -62,6 +65,15 @@ impl From<sqlite::Error> for Fault {
 impl From<RowFault> for Fault {
     fn from(fault: RowFault) -> Fault {
         Fault::Row(fault)
+    }
+}
+
+impl From<table_trials::Fault> for Fault {
+    fn from(fault: table_trials::Fault) -> Fault {
+        match fault {
+            table_trials::Fault::Memory => Fault::Memory,
+            fault => Fault::Statements(fault),
+        }
     }
 }
 

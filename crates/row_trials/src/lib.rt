@@ -1,6 +1,5 @@
 //! Files of rows and lists of events, held against the print room: rooms in memory, shared tables,
-//! connections, and runs of the program. The program `worked_rows` runs it over this machine's
-//! files.
+//! connections, and runs of the program. The program `worked_rows` names the files.
 #![tactic(auto)]
 
 mod accounts;
@@ -12,7 +11,7 @@ mod disks;
 mod exchanges;
 mod failing;
 mod fault;
-mod file_tables;
+mod file;
 mod found;
 mod front;
 mod migrated;
@@ -26,8 +25,7 @@ mod trial;
 mod whole;
 mod wired;
 mod wires;
-mod words;
 
 pub use fault::Fault;
-pub use file_tables::FileTables;
-pub use words::hold_all;
+pub use file::hold;
+pub use table_trials::FileTables;

@@ -5,12 +5,12 @@
 use crate::answers::WAYS;
 use crate::exchanges::{PIECES, answers};
 use crate::fault::Fault;
-use crate::file_tables::FileTables;
 use crate::{failing, runs, stopped};
 use room_rows::{Conversation, Exchange, difference};
 use sqlite::{Alter, Connection};
 use std::fs;
 use std::io::Write;
+use table_trials::FileTables;
 
 /// What the rows of a file are.
 #[derive(Clone, Copy)]

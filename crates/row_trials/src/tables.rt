@@ -4,7 +4,6 @@ ghost use Rattle.std.specs.Prelude.{All, IfOk, IsTrue};
 ghost use Rattle.room_core.specs.Fits.{fits};
 
 use crate::fault::Fault;
-use crate::file_tables::FileTables;
 use crate::wires::{Served, Sides, serve};
 use room_core::{Event, Name, Reply};
 use room_lines::Line;
@@ -16,6 +15,7 @@ use sqlite::{Alter, Connection, MemStore, Row};
 use std::alloc::Global;
 use std::fs;
 use std::io::Write;
+use table_trials::FileTables;
 
 /// The file of a database that stands in one. It is made in the current folder, and removed, and so
 /// is the log beside it.

@@ -1,14 +1,16 @@
-//! The program `worked_rows`: holds the files that its words name against the print room.
+//! The program `worked_rows`: holds what its words name against the print room.
 //!
 //! - Of a file of conversations, `NAME.rows`, of exchanges over HTTP, `NAME.exchanges`, of runs of
-//! the program,
-//!   `NAME.runs`, or of runs over storage that stops, `NAME.stops`, it prints how many rows hold, and of each row that
-//!   does not what differs.
+//!   the program, `NAME.runs`, of runs over storage that stops, `NAME.stops`, or of statements,
+//!   `NAME.tables`, it prints how many rows hold, and of each row that does not what differs.
 //! - Of a list of events, `NAME.events`, it prints what the list reached.
+//! - At the word `serving` it makes the trials of what is served, and prints of each that it holds
+//!   or what differs.
 #![tactic(auto)]
 
-use row_trials::{FileTables, hold_all};
+use row_trials::{Fault, FileTables};
 use sqlite::{Connection, Error, File, FileStore};
+use std::env;
 use std::io::Write;
 use std::process::ExitCode;
 
@@ -31,7 +33,7 @@ impl FileTables for OnDisk<'_> {
 }
 
 fn main(rt: HostRuntime) -> ExitCode {
-    match hold_all(&rt, &OnDisk { rt: &rt }) {
+    match hold_all(&rt) {
         Ok(true) => ExitCode::SUCCESS,
         Ok(false) => ExitCode::FAILURE,
         Err(fault) => {
@@ -39,4 +41,17 @@ fn main(rt: HostRuntime) -> ExitCode {
             ExitCode::FAILURE
         }
     }
+}
+
+/// Whether all holds that the program's words name.
+fn hold_all(rt: &HostRuntime) -> Result<bool, Fault> {
+    let mut all = true;
+    let words: Vec<String> = env::args(rt)?.skip(1).collect(rt.alloc())?;
+    for word in words.as_slice() {
+        all &= match word.as_str() {
+            "serving" => serve_trials::hold(rt, &mut rt.stdout()),
+            file => row_trials::hold(rt, file, &OnDisk { rt })?,
+        };
+    }
+    Ok(all)
 }
