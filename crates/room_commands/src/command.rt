@@ -107,7 +107,7 @@ impl Unfit {
     }
 
     // The fault, with the usage of the program where the words are no command line of it.
-    fn fault(self, program: &mut clap::Command<'static>) -> Fault {
+    fn fault(self, program: &mut clap::Command<'_>) -> Fault {
         let Some(text) = self.usage() else {
             return Fault::Name;
         };
@@ -131,7 +131,7 @@ impl<'a> Command<'a> {
 
 fn read_by<'a>(
     alloc: Global,
-    program: &mut clap::Command<'static>,
+    program: &mut clap::Command<'a>,
     words: &'a [&'a str],
 ) -> Result<Command<'a>, Fault>
     ensures { IfOk result (λ command. IsTrue (is_rated_in_range command)) }
