@@ -10,12 +10,12 @@ const PROGRAM: &str = "ipp-room";
 const VERSION: &str = "1.0.0";
 
 /// The program, with all its commands.
-pub(crate) fn program(alloc: Global) -> Result<Command<'static>, AllocError> {
+pub(crate) fn program<'a>(alloc: Global) -> Result<Command<'a>, AllocError> {
     let commands = commands(alloc)?;
     bare_program(alloc)?.subcommands(commands)
 }
 
-fn bare_program(alloc: Global) -> Result<Command<'static>, AllocError> {
+fn bare_program<'a>(alloc: Global) -> Result<Command<'a>, AllocError> {
     Command::new(alloc, PROGRAM)
         .about("Keeps IPP printers whose jobs wait until they are released")
         .version(VERSION)
@@ -24,28 +24,30 @@ fn bare_program(alloc: Global) -> Result<Command<'static>, AllocError> {
         .bin_name(PROGRAM)
 }
 
-fn commands(alloc: Global) -> Result<Vec<Command<'static>>, AllocError> {
-    COMMANDS
-        .iter()
-        .map(|words| command(alloc, words))
-        .try_collect(alloc)
+fn commands<'a>(alloc: Global) -> Result<Vec<Command<'a>>, AllocError> {
+    let mut commands = Vec::new(alloc);
+    for words in COMMANDS.iter() {
+        commands.push(command(alloc, words)?)?;
+    }
+    Ok(commands)
 }
 
-fn command(alloc: Global, words: &CommandWords) -> Result<Command<'static>, AllocError> {
+fn command<'a>(alloc: Global, words: &CommandWords) -> Result<Command<'a>, AllocError> {
     let arguments = arguments(alloc, words.arguments)?;
     Command::new(alloc, words.name)
         .about(words.about)
         .args(arguments)
 }
 
-fn arguments(alloc: Global, arguments: &[Argument]) -> Result<Vec<Arg<'static>>, AllocError> {
-    arguments
-        .iter()
-        .map(|argument| argument_of(alloc, argument))
-        .try_collect(alloc)
+fn arguments<'a>(alloc: Global, words: &[Argument]) -> Result<Vec<Arg<'a>>, AllocError> {
+    let mut arguments = Vec::new(alloc);
+    for argument in words {
+        arguments.push(argument_of(alloc, argument)?)?;
+    }
+    Ok(arguments)
 }
 
-fn argument_of(alloc: Global, argument: &Argument) -> Result<Arg<'static>, AllocError> {
+fn argument_of<'a>(alloc: Global, argument: &Argument) -> Result<Arg<'a>, AllocError> {
     let named = described(alloc, argument);
     match argument.kind {
         Kind::Required => Ok(named.required(true)),
@@ -61,7 +63,7 @@ fn argument_of(alloc: Global, argument: &Argument) -> Result<Arg<'static>, Alloc
     }
 }
 
-fn described(alloc: Global, argument: &Argument) -> Arg<'static> {
+fn described<'a>(alloc: Global, argument: &Argument) -> Arg<'a> {
     let named = Arg::new(alloc, argument.name);
     match argument.help {
         Some(help) => named.help(help),
