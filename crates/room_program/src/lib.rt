@@ -5,12 +5,12 @@
 mod database;
 mod folder;
 mod front;
-mod listen;
-mod send;
-mod serve;
-mod start;
+mod listening;
+mod program;
+mod sending;
+mod serving;
 
-pub use listen::listen;
-pub use send::send;
-pub use serve::serve;
-pub use start::start;
+pub use listening::listen;
+pub use program::start;
+pub use sending::send;
+pub use serving::serve;

@@ -1,8 +1,8 @@
 //! One run of the program, from its words to its exit status.
 
-use crate::listen::listen;
-use crate::send::send;
-use crate::serve::serve;
+use crate::listening::listen;
+use crate::sending::send;
+use crate::serving::serve;
 use room_commands::{Fault, Listening, Sending, Serving, run_on};
 use room_sockets::moment;
 use std::env;
