@@ -9,7 +9,6 @@ use sqlite::ErrorCode;
 use std::io;
 use std::io::Write;
 
-#[derive(Drop)]
 pub enum Answer {
     Ok,
     Account(Option<Account>),
@@ -29,22 +28,55 @@ pub enum Answer {
     Statement(sqlite::Error),
 }
 
+// It is written out, so that a function makes one call of it at each of its exits.
+impl Drop for Answer {
+    fn drop(self) {
+        match self {
+            Answer::Ok => {}
+            Answer::Account(_) => {}
+            Answer::Flag(_) => {}
+            Answer::Choice(_) => {}
+            Answer::Number(_) => {}
+            Answer::Units(_) => {}
+            Answer::Integer(_) => {}
+            Answer::Count(_) => {}
+            Answer::Tally(_) => {}
+            Answer::Job(_) => {}
+            Answer::Jobs(_) => {}
+            Answer::Documents(_) => {}
+            Answer::Table(_) => {}
+            Answer::Open(_) => {}
+            Answer::Statement(_) => {}
+        }
+    }
+}
+
 impl Answer {
     /// Prints its lines, each with a line feed.
     pub fn print<W: Write>(&self, output: &mut W) -> io::Result<()> {
+        match self.word() {
+            Some(word) => writeln!(output, "{word}"),
+            None => self.print_values(output),
+        }
+    }
+
+    /// The word that it is, if it is one.
+    fn word(&self) -> Option<&'static str> {
         match self {
-            Answer::Ok => writeln!(output, "ok"),
+            Answer::Ok => Some("ok"),
             Answer::Account(None) | Answer::Flag(None) | Answer::Number(None) | Answer::Job(None) =>
-                writeln!(output, "none"),
-            Answer::Account(Some(account)) => {
-                writeln!(
-                    output,
-                    "opened {} next {}",
-                    account.opened, account.next_job
-                )
-            }
-            Answer::Flag(Some(on)) => writeln!(output, "{}", if *on { "on" } else { "off" }),
-            Answer::Choice(yes) => writeln!(output, "{}", if *yes { "yes" } else { "no" }),
+                Some("none"),
+            Answer::Flag(Some(on)) => Some(if *on { "on" } else { "off" }),
+            Answer::Choice(yes) => Some(if *yes { "yes" } else { "no" }),
+            Answer::Table(fault) => Some(table_word(*fault)),
+            Answer::Statement(error) => Some(statement_word(*error)),
+            _ => None,
+        }
+    }
+
+    fn print_values<W: Write>(&self, output: &mut W) -> io::Result<()> {
+        match self {
+            Answer::Account(Some(account)) => print_account(output, account),
             Answer::Number(Some(number)) => writeln!(output, "{number}"),
             Answer::Units(units) => writeln!(output, "{units}"),
             Answer::Integer(integer) => writeln!(output, "{integer}"),
@@ -53,11 +85,18 @@ impl Answer {
             Answer::Job(Some(job)) => print_job(output, job),
             Answer::Jobs(jobs) => print_jobs(output, jobs.as_slice()),
             Answer::Documents(documents) => print_documents(output, documents.as_slice()),
-            Answer::Table(fault) => writeln!(output, "{}", table_word(*fault)),
             Answer::Open(fault) => print_open_fault(output, *fault),
-            Answer::Statement(error) => writeln!(output, "{}", statement_word(*error)),
+            _ => Ok(()),
         }
     }
+}
+
+fn print_account<W: Write>(output: &mut W, account: &Account) -> io::Result<()> {
+    writeln!(
+        output,
+        "opened {} next {}",
+        account.opened, account.next_job
+    )
 }
 
 fn print_tally<W: Write>(output: &mut W, tally: &Tally) -> io::Result<()> {

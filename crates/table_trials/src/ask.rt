@@ -41,51 +41,56 @@ pub enum Ask {
 impl Ask {
     /// What a command of the kind asks for, if it reads rows.
     pub fn read(kind: &str, fields: &mut Fields<'_>) -> Result<Option<Ask>, Fault> {
-        let ask = match kind {
-            "account" => Ask::Account {
-                name: fields.name()?,
-            },
-            "device" => Ask::Device {
-                name: fields.name()?,
-            },
-            "is-device-on" => Ask::IsDeviceOn,
-            "rate" => Ask::Rate {
-                name: fields.name()?,
-            },
-            "grant" => Ask::Grant {
-                name: fields.name()?,
-                month: fields.number()?,
-            },
-            "granted" => Ask::Granted {
-                name: fields.name()?,
-                month: fields.number()?,
-            },
-            "tally" => Ask::Tally {
-                name: fields.name()?,
-            },
-            "queue" => Ask::Queue {
-                name: fields.name()?,
-            },
-            "job" => Ask::Job {
-                name: fields.name()?,
-                job: fields.number()?,
-            },
-            "unfinished" => Ask::Unfinished {
-                name: fields.name()?,
-                limit: fields.number_or_none()?,
-            },
-            "ended" => Ask::Ended {
-                name: fields.name()?,
-                limit: fields.number_or_none()?,
-            },
-            "documents" => Ask::Documents {
-                name: fields.name()?,
-                job: fields.number()?,
-            },
-            _ => return Ok(None),
-        };
-        fields.end()?;
-        Ok(Some(ask))
+        match kind {
+            "is-device-on" => Ok(Some(Ask::IsDeviceOn)),
+            "account" | "device" | "rate" | "tally" | "queue" => Ask::by_name(kind, fields),
+            "grant" | "granted" => Ask::by_month(kind, fields),
+            "job" | "documents" => Ask::by_job(kind, fields),
+            "unfinished" | "ended" => Ask::by_limit(kind, fields),
+            _ => Ok(None),
+        }
+    }
+
+    fn by_name(kind: &str, fields: &mut Fields<'_>) -> Result<Option<Ask>, Fault> {
+        let name = fields.name()?;
+        Ok(match kind {
+            "account" => Some(Ask::Account { name }),
+            "device" => Some(Ask::Device { name }),
+            "rate" => Some(Ask::Rate { name }),
+            "tally" => Some(Ask::Tally { name }),
+            "queue" => Some(Ask::Queue { name }),
+            _ => None,
+        })
+    }
+
+    fn by_month(kind: &str, fields: &mut Fields<'_>) -> Result<Option<Ask>, Fault> {
+        let name = fields.name()?;
+        let month = fields.number()?;
+        Ok(match kind {
+            "grant" => Some(Ask::Grant { name, month }),
+            "granted" => Some(Ask::Granted { name, month }),
+            _ => None,
+        })
+    }
+
+    fn by_job(kind: &str, fields: &mut Fields<'_>) -> Result<Option<Ask>, Fault> {
+        let name = fields.name()?;
+        let job = fields.number()?;
+        Ok(match kind {
+            "job" => Some(Ask::Job { name, job }),
+            "documents" => Some(Ask::Documents { name, job }),
+            _ => None,
+        })
+    }
+
+    fn by_limit(kind: &str, fields: &mut Fields<'_>) -> Result<Option<Ask>, Fault> {
+        let name = fields.name()?;
+        let limit = fields.number_or_none()?;
+        Ok(match kind {
+            "unfinished" => Some(Ask::Unfinished { name, limit }),
+            "ended" => Some(Ask::Ended { name, limit }),
+            _ => None,
+        })
     }
 
     pub fn call<S: Alter>(

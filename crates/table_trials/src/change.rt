@@ -20,7 +20,6 @@ use room_statements::{
 use sqlite::{Alter, Connection, Transaction};
 use std::alloc::Global;
 
-#[derive(Drop)]
 pub enum Change {
     Account {
         name: Name,
@@ -65,6 +64,43 @@ pub enum Change {
     },
 }
 
+// It is written out, so that a function makes one call of it at each of its exits.
+impl Drop for Change {
+    fn drop(self) {
+        match self {
+            Change::Account {
+                name: _,
+                account: _,
+            } => {}
+            Change::NextJob {
+                name: _,
+                next_job: _,
+            } => {}
+            Change::Device { name: _, on: _ } => {}
+            Change::Rate { name: _, units: _ } => {}
+            Change::Grant {
+                name: _,
+                month: _,
+                pages: _,
+            } => {}
+            Change::NewJob { name: _, job: _ } => {}
+            Change::Standing {
+                name: _,
+                job: _,
+                standing: _,
+            } => {}
+            Change::NewDocument {
+                name: _,
+                job: _,
+                number: _,
+                format: _,
+                bytes: _,
+            } => {}
+            Change::RemoveDocuments { name: _, job: _ } => {}
+        }
+    }
+}
+
 impl Change {
     /// What a command of the kind changes, if it writes rows.
     pub fn read(
@@ -72,55 +108,18 @@ impl Change {
         kind: &str,
         fields: &mut Fields<'_>,
     ) -> Result<Option<Change>, Fault> {
-        let change = match kind {
-            "set-account" => Change::Account {
-                name: fields.name()?,
-                account: Account {
-                    opened: fields.long()?,
-                    next_job: fields.number()?,
-                },
-            },
-            "set-next" => Change::NextJob {
-                name: fields.name()?,
-                next_job: fields.number()?,
-            },
-            "set-device" => Change::Device {
-                name: fields.name()?,
-                on: fields.choice("on", "off")?,
-            },
-            "set-rate" => Change::Rate {
-                name: fields.name()?,
-                units: fields.number()?,
-            },
-            "set-grant" => Change::Grant {
-                name: fields.name()?,
-                month: fields.number()?,
-                pages: fields.number()?,
-            },
-            "add-job" => Change::NewJob {
-                name: fields.name()?,
-                job: read_job(alloc, fields)?,
-            },
-            "set-standing" => Change::Standing {
-                name: fields.name()?,
-                job: fields.number()?,
-                standing: read_standing(fields)?,
-            },
-            "add-document" => Change::NewDocument {
-                name: fields.name()?,
-                job: fields.number()?,
-                number: fields.number()?,
-                format: fields.format()?,
-                bytes: fields.bytes(alloc)?,
-            },
-            "remove-documents" => Change::RemoveDocuments {
-                name: fields.name()?,
-                job: fields.number()?,
-            },
-            _ => return Ok(None),
-        };
-        fields.end()?;
-        Ok(Some(change))
+        match kind {
+            "set-account" => read_account(fields),
+            "set-next" => read_next_job(fields),
+            "set-device" => read_device(fields),
+            "set-rate" => read_rate(fields),
+            "set-grant" => read_grant(fields),
+            "add-job" => read_new_job(alloc, fields),
+            "set-standing" => read_new_standing(fields),
+            "add-document" => read_document(alloc, fields),
+            "remove-documents" => read_removal(fields),
+            _ => Ok(None),
+        }
     }
 
     pub fn call<S: Alter>(&self, connection: &mut Connection<S>) -> Result<(), Fault> {
@@ -179,6 +178,78 @@ impl Change {
         }?;
         Ok(())
     }
+}
+
+fn read_account(fields: &mut Fields<'_>) -> Result<Option<Change>, Fault> {
+    let name = fields.name()?;
+    let account = Account {
+        opened: fields.long()?,
+        next_job: fields.number()?,
+    };
+    Ok(Some(Change::Account { name, account }))
+}
+
+fn read_next_job(fields: &mut Fields<'_>) -> Result<Option<Change>, Fault> {
+    let name = fields.name()?;
+    let next_job = fields.number()?;
+    Ok(Some(Change::NextJob { name, next_job }))
+}
+
+fn read_device(fields: &mut Fields<'_>) -> Result<Option<Change>, Fault> {
+    let name = fields.name()?;
+    let on = fields.choice("on", "off")?;
+    Ok(Some(Change::Device { name, on }))
+}
+
+fn read_rate(fields: &mut Fields<'_>) -> Result<Option<Change>, Fault> {
+    let name = fields.name()?;
+    let units = fields.number()?;
+    Ok(Some(Change::Rate { name, units }))
+}
+
+fn read_grant(fields: &mut Fields<'_>) -> Result<Option<Change>, Fault> {
+    let name = fields.name()?;
+    let month = fields.number()?;
+    let pages = fields.number()?;
+    Ok(Some(Change::Grant { name, month, pages }))
+}
+
+fn read_new_job(alloc: Global, fields: &mut Fields<'_>) -> Result<Option<Change>, Fault> {
+    let name = fields.name()?;
+    let job = read_job(alloc, fields)?;
+    Ok(Some(Change::NewJob { name, job }))
+}
+
+fn read_new_standing(fields: &mut Fields<'_>) -> Result<Option<Change>, Fault> {
+    let name = fields.name()?;
+    let job = fields.number()?;
+    let standing = read_standing(fields)?;
+    Ok(Some(Change::Standing {
+        name,
+        job,
+        standing,
+    }))
+}
+
+fn read_document(alloc: Global, fields: &mut Fields<'_>) -> Result<Option<Change>, Fault> {
+    let name = fields.name()?;
+    let job = fields.number()?;
+    let number = fields.number()?;
+    let format = fields.format()?;
+    let bytes = fields.bytes(alloc)?;
+    Ok(Some(Change::NewDocument {
+        name,
+        job,
+        number,
+        format,
+        bytes,
+    }))
+}
+
+fn read_removal(fields: &mut Fields<'_>) -> Result<Option<Change>, Fault> {
+    let name = fields.name()?;
+    let job = fields.number()?;
+    Ok(Some(Change::RemoveDocuments { name, job }))
 }
 
 fn read_job(alloc: Global, fields: &mut Fields<'_>) -> Result<Job, Fault> {

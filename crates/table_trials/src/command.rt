@@ -7,7 +7,6 @@ use crate::fields::Fields;
 use std::alloc::Global;
 
 /// What a command asks for, beside what is read (`Ask`) and written (`Change`) in rows.
-#[derive(Drop)]
 pub enum Command<'a> {
     Ask(Ask),
     Change(Change),
@@ -38,35 +37,69 @@ pub enum StoreCall {
     Migrate,
 }
 
+// It is written out, so that a function makes one call of it at each of its exits.
+impl Drop for Command<'_> {
+    fn drop(self) {
+        match self {
+            Command::Ask(_) => {}
+            Command::Change(_) => {}
+            Command::Store(_) => {}
+            Command::Sql(_) => {}
+            Command::Read(_) => {}
+            Command::Number(_) => {}
+            Command::Begin => {}
+            Command::Tables => {}
+            Command::File(_) => {}
+            Command::Memory => {}
+            Command::Remove(_) => {}
+        }
+    }
+}
+
 impl<'a> Command<'a> {
     pub fn read(alloc: Global, line: &'a str) -> Result<Command<'a>, Fault> {
         let mut fields = Fields::new(line);
+        let command = Command::read_fields(alloc, &mut fields)?;
+        fields.end()?;
+        Ok(command)
+    }
+
+    fn read_fields(alloc: Global, fields: &mut Fields<'a>) -> Result<Command<'a>, Fault> {
         let kind = fields.take()?;
-        if let Some(ask) = Ask::read(kind, &mut fields)? {
+        if let Some(ask) = Ask::read(kind, fields)? {
             return Ok(Command::Ask(ask));
         }
-        if let Some(change) = Change::read(alloc, kind, &mut fields)? {
+        if let Some(change) = Change::read(alloc, kind, fields)? {
             return Ok(Command::Change(change));
         }
-        Command::read_other(kind, &mut fields)
+        match StoreCall::of(kind) {
+            Some(call) => Ok(Command::Store(call)),
+            None => Command::read_other(kind, fields),
+        }
     }
 
     fn read_other(kind: &str, fields: &mut Fields<'a>) -> Result<Command<'a>, Fault> {
-        let command = match kind {
-            "create" => Command::Store(StoreCall::Create),
-            "open" => Command::Store(StoreCall::Open),
-            "migrate" => Command::Store(StoreCall::Migrate),
-            "sql" => Command::Sql(fields.text()?),
-            "read" => Command::Read(fields.take()?),
-            "number" => Command::Number(fields.text()?),
-            "begin" => Command::Begin,
-            "tables" => Command::Tables,
-            "file" => Command::File(fields.take()?),
-            "memory" => Command::Memory,
-            "remove" => Command::Remove(fields.take()?),
-            _ => return Err(Fault::Notation(Wrong::Command)),
-        };
-        fields.end()?;
-        Ok(command)
+        match kind {
+            "sql" => Ok(Command::Sql(fields.text()?)),
+            "read" => Ok(Command::Read(fields.take()?)),
+            "number" => Ok(Command::Number(fields.text()?)),
+            "begin" => Ok(Command::Begin),
+            "tables" => Ok(Command::Tables),
+            "file" => Ok(Command::File(fields.take()?)),
+            "memory" => Ok(Command::Memory),
+            "remove" => Ok(Command::Remove(fields.take()?)),
+            _ => Err(Fault::Notation(Wrong::Command)),
+        }
+    }
+}
+
+impl StoreCall {
+    fn of(kind: &str) -> Option<StoreCall> {
+        match kind {
+            "create" => Some(StoreCall::Create),
+            "open" => Some(StoreCall::Open),
+            "migrate" => Some(StoreCall::Migrate),
+            _ => None,
+        }
     }
 }

@@ -197,24 +197,33 @@ fn store<S: Alter + Drop>(
     connection: Connection<S>,
     call: StoreCall,
 ) -> Result<(Connection<S>, Answer), Fault> {
-    let (connection, answer) = match store_once(connection, call)? {
-        (connection, Answer::Open(OpenFault::Storage)) => store_once(connection, call)?,
-        answered => answered,
+    let told = match store_once(connection, call)? {
+        (connection, Some(OpenFault::Storage)) => store_once(connection, call)?,
+        told => told,
     };
-    match answer {
-        Answer::Open(OpenFault::Memory) => {
+    let (connection, refused) = match told {
+        (connection, Some(OpenFault::Memory)) => {
             tell_again(rt);
-            store_once(connection, call)
+            store_once(connection, call)?
         }
-        answer => Ok((connection, answer)),
+        told => told,
+    };
+    Ok((connection, store_answer(refused)))
+}
+
+fn store_answer(refused: Option<OpenFault>) -> Answer {
+    match refused {
+        None => Answer::Ok,
+        Some(fault) => Answer::Open(fault),
     }
 }
 
-/// A call that is refused has to leave as many tables as there were.
+/// The connection after a call, and why the call was refused. One that is refused has to leave as
+/// many tables as there were.
 fn store_once<S: Alter + Drop>(
     connection: Connection<S>,
     call: StoreCall,
-) -> Result<(Connection<S>, Answer), Fault> {
+) -> Result<(Connection<S>, Option<OpenFault>), Fault> {
     let before = tables(&connection);
     let result = match call {
         StoreCall::Create => Store::create(connection),
@@ -222,12 +231,12 @@ fn store_once<S: Alter + Drop>(
         StoreCall::Migrate => Store::migrate(connection),
     };
     match result {
-        Ok(store) => Ok((store.close(), Answer::Ok)),
+        Ok(store) => Ok((store.close(), None)),
         Err(Refused { connection, fault }) => {
             if tables(&connection) != before {
                 return Err(Fault::Changed);
             }
-            Ok((connection, Answer::Open(fault)))
+            Ok((connection, Some(fault)))
         }
     }
 }
