@@ -66,7 +66,7 @@ fn a_few_a_turn(rt: &HostRuntime, talk: &mut Talk<'_>) -> Result<(), Fault> {
     let valid = valid(rt.alloc())?;
     due(rt, talk.turn(ROOM), Next::Again)?;
     holds(rt, !talk.went().is_empty(), "the first turn answers")?;
-    let most = 4 * valid.len();
+    let most = valid.len().saturating_mul(4);
     holds(rt, talk.went().len() <= most, "the first turn answers four")?;
     due(rt, talk.turns(ROOM), Next::Wait)?;
     let all = copies(rt.alloc(), valid.as_slice(), 300)?;
