@@ -1,7 +1,7 @@
 //! A database in two files in memory, of which one stops after so many calls: each call behind
 //! these fails, and changes nothing.
 
-use crate::fault::Fault;
+use event_trials::Fault;
 use room_commands::Opener;
 use room_store::OpenFault;
 use sqlite::{Connection, Error, ErrorCode, FileStore, Files, Options};

@@ -1,10 +1,7 @@
 //! Exchanges over one connection of HTTP, held against `serve_one` over tables in memory: alice and
 //! bob have accounts, and the device d1 is on.
 
-use crate::comparing::rows_of;
-use crate::fault::Fault;
-use crate::tables::{Tables, tell_again};
-use crate::wires::{Served, Sides};
+use event_trials::{Fault, Served, Sides, Tables, rows_of, tell_again};
 use room_rows::{Conversation, ENDED, Exchange, Step, told};
 use room_serve::{After, WireFault};
 use sqlite::MemStore;

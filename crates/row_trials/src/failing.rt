@@ -3,10 +3,8 @@
 //! was written is a front of what the exchange writes, and not all of it. Where a read failed, the
 //! rows are those before the message; where a write did, those before or behind it.
 
-use crate::comparing::rows_of;
 use crate::exchanges::{PIECES, Pieces, opened_tables};
-use crate::fault::Fault;
-use crate::wires::{Failing, Served, Sides, WHOLE};
+use event_trials::{Failing, Fault, Served, Sides, WHOLE, rows_of};
 use room_rows::Exchange;
 use room_serve::WireFault;
 

@@ -1,7 +1,7 @@
 //! A file that the program's words name.
 
-use crate::fault::Fault;
-use crate::{cells, rows};
+use crate::rows;
+use event_trials::{Fault, hold_events};
 use sqlite::{Alter, Connection};
 use table_trials::FileTables;
 
@@ -15,7 +15,7 @@ where
     F: FileTables<Kept = Connection<S>>,
 {
     if let Some(name) = file.strip_suffix(".events") {
-        return cells::hold(rt, files, name);
+        return hold_events(rt, files, name);
     }
     if file.ends_with(".tables") {
         return Ok(table_trials::hold(rt, file, files)?);

@@ -1,9 +1,7 @@
 //! A database as the next run finds it behind one over disks that stopped.
 
-use crate::comparing::print_accounts;
 use crate::disks::{Disks, Lent};
-use crate::fault::Fault;
-use crate::tables::{FILE, Tables};
+use event_trials::{FILE, Fault, Tables, print_accounts};
 use room_commands::Opener;
 use room_store::{OpenFault, Refused, Store};
 use sqlite::{Alter, Connection};

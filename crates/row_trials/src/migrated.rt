@@ -1,14 +1,11 @@
 //! A database of version 1 that is migrated over storage that stops: it is found as one of version
 //! 1 or of version 2 then, and every account has the rows that it had.
 
-use crate::answers::take;
-use crate::comparing::print_accounts;
 use crate::disks::{DISK_FILES, DiskFile, Disks, Lent};
-use crate::fault::Fault;
 use crate::found::Found;
 use crate::program::on_disks;
 use crate::stopped::unexpected;
-use crate::tables::{FILE, Tables};
+use event_trials::{FILE, Fault, Tables, print_accounts, take};
 use room_commands::Opener;
 use room_rows::Conversation;
 use room_store::OpenFault;

@@ -1,11 +1,8 @@
 //! Scripts that the program runs, over memory and over a file, and runs of the program over disks
 //! in memory.
 
-use crate::answers::answered;
-use crate::comparing::text;
 use crate::disks::{Disks, Lent};
-use crate::fault::Fault;
-use crate::tables::{FILE, remove_files, tell_again};
+use event_trials::{FILE, Fault, answered, remove_files, tell_again, text};
 use room_commands::{MEMORY, run, run_on};
 use room_lines::print_answer;
 use room_rows::{Rooms, Step};

@@ -1,6 +1,6 @@
 //! What is done by hand to the file of a row of runs.
 
-use crate::fault::Fault;
+use event_trials::Fault;
 use room_lines::Line;
 use room_rows::FileStep;
 use room_store::{Refused, Store};

@@ -4,8 +4,8 @@
 
 use crate::answers::WAYS;
 use crate::exchanges::{PIECES, answers};
-use crate::fault::Fault;
 use crate::{failing, runs, stopped};
+use event_trials::Fault;
 use room_rows::{Conversation, Exchange, difference};
 use sqlite::{Alter, Connection};
 use std::fs;

@@ -1,7 +1,7 @@
 //! Rows of runs, held against the program.
 
-use crate::fault::Fault;
 use crate::room_file::RoomFile;
+use event_trials::Fault;
 use room_commands::run_on;
 use room_rows::{Run, RunStep, run_steps};
 use sqlite::{Alter, Connection};

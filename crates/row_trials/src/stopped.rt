@@ -6,14 +6,11 @@
 //! A row is a script, which runs on a new database. Behind the line `migrated` its steps make a
 //! database of version 1 instead, and the program migrates it.
 
-use crate::answers::take;
-use crate::comparing::{differing, rows_of, text};
 use crate::disks::{DISK_FILES, DiskFile, Disks};
-use crate::fault::Fault;
 use crate::found::Found;
 use crate::migrated;
 use crate::program::{answered_before_failed, on_disks};
-use crate::tables::Tables;
+use event_trials::{Fault, Tables, differing, rows_of, take, text};
 use room_rows::{Conversation, Step};
 use room_store::OpenFault;
 use std::alloc::Global;

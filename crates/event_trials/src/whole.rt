@@ -2,9 +2,9 @@
 //! the next.
 
 use crate::accounts::in_turns;
-use crate::answers::{answered, set_next_job, skip_to};
 use crate::comparing::{differing, rows_differ, text};
 use crate::fault::Fault;
+use crate::steps::{answered, set_next_job, skip_to};
 use crate::tables::Tables;
 use room_lines::{Line, print_answer};
 use room_rows::{Rooms, Step};
@@ -81,8 +81,18 @@ impl<'a, S: Alter + Drop> Whole<'a, S> {
     /// Gives the lines that wait to the store as one list, and to the rooms one by one. No event
     /// may fail.
     fn give(&mut self, rt: &HostRuntime) -> Result<Option<String>, Fault> {
-        let (mut found, mut due) = (Vec::new(rt.alloc()), Vec::new(rt.alloc()));
         let outcomes = self.tables.run(rt, self.waiting.as_slice())?;
+        let differs = self.answers_differ(rt, outcomes.as_slice())?;
+        self.waiting = Vec::new(rt.alloc());
+        Ok(differs)
+    }
+
+    fn answers_differ(
+        &mut self,
+        rt: &HostRuntime,
+        outcomes: &[Outcome],
+    ) -> Result<Option<String>, Fault> {
+        let (mut found, mut due) = (Vec::new(rt.alloc()), Vec::new(rt.alloc()));
         for (line, outcome) in self.waiting.iter().zip(outcomes.iter()) {
             match outcome {
                 Outcome::Answered(reply) => {
@@ -93,7 +103,6 @@ impl<'a, S: Alter + Drop> Whole<'a, S> {
                 Outcome::Failed(fault) => return Err(Fault::Tables(*fault)),
             }
         }
-        self.waiting = Vec::new(rt.alloc());
         differing(rt.alloc(), text(found)?, text(due)?)
     }
 }

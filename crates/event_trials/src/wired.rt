@@ -4,10 +4,10 @@
 //! and to one process that serves everybody, IPP over HTTP and lines.
 
 use crate::accounts::in_turns;
-use crate::answers::set_next_job;
 use crate::comparing::{differing, rows_text};
 use crate::fault::Fault;
 use crate::front::{answer_line, answer_request, serve};
+use crate::steps::set_next_job;
 use crate::tables::Tables;
 use crate::wires::WHOLE;
 use room_core::{Event, Name, Reply};

@@ -28,7 +28,7 @@ use table_trials::FileTables;
 
 /// Whether the list holds over memory and over a file, and reaches what it has to. Prints what it
 /// reached.
-pub fn hold<S, F>(rt: &HostRuntime, files: &F, name: &str) -> Result<bool, Fault>
+pub fn hold_events<S, F>(rt: &HostRuntime, files: &F, name: &str) -> Result<bool, Fault>
 where
     S: Alter + Drop,
     F: FileTables<Kept = Connection<S>>,

@@ -3,13 +3,14 @@
 //! its list whole, from one change by hand to the next, and in the end the account has to have been
 //! told the same, and to have the same rows.
 
-use crate::answers::{answered, set_next_job, skip_to};
 use crate::comparing::{differing, text};
 use crate::fault::Fault;
+use crate::steps::{answered, set_next_job, skip_to};
 use crate::tables::Tables;
 use room_core::Name;
 use room_lines::{Line, print_answer};
 use room_rows::{Conversation, Rooms, Step};
+use room_serve::Outcome;
 use sqlite::MemStore;
 use std::alloc::Global;
 
@@ -106,13 +107,18 @@ impl<'a> Side<'a> {
     /// Gives the lines that wait to the store as one list.
     fn give(&mut self, rt: &HostRuntime) -> Result<(), Fault> {
         let outcomes = self.tables.run(rt, self.lines.as_slice())?;
+        self.print_own(outcomes.as_slice())?;
+        self.lines = Vec::new(rt.alloc());
+        self.is_own = Vec::new(rt.alloc());
+        Ok(())
+    }
+
+    fn print_own(&mut self, outcomes: &[Outcome]) -> Result<(), Fault> {
         for (is_own, outcome) in self.is_own.iter().zip(outcomes.iter()) {
             if *is_own {
                 print_answer(&mut self.printed, outcome.reply())?;
             }
         }
-        self.lines = Vec::new(rt.alloc());
-        self.is_own = Vec::new(rt.alloc());
         Ok(())
     }
 

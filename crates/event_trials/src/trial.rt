@@ -1,9 +1,9 @@
 //! The rooms and the shared tables, step by step.
 
 use crate::accounts::{ACCOUNTS, BEHIND, Player};
-use crate::answers::{answered, as_of_rooms, set_next_job, skip_to};
 use crate::comparing::{differing, print_differing, rows_differ, text};
 use crate::fault::Fault;
+use crate::steps::{answered, as_of_rooms, set_next_job, skip_to};
 use crate::tables::Tables;
 use room_core::{CoreFault, LAST_MOMENT, Name, Reply};
 use room_lines::{Line, print_answer};
