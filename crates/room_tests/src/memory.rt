@@ -1,8 +1,7 @@
 //! Each call where a request for memory is refused: it answers its fault for memory and leaves what
 //! it was given as it was, and made again it gives the usual answer. Run as they are, these tests
 //! meet no refusal; `tools/refuse-memory` runs them once for each request that they make, and so
-//! the rows of `worked_rows` and `worked_tables`, which reach the machine as a whole, the store and
-//! what stands on it.
+//! the rows of `worked_rows`, which reach the machine as a whole, the store and what stands on it.
 
 ghost use Rattle.room_replies.specs.Limits.{IsPlace};
 ghost use Rattle.room_replies.specs.Places.{plain_place};
