@@ -3,17 +3,13 @@
 #![tactic(auto)]
 
 mod answers;
-mod disks;
 mod exchanges;
 mod failing;
 mod file;
-mod found;
-mod migrated;
 mod program;
 mod room_file;
 mod rows;
 mod runs;
-mod stopped;
 
 pub use event_trials::Fault;
 pub use file::hold;

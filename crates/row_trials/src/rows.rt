@@ -4,12 +4,13 @@
 
 use crate::answers::WAYS;
 use crate::exchanges::{PIECES, answers};
-use crate::{failing, runs, stopped};
+use crate::{failing, runs};
 use event_trials::Fault;
 use room_rows::{Conversation, Exchange, difference};
 use sqlite::{Alter, Connection};
 use std::fs;
 use std::io::Write;
+use stop_trials::differs_where_stopped;
 use table_trials::FileTables;
 
 /// What the rows of a file are.
@@ -49,7 +50,7 @@ impl Kind {
             Kind::Conversations => conversation_differs(rt, files, lines),
             Kind::Exchanges => exchange_differs(rt, lines),
             Kind::Runs => runs::differs(rt, files, lines),
-            Kind::Stops => stopped::differs(rt, lines),
+            Kind::Stops => differs_where_stopped(rt, lines),
         }
     }
 }

@@ -9,7 +9,8 @@
 use crate::disks::{DISK_FILES, DiskFile, Disks};
 use crate::found::Found;
 use crate::migrated;
-use crate::program::{answered_before_failed, on_disks};
+use crate::stopping::on_disks;
+use crate::told::answered_before_failed;
 use event_trials::{Fault, Tables, differing, rows_of, take, text};
 use room_rows::{Conversation, Step};
 use room_store::OpenFault;
@@ -21,7 +22,7 @@ use std::fmt::{Display, Formatter, Write};
 const MIGRATED: &str = "migrated\n";
 
 /// Where a row differs first.
-pub fn differs(rt: &HostRuntime, lines: &str) -> Result<Option<String>, Fault> {
+pub fn differs_where_stopped(rt: &HostRuntime, lines: &str) -> Result<Option<String>, Fault> {
     match lines.strip_prefix(MIGRATED) {
         Some(lines) => migrated::differs(rt, &Conversation::read(rt.alloc(), lines)?),
         None => script_differs(rt, &Conversation::read(rt.alloc(), lines)?),

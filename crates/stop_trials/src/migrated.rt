@@ -3,8 +3,8 @@
 
 use crate::disks::{DISK_FILES, DiskFile, Disks, Lent};
 use crate::found::Found;
-use crate::program::on_disks;
 use crate::stopped::unexpected;
+use crate::stopping::on_disks;
 use event_trials::{FILE, Fault, Tables, print_accounts, take};
 use room_commands::Opener;
 use room_rows::Conversation;

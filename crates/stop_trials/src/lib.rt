@@ -1,0 +1,12 @@
+//! Runs of the program over storage that stops, held against what it may leave; and what a run tells.
+#![tactic(auto)]
+
+mod disks;
+mod found;
+mod migrated;
+mod stopped;
+mod stopping;
+mod told;
+
+pub use stopped::differs_where_stopped;
+pub use told::{Told, answered_before_failed};
