@@ -3,7 +3,7 @@
 use crate::due::{due, due_bytes, holds, of_case};
 use crate::fault::Fault;
 use crate::report::Report;
-use crate::sends::Sent;
+use crate::sends::Ending;
 use room_client::{ClientFault, HexLines, Keeper, Outcome, Peer, send_grants, send_lines};
 use room_input::Counted;
 use room_served::MOST_LINE;
@@ -20,18 +20,31 @@ pub fn hold<W: Write>(rt: &HostRuntime, report: &mut Report<'_, W>) {
     report.tell("long answers", long_answers(rt));
 }
 
-/// Sends lines where these bytes come, whatever is sent. They come in pieces of 7.
-fn to_bytes(rt: &HostRuntime, input: &[u8], answers: &[u8]) -> Result<(Sent, Vec<u8>), Fault> {
+/// Sends lines where these bytes come, whatever is sent, which it returns. They come in pieces of 7.
+fn to_bytes(
+    rt: &HostRuntime,
+    input: &[u8],
+    answers: &[u8],
+    ending: Ending<'_>,
+) -> Result<Vec<u8>, Fault> {
+    let mut written = Vec::new(rt.alloc());
+    send_to(rt, &mut written, input, answers, ending)?;
+    Ok(written)
+}
+
+fn send_to(
+    rt: &HostRuntime,
+    written: &mut Vec<u8>,
+    input: &[u8],
+    answers: &[u8],
+    ending: Ending<'_>,
+) -> Result<(), Fault> {
     let alloc = rt.alloc();
     let mut output = Vec::new(alloc);
-    let mut written = Vec::new(alloc);
     let mut input = input;
-    let outcome = {
-        let reader = BufReader::with_capacity(alloc, 7, answers)?;
-        let mut peer = Peer::new(reader, &mut written);
-        send_lines(alloc, &mut input, &mut peer, &mut HexLines, &mut output)
-    };
-    Ok((Sent { outcome, output }, written))
+    let mut peer = Peer::new(BufReader::with_capacity(alloc, 7, answers)?, written);
+    let outcome = send_lines(alloc, &mut input, &mut peer, &mut HexLines, &mut output);
+    ending.is(rt, outcome, output.as_slice())
 }
 
 /// Lines, what answers them, and how it went.
@@ -53,12 +66,20 @@ const OUTCOMES: &[(&[u8], &[u8], Outcome)] = &[
 /// An event that failed comes before a bad line, and the first of two bad lines counts.
 fn outcomes(rt: &HostRuntime) -> Result<(), Fault> {
     for (input, answers, outcome) in OUTCOMES {
-        let (sent, written) = to_bytes(rt, *input, *answers)?;
-        of_case(rt, *input, sent.is(rt, Ok(*outcome), *answers))?;
-        holds(rt, written.starts_with(*input), "the input is sent")?;
-        due(rt, written.last().copied(), Some(b'\n'))?;
+        of_case(rt, *input, ends_by(rt, *input, *answers, *outcome))?;
     }
     Ok(())
+}
+
+fn ends_by(
+    rt: &HostRuntime,
+    input: &[u8],
+    answers: &[u8],
+    outcome: Outcome,
+) -> Result<(), Fault> {
+    let written = to_bytes(rt, input, answers, Ending::of(Ok(outcome), answers))?;
+    holds(rt, written.starts_with(input), "the input is sent")?;
+    due(rt, written.last().copied(), Some(b'\n'))
 }
 
 /// Keeps documents in a list of bytes, each behind its name.
@@ -83,15 +104,12 @@ fn documents_for_a_keeper(rt: &HostRuntime) -> Result<(), Fault> {
     let mut keeper = Listed {
         list: Vec::new(rt.alloc()),
     };
-    let sent = documents_to(rt, &mut keeper)?;
-    let printed = b"document 999999 3 application/pdf 4\nhere/alice-2-999999-1\n\
-        document 999999 3 text/plain 0\nhere/alice-2-999999-2\nnot-pending\n";
-    sent.is(rt, Ok(Outcome::Fine), printed)?;
+    documents_to(rt, &mut keeper)?;
     let kept = b"alice-2-999999-1:a\nb\n;alice-2-999999-2:;";
     due_bytes(rt, keeper.list.as_slice(), kept)
 }
 
-fn documents_to(rt: &HostRuntime, keeper: &mut Listed) -> Result<Sent, Fault> {
+fn documents_to(rt: &HostRuntime, keeper: &mut Listed) -> Result<(), Fault> {
     let alloc = rt.alloc();
     let mut output = Vec::new(alloc);
     let mut written = Vec::new(alloc);
@@ -100,12 +118,11 @@ fn documents_to(rt: &HostRuntime, keeper: &mut Listed) -> Result<Sent, Fault> {
         b"documents 2\ndocument 999999 3 application/pdf 4\na\nb\n\ndocument 999999 3 text/plain 0\n\n\
         not-pending\n"
             .as_slice();
-    let outcome = {
-        let reader = BufReader::with_capacity(alloc, 7, answers)?;
-        let mut peer = Peer::new(reader, &mut written);
-        send_lines(alloc, &mut input, &mut peer, keeper, &mut output)
-    };
-    Ok(Sent { outcome, output })
+    let printed = b"document 999999 3 application/pdf 4\nhere/alice-2-999999-1\n\
+        document 999999 3 text/plain 0\nhere/alice-2-999999-2\nnot-pending\n";
+    let mut peer = Peer::new(BufReader::with_capacity(alloc, 7, answers)?, &mut written);
+    let outcome = send_lines(alloc, &mut input, &mut peer, keeper, &mut output);
+    Ending::of(Ok(Outcome::Fine), printed).is(rt, outcome, output.as_slice())
 }
 
 /// Connections that end before an answer is whole, and answers that are none.
@@ -146,17 +163,22 @@ const OF_NO_START: &[&[u8]] = &[
 /// Each of them ends what is sent, and nothing of it is printed.
 fn broken_answers(rt: &HostRuntime) -> Result<(), Fault> {
     for answers in BROKEN {
-        let (sent, _) = to_bytes(rt, b"start d1 alice 4\n", *answers)?;
-        of_case(rt, *answers, sent.is(rt, Err(ClientFault::Broken), b""))?;
+        of_case(rt, *answers, breaks(rt, b"start d1 alice 4\n", *answers))?;
     }
     Ok(())
 }
 
 fn documents_of_no_start(rt: &HostRuntime) -> Result<(), Fault> {
+    let answers = b"documents 1\ndocument 4 1 text/plain 1\na\n";
     for line in OF_NO_START {
-        let (sent, _) = to_bytes(rt, *line, b"documents 1\ndocument 4 1 text/plain 1\na\n")?;
-        of_case(rt, *line, sent.is(rt, Err(ClientFault::Broken), b""))?;
+        of_case(rt, *line, breaks(rt, *line, answers))?;
     }
+    Ok(())
+}
+
+fn breaks(rt: &HostRuntime, input: &[u8], answers: &[u8]) -> Result<(), Fault> {
+    let broken = Ending::of(Err(ClientFault::Broken), b"");
+    to_bytes(rt, input, answers, broken)?;
     Ok(())
 }
 
@@ -183,47 +205,74 @@ const GRANTED: &[(&[u8], Result<Outcome, ClientFault>, &[u8])] = &[
 /// Documents to a line of grants, and grants of which one failed.
 fn answers_to_grants(rt: &HostRuntime) -> Result<(), Fault> {
     for (answers, outcome, printed) in GRANTED {
-        let (sent, written) = grants_to(rt, *answers)?;
-        of_case(rt, *answers, sent.is(rt, *outcome, *printed))?;
-        let due = b"grant a 1970-01 0\ngrant c 2099-12 1000000000\n";
-        due_bytes(rt, written.as_slice(), due)?;
+        of_case(
+            rt,
+            *answers,
+            grants_to(rt, *answers, Ending::of(*outcome, *printed)),
+        )?;
     }
     Ok(())
 }
 
-fn grants_to(rt: &HostRuntime, answers: &[u8]) -> Result<(Sent, Vec<u8>), Fault> {
+fn grants_to(rt: &HostRuntime, answers: &[u8], ending: Ending<'_>) -> Result<(), Fault> {
+    let mut written = Vec::new(rt.alloc());
+    send_grants_to(rt, &mut written, answers, ending)?;
+    let due = b"grant a 1970-01 0\ngrant c 2099-12 1000000000\n";
+    due_bytes(rt, written.as_slice(), due)
+}
+
+fn send_grants_to(
+    rt: &HostRuntime,
+    written: &mut Vec<u8>,
+    answers: &[u8],
+    ending: Ending<'_>,
+) -> Result<(), Fault> {
     let alloc = rt.alloc();
     let mut output = Vec::new(alloc);
-    let mut written = Vec::new(alloc);
     let mut input = Counted::new(b"a,1970-01,0\nb,2000-00,1\nc,2099-12,1000000000".as_slice());
-    let outcome = {
-        let mut peer = Peer::new(BufReader::new(alloc, answers)?, &mut written);
-        send_grants(alloc, &mut input, &mut peer, &mut output)
-    };
-    Ok((Sent { outcome, output }, written))
+    let mut peer = Peer::new(BufReader::new(alloc, answers)?, written);
+    let outcome = send_grants(alloc, &mut input, &mut peer, &mut output);
+    ending.is(rt, outcome, output.as_slice())
+}
+
+/// A line of so many bytes, without what ends it.
+fn line_of(rt: &HostRuntime, length: usize) -> Result<Vec<u8>, Fault> {
+    let mut line = Vec::new(rt.alloc());
+    line.resize(length, b'a')?;
+    Ok(line)
 }
 
 /// The longest line of the input is sent, and of a longer one nothing.
 fn long_lines_of_the_input(rt: &HostRuntime) -> Result<(), Fault> {
-    let mut line = Vec::new(rt.alloc());
-    line.resize(MOST_LINE, b'a')?;
-    let (sent, written) = to_bytes(rt, line.as_slice(), b"bad-line\n")?;
-    sent.is(rt, Ok(Outcome::BadLine(1)), b"bad-line\n")?;
-    due(rt, written.len(), MOST_LINE + 1)?;
-    line.push(b'a')?;
-    let (sent, written) = to_bytes(rt, line.as_slice(), b"bad-line\n")?;
-    sent.is(rt, Err(ClientFault::TooLong), b"")?;
-    due(rt, written.len(), 0)
+    let bad = Ending::of(Ok(Outcome::BadLine(1)), b"bad-line\n");
+    a_long_line_is_sent(rt, MOST_LINE, bad, MOST_LINE + 1)?;
+    let none = Ending::of(Err(ClientFault::TooLong), b"");
+    a_long_line_is_sent(rt, MOST_LINE + 1, none, 0)
+}
+
+/// That a line of so many bytes ends a client so, and that so many bytes are sent.
+fn a_long_line_is_sent(
+    rt: &HostRuntime,
+    length: usize,
+    ending: Ending<'_>,
+    sent: usize,
+) -> Result<(), Fault> {
+    let line = line_of(rt, length)?;
+    let written = to_bytes(rt, line.as_slice(), b"bad-line\n", ending)?;
+    due(rt, written.len(), sent)
 }
 
 /// The longest line of an answer, and a longer one.
 fn long_answers(rt: &HostRuntime) -> Result<(), Fault> {
-    let mut answer = Vec::new(rt.alloc());
-    answer.resize(MOST_LINE, b'a')?;
-    answer.push(b'\n')?;
-    let (sent, _) = to_bytes(rt, b"a\n", answer.as_slice())?;
-    sent.is(rt, Ok(Outcome::Fine), answer.as_slice())?;
-    answer.insert(0, b'a')?;
-    let (sent, _) = to_bytes(rt, b"a\n", answer.as_slice())?;
-    sent.is(rt, Err(ClientFault::Broken), b"")
+    let mut longest = line_of(rt, MOST_LINE)?;
+    longest.push(b'\n')?;
+    let fine = Ending::of(Ok(Outcome::Fine), longest.as_slice());
+    to_bytes(rt, b"a\n", longest.as_slice(), fine)?;
+    a_longer_answer(rt)
+}
+
+fn a_longer_answer(rt: &HostRuntime) -> Result<(), Fault> {
+    let mut longer = line_of(rt, MOST_LINE + 1)?;
+    longer.push(b'\n')?;
+    breaks(rt, b"a\n", longer.as_slice())
 }
