@@ -71,12 +71,7 @@ fn outcomes(rt: &HostRuntime) -> Result<(), Fault> {
     Ok(())
 }
 
-fn ends_by(
-    rt: &HostRuntime,
-    input: &[u8],
-    answers: &[u8],
-    outcome: Outcome,
-) -> Result<(), Fault> {
+fn ends_by(rt: &HostRuntime, input: &[u8], answers: &[u8], outcome: Outcome) -> Result<(), Fault> {
     let written = to_bytes(rt, input, answers, Ending::of(Ok(outcome), answers))?;
     holds(rt, written.starts_with(input), "the input is sent")?;
     due(rt, written.last().copied(), Some(b'\n'))
