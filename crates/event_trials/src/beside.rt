@@ -3,16 +3,13 @@
 //! its list whole, from one change by hand to the next, and in the end the account has to have been
 //! told the same, and to have the same rows.
 
-use crate::comparing::{differing, text};
-use crate::fault::Fault;
-use crate::steps::{answered, set_next_job, skip_to};
-use crate::tables::Tables;
 use room_core::Name;
 use room_lines::{Line, print_answer};
 use room_rows::{Conversation, Rooms, Step};
 use room_serve::Outcome;
 use sqlite::MemStore;
 use std::alloc::Global;
+use trials::{Fault, Tables, answered, differing, set_next_job, skip_to, text};
 
 /// What the other asks first: fifty jobs, numbered as the account's will be.
 const FIFTY_JOBS: &str = "\
@@ -188,7 +185,7 @@ fn steps_of(alloc: Global, asked: &str) -> Result<Vec<Step>, Fault> {
     Ok(Conversation::read(alloc, asked)?.steps(alloc)?)
 }
 
-/// What the other asks behind each step of the account.
+/// What the other asks after each step of the account.
 fn asked_between(rt: &HostRuntime, account: Name, steps: &[Step]) -> Result<Vec<Vec<Step>>, Fault> {
     let alloc = rt.alloc();
     let mut rooms = Rooms::new(alloc);

@@ -3,7 +3,7 @@
 //! the devices, and no fault may come.
 //!
 //! Each step of a list, in the notation of conversations, is one of both accounts, whose name
-//! stands for `@`. The second account comes some steps behind the first, so that the two are in
+//! stands for `@`. The second account comes some steps after the first, so that the two are in
 //! different states. In memory the rows are looked at after each step, and before each event the
 //! same event is refused at a moment that is out of range; in a file the rows are looked at in the
 //! end. Then the list is given to the store whole, over both; and the steps of the first account
@@ -13,11 +13,8 @@
 //! A list `NAME.events` has to reach, for both accounts, all that `NAME.reached` names, a name a
 //! line.
 
-use crate::accounts::{ACCOUNTS, Player};
 use crate::beside::differs_beside;
-use crate::comparing::print_differing;
-use crate::fault::Fault;
-use crate::tables::{Tables, remove_files};
+use crate::players::Player;
 use crate::trial::Trial;
 use crate::whole::Whole;
 use crate::wired::Wired;
@@ -25,9 +22,10 @@ use sqlite::{Alter, Connection, MemStore};
 use std::fs;
 use std::io::Write;
 use table_trials::FileTables;
+use trials::{ACCOUNTS, Fault, Tables, print_differing, remove_files};
 
-/// Whether the list holds over memory and over a file, and reaches what it has to. Prints what it
-/// reached.
+/// Whether the list holds over memory and over a file, and reaches what it has to. Prints that it
+/// does, or what it does not reach.
 pub fn hold_events<S, F>(rt: &HostRuntime, files: &F, name: &str) -> Result<bool, Fault>
 where
     S: Alter + Drop,
@@ -43,12 +41,11 @@ where
     if !holds_every_way(rt, files, &players, &mut in_memory)? {
         return Ok(false);
     }
-    let count = players[0].steps.len();
-    writeln!(
-        rt.stdout(),
-        "{file}: {count} steps of each account hold, and reach"
-    )?;
-    reaches(rt, name, &in_memory)
+    let all = reaches(rt, name, &in_memory)?;
+    if all {
+        writeln!(rt.stdout(), "{file}: holds")?;
+    }
+    Ok(all)
 }
 
 /// Whether the list holds step by step, in memory and in a file, and whole.

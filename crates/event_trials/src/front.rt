@@ -1,8 +1,6 @@
 //! What one process serves to everybody, over memory: each request over HTTP and each line comes on
 //! a connection of its own.
 
-use crate::fault::Fault;
-use crate::tables::Tables;
 use http_server::Connection;
 use room_core::Event;
 use room_lines::Line;
@@ -11,6 +9,7 @@ use room_served::{LineConnection, Served, Side, answer_requests, connection_conf
 use sqlite::MemStore;
 use std::alloc::Global;
 use std::hash::RandomState;
+use trials::{Fault, Tables};
 
 /// More than one connection needs of reads, of lines or of writes, one after another.
 const MANY: u32 = 10_000;

@@ -1,10 +1,6 @@
 //! The rooms and the shared tables, step by step.
 
-use crate::accounts::{ACCOUNTS, BEHIND, Player};
-use crate::comparing::{differing, print_differing, rows_differ, text};
-use crate::fault::Fault;
-use crate::steps::{answered, as_of_rooms, set_next_job, skip_to};
-use crate::tables::Tables;
+use crate::players::{BEHIND, Player};
 use room_core::{CoreFault, LAST_MOMENT, Name, Reply};
 use room_lines::{Line, print_answer};
 use room_rows::{Act, Rooms, Step};
@@ -14,6 +10,10 @@ use std::alloc::Global;
 use std::collections::BTreeSet;
 use std::io::Write;
 use std::str;
+use trials::{
+    ACCOUNTS, Fault, Tables, answered, as_of_rooms, differing, print_differing, rows_differ,
+    set_next_job, skip_to, text,
+};
 
 /// The rooms and the shared tables, and what each account reached: its name, a space, and what it
 /// is called.
@@ -47,7 +47,7 @@ impl<S: Alter + Drop> Trial<S> {
         }
     }
 
-    /// Whether each step of both accounts holds, in turns, those of the second behind, and the rows
+    /// Whether each step of both accounts holds, in turns, those of the second after, and the rows
     /// at the end. Stops at the first that does not, and prints it.
     pub fn run(&mut self, rt: &HostRuntime, players: &[Player; 2]) -> Result<bool, Fault> {
         let [first, second] = players;
@@ -145,17 +145,17 @@ impl<S: Alter + Drop> Trial<S> {
         Ok(())
     }
 
-    /// Whether every account reached all that is due. Prints what was reached, and what was not.
+    /// Whether every account reached all that is due. Prints what was not reached.
     pub fn reaches(&self, rt: &HostRuntime, due: &str) -> Result<bool, Fault> {
         let mut all = true;
         for name in due.lines() {
             if name.is_empty() || name.starts_with("-- ") {
                 continue;
             }
-            let by_all = self.all_reached(rt.alloc(), name)?;
-            let not = if by_all { "" } else { "not reached: " };
-            writeln!(rt.stdout(), "  {not}{name}")?;
-            all &= by_all;
+            if !self.all_reached(rt.alloc(), name)? {
+                writeln!(rt.stdout(), "not reached: {name}")?;
+                all = false;
+            }
         }
         Ok(all)
     }

@@ -1,15 +1,12 @@
 //! A list of events of both accounts that is given to the store whole, from one change by hand to
 //! the next.
 
-use crate::accounts::in_turns;
-use crate::comparing::{differing, rows_differ, text};
-use crate::fault::Fault;
-use crate::steps::{answered, set_next_job, skip_to};
-use crate::tables::Tables;
+use crate::players::in_turns;
 use room_lines::{Line, print_answer};
 use room_rows::{Rooms, Step};
 use room_serve::Outcome;
 use sqlite::Alter;
+use trials::{Fault, Tables, answered, differing, rows_differ, set_next_job, skip_to, text};
 
 /// The rooms and the shared tables, and the lines that neither was given yet.
 pub struct Whole<'a, S: Alter> {

@@ -3,19 +3,15 @@
 //! same. It comes in two ways: as `listen` takes it, IPP over HTTP and the other events beside it;
 //! and to one process that serves everybody, IPP over HTTP and lines.
 
-use crate::accounts::in_turns;
-use crate::comparing::{differing, rows_text};
-use crate::fault::Fault;
 use crate::front::{answer_line, answer_request, serve};
-use crate::steps::set_next_job;
-use crate::tables::Tables;
-use crate::wires::WHOLE;
+use crate::players::in_turns;
 use room_core::{Event, Name, Reply};
 use room_lines::Line;
 use room_rows::{Carriage, Step, http_answer, http_request, line_answer, served_answer};
 use room_served::Served;
 use sqlite::MemStore;
 use std::alloc::Global;
+use trials::{Fault, Tables, WHOLE, differing, rows_text, set_next_job};
 
 /// A body of more bytes ends the connection to one process that serves everybody.
 const LONG_BODY: usize = 1_048_576;

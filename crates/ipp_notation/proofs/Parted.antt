@@ -11,7 +11,7 @@ use Rattle.ipp_notation.proofs.Words.{last_space, no_word, same_last, words_are}
 words_at : (w d line : List ℕ) (s : ℕ) → AreBefore w d line → IsLastByte (is_byte 32) line (Some s) → w ≡ take s line
 words_at w d line s are last = words_are w d line are ∙ ap (λ n. take n line) (sym (last_space w d line s are last))
 
--- a line whose last space stands behind other words has none of the three forms
+-- a line whose last space stands after other words has none of the three forms
 pub no_parts : (line : List ℕ) (s : ℕ) → IsLastByte (is_byte 32) line (Some s) → (take s line ≢ codes "ipp") → (IsOfScript (take s line) → ⊥)
     → (o : Origin) (w d : List ℕ) → IsParted o w d line → ⊥
 no_parts line s last no_output no_script Script w d parts = no_script (subst IsOfScript (words_at w d line s parts.1 last) parts.0)

@@ -27,7 +27,7 @@ at_behind w d j = get_or-append-add w (32 ∷ d) (suc j) 0
 at_before : (w d : List ℕ) (k : ℕ) → k < length w → slice_index (w ++ 32 ∷ d) k ≡ slice_index w k
 at_before w d k low = get_or_append_left w (32 ∷ d) 0 k low
 
--- behind it stand no further spaces
+-- after it stand no further spaces
 pub none_behind : (w d : List ℕ) (k : ℕ) → IsWord d → k < length (w ++ 32 ∷ d) → slice_index (w ++ 32 ∷ d) k ≡ 32 → k ≤ length w
 none_behind w d k word low at = elim (cases_lt (length w) k) [
   | inr is ↦ is
@@ -68,7 +68,7 @@ first_in w d s word is =
 pub first_space : (w d line : List ℕ) (s : ℕ) → line ≡ w ++ 32 ∷ d → IsWord w → IsFirstByte (is_byte 32) line (Some s) → s ≡ length w
 first_space w d line s whole word is = first_in w d s word (subst (λ (xs : List ℕ). IsFirstByte (is_byte 32) xs (Some s)) whole is)
 
--- ---- the words before the last space, and what stands behind it
+-- ---- the words before the last space, and what stands after it
 
 pub words_are : (w d line : List ℕ) → AreBefore w d line → w ≡ take (length w) line
 words_are w d line are = sym (take-append_seam w (32 ∷ d)) ∙ ap (λ xs. take (length w) xs) (sym are.whole)

@@ -11,8 +11,12 @@ pub enum NotationFault {
     Job,
     #[error("a refusal has three words")]
     Refusal,
+    #[error("a request has an operation, a number and an account")]
+    Request,
     #[error("a number is not decimal")]
     Number,
+    #[error("a boolean is neither true nor false")]
+    Boolean,
     #[error("memory ran out")]
     Memory,
 }

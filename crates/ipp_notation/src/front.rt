@@ -23,7 +23,7 @@ enum Part {
 }
 
 /// How many bytes at the front of bytes that are no message are whole parts of one: with an end tag
-/// behind them they are a message, and no longer front is one. 0 where not even the header is
+/// after them they are a message, and no longer front is one. 0 where not even the header is
 /// whole. Time is linear in the length of the bytes.
 pub(crate) fn end_of_reading(alloc: Global, bytes: &[u8]) -> Result<usize, AllocError>
     ensures within { IfOk result (λ n. n ≤ length bytes.now) }
@@ -39,7 +39,7 @@ pub(crate) fn end_of_reading(alloc: Global, bytes: &[u8]) -> Result<usize, Alloc
     }
 }
 
-/// The bytes with an end tag behind them.
+/// The bytes with an end tag after them.
 pub(crate) fn closed(alloc: Global, front: &[u8]) -> Result<Vec<u8>, AllocError>
     ensures { IfOk result (λ bytes. bytes.items ≡ closed_by_end front.now) }
 {
@@ -65,7 +65,7 @@ fn whole_length(bytes: &[u8]) -> usize
     length
 }
 
-/// The length of the part at the front, behind this one, and what it is.
+/// The length of the part at the front, after this one, and what it is.
 fn next_part(part: Part, rest: &[u8]) -> Option<(usize, Part)>
     ensures { IfSome result (λ next. next.0 ≤ length rest.now) }
 {

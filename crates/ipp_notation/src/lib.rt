@@ -2,6 +2,7 @@
 //! messages are explained.
 #![tactic(auto)]
 
+mod attribute;
 mod digits;
 mod fault;
 mod front;

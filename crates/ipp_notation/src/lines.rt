@@ -14,16 +14,16 @@ use std::io::Write;
 
 const LINE_FEED: u8 = b'\n';
 
-/// What begins the line of a document, behind which a line of its bytes comes.
+/// What begins the line of a document, after which a line of its bytes comes.
 const DOCUMENT: &[u8] = b"document ";
 
 /// Prints each line of the text: one with a message in the notation, a part on each line, with what
-/// people read of it behind `#`, and every other line as it is. A message stands on a line of a
+/// people read of it after `#`, and every other line as it is. A message stands on a line of a
 /// script, `MOMENT ipp ACCOUNT DIGITS`, on a line of its output, `ipp DIGITS`, or is a line of
-/// hexadecimal digits by itself. The bytes of a document, which are the line behind a line that
+/// hexadecimal digits by itself. The bytes of a document, which are the line after a line that
 /// begins with `document `, are no message.
 ///
-/// The words before a message are printed on a line of their own, and its parts behind two spaces
+/// The words before a message are printed on a line of their own, and its parts after two spaces
 /// then. Of bytes that are no message the whole parts at the front are explained, and the rest is
 /// printed in digits, with the place in the bytes at which it begins.
 pub fn explain<W: Write>(alloc: Global, text: &[u8], output: &mut W) -> io::Result<()> {

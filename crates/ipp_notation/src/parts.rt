@@ -10,7 +10,7 @@ use ipp_coding::{Attribute, Message, Value};
 use std::io::Write;
 use std::{io, str};
 
-/// Prints the header and the groups of the message behind the indent.
+/// Prints the header and the groups of the message after the indent.
 pub(crate) fn print_parts<W: Write>(
     output: &mut W,
     indent: &str,
@@ -32,7 +32,7 @@ pub(crate) fn print_parts<W: Write>(
     Ok(())
 }
 
-/// Prints the end tag, and the data behind it, if there are some.
+/// Prints the end tag, and the data after it, if there are some.
 pub(crate) fn print_end<W: Write>(output: &mut W, indent: &str, data: &[u8]) -> io::Result<()> {
     writeln!(output, "{indent}03  # end")?;
     if data.is_empty() {

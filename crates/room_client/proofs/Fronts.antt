@@ -18,7 +18,7 @@ pub AppendsUpTo-longer : (a b : Option (List ℕ)) (bytes more : List ℕ)
 AppendsUpTo-longer a b bytes more (front, rest, split, appended) =
     (front, rest ++ more, ap (λ l. l ++ more) split ∙ append_assoc front rest more, appended)
 
--- a front behind what was written whole
+-- a front after what was written whole
 pub AppendsUpTo-behind : (a b c : Option (List ℕ)) (done bytes : List ℕ)
     → Appends a b done → AppendsUpTo b c bytes → AppendsUpTo a c (done ++ bytes)
 AppendsUpTo-behind a b c done bytes first (front, rest, split, appended) = (

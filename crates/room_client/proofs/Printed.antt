@@ -11,12 +11,12 @@ use Rattle.room_client.specs.declared.answer.Answer.{Answer}
 use Rattle.room_client.specs.declared.answer.Answer.TheVariants as answer_is
 use Rattle.room_client.specs.declared.outcome.Outcome.{Outcome}
 use Rattle.room_client.specs.declared.outcome.Outcome.TheVariants.{Fine}
-use Rattle.room_client.specs.Answering.{AnsweredOnce, HearsDocument, PrintsAnswer, TakesDocuments}
+use Rattle.room_client.specs.ProofAnswering.{AnsweredOnce, HearsDocument, PrintsAnswer, TakesDocuments}
 use Rattle.room_client.specs.Answers.{answer_said}
 use Rattle.room_client.specs.Outcomes.{outcome_after}
 use Rattle.room_client.specs.Replies.{Answered, Document, IsReply, Known, Reply, Shows, all_printed, document_heard, document_printed, documents_printed, documents_said, heard, outcome_from, printed, printed_as}
 
--- a line that was printed, and then what is shown behind it
+-- a line that was printed, and then what is shown after it
 pub printed-shown : (a b c d : Known) (head : List ℕ) (known : Known) → Appends a b head
     → Appends b c (codes "\n") → IfSome known (Appends c d)
     → IfSome (prepend_known (head ++ codes "\n") known) (Appends a d)

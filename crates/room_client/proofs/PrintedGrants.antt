@@ -11,7 +11,7 @@ use Rattle.room_input.specs.declared.grant_line.GrantLine.{GrantLine}
 use Rattle.room_input.specs.declared.grant_line.GrantLine.TheVariants.{Good, Bad}
 use Rattle.room_client.specs.declared.answer.Answer.{Answer}
 use Rattle.room_client.specs.declared.answer.Answer.TheVariants.{Told}
-use Rattle.room_client.specs.Answering.{GrantAnswered, HearsResult}
+use Rattle.room_client.specs.ProofAnswering.{GrantAnswered, HearsResult}
 use Rattle.room_client.specs.Grants.{line_asked}
 use Rattle.room_client.specs.declared.outcome.Outcome.{Outcome}
 use Rattle.room_client.specs.declared.outcome.Outcome.TheVariants.{Fine}

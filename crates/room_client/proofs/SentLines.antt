@@ -5,7 +5,7 @@ use Rattle.std.specs.Io.KnownBytes.{Appends, IsAtEnd}
 use Rattle.std.proofs.KnownBytes.{Appends-nil, Appends-trans}
 use Rattle.std.proofs.lemmas.List.Elements.{All-head, All-tail}
 use Rattle.room_client.specs.Sending.{AppendsUpTo, IsAtKnownEnd, SendsAll, SendsFront, SendsOn, as_lines}
-use Rattle.room_client.specs.Taking.{HasNoFeed, MayBeLine, TakesLine}
+use Rattle.room_client.specs.ProofTaking.{HasNoFeed, MayBeLine, TakesLine}
 use Rattle.room_client.proofs.Fronts.{AppendsUpTo-behind, AppendsUpTo-longer}
 
 pub as_lines-line : (line rest : List ℕ) → as_lines (line ++ 10 ∷ rest) ≡ line ++ 10 ∷ as_lines rest

@@ -13,7 +13,7 @@ pub record_sent-line : (one : GrantLine) (line : List ℕ) → Some line ≡ lin
 record_sent-line (Good account month pages) line asked = cc
 record_sent-line (Bad number) line asked = cc
 
--- what is sent for a one stands behind what is sent for those before it
+-- what is sent for a one stands after what is sent for those before it
 pub records_sent-at : (records : List GrantLine) (index : ℕ) (one : GrantLine)
     → index < length records → one ≡ get_or records index one
     → records_sent records ≡ (records_sent (take index records) ++ record_sent one)

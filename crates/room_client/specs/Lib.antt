@@ -1,4 +1,4 @@
-pub mod Answering
+pub mod ProofAnswering
 pub mod Answers
 pub mod Faults
 pub mod GrantReplies
@@ -8,4 +8,4 @@ pub mod Outcomes
 pub mod Peers
 pub mod Replies
 pub mod Sending
-pub mod Taking
+pub mod ProofTaking

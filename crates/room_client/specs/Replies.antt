@@ -24,7 +24,7 @@ pub record Document : Type 0 where
   pub head : List ℕ
   pub bytes : List ℕ
 
--- an answer: its first line with what that says, and the documents behind it, which are those of
+-- an answer: its first line with what that says, and the documents after it, which are those of
 -- one job of an account
 pub record Reply : Type 0 where
   pub line : List ℕ

@@ -6,13 +6,13 @@ use Rattle.std.specs.Io.KnownBytes.{Appends, IsAtEnd}
 abbrev pub longest_line : ℕ
 longest_line = 65536
 
--- a text as whole lines: a line feed comes behind the last byte, where that is none
+-- a text as whole lines: a line feed comes after the last byte, where that is none
 abbrev pub as_lines : (text : List ℕ) → List ℕ
 as_lines [] = []
 as_lines (last ∷ []) = if last == 10 then last ∷ [] else last ∷ codes "\n"
 as_lines (byte ∷ next ∷ rest) = byte ∷ as_lines (next ∷ rest)
 
--- a front of the bytes, or all of them, were written behind what was there
+-- a front of the bytes, or all of them, were written after what was there
 abbrev pub AppendsUpTo : (before after : Option (List ℕ)) (bytes : List ℕ) → Type 0
 AppendsUpTo before after bytes = (front : List ℕ) × (rest : List ℕ) × (bytes ≡ front ++ rest)
     × Appends before after front

@@ -2,7 +2,7 @@
 
 ghost use Rattle.std.specs.Prelude.{◌≡◌, ◌+◌, ◌≤◌, IfOk, OnOk, codes, length};
 ghost use Rattle.std.specs.Io.KnownBytes.{Consumes};
-ghost use Rattle.room_client.specs.Taking.{TakesMore};
+ghost use Rattle.room_client.specs.ProofTaking.{TakesMore};
 
 use crate::fault::ClientFault;
 use std::alloc::Global;

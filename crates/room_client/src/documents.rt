@@ -1,7 +1,7 @@
 //! The documents of an answer.
 ghost use Rattle.std.specs.Prelude.{◌≡◌, ◌≤◌, ℕ, List, IfSome, OnOk};
 ghost use Rattle.room_rules.specs.Limits.{longest_document};
-ghost use Rattle.room_client.specs.Answering.{HearsDocument, TakesDocuments};
+ghost use Rattle.room_client.specs.ProofAnswering.{HearsDocument, TakesDocuments};
 
 use crate::asked::Asked;
 use crate::fault::ClientFault;

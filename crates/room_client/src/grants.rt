@@ -2,7 +2,7 @@
 ghost use Rattle.std.specs.Prelude.{◌≡◌, ◌-◌, ◌^◌, ◌<◌, ◌≤◌, ◌++◌, All, IfOk, OnErr, OnOk, Some, codes, decimal, option_map};
 ghost use Rattle.std.specs.Io.KnownBytes.{Appends};
 ghost use Rattle.room_rules.specs.Limits.{first_month, last_month};
-ghost use Rattle.room_client.specs.Answering.{GrantAnswered, HearsResult};
+ghost use Rattle.room_client.specs.ProofAnswering.{GrantAnswered, HearsResult};
 ghost use Rattle.room_client.specs.Answers.{answer_said};
 ghost use Rattle.room_client.specs.Grants.{SendsFile, SendsFileFront, grant_text, line_asked, record_sent, records_sent};
 ghost use Rattle.room_client.specs.GrantReplies.{FileAnswered, GrantsAnswered};

@@ -1,7 +1,7 @@
 //! The lines of an input, one at a time.
 
 ghost use Rattle.std.specs.Prelude.{◌≡◌, ◌<◌, IfOk, IfSome, IfNone, IsErrOf, [], length};
-ghost use Rattle.room_client.specs.Taking.{MayBeLine, TakesAll, TakesLine, TakesTooMany};
+ghost use Rattle.room_client.specs.ProofTaking.{MayBeLine, TakesAll, TakesLine, TakesTooMany};
 
 use crate::fault::ClientFault;
 use crate::line::{Taken, take_line};

@@ -3,7 +3,7 @@
 ghost use Rattle.std.specs.Prelude.{◌≡◌, ◌≢◌, ◌+◌, ◌<◌, ◌≤◌, ℕ, List, All, IfOk, IfErr, IfSome, IfNone, codes, length, take, ◌++◌, Ok};
 ghost use Rattle.std.specs.Io.KnownBytes.{Consumes};
 ghost use Rattle.room_client.specs.Sending.{IsAtKnownEnd};
-ghost use Rattle.room_client.specs.Taking.{Adds, TakesInput};
+ghost use Rattle.room_client.specs.ProofTaking.{Adds, TakesInput};
 
 use crate::fault::ClientFault;
 use std::alloc::{AllocError, Global};
@@ -16,7 +16,7 @@ pub(crate) const MOST_LINE: usize = 65_536;
 /// What was taken of a reader.
 #[derive(Debug, Drop)]
 pub(crate) enum Taken {
-    /// A line, and the line feed behind it.
+    /// A line, and the line feed after it.
     Line(Vec<u8>),
     /// All that was left, in which is no line feed.
     Last(Vec<u8>),
@@ -29,7 +29,7 @@ pub(crate) enum Taken {
 pub(crate) enum Piece {
     /// Some bytes, in which is no line feed.
     Part,
-    /// The last bytes of the line, behind which a line feed was taken.
+    /// The last bytes of the line, after which a line feed was taken.
     Line,
     /// None, since none are left.
     End,

@@ -1,7 +1,7 @@
 //! Lines that are sent one after another.
 
 ghost use Rattle.std.specs.Prelude.{◌≡◌, IfOk, IfSome, IfNone, OnOk, OnErr};
-ghost use Rattle.room_client.specs.Answering.{AnsweredOnce, PrintsAnswer};
+ghost use Rattle.room_client.specs.ProofAnswering.{AnsweredOnce, PrintsAnswer};
 ghost use Rattle.room_client.specs.Replies.{Answered};
 ghost use Rattle.room_client.specs.Sending.{IsAtKnownEnd, SendsAll, SendsFront, SendsOn};
 ghost use Rattle.room_client.specs.Peers.{reader_of, writer_of};

@@ -29,7 +29,7 @@ pub enum Fault {
     /// grammar.
     #[error("ipp-room: line {0}")]
     Line(usize),
-    /// The database can't be had, or refused an event.
+    /// The database can't be opened, or refused an event.
     #[error("ipp-room: store")]
     Store,
     /// Memory ran out.

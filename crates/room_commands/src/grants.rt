@@ -1,5 +1,6 @@
 //! Records of grants as events.
 ghost use Rattle.std.specs.Prelude.{All, IfOk, IfSome, IsTrue};
+ghost use Rattle.room_core.specs.Events.{plain_event};
 ghost use Rattle.room_core.specs.Fits.{fits};
 ghost use Rattle.room_input.specs.GrantLines.{IsInRange};
 
@@ -14,7 +15,7 @@ pub fn grants_of(
     lines: &[GrantLine],
 ) -> Result<Vec<(u64, Event<'_>)>, AllocError>
     requires { All IsInRange lines.now }
-    ensures fit { IfOk result (λ events. All (λ e. IsTrue (fits e.1)) events.items) }
+    ensures fit { IfOk result (λ events. All (λ e. IsTrue (fits (plain_event e.1))) events.items) }
 {
     lines
         .iter()
@@ -24,7 +25,7 @@ pub fn grants_of(
 
 fn grant_at(moment: u64, line: &GrantLine) -> Option<(u64, Event<'_>)>
     requires { IsInRange line.now }
-    ensures { IfSome result (λ e. IsTrue (fits e.1)) }
+    ensures { IfSome result (λ e. IsTrue (fits (plain_event e.1))) }
 {
     match *line {
         GrantLine::Good {

@@ -1,5 +1,6 @@
 //! The tables of a run's database, and the events that come to them.
 ghost use Rattle.std.specs.Prelude.{All, IsTrue};
+ghost use Rattle.room_core.specs.Events.{plain_event};
 ghost use Rattle.room_core.specs.Fits.{fits};
 
 use crate::command::MEMORY;
@@ -38,7 +39,7 @@ pub fn outcomes_of<S: Alter + Drop, F: Opener<Kept = Connection<S>> + Drop>(
     database: &str,
     events: &[(u64, Event<'_>)],
 ) -> Result<Vec<Outcome>, Fault>
-    requires { All (λ e. IsTrue (fits e.1)) events.now }
+    requires { All (λ e. IsTrue (fits (plain_event e.1))) events.now }
 {
     let mut store = store_of(&mut opener, database, Begin::Open)?;
     let outcomes = run_events(alloc, &mut store, events);

@@ -145,7 +145,7 @@ impl Conversation {
         Conversation::read(alloc, lines.as_str())
     }
 
-    /// All that is handed in, and behind it all that should be printed.
+    /// All that is handed in, and after it all that should be printed.
     pub fn said(&self, alloc: Global) -> Result<String, AllocError> {
         let mut said = String::new(alloc);
         for asked in self.asked.as_slice() {
@@ -175,7 +175,7 @@ fn add_words(text: &mut String, line: &str) -> Result<(), AllocError> {
     Ok(())
 }
 
-/// Adds what `explain` prints of the text. What it prints of a message stands behind two spaces,
+/// Adds what `explain` prints of the text. What it prints of a message stands after two spaces,
 /// and each other line gets the mark before it.
 fn add_explained(
     alloc: Global,

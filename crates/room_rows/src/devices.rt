@@ -15,6 +15,7 @@ pub struct Devices {
 impl Devices {
     ghost use Rattle.std.specs.Prelude.{◌≡◌, ◌↔◌, ◌<◌, IfOk, OnOk, OnErr, IsErrOf, IsTrue, []};
     ghost use Rattle.room_core.specs.DeviceEvents.{device_answered};
+    ghost use Rattle.room_core.specs.Events.{plain_event};
     ghost use Rattle.room_core.specs.Fits.{fits};
     ghost use Rattle.room_rules.specs.Limits.{last_moment};
 
@@ -36,11 +37,13 @@ impl Devices {
 
     /// What is answered to a `Device` or a `Rate` event. After a fault every device is as before.
     pub fn answer(&mut self, alloc: Global, now: u64, event: &Event<'_>) -> Result<Reply, CoreFault>
-        requires { IsTrue (fits event.now) }
+        requires { IsTrue (fits (plain_event event.now)) }
         ensures reply { IfOk result (λ reply.
-            reply ≡ (device_answered (device_map self.old.items.items) event.entry.now).reply) }
+            reply ≡ (device_answered (device_map self.old.items.items)
+            (plain_event event.entry.now)).reply) }
         ensures devices { OnOk result (device_map self.new.items.items
-            ≡ (device_answered (device_map self.old.items.items) event.entry.now).devices) }
+            ≡ (device_answered (device_map self.old.items.items)
+            (plain_event event.entry.now)).devices) }
         ensures moment { IsErrOf result CoreFault.Moment ↔ (last_moment < now) }
         ensures unchanged { OnErr result (self.new.items.items ≡ self.old.items.items) }
     {

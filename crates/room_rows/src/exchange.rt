@@ -1,13 +1,12 @@
 //! An exchange over one connection of HTTP, in a notation that a person can read:
 //!
-//! - `> TEXT` is sent with CR LF behind it, and `< TEXT` is written so. The lines under each spell
-//! further bytes
-//!   (`ipp_notation` says how).
+//! - `> TEXT` is sent with CR LF after it, and `< TEXT` is written so. The lines under each spell
+//!   further bytes (`ipp_notation` says how).
 //! - `= END` ends what one call of `serve_one` reads and writes, and says what it answers; `= END N
-//! times` says that
-//!   this comes so often.
-//! - `refused STATUS PHRASE` is what is written of a refusal, and the end of the call that answers
-//! `close`.
+//!   times` says that this comes so often. In what a connection of `serve` is asked, `= answered`
+//!   ends a row.
+//! - `refused STATUS PHRASE` is what `serve_one` writes of a refusal, and the end of the call, which
+//!   answers `close`.
 //! - `at MOMENT` is the moment of the calls.
 //! - `failing` says that the exchange is also one over connections of which a call fails.
 //!
@@ -165,14 +164,25 @@ impl Exchange {
         Ok(input)
     }
 
+    /// All that should be written.
+    pub fn written(&self, alloc: Global) -> Result<Vec<u8>, AllocError> {
+        let mut written = Vec::new(alloc);
+        for call in self.calls.as_slice() {
+            for _ in 0..call.times {
+                written.extend_from_slice(call.written.as_slice())?;
+            }
+        }
+        Ok(written)
+    }
+
     /// What should be told of the calls. What is sent to a connection that has ended is left.
     pub fn due(&self, alloc: Global) -> Result<String, RowFault> {
-        let (mut ends, mut written) = (Vec::new(alloc), Vec::new(alloc));
+        let written = self.written(alloc)?;
+        let mut ends = Vec::new(alloc);
         let mut left = 0usize;
         for call in self.calls.as_slice() {
             for _ in 0..call.times {
                 ends.push(call.end.as_str())?;
-                written.extend_from_slice(call.written.as_slice())?;
                 if call.end.as_str() == ENDED {
                     left = left.saturating_add(call.read.len());
                 }

@@ -37,7 +37,7 @@ pub fn print_devices(output: &mut Vec<u8>, devices: &[Device]) -> io::Result<()>
     Ok(())
 }
 
-/// Prints the first word of a line, and a name behind it.
+/// Prints the first word of a line, and a name after it.
 pub(crate) fn print_begin(output: &mut Vec<u8>, word: &str, name: Name) -> io::Result<()> {
     output.write_all(word.as_bytes())?;
     print_name(output, name)

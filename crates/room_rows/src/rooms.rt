@@ -2,6 +2,7 @@
 ghost use Rattle.std.specs.Prelude.{◌≡◌, IfOk, OnOk, OnErr, IsTrue};
 ghost use Rattle.std.specs.FinMap.{empty};
 ghost use Rattle.room_core.specs.DeviceEvents.{device_answered};
+ghost use Rattle.room_core.specs.Events.{plain_event};
 ghost use Rattle.room_core.specs.Fits.{fits};
 ghost use Rattle.room_rules.specs.Devices.{device_map};
 ghost use Rattle.room_rows.specs.DeviceEvents.{devices_of, IsToldOfDevices};
@@ -34,11 +35,11 @@ impl Rooms {
     /// What is answered to an event at a moment, in seconds since 1970-01-01T00:00:00Z. After a
     /// fault every room and every device is as before.
     pub fn answer(&mut self, now: u64, event: &Event<'_>) -> Result<Reply, CoreFault>
-        requires { IsTrue (fits event.now) }
+        requires { IsTrue (fits (plain_event event.now)) }
         ensures told { IfOk result
-            (λ reply. IsToldOfDevices (devices_of self.old) event.entry.now reply) }
+            (λ reply. IsToldOfDevices (devices_of self.old) (plain_event event.entry.now) reply) }
         ensures devices { OnOk result (devices_of self.new
-            ≡ (device_answered (devices_of self.old) event.entry.now).devices) }
+            ≡ (device_answered (devices_of self.old) (plain_event event.entry.now)).devices) }
         ensures unchanged { OnErr result (devices_of self.new ≡ devices_of self.old) }
     {
         match event {
@@ -77,7 +78,7 @@ impl Rooms {
         account: Name,
         event: &Event<'_>,
     ) -> Result<Reply, CoreFault>
-        requires { IsTrue (fits event.now) }
+        requires { IsTrue (fits (plain_event event.now)) }
         ensures { devices_of self.new ≡ devices_of self.old }
     {
         match self.rooms.entry(account) {

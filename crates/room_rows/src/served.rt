@@ -120,7 +120,7 @@ fn put_documents(text: &mut Vec<u8>, parts: &[Part]) -> io::Result<()> {
 }
 
 /// The message of HTTP that tells a request's reply to a connection that is served beside all
-/// others. Where `closes`, it says that the connection ends behind it. Unlike `http_answer`'s, the
+/// others. Where `closes`, it says that the connection ends after it. Unlike `http_answer`'s, the
 /// names of its fields are in lower case, and a refusal does not by itself end the connection.
 pub fn served_answer(alloc: Global, reply: &Reply, closes: bool) -> Result<Vec<u8>, RowFault> {
     let (status, kind, body) = match reply {

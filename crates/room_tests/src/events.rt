@@ -3,6 +3,7 @@
 
 ghost use Rattle.std.specs.List.{AllByRecursion};
 ghost use Rattle.std.specs.Prelude.{IsTrue};
+ghost use Rattle.room_core.specs.Events.{plain_event};
 ghost use Rattle.room_core.specs.Fits.{fits};
 ghost use Rattle.room_core.specs.Rates.{HasRate};
 
@@ -74,7 +75,7 @@ fn answer_with(
     now: u64,
     event: &Event<'_>,
 ) -> Result<Reply, CoreFault>
-    requires fits { IsTrue (fits event.now) }
+    requires fits { IsTrue (fits (plain_event event.now)) }
     requires rates { AllByRecursion HasRate devices.now }
 {
     answer(alloc, room, devices, now, event)
@@ -82,7 +83,7 @@ fn answer_with(
 
 /// The answer at the moment 1000, where no device is known.
 fn answered(rt: &(impl Abort + AllocGlobal), room: &mut Option<Room>, event: &Event<'_>) -> Reply
-    requires { IsTrue (fits event.now) }
+    requires { IsTrue (fits (plain_event event.now)) }
 {
     answer_with(rt.alloc(), room, &[], 1000, event)
         .ok()

@@ -166,7 +166,7 @@ fn no_messages(rt: HostRuntime) -> Result<(), Fail> {
     Ok(())
 }
 
-/// How long the longest front is that is a message with an end tag behind it, 0 where none is.
+/// How long the longest front is that is a message with an end tag after it, 0 where none is.
 fn longest_front(alloc: Global, bytes: Vec<u8>) -> Result<usize, Fail> {
     let mut longest = 0;
     for length in 0..=bytes.len() {

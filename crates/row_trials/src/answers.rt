@@ -1,11 +1,11 @@
 //! What is printed of the answers to the steps of a conversation.
 
 use crate::program::{by_program_in_file, by_program_in_memory};
-use event_trials::{Fault, Tables, answered, remove_files, skip_to, take, text};
 use room_lines::print_answer;
 use room_rows::{Conversation, Rooms, Step};
 use sqlite::{Alter, Connection};
 use table_trials::FileTables;
+use trials::{Fault, Tables, answered, remove_files, skip_to, take, text};
 
 /// Who answers.
 #[derive(Clone, Copy)]

@@ -1,11 +1,11 @@
 //! Exchanges over one connection of HTTP, held against `serve_one` over tables in memory: alice and
 //! bob have accounts, and the device d1 is on.
 
-use event_trials::{Fault, Served, Sides, Tables, rows_of, tell_again};
 use room_rows::{Conversation, ENDED, Exchange, Step, told};
 use room_serve::{After, WireFault};
 use sqlite::MemStore;
 use std::alloc::Global;
+use trials::{Fault, Served, Sides, Tables, rows_of, tell_again};
 
 /// The text that asks for a body that waits for it (RFC 9110, section 10.1.1).
 const GO_ON: &[u8] = b"HTTP/1.1 100 Continue\r\n\r\n";

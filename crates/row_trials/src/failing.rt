@@ -1,12 +1,12 @@
 //! An exchange over a connection of which one call fails, for each call in turn. The call of
-//! `serve_one` in which that comes tells it, and each behind it that the connection has ended. What
+//! `serve_one` in which that comes tells it, and each after it that the connection has ended. What
 //! was written is a front of what the exchange writes, and not all of it. Where a read failed, the
-//! rows are those before the message; where a write did, those before or behind it.
+//! rows are those before the message; where a write did, those before or after it.
 
 use crate::exchanges::{PIECES, Pieces, opened_tables};
-use event_trials::{Failing, Fault, Served, Sides, WHOLE, rows_of};
 use room_rows::Exchange;
 use room_serve::WireFault;
+use trials::{Failing, Fault, Served, Sides, WHOLE, rows_of};
 
 /// What an exchange has written after a number of its calls, and the rows then.
 #[derive(Drop)]
@@ -50,7 +50,7 @@ impl Side {
     }
 }
 
-/// Where the exchange comes to something else, if it does.
+/// Where the exchange ends otherwise, if it does.
 pub fn differs(rt: &HostRuntime, exchange: &Exchange) -> Result<Option<String>, Fault> {
     let input = exchange.input(rt.alloc())?;
     let mut states = Vec::new(rt.alloc());
@@ -96,7 +96,7 @@ enum Came {
     Otherwise,
 }
 
-/// An exchange, and its states behind no call up to behind the last.
+/// An exchange, and its states after no call up to after the last.
 #[derive(Clone, Copy)]
 struct Trial<'a> {
     exchange: &'a Exchange,

@@ -5,12 +5,9 @@
 mod answers;
 mod exchanges;
 mod failing;
-mod file;
 mod program;
 mod room_file;
 mod rows;
 mod runs;
 
-pub use event_trials::Fault;
-pub use file::hold;
-pub use table_trials::FileTables;
+pub use rows::hold;

@@ -1,9 +1,9 @@
 //! Scripts that the program runs, over memory and over a file.
 
-use event_trials::{FILE, Fault, remove_files, tell_again};
 use room_commands::{MEMORY, run_on};
 use room_rows::Step;
 use stop_trials::{Told, answered_before_failed};
+use trials::{FILE, Fault, remove_files, tell_again};
 
 /// What the program prints of the script in memory. A run that was refused memory is made once
 /// more, unless it printed something else than events that failed among those that did not.

@@ -1,12 +1,12 @@
 //! What is done by hand to the file of a row of runs.
 
-use event_trials::Fault;
 use room_lines::Line;
 use room_rows::FileStep;
 use room_store::{Refused, Store};
 use sqlite::{Alter, Connection};
 use std::fs;
 use table_trials::FileTables;
+use trials::Fault;
 
 /// It is made in the current folder, and removed, and so is the log beside it.
 const FILE: &str = "room.db";

@@ -1,17 +1,17 @@
-//! Files of rows. The line `# TITLE` begins a row; the lines behind it are those of its
+//! Files of rows. The line `# TITLE` begins a row; the lines after it are those of its
 //! conversation, in a file `NAME.exchanges` of its exchange over HTTP, in a file `NAME.runs` of its
 //! runs of the program, and in a file `NAME.stops` of a run over storage that stops.
 
 use crate::answers::WAYS;
 use crate::exchanges::{PIECES, answers};
 use crate::{failing, runs};
-use event_trials::Fault;
 use room_rows::{Conversation, Exchange, difference};
 use sqlite::{Alter, Connection};
 use std::fs;
 use std::io::Write;
 use stop_trials::differs_where_stopped;
 use table_trials::FileTables;
+use trials::Fault;
 
 /// What the rows of a file are.
 #[derive(Clone, Copy)]
@@ -55,7 +55,7 @@ impl Kind {
     }
 }
 
-/// Whether each row of the file holds. Of one that does not what differs is printed.
+/// Whether each row of the file holds. Prints that they do, or of each that does not what differs.
 pub fn hold<S, F>(rt: &HostRuntime, files: &F, file: &str) -> Result<bool, Fault>
 where
     S: Alter + Drop,
@@ -66,19 +66,18 @@ where
         return Err(Fault::NoTitle);
     };
     let kind = Kind::of(file);
-    let (mut holding, mut failing) = (0u64, 0u64);
+    let mut all = true;
     for row in text.split("\n# ") {
         let (title, lines) = row.split_once('\n').unwrap_or((row, ""));
-        match kind.differs(rt, files, lines)? {
-            None => holding = holding.saturating_add(1),
-            Some(differs) => {
-                failing = failing.saturating_add(1);
-                writeln!(rt.stdout(), "{file}: {title}, {differs}")?;
-            }
+        if let Some(differs) = kind.differs(rt, files, lines)? {
+            writeln!(rt.stdout(), "{file}: {title}, {differs}")?;
+            all = false;
         }
     }
-    writeln!(rt.stdout(), "{file}: {holding} rows hold")?;
-    Ok(failing == 0)
+    if all {
+        writeln!(rt.stdout(), "{file}: holds")?;
+    }
+    Ok(all)
 }
 
 /// Where a conversation does not hold: rooms in memory, the shared tables, in memory and where the

@@ -1,11 +1,11 @@
 //! Rows of runs, held against the program.
 
 use crate::room_file::RoomFile;
-use event_trials::Fault;
 use room_commands::run_on;
 use room_rows::{Run, RunStep, run_steps};
 use sqlite::{Alter, Connection};
 use table_trials::FileTables;
+use trials::Fault;
 
 /// Where a row of runs differs first. They share a file, which is not there before the first of
 /// them, and is removed.

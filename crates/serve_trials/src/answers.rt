@@ -77,7 +77,7 @@ fn ends_by(rt: &HostRuntime, input: &[u8], answers: &[u8], outcome: Outcome) -> 
     due(rt, written.last().copied(), Some(b'\n'))
 }
 
-/// Keeps documents in a list of bytes, each behind its name.
+/// Keeps documents in a list of bytes, each after its name.
 #[derive(Drop)]
 struct Listed {
     list: Vec<u8>,

@@ -26,7 +26,7 @@ pub const SIZED: &[u8] = b"Content-Length: 119\r\n\r\n";
 /// The rest of a head before chunks.
 pub const CHUNKED: &[u8] = b"Transfer-Encoding: chunked\r\n\r\n";
 
-/// What stands behind the one chunk of a body.
+/// What stands after the one chunk of a body.
 pub const LAST: &[u8] = b"\r\n0\r\n\r\n";
 
 /// The head of `ANSWER`.
@@ -44,7 +44,7 @@ pub const TOO_LONG_A_BODY: &[u8] =
 pub const TOO_LONG_A_HEAD: &[u8] =
     b"HTTP/1.1 431 Request Header Fields Too Large\r\nconnection: close\r\ncontent-length: 0\r\n\r\n";
 
-/// The refusal of the rooms' own where there is no queue, behind which the connection goes on.
+/// The refusal of the rooms' own where there is no queue, after which the connection goes on.
 pub const NOT_FOUND: &[u8] = b"HTTP/1.1 404 Not Found\r\ncontent-length: 0\r\n\r\n";
 
 /// What the pieces make.

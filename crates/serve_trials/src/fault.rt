@@ -1,5 +1,6 @@
 //! Why a trial does not hold.
 
+use room_rows::RowFault;
 use room_store::OpenFault;
 use std::alloc::{AllocError, AllocFailed};
 use std::io;
@@ -14,6 +15,10 @@ pub enum Fault {
     Differs(String),
     #[error("tables: {0}")]
     Tables(OpenFault),
+    #[error("a row is not read: {0}")]
+    Row(RowFault),
+    #[error("a file of rows does not begin with `# ` and a title")]
+    NoTitle,
     #[error("reading or writing failed")]
     Io,
     #[error("memory ran out")]
@@ -38,6 +43,12 @@ impl From<io::Error> for Fault {
             ErrorKind::OutOfMemory => Fault::Memory,
             _ => Fault::Io,
         }
+    }
+}
+
+impl From<RowFault> for Fault {
+    fn from(fault: RowFault) -> Fault {
+        Fault::Row(fault)
     }
 }
 

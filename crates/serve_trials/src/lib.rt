@@ -23,11 +23,18 @@ mod wired;
 use crate::report::Report;
 use std::io::Write;
 
+/// Whether each row of the file of requests over HTTP, `NAME.served`, holds. Prints that it does, or
+/// what differs.
+pub fn hold_file<W: Write>(rt: &HostRuntime, file: &str, output: &mut W) -> bool {
+    let mut report = Report::new(output);
+    report.tell(file, refusals::hold(rt, file));
+    report.all_hold()
+}
+
 /// Whether each trial holds. Prints a line for each: its name, and that it holds or what differs.
 pub fn hold<W: Write>(rt: &HostRuntime, output: &mut W) -> bool {
     let mut report = Report::new(output);
     requests::hold(rt, &mut report);
-    refusals::hold(rt, &mut report);
     taken::hold(rt, &mut report);
     limits::hold(rt, &mut report);
     lines::hold(rt, &mut report);

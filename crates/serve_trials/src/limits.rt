@@ -80,7 +80,7 @@ const LIMITS_OF_A_HEAD: &[Sent] = &[
     ),
 ];
 
-/// The last chunk, behind a body of one.
+/// The last chunk, after a body of one.
 const LAST_CHUNK: &[u8] = b"\r\n0\r\n";
 
 /// Trailers of the most bytes and of the most fields, and of one more of each; and a line of a

@@ -1,4 +1,4 @@
-//! Requests over HTTP: the first worked row, paths of no queue, one request behind another, and a
+//! Requests over HTTP: the first worked row, paths of no queue, one request after another, and a
 //! long body.
 
 use crate::cases::{ANSWER, NOT_FOUND, QUEUE, REQUEST, SIZED, TAKEN, answered_in, joined};

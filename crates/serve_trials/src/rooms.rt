@@ -42,7 +42,7 @@ pub fn exchange(
     converse(rt.alloc(), &mut connection, rooms, input, piece)
 }
 
-/// The same on a connection that is there: its drop is long, and `exchange` has one exit behind it.
+/// The same on a connection that is there: its drop is long, and `exchange` has one exit after it.
 fn converse(
     alloc: Global,
     connection: &mut Connection,

@@ -114,7 +114,7 @@ fn lines_of_a_chunk(rt: &HostRuntime) -> Result<(), Fault> {
     Ok(())
 }
 
-/// Behind the last message of a connection nothing is answered, and a line that is cut off is a bad
+/// After the last message of a connection nothing is answered, and a line that is cut off is a bad
 /// head.
 fn what_follows(rt: &HostRuntime) -> Result<(), Fault> {
     let twice = &[

@@ -13,7 +13,7 @@ use std::io::{ErrorKind, Read, Write};
 /// More turns than any peer here needs.
 const MANY: u32 = 100_000;
 
-/// A stream in memory. What came is there at once, and behind it a read has to wait, or finds the
+/// A stream in memory. What came is there at once, and after it a read has to wait, or finds the
 /// end; a write takes all.
 #[derive(Drop)]
 struct Tape<'a> {
@@ -91,13 +91,13 @@ impl<'a> Talk<'a> {
         })
     }
 
-    /// The peer sends this, behind what it sent. What went before is forgotten.
+    /// The peer sends this, after what it sent. What went before is forgotten.
     pub fn send(&mut self, comes: &'a [u8]) {
         self.tape.comes = comes;
         self.tape.went.clear();
     }
 
-    /// The peer ends behind what it sends.
+    /// The peer ends after what it sends.
     pub fn end(&mut self) {
         self.tape.ends = true;
     }
@@ -121,7 +121,7 @@ impl<'a> Talk<'a> {
         next
     }
 
-    /// That a turn ends so, behind which this went.
+    /// That a turn ends so, after which this went.
     pub fn goes(
         &mut self,
         rt: &HostRuntime,

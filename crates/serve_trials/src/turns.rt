@@ -11,13 +11,13 @@ use std::alloc::{AllocError, Global};
 use std::io::Write;
 
 const ROOM: Turn = Turn {
-    now: 0,
+    ticks: 0,
     has_room: true,
     is_last: false,
 };
 
 const NO_ROOM: Turn = Turn {
-    now: 0,
+    ticks: 0,
     has_room: false,
     is_last: false,
 };
@@ -142,7 +142,7 @@ fn an_end_comes(rt: &HostRuntime, talk: &mut Talk<'_>) -> Result<(), Fault> {
     talk.goes(rt, last, Next::Close, valid.as_slice())
 }
 
-/// A connection ends with a refusal, behind which nothing more is answered.
+/// A connection ends with a refusal, after which nothing more is answered.
 fn the_end_behind_a_refusal(rt: &HostRuntime) -> Result<(), Fault> {
     let request = request(rt.alloc())?;
     let mut talk = Talk::of_client(rt, b"GET nothing\r\n\r\n")?;
@@ -181,7 +181,7 @@ fn a_start_waits(rt: &HostRuntime, talk: &mut Talk<'_>) -> Result<(), Fault> {
     holds(rt, !talk.patience().is_held_back(), "it is let on")
 }
 
-/// A line that is too long ends the connection, also behind one that began.
+/// A line that is too long ends the connection, also after one that began.
 fn a_line_that_is_too_long(rt: &HostRuntime) -> Result<(), Fault> {
     let mut line = Vec::new(rt.alloc());
     line.resize(MOST_LINE, b'a')?;

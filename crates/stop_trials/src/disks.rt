@@ -1,14 +1,12 @@
-//! A database in two files in memory, of which one stops after so many calls: each call behind
-//! these fails, and changes nothing.
+//! A database in two files, of which one stops after so many calls: each call after these fails, and
+//! changes nothing.
 
-use event_trials::Fault;
-use room_commands::Opener;
-use room_store::OpenFault;
 use sqlite::{Connection, Error, ErrorCode, FileStore, Files, Options};
 use sqlite_disk::{Crash, Disk, Fuse, Memory};
 use std::alloc::Global;
 use std::fmt;
 use std::fmt::{Display, Formatter, Write};
+use trials::Fault;
 
 /// For the salts of a log, which need be no secret here.
 const SEED: u64 = 1;
@@ -41,22 +39,46 @@ impl Display for DiskFile {
     }
 }
 
-/// What a connection over the two files stands on. A call on it takes long to prove, and one on any
-/// store does not: here are the calls that open and close it, and else each is one for a whole
-/// work.
-pub type OnDisks = FileStore<Fuse<Memory>>;
+/// Two files of a database, which are away while a connection has them.
+pub trait Disks: Sized {
+    /// A connection over them.
+    type Kept: Drop;
 
-/// The two files, which are away while a connection has them.
-pub struct Disks {
+    /// An empty log beside a database's file of these bytes. The one named stops after so many
+    /// calls.
+    fn stopping(alloc: Global, file: DiskFile, calls: u64, database: &[u8]) -> Result<Self, Fault>;
+
+    /// Those with the same bytes, which do not stop, as the next run finds them after a program
+    /// that ended.
+    fn copied(&self) -> Result<Self, Fault>;
+
+    /// As the next run finds them after a machine that went down: what was not synced is lost.
+    fn crashed(self) -> Self;
+
+    /// Whether a connection could not be closed over them, since one has stopped.
+    fn is_stopped(&self) -> bool;
+
+    /// The bytes of the database's file.
+    fn database(&self) -> Result<&[u8], Fault>;
+
+    fn open(&mut self) -> Result<Self::Kept, Error>;
+
+    /// Closes the connection, and has the files again.
+    fn close(&mut self, connection: Self::Kept);
+}
+
+/// The two files in memory. All that runs over them is written for any disks, since a call on these
+/// takes long to prove.
+pub struct InMemory {
     alloc: Global,
     files: Option<Files<Fuse<Memory>>>,
     is_stopped: bool,
 }
 
 // It is written out, so that no caller proves again how the files are dropped.
-impl Drop for Disks {
+impl Drop for InMemory {
     fn drop(self) {
-        let Disks {
+        let InMemory {
             alloc: _,
             files: _,
             is_stopped: _,
@@ -64,16 +86,20 @@ impl Drop for Disks {
     }
 }
 
-impl Disks {
-    /// An empty log beside a database's file of these bytes. The one named stops.
-    pub fn stopping(
+/// What a connection over them stands on.
+pub type OnDisks = FileStore<Fuse<Memory>>;
+
+impl Disks for InMemory {
+    type Kept = Connection<OnDisks>;
+
+    fn stopping(
         alloc: Global,
         file: DiskFile,
         calls: u64,
         database: &[u8],
-    ) -> Result<Disks, Fault> {
+    ) -> Result<InMemory, Fault> {
         let (log_calls, database_calls) = file.calls(calls);
-        Ok(Disks {
+        Ok(InMemory {
             alloc,
             files: Some(Files {
                 log: Fuse::new(Memory::new(alloc), log_calls),
@@ -83,15 +109,13 @@ impl Disks {
         })
     }
 
-    /// Those with the same bytes, which do not stop, as the next run finds them behind a program
-    /// that ended.
-    pub fn copied(&self) -> Result<Disks, Fault> {
+    fn copied(&self) -> Result<InMemory, Fault> {
         let Some(files) = &self.files else {
             return Err(Fault::Away);
         };
         let log = memory_of(self.alloc, files.log.inner().bytes())?;
         let db = memory_of(self.alloc, files.db.inner().bytes())?;
-        Ok(Disks {
+        Ok(InMemory {
             alloc: self.alloc,
             files: Some(Files {
                 log: Fuse::new(log, u64::MAX),
@@ -101,8 +125,7 @@ impl Disks {
         })
     }
 
-    /// As the next run finds them behind a machine that went down: what was not synced is lost.
-    pub fn crashed(mut self) -> Disks {
+    fn crashed(mut self) -> InMemory {
         if let Some(files) = &mut self.files {
             files.log.crash();
             files.db.crash();
@@ -110,20 +133,18 @@ impl Disks {
         self
     }
 
-    /// Whether a connection could not be closed over them, since one has stopped.
-    pub fn is_stopped(&self) -> bool {
+    fn is_stopped(&self) -> bool {
         self.is_stopped
     }
 
-    /// The bytes of the database's file.
-    pub fn database(&self) -> Result<&[u8], Fault> {
+    fn database(&self) -> Result<&[u8], Fault> {
         match &self.files {
             Some(files) => Ok(files.db.inner().bytes()),
             None => Err(Fault::Away),
         }
     }
 
-    pub fn open(&mut self) -> Result<Connection<OnDisks>, Error> {
+    fn open(&mut self) -> Result<Connection<OnDisks>, Error> {
         let Some(files) = self.files.take() else {
             return Err(Error::SqliteFailure(ErrorCode::CannotOpen));
         };
@@ -140,8 +161,7 @@ impl Disks {
         }
     }
 
-    /// Closes the connection, and has the files again.
-    pub fn close(&mut self, connection: Connection<OnDisks>) {
+    fn close(&mut self, connection: Connection<OnDisks>) {
         match connection.close_files() {
             Ok(files) => self.files = Some(files),
             Err((_, store)) => {
@@ -157,20 +177,4 @@ fn memory_of(alloc: Global, bytes: &[u8]) -> Result<Memory, Fault> {
     memory.write_at(0, bytes)?;
     memory.sync()?;
     Ok(memory)
-}
-
-/// Gives the program the files.
-#[derive(Drop)]
-pub struct Lent<'a>(pub &'a mut Disks);
-
-impl Opener for Lent<'_> {
-    type Kept = Connection<OnDisks>;
-
-    fn open(&mut self, _database: &str) -> Result<Connection<OnDisks>, OpenFault> {
-        Ok(self.0.open()?)
-    }
-
-    fn close(&mut self, kept: Connection<OnDisks>) {
-        self.0.close(kept);
-    }
 }

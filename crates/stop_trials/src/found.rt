@@ -1,11 +1,10 @@
-//! A database as the next run finds it behind one over disks that stopped.
+//! A database as the next run finds it after one over disks that stopped.
 
-use crate::disks::{Disks, Lent};
-use event_trials::{FILE, Fault, Tables, print_accounts};
-use room_commands::Opener;
+use crate::disks::Disks;
 use room_store::{OpenFault, Refused, Store};
 use sqlite::{Alter, Connection};
 use std::alloc::Global;
+use trials::{Fault, Tables, print_accounts};
 
 /// What is found.
 #[derive(Drop)]
@@ -20,7 +19,11 @@ pub struct Found {
 
 impl Found {
     /// Where all that was written is there, and where what was not synced is lost.
-    pub fn both(alloc: Global, disks: Disks) -> Result<[Found; 2], Fault> {
+    pub fn both<S, D>(alloc: Global, disks: D) -> Result<[Found; 2], Fault>
+    where
+        S: Alter + Drop,
+        D: Disks<Kept = Connection<S>> + Drop,
+    {
         let copied = disks.copied()?;
         Ok([
             Found::on(alloc, copied)?,
@@ -28,17 +31,12 @@ impl Found {
         ])
     }
 
-    fn on(alloc: Global, mut disks: Disks) -> Result<Found, Fault> {
-        Found::by(alloc, Lent(&mut disks))
-    }
-
-    fn by<S, F>(alloc: Global, mut opener: F) -> Result<Found, Fault>
+    fn on<S, D>(alloc: Global, mut disks: D) -> Result<Found, Fault>
     where
         S: Alter + Drop,
-        F: Opener<Kept = Connection<S>> + Drop,
+        D: Disks<Kept = Connection<S>> + Drop,
     {
-        let opened = opener.open(FILE).map_err(Fault::Open)?;
-        let (connection, fault) = match Store::open(opened) {
+        let (connection, fault) = match Store::open(disks.open()?) {
             Ok(store) => (store.close(), None),
             Err(Refused { connection, fault }) => (connection, Some(fault)),
         };

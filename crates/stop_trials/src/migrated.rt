@@ -1,25 +1,28 @@
 //! A database of version 1 that is migrated over storage that stops: it is found as one of version
 //! 1 or of version 2 then, and every account has the rows that it had.
 
-use crate::disks::{DISK_FILES, DiskFile, Disks, Lent};
+use crate::disks::{DISK_FILES, DiskFile, Disks};
 use crate::found::Found;
 use crate::stopped::unexpected;
 use crate::stopping::on_disks;
-use event_trials::{FILE, Fault, Tables, print_accounts, take};
-use room_commands::Opener;
 use room_rows::Conversation;
 use room_store::OpenFault;
 use sqlite::{Alter, Connection};
 use std::alloc::Global;
+use trials::{Fault, Tables, print_accounts, take};
 
 /// Where the row differs first.
-pub fn differs(rt: &HostRuntime, talk: &Conversation) -> Result<Option<String>, Fault> {
-    let first = match First::made(rt, talk)? {
+pub fn differs<S, D>(rt: &HostRuntime, talk: &Conversation) -> Result<Option<String>, Fault>
+where
+    S: Alter + Drop,
+    D: Disks<Kept = Connection<S>> + Drop,
+{
+    let first = match First::made::<S, D>(rt, talk)? {
         Ok(first) => first,
         Err(differs) => return Ok(Some(differs)),
     };
     for file in DISK_FILES {
-        if let Some(calls) = first.differs(rt.alloc(), file)? {
+        if let Some(calls) = first.differs::<S, D>(rt.alloc(), file)? {
             return Ok(Some(format!(in rt.alloc(); "{file} that stops behind {calls} calls")?));
         }
     }
@@ -46,10 +49,14 @@ struct First {
 
 impl First {
     /// That of the steps, or where they are answered otherwise than expected.
-    fn made(rt: &HostRuntime, talk: &Conversation) -> Result<Result<First, String>, Fault> {
+    fn made<S, D>(rt: &HostRuntime, talk: &Conversation) -> Result<Result<First, String>, Fault>
+    where
+        S: Alter + Drop,
+        D: Disks<Kept = Connection<S>> + Drop,
+    {
         let alloc = rt.alloc();
-        let mut disks = Disks::stopping(alloc, DiskFile::Log, u64::MAX, b"")?;
-        let made = match made(rt, talk, Lent(&mut disks))? {
+        let mut disks = D::stopping(alloc, DiskFile::Log, u64::MAX, b"")?;
+        let made = match made(rt, talk, &mut disks)? {
             Ok(rows) => rows,
             Err(differs) => return Ok(Err(differs)),
         };
@@ -61,10 +68,14 @@ impl First {
         }))
     }
 
-    /// Behind how many calls the run comes to something else, where the file stops behind them.
-    fn differs(&self, alloc: Global, file: DiskFile) -> Result<Option<u64>, Fault> {
+    /// After how many calls the run comes to something else, where the file stops after them.
+    fn differs<S, D>(&self, alloc: Global, file: DiskFile) -> Result<Option<u64>, Fault>
+    where
+        S: Alter + Drop,
+        D: Disks<Kept = Connection<S>> + Drop,
+    {
         for calls in 0..u64::MAX {
-            match self.run(alloc, file, calls)? {
+            match self.run::<S, D>(alloc, file, calls)? {
                 Came::Whole => break,
                 Came::Due => {}
                 Came::Otherwise => return Ok(Some(calls)),
@@ -73,8 +84,12 @@ impl First {
         Ok(None)
     }
 
-    fn run(&self, alloc: Global, file: DiskFile, calls: u64) -> Result<Came, Fault> {
-        let mut disks = Disks::stopping(alloc, file, calls, self.database.as_slice())?;
+    fn run<S, D>(&self, alloc: Global, file: DiskFile, calls: u64) -> Result<Came, Fault>
+    where
+        S: Alter + Drop,
+        D: Disks<Kept = Connection<S>> + Drop,
+    {
+        let mut disks = D::stopping(alloc, file, calls, self.database.as_slice())?;
         let told = on_disks(alloc, &mut disks, "migrate", "")?;
         let is_ok = told.is_ok();
         let is_told = is_ok || told.gave_up() && told.output.is_empty();
@@ -86,7 +101,11 @@ impl First {
     }
 
     /// Whether it is found as a run may leave it, which told that it was migrated or did not.
-    fn is_due(&self, alloc: Global, is_told: bool, disks: Disks) -> Result<bool, Fault> {
+    fn is_due<S, D>(&self, alloc: Global, is_told: bool, disks: D) -> Result<bool, Fault>
+    where
+        S: Alter + Drop,
+        D: Disks<Kept = Connection<S>> + Drop,
+    {
         let both = Found::both(alloc, disks)?;
         Ok(
             both.iter().all(|found| {
@@ -103,23 +122,23 @@ impl First {
 
 /// Makes the database, and tells the rows of both accounts, or where the steps are answered
 /// otherwise than expected.
-fn made<S, F>(
+fn made<S, D>(
     rt: &HostRuntime,
     talk: &Conversation,
-    mut opener: F,
+    disks: &mut D,
 ) -> Result<Result<Vec<u8>, String>, Fault>
 where
     S: Alter + Drop,
-    F: Opener<Kept = Connection<S>> + Drop,
+    D: Disks<Kept = Connection<S>>,
 {
-    let mut tables = Tables::create(rt, opener.open(FILE).map_err(Fault::Open)?)?;
+    let mut tables = Tables::create(rt, disks.open()?)?;
     let printed = printed_by(rt, talk, &mut tables)?;
     if let Some(differs) = unexpected(rt.alloc(), printed.as_slice(), talk)? {
         return Ok(Err(differs));
     }
     let mut rows = Vec::new(rt.alloc());
     print_accounts(&mut tables, &mut rows)?;
-    opener.close(tables.end()?);
+    disks.close(tables.end()?);
     Ok(Ok(rows))
 }
 

@@ -1,35 +1,48 @@
 //! Rows of runs over storage that stops, held against the program: one of the two files of a
 //! database takes so many calls and no more, for each number of calls up to one that suffices. Then
 //! the program tells `memory` or `store`, with status 3, and the database is found as it was before
-//! the event that was stopped or as it is behind it.
+//! the event that was stopped or as it is after it.
 //!
-//! A row is a script, which runs on a new database. Behind the line `migrated` its steps make a
+//! A row is a script, which runs on a new database. After the line `migrated` its steps make a
 //! database of version 1 instead, and the program migrates it.
 
-use crate::disks::{DISK_FILES, DiskFile, Disks};
+use crate::disks::{DISK_FILES, DiskFile, Disks, InMemory, OnDisks};
 use crate::found::Found;
 use crate::migrated;
 use crate::stopping::on_disks;
 use crate::told::answered_before_failed;
-use event_trials::{Fault, Tables, differing, rows_of, take, text};
 use room_rows::{Conversation, Step};
 use room_store::OpenFault;
+use sqlite::{Alter, Connection};
 use std::alloc::Global;
 use std::fmt;
 use std::fmt::{Display, Formatter, Write};
+use trials::{Fault, Tables, differing, rows_of, take, text};
 
 /// The line that begins a row of a database that is migrated.
 const MIGRATED: &str = "migrated\n";
 
 /// Where a row differs first.
 pub fn differs_where_stopped(rt: &HostRuntime, lines: &str) -> Result<Option<String>, Fault> {
+    differs::<OnDisks, InMemory>(rt, lines)
+}
+
+fn differs<S, D>(rt: &HostRuntime, lines: &str) -> Result<Option<String>, Fault>
+where
+    S: Alter + Drop,
+    D: Disks<Kept = Connection<S>> + Drop,
+{
     match lines.strip_prefix(MIGRATED) {
-        Some(lines) => migrated::differs(rt, &Conversation::read(rt.alloc(), lines)?),
-        None => script_differs(rt, &Conversation::read(rt.alloc(), lines)?),
+        Some(lines) => migrated::differs::<S, D>(rt, &Conversation::read(rt.alloc(), lines)?),
+        None => script_differs::<S, D>(rt, &Conversation::read(rt.alloc(), lines)?),
     }
 }
 
-fn script_differs(rt: &HostRuntime, talk: &Conversation) -> Result<Option<String>, Fault> {
+fn script_differs<S, D>(rt: &HostRuntime, talk: &Conversation) -> Result<Option<String>, Fault>
+where
+    S: Alter + Drop,
+    D: Disks<Kept = Connection<S>> + Drop,
+{
     let Some(script) = talk.script(rt.alloc())? else {
         return Err(Fault::ByHand);
     };
@@ -38,7 +51,7 @@ fn script_differs(rt: &HostRuntime, talk: &Conversation) -> Result<Option<String
         return Ok(Some(differs));
     }
     for file in DISK_FILES {
-        if let Some((calls, end)) = whole.differs(rt, file, script.as_str())? {
+        if let Some((calls, end)) = whole.differs::<S, D>(rt, file, script.as_str())? {
             return Ok(Some(format!(in rt.alloc();
                 "{file} that stops behind {calls} calls, {end}"
             )?));
@@ -88,7 +101,7 @@ impl Display for End {
 struct Whole {
     steps: Vec<Step>,
     printed: Vec<u8>,
-    /// The rows behind no event, behind the first, up to behind the last.
+    /// The rows after no event, after the first, up to after the last.
     rows: Vec<Vec<u8>>,
 }
 
@@ -109,16 +122,20 @@ impl Whole {
         })
     }
 
-    /// Behind how many calls a run comes to something else, where the file stops behind them, and
+    /// After how many calls a run comes to something else, where the file stops after them, and
     /// what it comes to.
-    fn differs(
+    fn differs<S, D>(
         &self,
         rt: &HostRuntime,
         file: DiskFile,
         script: &str,
-    ) -> Result<Option<(u64, End)>, Fault> {
+    ) -> Result<Option<(u64, End)>, Fault>
+    where
+        S: Alter + Drop,
+        D: Disks<Kept = Connection<S>> + Drop,
+    {
         for calls in 0..u64::MAX {
-            let mut disks = Disks::stopping(rt.alloc(), file, calls, b"")?;
+            let mut disks = D::stopping(rt.alloc(), file, calls, b"")?;
             let end = self.run(rt, &mut disks, script)?;
             let is_stopped = disks.is_stopped() || !self.is_last(end);
             if !self.is_due(rt.alloc(), end, disks)? {
@@ -132,7 +149,11 @@ impl Whole {
     }
 
     /// A run of the program on a new database over the disks.
-    fn run(&self, rt: &HostRuntime, disks: &mut Disks, script: &str) -> Result<End, Fault> {
+    fn run<S, D>(&self, rt: &HostRuntime, disks: &mut D, script: &str) -> Result<End, Fault>
+    where
+        S: Alter + Drop,
+        D: Disks<Kept = Connection<S>>,
+    {
         let created = on_disks(rt.alloc(), disks, "create", "")?;
         if created.gave_up() && created.output.is_empty() {
             return Ok(End::Unmade);
@@ -161,7 +182,11 @@ impl Whole {
     }
 
     /// Whether the database is found as such a run may leave it.
-    fn is_due(&self, alloc: Global, end: End, disks: Disks) -> Result<bool, Fault> {
+    fn is_due<S, D>(&self, alloc: Global, end: End, disks: D) -> Result<bool, Fault>
+    where
+        S: Alter + Drop,
+        D: Disks<Kept = Connection<S>> + Drop,
+    {
         let (events, may_be_none) = match end {
             End::Unmade => (0, true),
             End::Answered(events) => (events, false),
@@ -178,7 +203,7 @@ impl Whole {
         )
     }
 
-    /// Whether what is found has the rows behind so many events.
+    /// Whether what is found has the rows after so many events.
     fn is_behind(&self, events: usize, found: &Found) -> bool {
         match self.rows.get(events) {
             Some(due) => found.has_rows(due.as_slice()),

@@ -1,9 +1,9 @@
 //! What runs of the program tell, and how far a script came in them.
 
-use event_trials::{Fault, answered, text};
 use room_lines::print_answer;
 use room_rows::{Rooms, Step};
 use std::alloc::Global;
+use trials::{Fault, answered, text};
 
 /// What a run tells that lacked memory, or that the storage refused.
 const REFUSED: [&[u8]; 2] = [b"ipp-room: memory\n", b"ipp-room: store\n"];

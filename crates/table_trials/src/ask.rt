@@ -7,7 +7,7 @@
 //! - `tally NAME` answers `unfinished COUNT idle|processing reserved UNITS charged UNITS` of all
 //! jobs, `queue NAME`
 //!   of those that have not ended;
-//! - `job NAME NUMBER` answers the words that `add-job` takes behind the account;
+//! - `job NAME NUMBER` answers the words that `add-job` takes after the account;
 //! - `unfinished NAME LIMIT` and `ended NAME LIMIT` answer the number and the name of each job;
 //! - `documents NAME JOB` answers the job, the number, the format and the bytes of each document.
 

@@ -22,7 +22,7 @@ pub enum Fault {
     /// What a row sets is out of the range that the tables take.
     #[error("what is set is out of range")]
     Range,
-    /// A call that was refused left other tables behind.
+    /// A call that was refused left other tables after.
     #[error("a call that was refused changed the tables")]
     Changed,
     #[error("memory ran out")]

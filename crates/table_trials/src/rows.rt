@@ -1,5 +1,5 @@
 //! Files of rows. The line `# TITLE` begins a row, which starts on an empty database in memory; the
-//! lines behind it are its commands and what they answer. Where memory is refused outside of the
+//! lines after it are its commands and what they answer. Where memory is refused outside of the
 //! calls, the row is held once more. So a row should hold whichever one request for memory is
 //! refused: `tools/refuse-memory` refuses one after the other.
 
@@ -11,7 +11,7 @@ use crate::script::Script;
 use sqlite::{Alter, Connection};
 use std::io::Write;
 
-/// Whether each row of the file holds. Prints how many do, and of one that does not what is
+/// Whether each row of the file holds. Prints that they do, or of one that does not what is
 /// answered instead. `files` has the databases that rows keep in files.
 pub fn hold<S, F>(rt: &HostRuntime, file: &str, files: &F) -> Result<bool, Fault>
 where
@@ -22,16 +22,14 @@ where
     let Some(text) = text.as_str().strip_prefix("# ") else {
         return Err(Fault::Notation(Wrong::NoTitle));
     };
-    let (mut holding, mut failing) = (0u64, 0u64);
+    let mut all = true;
     for row in text.split("\n# ") {
-        if holds(rt, file, row, files)? {
-            holding = holding.saturating_add(1);
-        } else {
-            failing = failing.saturating_add(1);
-        }
+        all &= holds(rt, file, row, files)?;
     }
-    writeln!(rt.stdout(), "{file}: {holding} rows hold")?;
-    Ok(failing == 0)
+    if all {
+        writeln!(rt.stdout(), "{file}: holds")?;
+    }
+    Ok(all)
 }
 
 /// Whether a row holds. Where it does not, the first line that is another is printed.
@@ -116,7 +114,7 @@ where
     Ok(())
 }
 
-/// The database behind a line, whose answer is printed.
+/// The database after a line, whose answer is printed.
 fn run_line<S, F>(
     rt: &HostRuntime,
     database: Database<S>,

@@ -1,18 +1,20 @@
 //! The program `worked_rows`: holds what its words name against the print room.
 //!
-//! - Of a file of conversations, `NAME.rows`, of exchanges over HTTP, `NAME.exchanges`, of runs of
-//!   the program, `NAME.runs`, of runs over storage that stops, `NAME.stops`, or of statements,
-//!   `NAME.tables`, it prints how many rows hold, and of each row that does not what differs.
-//! - Of a list of events, `NAME.events`, it prints what the list reached.
+//! - A file is one of conversations, `NAME.rows`, of exchanges of `serve_one`, `NAME.exchanges`, of
+//!   requests to `serve`, `NAME.served`, of runs of the program, `NAME.runs`, of runs over storage
+//!   that stops, `NAME.stops`, of statements, `NAME.tables`, or a list of events, `NAME.events`. It
+//!   prints that the file holds, or of a row that does not what differs.
 //! - At the word `serving` it makes the trials of what is served, and prints of each that it holds
 //!   or what differs.
 #![tactic(auto)]
 
-use row_trials::{Fault, FileTables};
-use sqlite::{Connection, Error, File, FileStore};
+use event_trials::hold_events;
+use sqlite::{Alter, Connection, Error, File, FileStore};
 use std::env;
 use std::io::Write;
 use std::process::ExitCode;
+use table_trials::FileTables;
+use trials::Fault;
 
 /// The files of this machine.
 #[derive(Clone, Copy)]
@@ -33,7 +35,7 @@ impl FileTables for OnDisk<'_> {
 }
 
 fn main(rt: HostRuntime) -> ExitCode {
-    match hold_all(&rt) {
+    match hold_all(&rt, &OnDisk { rt: &rt }) {
         Ok(true) => ExitCode::SUCCESS,
         Ok(false) => ExitCode::FAILURE,
         Err(fault) => {
@@ -44,14 +46,36 @@ fn main(rt: HostRuntime) -> ExitCode {
 }
 
 /// Whether all holds that the program's words name.
-fn hold_all(rt: &HostRuntime) -> Result<bool, Fault> {
+fn hold_all<S, F>(rt: &HostRuntime, files: &F) -> Result<bool, Fault>
+where
+    S: Alter + Drop,
+    F: FileTables<Kept = Connection<S>>,
+{
     let mut all = true;
     let words: Vec<String> = env::args(rt)?.skip(1).collect(rt.alloc())?;
     for word in words.as_slice() {
-        all &= match word.as_str() {
-            "serving" => serve_trials::hold(rt, &mut rt.stdout()),
-            file => row_trials::hold(rt, file, &OnDisk { rt })?,
-        };
+        all &= hold(rt, files, word.as_str())?;
     }
     Ok(all)
+}
+
+/// Whether that holds which a word names. `files` has the databases that stand in files.
+fn hold<S, F>(rt: &HostRuntime, files: &F, word: &str) -> Result<bool, Fault>
+where
+    S: Alter + Drop,
+    F: FileTables<Kept = Connection<S>>,
+{
+    if word == "serving" {
+        return Ok(serve_trials::hold(rt, &mut rt.stdout()));
+    }
+    if word.ends_with(".served") {
+        return Ok(serve_trials::hold_file(rt, word, &mut rt.stdout()));
+    }
+    if word.ends_with(".tables") {
+        return Ok(table_trials::hold(rt, word, files)?);
+    }
+    match word.strip_suffix(".events") {
+        Some(name) => hold_events(rt, files, name),
+        None => row_trials::hold(rt, files, word),
+    }
 }

@@ -1,5 +1,5 @@
 use Rattle.std.proofs.Common.{◌≡◌}
-use Rattle.room_client.specs.Answering.{TakesDocuments}
+use Rattle.room_client.specs.ProofAnswering.{TakesDocuments}
 use Rattle.room_client.proofs.documents.take_documents.Given as goal
 
 abbrev pub invariant-loop-index : goal.invariant-loop-index

@@ -1,7 +1,7 @@
 use Rattle.std.proofs.Common.{◌≤◌, vec_len}
 use Rattle.std.specs.Io.KnownBytes.{Consumes}
 use Rattle.room_client.specs.Sending.{longest_line}
-use Rattle.room_client.specs.Taking.{HasNoFeed}
+use Rattle.room_client.specs.ProofTaking.{HasNoFeed}
 use Rattle.room_client.proofs.line.take_line.Given as goal
 
 abbrev pub invariant-loop : goal.invariant-loop

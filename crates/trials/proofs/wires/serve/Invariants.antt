@@ -1,7 +1,7 @@
 use Rattle.std.proofs.Common.{◌≡◌, false}
 use Rattle.room_serve.specs.Wires.{wire_has_ended, reader_of, writer_of}
 use Rattle.room_input.specs.Counts.{failures_of}
-use Rattle.event_trials.proofs.wires.serve.Given as goal
+use Rattle.trials.proofs.wires.serve.Given as goal
 
 abbrev pub invariant-calls : goal.invariant-calls
 invariant-calls g l = record {

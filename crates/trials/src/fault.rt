@@ -27,7 +27,7 @@ pub enum Fault {
     /// A row of statements could not be held.
     #[error("{0}")]
     Statements(table_trials::Fault),
-    /// There are no tables to hold the row against, or the file of its runs can't be had.
+    /// There are no tables to hold the row against, or the file of its runs can't be opened.
     #[error("tables: {0}")]
     Open(OpenFault),
     /// The tables could not answer where the machine can.

@@ -1,6 +1,7 @@
 //! Shared tables. Each event comes to a store of its own, over the one connection.
 
 ghost use Rattle.std.specs.Prelude.{All, IfOk, IsTrue};
+ghost use Rattle.room_core.specs.Events.{plain_event};
 ghost use Rattle.room_core.specs.Fits.{fits};
 
 use crate::fault::Fault;
@@ -139,7 +140,7 @@ impl<S: Alter + Drop> Tables<S> {
         rt: &HostRuntime,
         events: &[(u64, Event<'_>)],
     ) -> Result<Vec<Outcome>, Fault>
-        requires { All (λ e. IsTrue (fits e.1)) events.now }
+        requires { All (λ e. IsTrue (fits (plain_event e.1))) events.now }
     {
         let mut store = self.store(rt)?;
         let outcomes = run_events(rt.alloc(), &mut store, events);
@@ -238,13 +239,13 @@ pub fn remove_files(rt: &HostRuntime) {
 }
 
 fn events_of<'a>(alloc: Global, lines: &[&'a Line]) -> Result<Vec<(u64, Event<'a>)>, Fault>
-    ensures { IfOk result (λ events. All (λ e. IsTrue (fits e.1)) events.items) }
+    ensures { IfOk result (λ events. All (λ e. IsTrue (fits (plain_event e.1))) events.items) }
 {
     Ok(lines.iter().map(|line| timed(*line)).collect(alloc)?)
 }
 
 fn timed(line: &Line) -> (u64, Event<'_>)
-    ensures { IsTrue (fits result.1) }
+    ensures { IsTrue (fits (plain_event result.1)) }
 {
     (line.moment, line.event())
 }

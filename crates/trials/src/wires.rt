@@ -25,7 +25,7 @@ pub const WHOLE: Sides = Sides {
     failing: None,
 };
 
-/// The call of a side that fails, counted from 0, and all behind it.
+/// The call of a side that fails, counted from 0, and all after it.
 #[derive(Clone, Copy)]
 pub enum Failing {
     Read(u64),

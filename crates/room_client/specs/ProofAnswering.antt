@@ -52,7 +52,7 @@ pub record GrantAnswered (asked : GrantLine) (number : ℕ) (heard_before heard_
   pub heard : Consumes heard_before heard_after (line_heard asked line)
   pub printed : Appends printed_before printed_after (line_printed number asked line)
 
--- an answer was heard, and printed behind the number of its record
+-- an answer was heard, and printed after the number of its record
 abbrev pub HearsResult : (number : ℕ) (heard_before heard_after : Known)
     → (printed_before printed_after : Known) → Answer → Type 0
 HearsResult number heard_before heard_after printed_before printed_after says =

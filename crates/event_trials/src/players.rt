@@ -1,13 +1,11 @@
-//! The two accounts of a list of events, and the steps of each.
+//! The steps of both accounts of a list of events.
 
-use crate::fault::Fault;
 use room_core::Name;
 use room_rows::{Conversation, Step};
 use std::alloc::Global;
+use trials::{Fault, account_of};
 
-pub const ACCOUNTS: [&str; 2] = ["alice", "bob"];
-
-/// How many steps the second account comes behind the first.
+/// How many steps the second account comes after the first.
 pub const BEHIND: usize = 5;
 
 /// One of the accounts, and its steps.
@@ -27,14 +25,7 @@ impl Player {
     }
 }
 
-pub fn account_of(name: &str) -> Result<Name, Fault> {
-    match Name::read(name.as_bytes()) {
-        Some(account) => Ok(account),
-        None => Err(Fault::Name),
-    }
-}
-
-/// The steps of both accounts in turns, those of the second behind.
+/// The steps of both accounts in turns, those of the second after.
 pub fn in_turns<'a>(
     alloc: Global,
     firsts: &'a [Step],
