@@ -166,7 +166,7 @@ parts_made uri parts (Some rest) found is =
 
 -- ---- what a URI is made of is what it is cut into
 
--- behind what does not pass a test, the first place that passes
+-- after what does not pass a test, the first place that passes
 found_at : (test : ℕ → Bool) (front : List ℕ) (c : ℕ) (more : List ℕ) → list_any test front ≡ false → test c ≡ true → position test (front ++ c ∷ more) ≡ Some (length front)
 found_at test [] c more none is = place_of test c more ∙ ap (λ (b : Bool). cond b (Some 0) (option_map (λ p. suc p) (position test more))) is
 found_at test (x ∷ front) c more none is =

@@ -1,4 +1,4 @@
--- One more chunk, and what stands behind the chunks in its place.
+-- One more chunk, and what stands after the chunks in its place.
 use Rattle.std.proofs.Common.{◌≡◌, ℕ, ◌+◌, ◌<◌, ◌≤◌, List, [], ◌∷◌, ◌++◌, length, refl, sym, ap, ◌∙◌, subst, append_assoc, length-append}
 use Rattle.std.proofs.lemmas.List.{append-nil, flat_map_more}
 use Rattle.std.specs.List.{AllByRecursion}
@@ -8,7 +8,7 @@ use Rattle.room_input.specs.Streams.{IsSpent, Yields}
 use Rattle.room_http.specs.Bodies.{HasBehindChunks, IsChunkedBody, IsNoBody, has_no_trailers, is_short}
 use Rattle.room_http.specs.Chunks.{AreChunks, Chunk, HasNoLineEnd, IsChunk, IsNoChunk, IsSizeLine, IsTooLongWith, has_no_end, is_cut, print_chunk}
 use Rattle.room_http.specs.Exchange.{Takes}
-use Rattle.room_http.specs.Reading.{EndsChunks}
+use Rattle.room_http.specs.ProofReading.{EndsChunks}
 use Rattle.room_http.specs.Trailers.{AreTrailers, HasNoTrailers, Section, print_trailers}
 use Rattle.room_http.specs.declared.framing.Framing.TheVariants.{Chunked, Length}
 use Rattle.room_http.proofs.Streams.{Yields_more}
@@ -30,7 +30,7 @@ one_more chunks text body line bytes are is_line size some =
       together = ap (λ s. s ++ bytes) are.together ∙ flat_map_more (λ c. c.bytes) [] chunks chunk;
     }
 
--- what was taken behind chunks that were read, and tells what stands there
+-- what was taken after chunks that were read, and tells what stands there
 pub takes_behind : (before between after : List ℕ → Type 0) (chunks : List Chunk) (text body : List ℕ) (P : List ℕ → List ℕ → Type 0)
     → AreChunks chunks text body → length body ≤ 16842752 → Yields before between text → Takes between after (λ b rest. P body b)
     → Takes before after (λ b rest. HasBehindChunks b P)
@@ -77,7 +77,7 @@ pub body_cut : (before after : List ℕ → Type 0) (size : ℕ) (bytes : List �
 body_cut before after size bytes short gave end =
     (bytes, gave, λ rest h. let all : bytes ++ rest ≡ bytes = ap (λ s. bytes ++ s) (end rest h) ∙ append-nil bytes in is_short size (subst (λ (b : List ℕ). length b < size) (sym all) short))
 
--- the chunks ended, and what stands behind them is no trailers
+-- the chunks ended, and what stands after them is no trailers
 pub trailers_missing : (before between after : List ℕ → Type 0) (body : List ℕ) → EndsChunks before between body → Takes between after (λ b rest. HasNoTrailers b) → Takes before after (λ b rest. IsNoBody b Chunked)
 trailers_missing before between after body ended took =
     let text = ended.1 in

@@ -3,7 +3,7 @@
 use Rattle.std.proofs.Common.{◌≡◌, ℕ, ◌+◌, ◌≤◌, ◌⊎◌, inl, inr, Bool, true, false, List, [], ◌∷◌, ◌++◌, length, drop, get_or, refl, sym, ap, ◌∙◌, append_assoc, arith, length-append}
 use Rattle.std.proofs.lemmas.Bool.{true≢false}
 use Rattle.std.proofs.lemmas.List.{same_from_push, append-nil, nil_from_length}
-use Rattle.room_http.specs.Kinds.{HasNone}
+use Rattle.room_http.specs.ProofKinds.{HasNone}
 
 -- a list is empty or has a last element
 pub last_of : (xs : List ℕ) → (xs ≡ []) ⊎ ((init : List ℕ) × (x : ℕ) × (xs ≡ init ++ x ∷ []))

@@ -9,7 +9,7 @@ use Rattle.httparse.specs.Grammar.{LineEnd, crlf, lf, Field, IsRequestHead, prin
 use Rattle.httparse.specs.Spans.{IsRequestAt}
 use Rattle.httparse.specs.declared.spans.HeaderSpan.{HeaderSpan}
 use Rattle.httparse.specs.declared.spans.RequestSpans.{RequestSpans}
-use Rattle.room_http.specs.Kinds.{ends_empty_line, ends_line, has_space, may_end_head}
+use Rattle.room_http.specs.ProofKinds.{ends_empty_line, ends_line, has_space, may_end_head}
 use Rattle.room_http.proofs.Completing.{none_in_nothing, none_with_byte, whole_with_byte}
 
 -- ---- what a text ends with

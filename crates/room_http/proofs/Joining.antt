@@ -1,4 +1,4 @@
--- Texts that are put behind one another.
+-- Texts that are put after one another.
 use Rattle.std.proofs.Common.{◌≡◌, ℕ, List, ◌++◌, append_assoc}
 
 pub five : (t a b c d e : List ℕ) → (((((t ++ a) ++ b) ++ c) ++ d) ++ e) ≡ t ++ ((((a ++ b) ++ c) ++ d) ++ e)

@@ -3,7 +3,7 @@ use Rattle.std.proofs.Common.{◌≡◌, ◌≢◌, ℕ, ◌+◌, ◌-◌, true,
 use Rattle.std.proofs.Math.Seq.{drop-append_seam}
 use Rattle.std.proofs.lemmas.Bool.{ne_eqb}
 use Rattle.std.specs.Cmp.Lexicographic.{pointwise}
-use Rattle.room_http.specs.Kinds.{ends_line}
+use Rattle.room_http.specs.ProofKinds.{ends_line}
 
 -- it looks at the last byte alone
 ends_line_at : (front : List ℕ) (byte : ℕ) → ends_line (front ++ byte ∷ []) ≡ pointwise nat_eq (10 ∷ []) (byte ∷ [])

@@ -4,7 +4,7 @@ use Rattle.std.proofs.lemmas.List.{append-nil}
 use Rattle.httparse.specs.Grammar.{ChunkLine, IsChunkLine, HasNoChunkLine, NeverHasChunkLine, print_chunk_line, print_extension, chunk_size}
 use Rattle.httparse.specs.Spans.{IsChunkLineAt}
 use Rattle.room_http.specs.Chunks.{HasNoSizeLine, IsSizeLine}
-use Rattle.room_http.specs.Kinds.{ends_line}
+use Rattle.room_http.specs.ProofKinds.{ends_line}
 use Rattle.room_http.proofs.Completing.{begins_shorter, none_in_nothing, none_with_byte, whole_with_byte}
 use Rattle.room_http.proofs.LineEnds.{line_feed_ends_it, other_byte_ends_none}
 

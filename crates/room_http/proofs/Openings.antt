@@ -28,7 +28,7 @@ opens_with text headers spans h rest at room all short =
 pub is_cut_at : (text rest : List ℕ) → rest ≡ [] → text ≢ [] → length text < 16384 → HasNoRequest text → IsNoHead (text ++ rest)
 is_cut_at text rest end some short none = subst IsNoHead (sym (ap (λ r. text ++ r) end ∙ append-nil text)) (is_cut some short none)
 
--- what was read behind a head
+-- what was read after a head
 pub behind_head : (a b c : List ℕ → Type 0) (order : Order) (Q H : List ℕ → List ℕ → Type 0) → TakesHead a b order → Takes b c Q
     → ((whole behind rest : List ℕ) → Orders whole order behind → Q behind rest → H whole rest) → Takes a c H
 behind_head a b c order Q H first second join = (

@@ -5,7 +5,7 @@ use Rattle.std.specs.List.{flat_map}
 use Rattle.httparse.specs.Grammar.{IsField, LineEnd, crlf, lf, HasNoSection, print_end, print_field}
 use Rattle.httparse.specs.Spans.{IsSectionOf, IsSectionWithin, SectionOverflows, header_bytes, name_and_value}
 use Rattle.httparse.specs.declared.spans.HeaderSpan.{HeaderSpan}
-use Rattle.room_http.specs.Kinds.{HasNone, ends_line}
+use Rattle.room_http.specs.ProofKinds.{HasNone, ends_line}
 use Rattle.room_http.specs.Trailers.{AreTrailers, HasNoTrailers, Section, print_trailers}
 use Rattle.room_http.proofs.Completing.{begins_shorter, none_in_nothing, none_with_byte, whole_with_byte}
 use Rattle.room_http.proofs.LineEnds.{line_feed_ends_it, other_byte_ends_none}

@@ -19,7 +19,7 @@ pub nothing_sent : (a : Option (List ℕ)) → Appends a a []
 nothing_sent None = tt
 nothing_sent (Some us) = sym (append-nil us)
 
--- a front of what is left, behind the front so far
+-- a front of what is left, after the front so far
 pub wrote_more : (a b c : Option (List ℕ)) (text : List ℕ) (at n : ℕ) → Appends a b (take at text) → Appends b c (take n (drop at text)) → Appends a c (take (at + n) text)
 wrote_more a b c text at n p q = subst (Appends a c) (sym (take-add at n text)) (Appends_more a b c (take at text) (take n (drop at text)) p q)
 
@@ -30,14 +30,14 @@ front_of_more a b text more part =
     let same : take part.0 (text ++ more) ≡ take part.0 text = take-append-le part.0 text more (omega (arith, part.1)) in
     (part.0, omega (arith, part.1, size), subst (Appends a b) (sym same) part.2)
 
--- and behind a text a front of one that follows it
+-- and after a text a front of one that follows it
 pub front_behind : (a b c : Option (List ℕ)) (text more : List ℕ) → Appends a b text → AppendsFront b c more → AppendsFront a c (text ++ more)
 front_behind a b c text more all part =
     let size : length (text ++ more) ≡ length text + length more = length-append text more in
     let same : take (length text + part.0) (text ++ more) ≡ text ++ take part.0 more = take-append-add text more part.0 in
     (length text + part.0, omega (arith, part.1, size), subst (Appends a c) (sym same) (Appends_more a b c text (take part.0 more) all part.2))
 
--- what the second of two calls wrote, behind the first
+-- what the second of two calls wrote, after the first
 pub sent_behind : {A E : Type 0} (result : Result A E) (a b c : Option (List ℕ)) (text more : List ℕ) → Appends a b text → OnOk result (Appends b c more) → OnOk result (Appends a c (text ++ more))
 sent_behind (Ok value) a b c text more all rest = Appends_more a b c text more all rest
 sent_behind (Err error) a b c text more all rest = tt

@@ -17,7 +17,7 @@ takes_text a b text most gave short = record { taken = text; yields = gave; shor
 pub takes_within : {a b : List ℕ → Type 0} {few most : ℕ} → TakesAtMost few a b → few ≤ most → TakesAtMost most a b
 takes_within took fits = record { taken = took.taken; yields = took.yields; short = omega (arith, took.short, fits) }
 
--- one call behind another
+-- one call after another
 pub takes_both : {a b c : List ℕ → Type 0} {few more most : ℕ} → TakesAtMost few a b → TakesAtMost more b c → few + more ≤ most → TakesAtMost most a c
 takes_both {a} {b} {c} first second fits =
     record {
@@ -26,7 +26,7 @@ takes_both {a} {b} {c} first second fits =
       short = omega (arith, length-append first.taken second.taken, first.short, second.short, fits);
     }
 
--- a call behind a text that was taken
+-- a call after a text that was taken
 pub takes_more : (a b c : List ℕ → Type 0) (text : List ℕ) (more most : ℕ) → Yields a b text → TakesAtMost more b c → length text + more ≤ most → TakesAtMost most a c
 takes_more a b c text more most gave took fits = takes_both (takes_text a b text (length text) gave (omega arith)) took fits
 
@@ -48,7 +48,7 @@ length-chunks chunks text body are =
         let others = of_each chunks all.1 in
         omega (arith, length-append (print_chunk chunk) (flat_map print_chunk chunks), length-append chunk.bytes (flat_map (λ chunk. chunk.bytes) chunks))
 
--- a call behind chunks that were taken
+-- a call after chunks that were taken
 pub takes_behind_chunks : (a b c : List ℕ → Type 0) (chunks : List Chunk) (text body : List ℕ) (more : ℕ) → AreChunks chunks text body → Yields a b text → TakesAtMost more b c → 259 * length body + more ≤ most_of_chunks
     → TakesAtMost most_of_chunks a c
 takes_behind_chunks a b c chunks text body more are gave took fits =

@@ -1,4 +1,4 @@
--- What stands behind a head in the place of its body.
+-- What stands after a head in the place of its body.
 use Rattle.std.specs.Prelude.{◌≡◌, ℕ, ◌<◌, ◌≤◌, List, ◌++◌, length}
 use Rattle.httparse.specs.Grammar.{ChunkLine, print_chunk_line}
 use Rattle.room_http.specs.Limits.{longest_body}
@@ -24,7 +24,7 @@ abbrev pub HasBody : (framing : Framing) (b body rest : List ℕ) → Type 0
 HasBody (Length n) b body rest = (b ≡ body ++ rest) × (length body ≡ n)
 HasBody Chunked b body rest = IsChunkedBody b body rest
 
--- chunks, and something behind them
+-- chunks, and something after them
 abbrev pub HasBehindChunks : (b : List ℕ) (P : List ℕ → List ℕ → Type 0) → Type 0
 HasBehindChunks b P = (chunks : List Chunk) × (text : List ℕ) × (body : List ℕ) × (behind : List ℕ)
     × AreChunks chunks text body × (length body ≤ longest_body)

@@ -31,12 +31,12 @@ write_faults (Err Ended) = 0
 abbrev pub AppendsFront : (old new : Option (List ℕ)) (text : List ℕ) → Type 0
 AppendsFront old new text = (n : ℕ) × (n < length text) × Appends old new (take n text)
 
--- Some bytes were taken, and with what is left now behind them this holds.
+-- Some bytes were taken, and with what is left now after them this holds.
 abbrev pub Takes : (before after : List ℕ → Type 0) (P : (b rest : List ℕ) → Type 0) → Type 0
 Takes before after P = (taken : List ℕ) × Yields before after taken
     × ((rest : List ℕ) → after rest → P (taken ++ rest) rest)
 
--- A head that orders this was taken, and nothing behind it.
+-- A head that orders this was taken, and nothing after it.
 pub record TakesHead (before after : List ℕ → Type 0) (order : Order) : Type 0 where
   pub taken : List ℕ
   pub yields : Yields before after taken
@@ -48,7 +48,7 @@ pub record TakesAtMost (most : ℕ) (before after : List ℕ → Type 0) : Type 
   pub yields : Yields before after taken
   pub short : length taken ≤ most
 
--- The most bytes of chunks with the line of size 0 behind them: each byte of the body stands at
+-- The most bytes of chunks with the line of size 0 after them: each byte of the body stands at
 -- worst in a chunk of its own, of a line, the byte, and CR LF. What ends within a chunk, or is
 -- none, has no more.
 abbrev pub most_of_chunks : ℕ
@@ -75,7 +75,7 @@ ReceivedIs before after old new (received.Carried order body) =
     × Appends old new (interim_text order.expects)
 
 -- what is written where there was a fault: nothing or the 100 text, or a front of it, before
--- anything behind the head was taken
+-- anything after the head was taken
 abbrev pub FailedReceiving : (before after : List ℕ → Type 0) (old new : Option (List ℕ))
     (fault : WireFault) → Type 0
 FailedReceiving before after old new Read =

@@ -5,7 +5,7 @@ use Rattle.httparse.specs.Grammar.{RequestHead, IsRequestHead, print_request, Ha
 use Rattle.httparse.specs.Spans.{RequestExceeds, RequestOverflows}
 use Rattle.room_http.specs.Limits.{longest_head, most_fields}
 
--- the head stands at the front, and this behind it
+-- the head stands at the front, and this after it
 pub record Opens (b : List ℕ) (h : RequestHead) (behind : List ℕ) : Type 0 where
   pub head : IsRequestHead h
   pub spelled : b ≡ print_request h ++ behind

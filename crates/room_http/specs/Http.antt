@@ -18,7 +18,7 @@ pub data Heard : Type 0 where
   -- what its head orders, its body, and what follows
   Carried : (order : Order) (body rest : List ℕ) → Heard
 
--- a head stands at the front that orders this, and what stands behind it
+-- a head stands at the front that orders this, and what stands after it
 pub record Orders (b : List ℕ) (order : Order) (behind : List ℕ) : Type 0 where
   pub head : RequestHead
   pub opens : Opens b head behind

@@ -1,17 +1,15 @@
 -- What a whole head is refused for, the first of these that applies, or what it orders (all this
 -- project's own): a body that cannot be told, another method than POST, a path of no queue, another
 -- type of content, a body that is too long.
-use Rattle.std.specs.Prelude.{◌==◌, ◌&&◌, ◌||◌, ℕ, ◌≤◌, Bool, true, false, List, [], ◌∷◌, Option, Some, None, Result, Ok, Err, bytes_eq, codes, drop, if◌then◌else◌, length, map, nat_le, nat_lt, option_and_then, ⊤}
-use Rattle.std.specs.Char.{is_ascii_digit}
-use Rattle.std.specs.List.{list_all, list_any}
+use Rattle.std.specs.Prelude.{◌==◌, ◌&&◌, ◌||◌, ℕ, ◌≤◌, Bool, false, List, [], ◌∷◌, Option, Some, None, Result, Ok, Err, bytes_eq, codes, if◌then◌else◌, map, nat_lt, ⊤}
+use Rattle.std.specs.List.{list_any}
 use Rattle.httparse.specs.Grammar.{RequestHead}
 use Rattle.httparse.specs.Spans.{name_and_value}
-use Rattle.room_rules.specs.Names.{is_name}
-use Rattle.room_rules.specs.QueuePaths.{behind, queues}
 use Rattle.room_http.specs.Limits.{longest_body}
 use Rattle.room_http.specs.Fields.{NameAndValue, is_named, plain_field, values_named}
 use Rattle.room_http.specs.Framing.{framing_of}
-use Rattle.room_http.specs.Words.{before, is_same_word, lists, without_margin}
+use Rattle.room_http.specs.Targets.{account_of, is_ipp_type}
+use Rattle.room_http.specs.Words.{is_same_word, lists}
 use Rattle.room_http.specs.declared.framing.Framing.{Framing}
 use Rattle.room_http.specs.declared.framing.Framing.TheVariants.{Length, Chunked}
 use Rattle.room_http.specs.declared.judging.Order.{Order}
@@ -43,33 +41,7 @@ said request = record {
   fields = map plain_field request.fields.now;
 }
 
--- ---- which queue it is for
-
--- nothing, or "/" and 1 to 6 digits, which are not looked at any further
-abbrev pub is_job_part : List ℕ → Bool
-is_job_part [] = true
-is_job_part (slash ∷ digits) =
-    nat_lt 0 (length digits) && (nat_le (length digits) 6 && list_all is_ascii_digit digits)
-
-abbrev pub queue_in : List ℕ → Option (List ℕ)
-queue_in rest =
-    let name = before 47 rest in
-    if is_job_part (drop (length name) rest)
-    then (if is_name name then Some name else None)
-    else None
-
--- NAME of a path /ipp/print/NAME or /ipp/print/NAME/ and a number; the path ends before the first
--- "?"
-abbrev pub account_of : List ℕ → Option (List ℕ)
-account_of target =
-    option_and_then queue_in (behind queues (before 63 target))
-
 -- ---- what its body is
-
--- what stands behind ";" does not count (RFC 9110 section 8.3.1)
-abbrev pub is_ipp_type : List ℕ → Bool
-is_ipp_type value =
-    is_same_word (without_margin (32 ∷ []) (before 59 value)) (codes "application/ipp")
 
 -- the first Content-Type counts
 abbrev pub is_ipp : List (List ℕ) → Bool

@@ -1,9 +1,10 @@
 pub mod Limits
-pub mod Kinds
+pub mod ProofKinds
 pub mod Words
 pub mod Fields
-pub mod Finding
+pub mod ProofFinding
 pub mod Framing
+pub mod Targets
 pub mod Judging
 pub mod Texts
 pub mod Heads
@@ -12,4 +13,4 @@ pub mod Trailers
 pub mod Bodies
 pub mod Http
 pub mod Exchange
-pub mod Reading
+pub mod ProofReading

@@ -20,7 +20,7 @@ longest_body = 16842752
 abbrev pub longest_size_line : ℕ
 longest_size_line = 256
 
--- with the empty line behind them
+-- with the empty line after them
 abbrev pub longest_trailers : ℕ
 longest_trailers = 4096
 

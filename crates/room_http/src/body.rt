@@ -1,8 +1,8 @@
-//! Reading the body of a message, and nothing behind it.
+//! Reading the body of a message, and nothing after it.
 ghost use Rattle.std.specs.Prelude.{◌≡◌, ◌+◌, ◌-◌, ◌^◌, ◌<◌, IfErr, IfOk, length};
 ghost use Rattle.room_http.specs.Exchange.{TakesAtMost, most_of_body, read_faults};
 ghost use Rattle.room_http.specs.Judging.{FitsLimit};
-ghost use Rattle.room_http.specs.Reading.{BodyIs, IsReading, ReadsInto};
+ghost use Rattle.room_http.specs.ProofReading.{BodyIs, IsReading, ReadsInto};
 
 use crate::chunks::{Chunks, read_chunks};
 use crate::fault::WireFault;
@@ -24,7 +24,7 @@ pub(crate) enum Body {
     TooLong,
 }
 
-/// Reads exactly so many bytes and no byte behind them, by way of `piece`, and adds them to the
+/// Reads exactly so many bytes and no byte after them, by way of `piece`, and adds them to the
 /// body. `false` where the input ends before.
 pub(crate) fn read_into<R: Source>(
     reader: &mut R,

@@ -1,12 +1,12 @@
-//! Reading the chunks of a body, and nothing behind them.
+//! Reading the chunks of a body, and nothing after them.
 ghost use Rattle.std.specs.Prelude.{◌≡◌, ◌+◌, ◌-◌, ◌^◌, ◌<◌, ◌≤◌, ℕ, List, [], IfErr, IfOk, length};
 ghost use Rattle.room_http.specs.Exchange.{TakesAtMost, most_of_chunks, read_faults};
-ghost use Rattle.room_http.specs.Reading.{ChunksAre, IsReading, LineEndIs, SizeLineIs};
+ghost use Rattle.room_http.specs.ProofReading.{ChunksAre, IsReading, LineEndIs, SizeLineIs};
 
 use crate::body::{PIECE, read_into};
 use crate::fault::WireFault;
-use crate::framing::BODY_LIMIT;
 use crate::head::read_byte;
+use crate::limits::BODY_LIMIT;
 use arrayvec::ArrayVec;
 use httparse::{Status, parse_chunk_size};
 use room_input::Source;

@@ -1,7 +1,7 @@
 //! The fields of a head by their names, which are compared in any case.
 ghost use Rattle.std.specs.Prelude.{◌≡◌, ℕ, List, map};
 ghost use Rattle.room_http.specs.Fields.{is_named, plain_field, values_named};
-ghost use Rattle.room_http.specs.Finding.{FindsMore, FoundIs};
+ghost use Rattle.room_http.specs.ProofFinding.{FindsMore, FoundIs};
 
 /// A field of a head.
 #[derive(Clone, Copy, Debug, Default)]

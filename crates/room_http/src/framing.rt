@@ -7,9 +7,6 @@ ghost use Rattle.room_http.specs.Framing.{framing_of};
 use crate::digits::short_number;
 use crate::fields::{Field, Found, find_field};
 
-/// The most bytes of a body: a document of 16 MiB and 64 KiB of attributes.
-pub const BODY_LIMIT: usize = 16_842_752;
-
 /// Where the body of a message ends (RFC 9112 section 6).
 #[derive(Clone, Copy, Debug, PartialEq, Eq)]
 pub enum Framing {

@@ -1,26 +1,24 @@
-//! Reading the head of a request, byte by byte, so that nothing behind it is taken.
+//! Reading the head of a request, byte by byte, so that nothing after it is taken.
 ghost use Rattle.std.specs.Prelude.{◌≡◌, ◌+◌, ◌-◌, ◌^◌, ◌<◌, ◌≤◌, ◌&&◌, [], length, IfErr, IfOk, IfNone, OnOk};
-ghost use Rattle.room_http.specs.Kinds.{ends_empty_line};
+ghost use Rattle.room_http.specs.ProofKinds.{ends_empty_line};
 ghost use Rattle.room_input.specs.Streams.{IsSpent, Yields};
 ghost use Rattle.room_http.specs.Exchange.{TakesAtMost, read_faults};
-ghost use Rattle.room_http.specs.Reading.{HeadIs, IsReading, byte_list};
+ghost use Rattle.room_http.specs.ProofReading.{HeadIs, IsReading, byte_list};
 
 use crate::fault::WireFault;
+use crate::limits::HEAD_LIMIT;
 use httparse::spans::{HeaderSpan, RequestSpans, parse_request};
 use httparse::{Error, Status};
 use room_input::Source;
 
-/// The most bytes of a head.
-pub const HEAD_LIMIT: usize = 16_384;
-
 /// What came in the place of a head.
 #[derive(Clone, Copy, Debug)]
 pub(crate) enum Head {
-    /// A head, and nothing behind it.
+    /// A head, and nothing after it.
     Whole(RequestSpans),
     /// The end, before any byte.
     Absent,
-    /// The end, behind some bytes.
+    /// The end, after some bytes.
     Cut,
     /// Bytes that no head begins with.
     Invalid,
@@ -49,7 +47,7 @@ pub(crate) fn read_byte<R: Source>(reader: &mut R) -> Result<Option<u8>, WireFau
 }
 
 /// Reads the head of a request into an empty text, which is then what was taken. The parser is
-/// asked where an empty line has ended behind the first space, since a head has a space and ends
+/// asked where an empty line has ended after the first space, since a head has a space and ends
 /// so: once for each message, however many empty lines come before it.
 #[tactic(auto, using(crate::proofs::Streams::Yields_more, crate::proofs::Heads::no_head_with_byte, crate::proofs::Heads::whole_head))]
 pub(crate) fn read_head<R: Source>(
@@ -94,7 +92,7 @@ pub(crate) fn read_head<R: Source>(
     }
 }
 
-/// Whether a head may end here: behind a space, where an empty line has ended by CR LF or LF.
+/// Whether a head may end here: after a space, where an empty line has ended by CR LF or LF.
 fn may_end(has_space: bool, text: &[u8]) -> bool
     ensures { result ≡ (has_space && ends_empty_line text.now) }
 {

@@ -1,15 +1,16 @@
 //! What a head is refused for, or what it orders.
-ghost use Rattle.std.specs.Prelude.{◌≡◌, ◌≤◌, IfOk, bytes_eq, codes, length, map};
+ghost use Rattle.std.specs.Prelude.{◌≡◌, IfOk, codes, map};
 ghost use Rattle.std.specs.List.{list_any};
 ghost use Rattle.room_http.specs.Fields.{plain_field, values_named};
-ghost use Rattle.room_http.specs.Judging.{FitsLimit, account_of, closes, expects, is_close, is_expectation, is_ipp, is_ipp_type, is_job_part, passes_limit, judged, queue_in, said};
+ghost use Rattle.room_http.specs.Judging.{FitsLimit, closes, expects, is_close, is_expectation, is_ipp, passes_limit, judged, said};
 
-use crate::digits::are_digits;
 use crate::fields::{Field, Found, find_field};
-use crate::framing::{BODY_LIMIT, Framing, framing_of};
+use crate::framing::{Framing, framing_of};
+use crate::limits::BODY_LIMIT;
 use crate::refusal::Refusal;
-use crate::words::{before, lists, without_margin};
-use room_rules::{Name, QUEUES};
+use crate::targets::{account_of, is_ipp_type, is_post};
+use crate::words::lists;
+use room_rules::Name;
 
 /// The head of a request.
 #[derive(Clone, Copy, Debug)]
@@ -65,44 +66,7 @@ pub fn judge(request: &Request<'_>) -> Result<Order, Refusal>
     })
 }
 
-/// Whether the method is POST, which is compared with case (RFC 9110 section 9.1).
-pub fn is_post(method: &[u8]) -> bool
-    ensures { result ≡ bytes_eq method.now (codes "POST") }
-{
-    method == b"POST".as_slice()
-}
-
-/// The account whose queue the target is: `/ipp/print/NAME`, or `/ipp/print/NAME/` and 1 to 6
-/// digits, up to the first `?`. None for any other. Nothing is percent-decoded.
-pub fn account_of(target: &[u8]) -> Option<Name>
-    ensures { result ≡ account_of target.now }
-{
-    queue_in(before(b'?', target).strip_prefix(QUEUES)?)
-}
-
-/// The name at the front of what stands behind `/ipp/print/`.
-fn queue_in(rest: &[u8]) -> Option<Name>
-    ensures { result ≡ queue_in rest.now }
-{
-    let name = before(b'/', rest);
-    if is_job_part(&rest[name.len()..]) {
-        Name::read(name)
-    } else {
-        None
-    }
-}
-
-/// Whether this may stand behind the name of a queue: nothing, or `/` and 1 to 6 digits.
-fn is_job_part(part: &[u8]) -> bool
-    ensures { result ≡ is_job_part part.now }
-{
-    match part {
-        [] => true,
-        [_, digits @ ..] => !digits.is_empty() && digits.len() <= 6 && are_digits(digits),
-    }
-}
-
-/// Whether the first Content-Type is `application/ipp`, whatever stands behind a `;`.
+/// Whether the first Content-Type is `application/ipp`, whatever stands after a `;`.
 fn is_ipp(fields: &[Field<'_>]) -> bool
     ensures { result ≡ is_ipp (values_named (codes "content-type") (map plain_field fields.now)) }
 {
@@ -111,14 +75,6 @@ fn is_ipp(fields: &[Field<'_>]) -> bool
         Found::One(value) => is_ipp_type(value),
         Found::Many(first) => is_ipp_type(first),
     }
-}
-
-/// Whether a value of Content-Type is `application/ipp`, whatever stands behind a `;` (RFC 9110
-/// section 8.3.1).
-pub fn is_ipp_type(value: &[u8]) -> bool
-    ensures { result ≡ is_ipp_type value.now }
-{
-    without_margin(b" ", before(b';', value)).eq_ignore_ascii_case(b"application/ipp")
 }
 
 impl Framing {

@@ -2,27 +2,32 @@
 //! texts of answers. One part judges values, another reads them from a source and writes to a sink.
 #![tactic(auto)]
 
+// What `serve` and `listen` have in common.
+mod digits;
+mod limits;
+mod refusal;
+mod targets;
+mod words;
+
+// What `listen` alone needs: a whole message is read from a source, judged and answered. `serve` has
+// its messages read by `http_server`.
 mod answer;
 mod body;
 mod chunks;
-mod digits;
 mod fault;
 mod fields;
 mod framing;
 mod head;
 mod judging;
 mod receiving;
-mod refusal;
 mod send;
 mod trailers;
-mod words;
 
 pub use fault::WireFault;
 pub use fields::Field;
-pub use framing::BODY_LIMIT;
-pub use head::HEAD_LIMIT;
-pub use judging::{Order, Request, account_of, is_ipp_type, is_post};
+pub use judging::{Order, Request};
+pub use limits::{BODY_LIMIT, HEAD_LIMIT, TRAILERS_LIMIT};
 pub use receiving::{Received, receive};
 pub use refusal::Refusal;
 pub use send::{send_answer, send_refusal};
-pub use trailers::TRAILERS_LIMIT;
+pub use targets::{account_of, is_ipp_type, is_post};

@@ -1,4 +1,4 @@
-//! One message from a source, and nothing behind it.
+//! One message from a source, and nothing after it.
 ghost use Rattle.std.specs.Prelude.{◌≡◌, ◌+◌, ◌-◌, ◌^◌, ◌<◌, ◌≤◌, All, IfErr, IfOk, length, map};
 ghost use Rattle.httparse.specs.Grammar.{RequestHead};
 ghost use Rattle.httparse.specs.Spans.{IsHeaderWithin, IsRequestAt, IsRequestWithin, header_bytes};
@@ -6,7 +6,7 @@ ghost use Rattle.room_http.specs.Exchange.{FailedReceiving, HasHeader, ReceivedI
 ghost use Rattle.room_http.specs.Fields.{plain_field};
 ghost use Rattle.room_http.specs.Judging.{FitsLimit, judged, said_by};
 ghost use Rattle.room_http.specs.Limits.{longest_head};
-ghost use Rattle.room_http.specs.Reading.{IsReading, OpeningIs};
+ghost use Rattle.room_http.specs.ProofReading.{IsReading, OpeningIs};
 
 use crate::body::{Body, read_body};
 use crate::fault::WireFault;
@@ -46,11 +46,11 @@ pub(crate) enum Opening {
     Ordered(Order),
 }
 
-/// Reads one message and no byte behind it. Where its client waits for the 100 text, that is
+/// Reads one message and no byte after it. Where its client waits for the 100 text, that is
 /// written between head and body.
 ///
 /// `Read`, `Write` or `Memory` where that failed; nothing but the 100 text, or a front of it, was
-/// written then. Where it is due, that text is written before anything behind the head is read.
+/// written then. Where it is due, that text is written before anything after the head is read.
 /// However a call ends, it has read at most `most_taken` bytes.
 pub fn receive<R: Source, W: Sink>(
     alloc: Global,

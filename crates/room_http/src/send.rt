@@ -66,7 +66,7 @@ pub fn send_refusal<W: Sink>(writer: &mut W, refusal: Refusal) -> Result<(), Wir
     write_all(writer, text.as_slice())
 }
 
-/// Writes an answer of IPP behind its head: in one piece where they have at most 64 KiB together,
+/// Writes an answer of IPP after its head: in one piece where they have at most 64 KiB together,
 /// and else the head with the first part of it first. It takes no memory.
 pub fn send_answer<W: Sink>(writer: &mut W, answer: &[u8], closes: bool) -> Result<(), WireFault>
     requires { W.failures writer.old < 2 ^ 64 - 1 }

@@ -2,17 +2,15 @@
 
 ghost use Rattle.std.specs.Prelude.{◌≡◌, ◌+◌, ◌-◌, ◌^◌, ◌<◌, IfErr, IfOk};
 ghost use Rattle.room_http.specs.Exchange.{TakesAtMost, read_faults};
-ghost use Rattle.room_http.specs.Reading.{IsReading, TrailersAre};
+ghost use Rattle.room_http.specs.ProofReading.{IsReading, TrailersAre};
 
 use crate::fault::WireFault;
 use crate::head::read_byte;
+use crate::limits::TRAILERS_LIMIT;
 use arrayvec::ArrayVec;
 use httparse::Status;
 use httparse::spans::{EMPTY_HEADER_SPAN, parse_headers};
 use room_input::Source;
-
-/// The most bytes of the trailers, the empty line behind them included.
-pub const TRAILERS_LIMIT: usize = 4_096;
 
 /// The most fields of the trailers.
 const MOST_TRAILERS: usize = 64;

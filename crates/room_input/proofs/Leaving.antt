@@ -7,7 +7,7 @@ use Rattle.room_input.specs.Streams.{IsSpent, Yields}
 pub Yields_more : (before between after : List ℕ → Type 0) (first second : List ℕ) → Yields before between first → Yields between after second → Yields before after (first ++ second)
 Yields_more before between after first second one two rest left = subst before (sym (append_assoc first second rest)) (one (second ++ rest) (two rest left))
 
--- behind what was taken nothing came, so that it was all
+-- after what was taken nothing came, so that it was all
 pub all_taken : (before after : List ℕ → Type 0) (bytes : List ℕ) → ((rest : List ℕ) × after rest) → Yields before after bytes → IsSpent after → before bytes
 all_taken before after bytes some took spent = subst before (ap (λ rest. bytes ++ rest) (spent some.0 some.1) ∙ append-nil bytes) (took some.0 some.1)
 

@@ -11,7 +11,7 @@ use Rattle.csv.specs.declared.parser.State.TheVariants as st
 use Rattle.csv.specs.declared.parser.Terminator.{Terminator}
 use Rattle.csv.specs.declared.parser.Terminator.TheVariants as term
 
--- behind the byte that ends a record the end of the text ends none
+-- after the byte that ends a record the end of the text ends none
 abbrev EndsBetween : State × Action → Type 0
 EndsBetween p = is_end p.1 ≡ true → ends_at_end p.0 ≡ false
 
@@ -81,7 +81,7 @@ reached-short cfg s s2 bytes rest (row ∷ rows) between h =
     let few = reached-short cfg h.0.1 s2 h.0.2 rest rows moves.0 h.3 in
     omega arith
 
--- the records that were read are the first of all, and those of what is left come behind
+-- the records that were read are the first of all, and those of what is left come after
 reached-first : (cfg : Config) (s s2 : State) (bytes rest : List ℕ) (rows : List (List (List ℕ))) (turns more : ℕ) → turns ≡ length rows + more → Reached cfg s bytes rows s2 rest
     → records_from cfg turns s bytes ≡ rows ++ records_from cfg more s2 rest
 unfolding Reached records_from

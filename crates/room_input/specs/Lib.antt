@@ -1,7 +1,7 @@
 pub mod Fields
 pub mod Counts
 pub mod Streams
-pub mod SomeLeft
+pub mod ProofSomeLeft
 pub mod GrantFaults
 pub mod GrantFiles
 pub mod GrantLines

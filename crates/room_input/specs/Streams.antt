@@ -4,7 +4,7 @@ use Rattle.std.specs.Prelude.{◌≡◌, ◌==◌, ◌&&◌, ℕ, Bool, true, fa
 use Rattle.room_input.specs.declared.stream_fault.StreamFault.{StreamFault}
 use Rattle.room_input.specs.declared.stream_fault.StreamFault.TheVariants.{Read, Memory, TooLong}
 
--- the bytes came first of what was left before, and what is left now came behind them
+-- the bytes came first of what was left before, and what is left now came after them
 abbrev pub Yields : (before after : List ℕ → Type 0) (bytes : List ℕ) → Type 0
 Yields before after bytes = (rest : List ℕ) → after rest → before (bytes ++ rest)
 

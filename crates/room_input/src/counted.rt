@@ -44,7 +44,7 @@ impl<R> Counted<R> {
 impl<R: Read> Source for Counted<R> {
     ghost use Rattle.room_input.specs.Counts.{failures_of, has_told_end, inner_of};
     ghost use Rattle.room_input.specs.Streams.{MayBeLeft};
-    ghost use Rattle.room_input.specs.SomeLeft.{some_left_of};
+    ghost use Rattle.room_input.specs.ProofSomeLeft.{some_left_of};
 
     ghost left = { λ s rest. MayBeLeft (R.remaining (inner_of s)) (has_told_end s) rest };
 

@@ -23,7 +23,7 @@ const MOST_BYTES: usize = 67_108_864;
 /// each may have any number of fields. Where there are too many records or bytes it is `TooMany`,
 /// whatever they say.
 ///
-/// The file is read whole first, and of one that is too long no byte behind the first too many.
+/// The file is read whole first, and of one that is too long no byte after the first too many.
 pub fn read_grants<R: Source>(alloc: Global, reader: &mut R) -> Result<Vec<GrantLine>, GrantFault>
     requires { R.failures reader.old < 2 ^ 64 - 1 }
     ensures lines { IfOk result (λ lines. (bytes : List ℕ) × R.left reader.old bytes

@@ -10,7 +10,7 @@ use std::alloc::Global;
 const PIECE: usize = 4096;
 
 /// All the bytes that are left in `reader`, of which there may be `most`: `TooLong` where there are
-/// more. No byte behind the one that makes them too many is read, and a call that failed is not
+/// more. No byte after the one that makes them too many is read, and a call that failed is not
 /// tried again.
 #[tactic(auto, using(crate::proofs::Leaving::Yields_more))]
 pub fn read_whole<R: Source>(

@@ -8,7 +8,7 @@ use Rattle.std.proofs.lemmas.List.Elements.{All-cons, All-nil}
 use Rattle.std.proofs.lemmas.List.Sums.{fails_before_first, split_at_first, passes_at_first}
 use Rattle.std.specs.List.{join_with_byte, position, position_or_len, before_first, after_first}
 use Rattle.room_lines.specs.Saying.{AreFields, HasNoSpace, Says, SaysLine, SaysNumber}
-use Rattle.room_lines.specs.Taking.{TakesField, TakesFields, space_before}
+use Rattle.room_lines.specs.ProofTaking.{TakesField, TakesFields, space_before}
 use Rattle.room_lines.specs.declared.action.Action.{Action}
 use Rattle.room_lines.specs.declared.line.Line.{Line}
 use Rattle.room_lines.specs.declared.lines.Grammar.{Grammar}
@@ -75,7 +75,7 @@ joined field (next ∷ fields) text (between, taken, more) =
     let others = joined next fields rest (subst (λ old. TakesFields old None (next ∷ fields)) more.1.first more) in
     ap (λ old. unwrap_or old []) taken.first ∙ ap (λ b. field ++ space_before b) more.1.first ∙ ap (λ l. field ++ 32 ∷ l) others
 
--- fields that were taken, behind which nothing is left, are those of the text
+-- fields that were taken, after which nothing is left, are those of the text
 pub AreFields-taken : (text : List ℕ) (between new : Option (List ℕ)) (field : List ℕ) (fields : List (List ℕ)) → TakesField (Some text) between field
     → TakesFields between new fields → new ≡ None → AreFields text (field ∷ fields)
 AreFields-taken text between new field fields first more end = record {

@@ -1,8 +1,8 @@
 -- The numbers that a line may say, whose lines they are, and the events that they ask for (this
 -- project's own).
-use Rattle.std.specs.Prelude.{◌≡◌, ℕ, Bool, true, false, ◌&&◌, nat_le, Option, Some, None, unwrap_or}
-use Rattle.room_core.specs.declared.event.Event.{Event}
-use Rattle.room_core.specs.declared.event.Event.TheVariants as event
+use Rattle.std.specs.Prelude.{ℕ, Bool, true, false, ◌&&◌, nat_le, Option, Some, None, unwrap_or}
+use Rattle.room_core.specs.Events as event
+use Rattle.room_core.specs.Events.{PlainEvent, OfAccount, OfDevice}
 use Rattle.room_rules.specs.Limits.{most_impressions, first_month, last_month, most_pages, most_rate}
 use Rattle.room_lines.specs.declared.action.Action.{Action}
 use Rattle.room_lines.specs.declared.action.Action.TheVariants as action
@@ -39,23 +39,16 @@ is_of_operator (action.Rate name units) = true
 is_of_operator (action.Grant account month pages) = true
 is_of_operator _ = false
 
--- ---- the event, with its bytes at this place
+-- ---- the event
 
-abbrev pub event_of : (at : ℕ × ℕ) (action : Action) → Event
-event_of at (action.Open account) = event.Open account
-event_of at (action.Device name on) = event.Device name on
-event_of at (action.Rate name units) = event.Rate name units
-event_of at (action.Grant account month pages) = event.Grant account month pages
-event_of at (action.Ipp account body) =
-    event.Ipp account (record { ref_ptr = at; now = body.items })
-event_of at (action.Release device account job password impressions) = event.Release device account
-    job (record { ref_ptr = at; now = password.items }) (unwrap_or impressions 0)
-event_of at (action.Start device account job) = event.Start device account job
-event_of at (action.Settle device account job impressions failed) =
-    event.Settle device account job impressions failed
-
--- the event of an action at its moment, with its bytes at some place
-pub record IsEventOf (moment : ℕ) (action : Action) (event : ℕ × Event) : Type 0 where
-  pub at : ℕ × ℕ
-  pub timed : event.0 ≡ moment
-  pub same : event.1 ≡ event_of at action
+abbrev pub event_of_action : Action → PlainEvent
+event_of_action (action.Open account) = OfAccount account event.Open
+event_of_action (action.Device name on) = OfDevice name (event.Turn on)
+event_of_action (action.Rate name units) = OfDevice name (event.Rate units)
+event_of_action (action.Grant account month pages) = OfAccount account (event.Grant month pages)
+event_of_action (action.Ipp account body) = OfAccount account (event.Ipp body.items)
+event_of_action (action.Release device account job password impressions) =
+    OfAccount account (event.Release device job password.items (unwrap_or impressions 0))
+event_of_action (action.Start device account job) = OfAccount account (event.Start device job)
+event_of_action (action.Settle device account job impressions failed) =
+    OfAccount account (event.Settle device job impressions failed)

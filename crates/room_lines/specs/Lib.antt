@@ -1,4 +1,4 @@
 pub mod Actions
 pub mod Lines
 pub mod Saying
-pub mod Taking
+pub mod ProofTaking

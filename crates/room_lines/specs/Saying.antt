@@ -91,12 +91,12 @@ IsLineOf grammar text line =
 
 -- ---- what an input says
 
--- with a line feed behind each
+-- with a line feed after each
 abbrev pub ended_lines : List (List ℕ) → List ℕ
 ended_lines [] = []
 ended_lines (text ∷ texts) = text ++ 10 ∷ ended_lines texts
 
--- the line feed behind the last one may be missing
+-- the line feed after the last one may be missing
 abbrev pub AreTexts : (input : List ℕ) (texts : List (List ℕ)) → Type 0
 AreTexts input texts = (input ≡ ended_lines texts) ⊎ (input ++ 10 ∷ [] ≡ ended_lines texts)
 

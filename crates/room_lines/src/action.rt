@@ -54,15 +54,16 @@ pub enum Action {
 }
 
 impl Action {
-    ghost use Rattle.std.specs.Prelude.{◌≡◌, ℕ, IsTrue};
+    ghost use Rattle.std.specs.Prelude.{◌≡◌, IsTrue};
+    ghost use Rattle.room_core.specs.Events.{plain_event};
     ghost use Rattle.room_core.specs.Fits.{fits};
-    ghost use Rattle.room_lines.specs.Actions.{event_of, is_in_range};
+    ghost use Rattle.room_lines.specs.Actions.{event_of_action, is_in_range};
 
     /// The event that it is. A release without impressions leaves those of the job.
     pub fn event(&self) -> Event<'_>
         requires { IsTrue (is_in_range self.now) }
-        ensures fit { IsTrue (fits result) }
-        ensures same { (at : ℕ × ℕ) × (result ≡ event_of at self.now) }
+        ensures fit { IsTrue (fits (plain_event result)) }
+        ensures same { plain_event result ≡ event_of_action self.now }
     {
         match self {
             Action::Open { account } => Event::Open { account: *account },

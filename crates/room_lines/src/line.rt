@@ -1,7 +1,8 @@
 //! A line that was read.
 ghost use Rattle.std.specs.Prelude.{◌≡◌, ℕ, All, IfOk, IfSome, IsTrue, length, slice_get, vec_len};
 ghost use Rattle.room_core.specs.Fits.{fits};
-ghost use Rattle.room_lines.specs.Actions.{IsEventOf, event_of, is_in_range};
+ghost use Rattle.room_core.specs.Events.{plain_event, plain_timed};
+ghost use Rattle.room_lines.specs.Actions.{event_of_action, is_in_range};
 
 use crate::action::Action;
 use room_core::Event;
@@ -18,8 +19,8 @@ pub struct Line {
 impl Line {
     /// The event that it asks for.
     pub fn event(&self) -> Event<'_>
-        ensures fit { IsTrue (fits result) }
-        ensures same { (at : ℕ × ℕ) × (result ≡ event_of at self.now.action) }
+        ensures fit { IsTrue (fits (plain_event result)) }
+        ensures same { plain_event result ≡ event_of_action self.now.action }
     {
         self.action.event()
     }
@@ -27,17 +28,18 @@ impl Line {
 
 /// The events that the lines ask for, each at its moment, in order.
 pub fn events_of(alloc: Global, lines: &[Line]) -> Result<Vec<(u64, Event<'_>)>, AllocError>
-    ensures fit { IfOk result (λ events. All (λ e. IsTrue (fits e.1)) events.items) }
+    ensures fit { IfOk result (λ events. All (λ e. IsTrue (fits (plain_event e.1))) events.items) }
     ensures count { IfOk result (λ events. vec_len events ≡ length lines.now) }
     ensures each { IfOk result (λ events. (k : ℕ) → IfSome (slice_get lines.now k)
-        (λ line. IfSome (slice_get events.items k) (IsEventOf line.moment line.action))) }
+        (λ line. IfSome (slice_get events.items k)
+        (λ e. plain_timed e ≡ (line.moment, event_of_action line.action)))) }
 {
     lines.iter().map(timed).collect(alloc)
 }
 
 fn timed(line: &Line) -> (u64, Event<'_>)
-    ensures fit { IsTrue (fits result.1) }
-    ensures of_line { IsEventOf line.now.moment line.now.action result }
+    ensures fit { IsTrue (fits (plain_event result.1)) }
+    ensures of_line { plain_timed result ≡ (line.now.moment, event_of_action line.now.action) }
 {
     (line.moment, line.event())
 }

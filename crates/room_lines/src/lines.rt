@@ -6,7 +6,7 @@ ghost use Rattle.room_rules.specs.Limits.{first_month, last_moment, last_month};
 ghost use Rattle.room_lines.specs.Actions.{are_impressions, is_in_range, is_of_operator, is_of_station};
 ghost use Rattle.room_lines.specs.Lines.{IsAllowed};
 ghost use Rattle.room_lines.specs.Saying.{AreLinesOf, IsLineOf, Says, SaysBytes, SaysImpressions, SaysMonth, SaysNumber, SaysPassword, SaysWord};
-ghost use Rattle.room_lines.specs.Taking.{TakesField, TakesOne, TakesSome, left};
+ghost use Rattle.room_lines.specs.ProofTaking.{TakesField, TakesOne, TakesSome, left};
 
 use crate::action::Action;
 use crate::fault::LineFault;

@@ -3,7 +3,7 @@ use Rattle.std.specs.Prelude.{ℕ, Bool, true, ◌||◌, List, map, filter, Opti
 use Rattle.std.specs.List.{list_any}
 use Rattle.ipp_coding.specs.Plain.{PlainValue, PlainAttribute}
 use Rattle.room_replies.specs.Places.{PlainPlace}
-pub use Rattle.room_replies.specs.AskedNames.{asked_names}
+pub use Rattle.room_replies.specs.ProofAskedNames.{asked_names}
 
 -- an attribute: its name, the group of names that it is in, and its values for what is shown
 pub record ShownRow (Thing : Type 0) : Type 0 where

@@ -3,14 +3,14 @@
 ghost use Rattle.std.specs.Prelude.{◌≡◌, ◌≤◌, ◌*◌, ◌/◌, IfErr, OnErr, take, length};
 ghost use Rattle.ipp_coding.specs.Spelling.{attribute_spelling, group_spelling, Fits};
 ghost use Rattle.room_rules.specs.Limits.{greatest_integer, last_job, most_impressions};
-ghost use Rattle.room_replies.specs.Appends.{Appends};
+ghost use Rattle.room_replies.specs.ProofAppends.{Appends};
 ghost use Rattle.room_replies.specs.Attributes.{attribute_of, attribute_with};
 ghost use Rattle.room_replies.specs.Limits.{IsAttributeName, IsPlace, IsShowable};
 ghost use Rattle.room_replies.specs.JobAttributes.{job_group, impressions_values, job_state_reason};
-ghost use Rattle.room_replies.specs.JobPlaces.{selected_group, job_row, picked_text};
+ghost use Rattle.room_replies.specs.ProofJobPlaces.{selected_group, job_row, picked_text};
 ghost use Rattle.room_replies.specs.Places.{plain_place, job_uri};
 ghost use Rattle.room_replies.specs.Tables.{asked_names, row_attribute};
-ghost use Rattle.room_replies.specs.RowTexts.{text_where};
+ghost use Rattle.room_replies.specs.ProofRowTexts.{text_where};
 
 use crate::attribute::{begin_group, put_moment, put_number, put_printer_uri, put_single};
 use crate::place::Place;
@@ -19,6 +19,7 @@ use ipp_coding::tags::{
     self, CHARSET, ENUM, INTEGER, KEYWORD, NAME_WITHOUT_LANGUAGE, NATURAL_LANGUAGE, UNKNOWN, URI,
 };
 use room_rules::{CoreFault, Job, JobState, Standing};
+use std::alloc::AllocError;
 
 /// An attribute that a job shows.
 #[derive(Clone, Copy)]
@@ -108,7 +109,7 @@ impl JobAttribute {
     }
 }
 
-/// Appends the group of a job, with the attributes that are wanted.
+/// Appends the group of a job, with the attributes that are wanted. `Memory` is its only fault.
 pub fn put_job(
     out: &mut Vec<u8>,
     at: &Place<'_>,
@@ -122,42 +123,41 @@ pub fn put_job(
     ensures memory { IfErr result (λ fault. fault ≡ CoreFault.Memory) }
     ensures unchanged { OnErr result (out.new.items ≡ out.old.items) }
 {
-    put_selected_job(out, at, job, &Selection::of(wanted))
-}
-
-/// The same, with the attributes selected before: one selection serves many jobs.
-pub fn put_selected_job(
-    out: &mut Vec<u8>,
-    at: &Place<'_>,
-    job: &Job,
-    selection: &Selection,
-) -> Result<(), CoreFault>
-    requires place { IsPlace (plain_place at.now) }
-    requires job { IsShowable job.now }
-    ensures appended { Appends result out.old.items out.new.items
-        (group_spelling (selected_group (plain_place at.entry.now) job.now selection.now)) }
-    ensures memory { IfErr result (λ fault. fault ≡ CoreFault.Memory) }
-    ensures unchanged { OnErr result (out.new.items ≡ out.old.items) }
-{
     let start = out.len();
-    let answer = append_job(out, at, job, selection);
+    let answer = append_wanted(out, at, job, wanted);
     if answer.is_err() {
         out.truncate(start);
     }
-    answer
+    Ok(answer?)
 }
 
-fn append_job(
+/// The same; a part of it is left where memory ran out.
+pub(crate) fn append_wanted(
+    out: &mut Vec<u8>,
+    at: &Place<'_>,
+    job: &Job,
+    wanted: Option<&[&[u8]]>,
+) -> Result<(), AllocError>
+    requires place { IsPlace (plain_place at.now) }
+    requires job { IsShowable job.now }
+    ensures appended { Appends result out.old.items out.new.items
+        (group_spelling (job_group (plain_place at.entry.now) job.now (asked_names wanted.entry))) }
+    ensures front { take (length out.old.items) out.new.items ≡ out.old.items }
+{
+    append_job(out, at, job, &Selection::of(wanted))
+}
+
+/// The same with the attributes selected before, so that one selection serves many jobs.
+pub(crate) fn append_job(
     out: &mut Vec<u8>,
     at: &Place<'_>,
     job: &Job,
     selection: &Selection,
-) -> Result<(), CoreFault>
+) -> Result<(), AllocError>
     requires place { IsPlace (plain_place at.now) }
     requires job { IsShowable job.now }
     ensures appended { Appends result out.old.items out.new.items
         (group_spelling (selected_group (plain_place at.entry.now) job.now selection.now)) }
-    ensures memory { IfErr result (λ fault. fault ≡ CoreFault.Memory) }
     ensures front { take (length out.old.items) out.new.items ≡ out.old.items }
 {
     begin_group(out, tags::JOB_ATTRIBUTES)?;
@@ -172,12 +172,11 @@ fn put_job_attributes(
     job: &Job,
     flags: &[bool; JOB_ATTRIBUTE_COUNT],
     attributes: &[JobAttribute; JOB_ATTRIBUTE_COUNT],
-) -> Result<(), CoreFault>
+) -> Result<(), AllocError>
     requires place { IsPlace (plain_place at.now) }
     requires job { IsShowable job.now }
     ensures appended { Appends result out.old.items out.new.items
         (picked_text (plain_place at.entry.now) job.now flags.now attributes.now) }
-    ensures memory { IfErr result (λ fault. fault ≡ CoreFault.Memory) }
     ensures front { take (length out.old.items) out.new.items ≡ out.old.items }
 {
     for index in 0..JOB_ATTRIBUTE_COUNT {
@@ -192,12 +191,11 @@ fn put_where_set(
     job: &Job,
     flag: bool,
     attribute: JobAttribute,
-) -> Result<(), CoreFault>
+) -> Result<(), AllocError>
     requires place { IsPlace (plain_place at.now) }
     requires job { IsShowable job.now }
     ensures appended { Appends result out.old.items out.new.items
         (text_where flag (plain_place at.entry.now) job.now (job_row attribute)) }
-    ensures memory { IfErr result (λ fault. fault ≡ CoreFault.Memory) }
     ensures unchanged { OnErr result (out.new.items ≡ out.old.items) }
 {
     if !flag {
@@ -212,13 +210,12 @@ fn put_job_attribute(
     at: &Place<'_>,
     job: &Job,
     attribute: JobAttribute,
-) -> Result<(), CoreFault>
+) -> Result<(), AllocError>
     requires place { IsPlace (plain_place at.now) }
     requires job { IsShowable job.now }
     ensures appended { Appends result out.old.items out.new.items
         (attribute_spelling
         (row_attribute (plain_place at.entry.now) job.now (job_row attribute))) }
-    ensures memory { IfErr result (λ fault. fault ≡ CoreFault.Memory) }
     ensures unchanged { OnErr result (out.new.items ≡ out.old.items) }
 {
     let name = attribute.name();
@@ -277,12 +274,11 @@ fn impressions_completed(standing: &Standing) -> u32
     (standing.charged / u64::from(standing.rate)) as u32
 }
 
-fn put_impressions(out: &mut Vec<u8>, name: &[u8], impressions: u32) -> Result<(), CoreFault>
+fn put_impressions(out: &mut Vec<u8>, name: &[u8], impressions: u32) -> Result<(), AllocError>
     requires name { IsAttributeName name.now }
     requires impressions { impressions ≤ most_impressions }
     ensures appended { Appends result out.old.items out.new.items
         (attribute_spelling (attribute_of name.now (impressions_values impressions))) }
-    ensures memory { IfErr result (λ fault. fault ≡ CoreFault.Memory) }
     ensures unchanged { OnErr result (out.new.items ≡ out.old.items) }
 {
     if impressions == 0 {
@@ -291,14 +287,13 @@ fn put_impressions(out: &mut Vec<u8>, name: &[u8], impressions: u32) -> Result<(
     put_number(out, INTEGER, name, impressions)
 }
 
-fn put_job_uri(out: &mut Vec<u8>, name: &[u8], at: &Place<'_>, job: u32) -> Result<(), CoreFault>
+fn put_job_uri(out: &mut Vec<u8>, name: &[u8], at: &Place<'_>, job: u32) -> Result<(), AllocError>
     requires name { IsAttributeName name.now }
     requires place { IsPlace (plain_place at.now) }
     requires job { job ≤ last_job }
     ensures appended { Appends result out.old.items out.new.items
         (attribute_spelling
         (attribute_with name.now 0x45 (job_uri (plain_place at.entry.now) job))) }
-    ensures memory { IfErr result (λ fault. fault ≡ CoreFault.Memory) }
     ensures unchanged { OnErr result (out.new.items ≡ out.old.items) }
 {
     let uri = at.job_uri(*out.allocator(), job)?;

@@ -4,15 +4,15 @@ ghost use Rattle.std.specs.Prelude.{◌≡◌, IfErr, OnErr, map, take, length};
 ghost use Rattle.std.specs.List.{flat_map};
 ghost use Rattle.ipp_coding.specs.Plain.{plain_value};
 ghost use Rattle.ipp_coding.specs.Spelling.{attribute_spelling, group_spelling, Fits, IsValue};
-ghost use Rattle.room_replies.specs.Appends.{Appends};
+ghost use Rattle.room_replies.specs.ProofAppends.{Appends};
 ghost use Rattle.room_replies.specs.Attributes.{attribute_of, value_with, range};
 ghost use Rattle.room_replies.specs.Limits.{IsAttributeName, IsPlace, IsPrinter};
 ghost use Rattle.room_rules.specs.Formats.{media_type};
 ghost use Rattle.room_replies.specs.Places.{plain_place};
 ghost use Rattle.room_replies.specs.PrinterAttributes.{operation_values, version_values, format_values, printer_group, printer_state_reason};
-ghost use Rattle.room_replies.specs.PrinterPlaces.{printer_row};
+ghost use Rattle.room_replies.specs.ProofPrinterPlaces.{printer_row};
 ghost use Rattle.room_replies.specs.Tables.{asked_names, row_attribute};
-ghost use Rattle.room_replies.specs.RowTexts.{row_text};
+ghost use Rattle.room_replies.specs.ProofRowTexts.{row_text};
 
 use crate::attribute::{
     begin_group, put_boolean, put_number, put_printer_uri, put_single, put_values,
@@ -25,6 +25,7 @@ use ipp_coding::tags::{
     NATURAL_LANGUAGE, RANGE_OF_INTEGER,
 };
 use room_rules::{CoreFault, Format, LONGEST_PASSWORD, MOST_COPIES};
+use std::alloc::AllocError;
 
 /// The printer-state of a printer that is idle (RFC 8011 section 5.4.11).
 pub const IDLE: u32 = 3;
@@ -158,7 +159,8 @@ impl PrinterAttribute {
     }
 }
 
-/// Appends the group of the printer, with the attributes that are wanted.
+/// Appends the group of the printer, with the attributes that are wanted. `Memory` is its only
+/// fault.
 pub fn put_printer(
     out: &mut Vec<u8>,
     at: &Place<'_>,
@@ -177,20 +179,20 @@ pub fn put_printer(
     if answer.is_err() {
         out.truncate(start);
     }
-    answer
+    Ok(answer?)
 }
 
-fn append_printer(
+/// The same; a part of it is left where memory ran out.
+pub(crate) fn append_printer(
     out: &mut Vec<u8>,
     at: &Place<'_>,
     now: PrinterNow,
     wanted: Option<&[&[u8]]>,
-) -> Result<(), CoreFault>
+) -> Result<(), AllocError>
     requires place { IsPlace (plain_place at.now) }
     requires printer { IsPrinter now }
     ensures appended { Appends result out.old.items out.new.items
         (group_spelling (printer_group (plain_place at.entry.now) now (asked_names wanted.entry))) }
-    ensures memory { IfErr result (λ fault. fault ≡ CoreFault.Memory) }
     ensures front { take (length out.old.items) out.new.items ≡ out.old.items }
 {
     begin_group(out, tags::PRINTER_ATTRIBUTES)?;
@@ -205,14 +207,13 @@ fn put_printer_attributes(
     now: PrinterNow,
     wanted: Option<&[&[u8]]>,
     attributes: &[PrinterAttribute],
-) -> Result<(), CoreFault>
+) -> Result<(), AllocError>
     requires place { IsPlace (plain_place at.now) }
     requires printer { IsPrinter now }
     ensures appended { Appends result out.old.items out.new.items
         (flat_map
         (row_text (asked_names wanted.entry) (plain_place at.entry.now) now)
         (map printer_row attributes.now)) }
-    ensures memory { IfErr result (λ fault. fault ≡ CoreFault.Memory) }
     ensures front { take (length out.old.items) out.new.items ≡ out.old.items }
 {
     for attribute in attributes {
@@ -227,7 +228,7 @@ fn put_where_wanted(
     now: PrinterNow,
     wanted: Option<&[&[u8]]>,
     attribute: PrinterAttribute,
-) -> Result<(), CoreFault>
+) -> Result<(), AllocError>
     requires place { IsPlace (plain_place at.now) }
     requires printer { IsPrinter now }
     ensures appended { Appends result out.old.items out.new.items
@@ -236,7 +237,6 @@ fn put_where_wanted(
         (plain_place at.entry.now)
         now
         (printer_row attribute)) }
-    ensures memory { IfErr result (λ fault. fault ≡ CoreFault.Memory) }
     ensures front { take (length out.old.items) out.new.items ≡ out.old.items }
 {
     if !is_wanted(wanted, attribute.name(), attribute.group()) {
@@ -251,13 +251,12 @@ fn put_printer_attribute(
     at: &Place<'_>,
     now: PrinterNow,
     attribute: PrinterAttribute,
-) -> Result<(), CoreFault>
+) -> Result<(), AllocError>
     requires place { IsPlace (plain_place at.now) }
     requires printer { IsPrinter now }
     ensures appended { Appends result out.old.items out.new.items
         (attribute_spelling
         (row_attribute (plain_place at.entry.now) now (printer_row attribute))) }
-    ensures memory { IfErr result (λ fault. fault ≡ CoreFault.Memory) }
     ensures front { take (length out.old.items) out.new.items ≡ out.old.items }
 {
     let name = attribute.name();
@@ -304,11 +303,10 @@ fn state_reason(state: u32) -> &'static [u8]
 }
 
 /// Appends an attribute of one range of integers.
-fn put_range(out: &mut Vec<u8>, name: &[u8], low: u32, high: u32) -> Result<(), CoreFault>
+fn put_range(out: &mut Vec<u8>, name: &[u8], low: u32, high: u32) -> Result<(), AllocError>
     requires name { IsAttributeName name.now }
     ensures appended { Appends result out.old.items out.new.items
         (attribute_spelling (attribute_of name.now (range low high))) }
-    ensures memory { IfErr result (λ fault. fault ≡ CoreFault.Memory) }
     ensures unchanged { OnErr result (out.new.items ≡ out.old.items) }
 {
     let [low_0, low_1, low_2, low_3] = low.to_be_bytes();
@@ -321,11 +319,10 @@ fn put_range(out: &mut Vec<u8>, name: &[u8], low: u32, high: u32) -> Result<(), 
     )
 }
 
-fn put_versions(out: &mut Vec<u8>, name: &[u8]) -> Result<(), CoreFault>
+fn put_versions(out: &mut Vec<u8>, name: &[u8]) -> Result<(), AllocError>
     requires { IsAttributeName name.now }
     ensures appended { Appends result out.old.items out.new.items
         (attribute_spelling (attribute_of name.now version_values)) }
-    ensures memory { IfErr result (λ fault. fault ≡ CoreFault.Memory) }
     ensures front { take (length out.old.items) out.new.items ≡ out.old.items }
 {
     let oldest = Value {
@@ -339,11 +336,10 @@ fn put_versions(out: &mut Vec<u8>, name: &[u8]) -> Result<(), CoreFault>
     put_values(out, name, &[oldest, newest])
 }
 
-fn put_operations(out: &mut Vec<u8>, name: &[u8]) -> Result<(), CoreFault>
+fn put_operations(out: &mut Vec<u8>, name: &[u8]) -> Result<(), AllocError>
     requires { IsAttributeName name.now }
     ensures appended { Appends result out.old.items out.new.items
         (attribute_spelling (attribute_of name.now operation_values)) }
-    ensures memory { IfErr result (λ fault. fault ≡ CoreFault.Memory) }
     ensures front { take (length out.old.items) out.new.items ≡ out.old.items }
 {
     let values = [
@@ -391,11 +387,10 @@ fn put_operations(out: &mut Vec<u8>, name: &[u8]) -> Result<(), CoreFault>
     put_values(out, name, &values)
 }
 
-fn put_formats(out: &mut Vec<u8>, name: &[u8]) -> Result<(), CoreFault>
+fn put_formats(out: &mut Vec<u8>, name: &[u8]) -> Result<(), AllocError>
     requires { IsAttributeName name.now }
     ensures appended { Appends result out.old.items out.new.items
         (attribute_spelling (attribute_of name.now format_values)) }
-    ensures memory { IfErr result (λ fault. fault ≡ CoreFault.Memory) }
     ensures front { take (length out.old.items) out.new.items ≡ out.old.items }
 {
     let values = [

@@ -1,8 +1,7 @@
 -- Databases that agree, and machines that are given the same.
 use Rattle.std.proofs.Common.{◌≡◌, ℕ, Bool, true, false, cond, List, [], ◌∷◌, map, filter, Option, Some, None, length, refl, sym, ap, subst, ◌∙◌, arith}
 use Rattle.sqlite.specs.Effect.{Database}
-use Rattle.room_core.specs.declared.event.Event.{Event}
-use Rattle.room_core.specs.declared.event.Event.TheVariants as event
+use Rattle.room_core.specs.Events.{Timed}
 use Rattle.room_rules.specs.Devices.{Devices}
 use Rattle.room_state.specs.Rooms.{RoomValue}
 use Rattle.room_tables.proofs.AgreedRows.{still_holds}
@@ -10,10 +9,10 @@ use Rattle.room_tables.specs.Accounts.{AgreeOnRows, Holds}
 use Rattle.room_tables.specs.Devices.{AgreeOnDevices, HoldsDevices}
 use Rattle.room_serve.specs.declared.outcome.Outcome.{Outcome}
 use Rattle.room_serve.specs.declared.outcome.Outcome.TheVariants.{Answered, Failed}
-use Rattle.room_serve.specs.Own.{Timed, own}
-use Rattle.room_serve.specs.Alone.{Alone, alone, answer_next, answer_on}
+use Rattle.room_serve.specs.Own.{own}
+use Rattle.room_serve.specs.Alone.{alone}
 use Rattle.room_serve.specs.Outcomes.{NoneFailed, answered_of, failed_of}
-use Rattle.room_serve.specs.Agreement.{Agree, HaveSameOwn, unplaced, unplaced_at}
+use Rattle.room_serve.specs.Agreement.{Agree}
 use Rattle.room_serve.specs.Isolation.{AreTheSame, IsRun}
 use Rattle.room_serve.specs.Runs.{IsAlone}
 
@@ -52,33 +51,6 @@ agree_again name a b room devices one on other off = record {
   };
 }
 
--- ---- machines
-
--- what an event is answered does not depend on where its bytes lie
-placed_anywhere : (so_far : Alone) (now : ℕ) (e : Event) → answer_next so_far (now, unplaced e) ≡ answer_next so_far (now, e)
-placed_anywhere so_far now e = by_room so_far.room e
-  where
-    by_room : (room : Option RoomValue) (e : Event) → answer_next (record { replies = so_far.replies; room = room; devices = so_far.devices }) (now, unplaced e) ≡ answer_next (record { replies = so_far.replies; room = room; devices = so_far.devices }) (now, e)
-    by_room room (event.Open account) = refl
-    by_room None (event.Ipp account body) = refl
-    by_room (Some room) (event.Ipp account body) = refl
-    by_room None (event.Release device account job password impressions) = refl
-    by_room (Some room) (event.Release device account job password impressions) = refl
-    by_room room (event.Start device account job) = refl
-    by_room room (event.Settle device account job impressions failed) = refl
-    by_room room (event.Grant account month pages) = refl
-    by_room room (event.Device name on) = refl
-    by_room room (event.Rate name units) = refl
-
-unplaced_alike : (so_far : Alone) (events : List Timed) → answer_on so_far (map unplaced_at events) ≡ answer_on so_far events
-unplaced_alike so_far [] = refl
-unplaced_alike so_far (e ∷ events) = ap (λ s. answer_on s (map unplaced_at events)) (placed_anywhere so_far e.0 e.1) ∙ unplaced_alike (answer_next so_far e) events
-
-pub same_alone : (name : List ℕ) (first second : List Timed) → HaveSameOwn name first second → (room : Option RoomValue) (devices : Devices) → alone room devices (own name first) ≡ alone room devices (own name second)
-same_alone name first second same room devices =
-    let start : Alone = record { replies = []; room = room; devices = devices } in
-    sym (unplaced_alike start (own name first)) ∙ ap (answer_on start) same ∙ unplaced_alike start (own name second)
-
 -- ---- lists of which nothing of the account's failed
 
 shorter : {X Y : Type 0} (x : X) (xs : List X) (y : Y) (ys : List Y) → length (x ∷ xs) ≡ length (y ∷ ys) → length xs ≡ length ys
@@ -107,7 +79,7 @@ all_answered name (e ∷ events) (Failed fault ∷ outcomes) same none =
 
 module _ (first second : List Timed) (firsts seconds : List Outcome) (a b a_new b_new : Database) (a_open b_open : Bool) where
   pub isolates : IsRun first firsts a a_open a_new → IsRun second seconds b b_open b_new
-      → (name : List ℕ) → ((room : Option RoomValue) × Holds a name room) → ((devices : Devices) × HoldsDevices a devices) → Agree name a b → HaveSameOwn name first second
+      → (name : List ℕ) → ((room : Option RoomValue) × Holds a name room) → ((devices : Devices) × HoldsDevices a devices) → Agree name a b → own name first ≡ own name second
       → NoneFailed name first firsts → NoneFailed name second seconds
       → AreTheSame name first second firsts seconds a_open b_open a_new b_new
   isolates one other name sound devices agree same none none_either =
@@ -115,7 +87,7 @@ module _ (first second : List Timed) (firsts seconds : List Outcome) (a b a_new 
       let machine = alone sound.0 devices.0 (own name first) in
       let ones = subst (λ l. IsAlone first firsts a a_open a_new name (alone sound.0 devices.0 l)) (all_answered name first firsts one.each none) (one.alone name sound.0 devices.0 sound.1 devices.1) in
       let others = subst (λ l. IsAlone second seconds b b_open b_new name (alone sound.0 devices.0 l)) (all_answered name second seconds other.each none_either) (other.alone name sound.0 devices.0 there.0 there.1) in
-      let alike = subst (λ m. IsAlone second seconds b b_open b_new name m) (sym (same_alone name first second same sound.0 devices.0)) others in
+      let alike = subst (λ m. IsAlone second seconds b b_open b_new name m) (ap (alone sound.0 devices.0) (sym same)) others in
       record {
         replies = ones.replies ∙ sym alike.replies;
         agree = λ a_is b_is. agree_again name a_new b_new machine.room machine.devices (ones.rows a_is) (ones.devices a_is) (alike.rows b_is) (alike.devices b_is);

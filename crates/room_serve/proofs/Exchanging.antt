@@ -1,4 +1,4 @@
--- An answer behind what was written before it.
+-- An answer after what was written before it.
 use Rattle.std.proofs.Common.{◌≡◌, ℕ, List, take, Option, Result, Ok, Err, IfOk, IfErr, OnErr, refl, sym, subst}
 use Rattle.std.specs.Io.KnownBytes.{Appends}
 use Rattle.sqlite.specs.Held.{Held}
@@ -12,10 +12,10 @@ use Rattle.room_http.specs.declared.fault.WireFault.TheVariants.{Read, Write, Me
 use Rattle.room_http.specs.declared.judging.Order.{Order}
 use Rattle.room_http.proofs.Streams.{Appends_more}
 use Rattle.room_store.specs.declared.fault.StoreFault.{StoreFault}
-use Rattle.room_serve.specs.Exchanges.{Answers, Applies, AppendsBehind, Breaks, after_telling, has_carried, in_answer, in_interim, text_told}
+use Rattle.room_serve.specs.Exchanges.{Answers, AppliesMessage, AppendsBehind, Breaks, after_telling, has_carried, in_answer, in_interim, text_told}
 use Rattle.room_serve.specs.declared.wire.After.{After}
 
--- a front of a text, behind another text
+-- a front of a text, after another text
 pub behind : (a b c : Option (List ℕ)) (first text : List ℕ) → Appends a b first → AppendsFront b c text → AppendsBehind a c first text
 behind a b c first text all part = (part.0, part.1, Appends_more a b c first (take part.0 text) all part.2)
 
@@ -24,10 +24,10 @@ module _ {S : Type 0} (store : Ghosts S) (now : ℕ) (before after : List ℕ �
   Message = Takes before after (λ text rest. Http text (Carried order body rest))
 
   abbrev pub Told : After → Type 0
-  Told next = (told : Result Reply StoreFault) × Applies store now order.account body old new told × Appends b c (text_told body order.closes told) × (next ≡ after_telling order.closes told)
+  Told next = (told : Result Reply StoreFault) × AppliesMessage store now order.account body old new told × Appends b c (text_told body order.closes told) × (next ≡ after_telling order.closes told)
 
   abbrev pub ToldInPart : Type 0
-  ToldInPart = (told : Result Reply StoreFault) × Applies store now order.account body old new told × AppendsFront b c (text_told body order.closes told)
+  ToldInPart = (told : Result Reply StoreFault) × AppliesMessage store now order.account body old new told × AppendsFront b c (text_told body order.closes told)
 
   pub answered : (result : Result After WireFault) → Message → Appends a b (interim_text order.expects) → IfOk result Told → IfOk result (Answers store now before after a c old new)
   answered (Ok next) message interim told =

@@ -1,10 +1,10 @@
 -- A list of events that grows by one at its end.
 use Rattle.std.proofs.Common.{◌≡◌, ℕ, Bool, true, false, cond, List, [], ◌∷◌, ◌++◌, length, refl, ap, ◌∙◌, arith}
 use Rattle.std.proofs.lemmas.List.Elements.{filter-append}
-use Rattle.room_core.specs.declared.event.Event.{Event}
+use Rattle.room_core.specs.Events.{PlainEvent, Timed}
 use Rattle.room_serve.specs.declared.outcome.Outcome.{Outcome}
 use Rattle.room_serve.specs.declared.outcome.Outcome.TheVariants.{Answered, Failed}
-use Rattle.room_serve.specs.Own.{Timed, of_devices, own}
+use Rattle.room_serve.specs.Own.{of_devices, own}
 use Rattle.room_serve.specs.Alone.{Alone, DevicesAlone, answer_on, answer_next, change_on, change_next}
 use Rattle.room_serve.specs.Outcomes.{answered_of, replies_to}
 
@@ -22,7 +22,7 @@ answered_more (x ∷ events) [] e o same = let no : ⊥ = cc in absurd no
 answered_more (x ∷ events) (Answered reply ∷ outcomes) e o same = ap (λ l. x ∷ l) (answered_more events outcomes e o (shorter (Answered reply) outcomes x events same))
 answered_more (x ∷ events) (Failed fault ∷ outcomes) e o same = answered_more events outcomes e o (shorter (Failed fault) outcomes x events same)
 
-pub replies_more : (kind : Event → Bool) (events : List Timed) (outcomes : List Outcome) (e : Timed) (o : Outcome) → length outcomes ≡ length events
+pub replies_more : (kind : PlainEvent → Bool) (events : List Timed) (outcomes : List Outcome) (e : Timed) (o : Outcome) → length outcomes ≡ length events
     → replies_to kind (events ++ e ∷ []) (outcomes ++ o ∷ []) ≡ replies_to kind events outcomes ++ replies_to kind (e ∷ []) (o ∷ [])
 replies_more kind [] [] e o same = refl
 replies_more kind [] (x ∷ outcomes) e o same = let no : ⊥ = cc in absurd no

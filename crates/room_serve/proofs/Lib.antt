@@ -1,4 +1,4 @@
-pub mod Whose
+pub mod Short
 pub mod Grown
 pub mod RunLemmas
 pub mod Agreed

@@ -1,47 +1,31 @@
 -- A list of events over one store, one after another.
-use Rattle.std.proofs.Common.{◌≡◌, ℕ, ◌+◌, Bool, true, false, cond, List, [], ◌∷◌, ◌++◌, Option, Result, Ok, Err, IfOk, OnOk, OnErr, IsTrue, length, refl, sym, ap, subst, ◌∙◌, inl, inr, arith}
+use Rattle.std.proofs.Common.{◌≡◌, ℕ, ◌+◌, Bool, true, false, cond, bytes_eq, List, [], ◌∷◌, ◌++◌, Result, Ok, Err, IsTrue, length, refl, sym, ap, subst, ◌∙◌, inl, inr, arith}
 use Rattle.std.proofs.lemmas.Bool.{cases_Bool}
 use Rattle.std.proofs.lemmas.List.{append-nil, length-append}
 use Rattle.sqlite.specs.Effect.{Database}
 use Rattle.sqlite.specs.State.{State, HasCleanDisk}
-use Rattle.room_core.specs.DeviceEvents.{device_answered}
+use Rattle.std.proofs.lemmas.Slice.Eq.{bytes_eq-Decides}
+use Rattle.room_core.specs.Events.{PlainEvent, AccountEvent, Timed, OfAccount, OfDevice}
 use Rattle.room_core.specs.Machine.{answered}
-use Rattle.room_core.specs.declared.event.Event.{Event}
 use Rattle.room_core.specs.declared.event.Reply.{Reply}
-use Rattle.room_core.specs.declared.event.Reply.TheVariants.{Short}
-use Rattle.room_store.specs.Events.{IsOf, IsOfNone, IsShort}
-use Rattle.room_rules.specs.Devices.{Devices}
-use Rattle.room_state.specs.Rooms.{RoomValue}
+use Rattle.room_store.specs.Applied.{AnswersAccount, Applies}
 use Rattle.room_store.specs.declared.fault.StoreFault.{StoreFault}
 use Rattle.room_tables.proofs.AgreedRows.{still_holds}
 use Rattle.room_tables.proofs.Going.{goes_on}
-use Rattle.room_tables.specs.Accounts.{AgreeOnRows, Holds}
-use Rattle.room_tables.specs.Calls.{Goes}
-use Rattle.room_tables.specs.Devices.{AgreeOnDevices, HoldsDevices}
+use Rattle.room_tables.specs.Accounts.{Holds}
+use Rattle.room_tables.specs.Calls.{KeepsConnection}
+use Rattle.room_tables.specs.Devices.{HoldsDevices}
 use Rattle.room_tables.specs.Keyed.{HasSchema}
 use Rattle.room_serve.specs.declared.outcome.Outcome.{Outcome}
-use Rattle.room_serve.specs.Own.{Timed, is_of, is_of_device, of_devices, own}
+use Rattle.room_serve.specs.Own.{is_of, is_of_device, of_devices, own}
 use Rattle.room_serve.specs.Alone.{Alone, DevicesAlone, alone, answer_on, change_on, devices_alone}
 use Rattle.room_serve.specs.Outcomes.{answered_of, outcome_of, replies_to}
 use Rattle.room_serve.specs.Runs.{AreAlone, IsAlone, RunsAlone, RunsDevices}
 use Rattle.room_serve.proofs.Agreed.{still_devices}
 use Rattle.room_serve.proofs.Grown.{alone_more, devices_more, replies_more}
-use Rattle.room_serve.proofs.Whose.{long_if_device, names, names_none, names_not, of_none, of_none_not, short_or_not, short_reply}
+use Rattle.room_serve.proofs.Short.{short_or_not, short_reply}
 
 -- ---- one event, as the store answers it
-
-pub record Applied (now : ℕ) (e : Event) (old new : State) (r : Result Reply StoreFault) : Type 0 where
-  pub reply : HasCleanDisk new → HasSchema old.now → IfOk r (λ reply. (name : List ℕ) → IsOf e name → (room : Option RoomValue) (devices : Devices) → Holds old.now name room → HoldsDevices old.now devices → reply ≡ (answered room devices now e).reply)
-  pub rows : HasCleanDisk new → HasSchema old.now → OnOk r ((name : List ℕ) → IsOf e name → (room : Option RoomValue) (devices : Devices) → Holds old.now name room → HoldsDevices old.now devices → Holds new.now name (answered room devices now e).room)
-  pub device_reply : HasCleanDisk new → HasSchema old.now → IfOk r (λ reply. IsOfNone e → (devices : Devices) → HoldsDevices old.now devices → reply ≡ (device_answered devices e).reply)
-  pub device_rows : HasCleanDisk new → HasSchema old.now → OnOk r (IsOfNone e → (devices : Devices) → HoldsDevices old.now devices → HoldsDevices new.now (device_answered devices e).devices)
-  pub others : HasCleanDisk new → HasSchema old.now → OnOk r ((name : List ℕ) → (IsOf e name → ⊥) → AgreeOnRows name old.now new.now)
-  pub devices : HasCleanDisk new → HasSchema old.now → OnOk r ((IsOfNone e → ⊥) → AgreeOnDevices old.now new.now)
-  pub schema : HasCleanDisk new → HasSchema old.now → OnOk r (HasSchema new.now)
-  pub unchanged : HasCleanDisk new → HasSchema old.now → OnErr r (IsTrue new.is_open → new.now ≡ old.now)
-  pub goes : Goes old new
-  pub short : IsShort e → IfOk r (λ reply. reply ≡ Short)
-  pub asks : (IsShort e → ⊥) → HasCleanDisk new → OnOk r (IsTrue old.is_open)
 
 -- what is there after it, and what has been told by then
 record IsNext (is_open : Bool) (new : Database) (name : List ℕ) (told : List Reply) (machine : Alone) : Type 0 where
@@ -60,89 +44,81 @@ as_told is_open new name told due machine other same alike next = record {
   devices = λ shown. subst (λ (m : Alone). HoldsDevices new m.devices) (sym alike) (next.devices shown);
 }
 
--- the machine after an event of a device, and after one of the account
-abbrev turned : Alone → Event → Alone
-turned machine e = record { replies = machine.replies; room = machine.room; devices = (device_answered machine.devices e).devices }
-
-abbrev told : Alone → ℕ → Event → Alone
+-- the machine after an event of the account
+abbrev told : Alone → ℕ → PlainEvent → Alone
 told machine now e = record {
   replies = machine.replies ++ (answered machine.room machine.devices now e).reply ∷ [];
   room = (answered machine.room machine.devices now e).room;
   devices = machine.devices;
 }
 
-its_device : (name : List ℕ) (now : ℕ) (e : Event) → is_of_device e ≡ true → own name ((now, e) ∷ []) ≡ (now, e) ∷ []
-its_device name now e is = rw (names_none name e is, is) refl
+its_own : (name : List ℕ) (now : ℕ) (account : List ℕ) (it : AccountEvent) → bytes_eq account name ≡ true → own name ((now, OfAccount account it) ∷ []) ≡ (now, OfAccount account it) ∷ []
+its_own name now account it its = rw its refl
 
-its_own : (name : List ℕ) (now : ℕ) (e : Event) → is_of name e ≡ true → own name ((now, e) ∷ []) ≡ (now, e) ∷ []
-its_own name now e its = rw its refl
+anothers : (name : List ℕ) (now : ℕ) (account : List ℕ) (it : AccountEvent) → bytes_eq account name ≡ false → own name ((now, OfAccount account it) ∷ []) ≡ []
+anothers name now account it isnt = rw isnt refl
 
-anothers : (name : List ℕ) (now : ℕ) (e : Event) → is_of name e ≡ false → is_of_device e ≡ false → own name ((now, e) ∷ []) ≡ []
-anothers name now e not_its isnt = rw (not_its, isnt) refl
-
-next_schema : (now : ℕ) (e : Event) (old new : State) (r : Result Reply StoreFault) → Applied now e old new r → HasCleanDisk new → (IsTrue old.is_open → HasSchema old.now) → IsTrue new.is_open → HasSchema new.now
-next_schema now e old new (Ok reply) applied clean had is = applied.schema clean (had (applied.goes.back clean is))
+next_schema : (now : ℕ) (e : PlainEvent) (old new : State) (r : Result Reply StoreFault) → Applies now e old new r → HasCleanDisk new → (IsTrue old.is_open → HasSchema old.now) → IsTrue new.is_open → HasSchema new.now
+next_schema now e old new (Ok reply) applied clean had is = (applied.answered clean (had (applied.connection.back clean is))).schema
 next_schema now e old new (Err fault) applied clean had is =
-    let was = had (applied.goes.back clean is) in
+    let was = had (applied.connection.back clean is) in
     subst HasSchema (sym (applied.unchanged clean was is)) was
 
-next_alone : (name : List ℕ) (now : ℕ) (e : Event) (old new : State) (r : Result Reply StoreFault) → Applied now e old new r → HasCleanDisk new → (IsTrue old.is_open → HasSchema old.now)
+next_alone : (name : List ℕ) (now : ℕ) (e : PlainEvent) (old new : State) (r : Result Reply StoreFault) → Applies now e old new r → HasCleanDisk new → (IsTrue old.is_open → HasSchema old.now)
     → (machine : Alone) → (IsTrue old.is_open → Holds old.now name machine.room) → (IsTrue old.is_open → HoldsDevices old.now machine.devices)
     → IsNext new.is_open new.now name (machine.replies ++ replies_to (is_of name) ((now, e) ∷ []) (outcome_of r ∷ [])) (answer_on machine (own name (answered_of ((now, e) ∷ []) (outcome_of r ∷ []))))
 next_alone name now e old new (Err fault) applied clean had machine holds has = record {
   replies = append-nil machine.replies;
-  rows = λ is. let was = applied.goes.back clean is in subst (λ (db : Database). Holds db name machine.room) (sym (applied.unchanged clean (had was) is)) (holds was);
-  devices = λ is. let was = applied.goes.back clean is in subst (λ (db : Database). HoldsDevices db machine.devices) (sym (applied.unchanged clean (had was) is)) (has was);
+  rows = λ is. let was = applied.connection.back clean is in subst (λ (db : Database). Holds db name machine.room) (sym (applied.unchanged clean (had was) is)) (holds was);
+  devices = λ is. let was = applied.connection.back clean is in subst (λ (db : Database). HoldsDevices db machine.devices) (sym (applied.unchanged clean (had was) is)) (has was);
 }
-next_alone name now e old new (Ok reply) applied clean had machine holds has = elim (cases_Bool (is_of_device e)) [
-  | inl is ↦ as_told new.is_open new.now name _ machine.replies _ (turned machine e)
-      (ap (λ b. machine.replies ++ cond b (reply ∷ []) []) (names_none name e is) ∙ append-nil machine.replies)
-      (ap (answer_on machine) (its_device name now e is) ∙ ap (λ b. cond b (turned machine e) (told machine now e)) is)
-      (record {
-        replies = refl;
-        rows = λ shown. let was = applied.goes.back clean shown in still_holds name old.now new.now (applied.others clean (had was) name (names_not name e (names_none name e is))) machine.room (holds was);
-        devices = λ shown. let was = applied.goes.back clean shown in applied.device_rows clean (had was) (of_none e is) machine.devices (has was);
-      })
-  | inr isnt ↦ elim (cases_Bool (is_of name e)) [
-    | inl its ↦ as_told new.is_open new.now name _ (machine.replies ++ reply ∷ []) _ (told machine now e)
-        (ap (λ b. machine.replies ++ cond b (reply ∷ []) []) its)
-        (ap (answer_on machine) (its_own name now e its) ∙ ap (λ b. cond b (turned machine e) (told machine now e)) isnt)
-        (record {
-          replies = ap (λ (it : Reply). machine.replies ++ it ∷ []) (elim (short_or_not e) [
-            | inl short ↦ applied.short short ∙ sym (short_reply machine.room machine.devices now e short)
-            | inr long ↦ let was = applied.asks long clean in applied.reply clean (had was) name (names name e its) machine.room machine.devices (holds was) (has was)
-          ]);
-          rows = λ shown. let was = applied.goes.back clean shown in applied.rows clean (had was) name (names name e its) machine.room machine.devices (holds was) (has was);
-          devices = λ shown. let was = applied.goes.back clean shown in still_devices old.now new.now (applied.devices clean (had was) (of_none_not e isnt)) machine.devices (has was);
-        })
-    | inr not_its ↦ as_told new.is_open new.now name _ machine.replies _ machine
-        (ap (λ b. machine.replies ++ cond b (reply ∷ []) []) not_its ∙ append-nil machine.replies)
-        (ap (answer_on machine) (anothers name now e not_its isnt))
-        (record {
-          replies = refl;
-          rows = λ shown. let was = applied.goes.back clean shown in still_holds name old.now new.now (applied.others clean (had was) name (names_not name e not_its)) machine.room (holds was);
-          devices = λ shown. let was = applied.goes.back clean shown in still_devices old.now new.now (applied.devices clean (had was) (of_none_not e isnt)) machine.devices (has was);
-        })
-  ]
-]
+next_alone name now (OfDevice device it) old new (Ok reply) applied clean had machine holds has = record {
+  replies = append-nil machine.replies;
+  rows = λ shown. let was = applied.connection.back clean shown in still_holds name old.now new.now ((applied.answered clean (had was)).answers.alone.accounts name) machine.room (holds was);
+  devices = λ shown. let was = applied.connection.back clean shown in (applied.answered clean (had was)).answers.rows machine.devices (has was);
+}
+next_alone name now (OfAccount account it) old new (Ok reply) applied clean had machine holds has =
+    let e = OfAccount account it in
+    let answers : IsTrue old.is_open → AnswersAccount now e old.now new.now reply account = λ was. (applied.answered clean (had was)).answers in
+    elim (cases_Bool (bytes_eq account name)) [
+      | inl its ↦
+          let own_answers : IsTrue old.is_open → AnswersAccount now e old.now new.now reply name = λ was. subst (λ (n : List ℕ). AnswersAccount now e old.now new.now reply n) ((bytes_eq-Decides account name).0 its) (answers was) in
+          as_told new.is_open new.now name _ (machine.replies ++ reply ∷ []) _ (told machine now e)
+          (ap (λ b. machine.replies ++ cond b (reply ∷ []) []) its)
+          (ap (answer_on machine) (its_own name now account it its))
+          (record {
+            replies = ap (λ (said : Reply). machine.replies ++ said ∷ []) (elim (short_or_not account it) [
+              | inl short ↦ applied.short short ∙ sym (short_reply machine.room machine.devices now account it short)
+              | inr long ↦ let was = applied.asked long clean in (own_answers was).reply machine.room machine.devices (holds was) (has was)
+            ]);
+            rows = λ shown. let was = applied.connection.back clean shown in (own_answers was).rows machine.room machine.devices (holds was) (has was);
+            devices = λ shown. let was = applied.connection.back clean shown in still_devices old.now new.now (answers was).alone.devices machine.devices (has was);
+          })
+      | inr isnt ↦ as_told new.is_open new.now name _ machine.replies _ machine
+          (ap (λ b. machine.replies ++ cond b (reply ∷ []) []) isnt ∙ append-nil machine.replies)
+          (ap (answer_on machine) (anothers name now account it isnt))
+          (record {
+            replies = refl;
+            rows = λ shown. let was = applied.connection.back clean shown in still_holds name old.now new.now ((answers was).alone.others name (λ same. let is = (bytes_eq-Decides account name).1 (sym same) in cc)) machine.room (holds was);
+            devices = λ shown. let was = applied.connection.back clean shown in still_devices old.now new.now (answers was).alone.devices machine.devices (has was);
+          })
+    ]
 
-next_devices : (now : ℕ) (e : Event) (old new : State) (r : Result Reply StoreFault) → Applied now e old new r → HasCleanDisk new → (IsTrue old.is_open → HasSchema old.now)
+next_devices : (now : ℕ) (e : PlainEvent) (old new : State) (r : Result Reply StoreFault) → Applies now e old new r → HasCleanDisk new → (IsTrue old.is_open → HasSchema old.now)
     → (machine : DevicesAlone) → (IsTrue old.is_open → HoldsDevices old.now machine.devices)
     → AreNext new.is_open new.now (machine.replies ++ replies_to is_of_device ((now, e) ∷ []) (outcome_of r ∷ [])) (change_on machine (of_devices (answered_of ((now, e) ∷ []) (outcome_of r ∷ []))))
 next_devices now e old new (Err fault) applied clean had machine has = record {
   replies = append-nil machine.replies;
-  devices = λ is. let was = applied.goes.back clean is in subst (λ (db : Database). HoldsDevices db machine.devices) (sym (applied.unchanged clean (had was) is)) (has was);
+  devices = λ is. let was = applied.connection.back clean is in subst (λ (db : Database). HoldsDevices db machine.devices) (sym (applied.unchanged clean (had was) is)) (has was);
 }
-next_devices now e old new (Ok reply) applied clean had machine has = elim (cases_Bool (is_of_device e)) [
-  | inl is ↦ rw is (record {
-    replies = ap (λ (told : Reply). machine.replies ++ told ∷ []) (let was = applied.asks (long_if_device e is) clean in applied.device_reply clean (had was) (of_none e is) machine.devices (has was));
-    devices = λ shown. let was = applied.goes.back clean shown in applied.device_rows clean (had was) (of_none e is) machine.devices (has was);
-  })
-  | inr isnt ↦ rw isnt (record {
-    replies = append-nil machine.replies;
-    devices = λ shown. let was = applied.goes.back clean shown in still_devices old.now new.now (applied.devices clean (had was) (of_none_not e isnt)) machine.devices (has was);
-  })
-]
+next_devices now (OfDevice device it) old new (Ok reply) applied clean had machine has = record {
+  replies = ap (λ (said : Reply). machine.replies ++ said ∷ []) (let was = applied.asked (λ short. short) clean in (applied.answered clean (had was)).answers.reply machine.devices (has was));
+  devices = λ shown. let was = applied.connection.back clean shown in (applied.answered clean (had was)).answers.rows machine.devices (has was);
+}
+next_devices now (OfAccount account it) old new (Ok reply) applied clean had machine has = record {
+  replies = append-nil machine.replies;
+  devices = λ shown. let was = applied.connection.back clean shown in still_devices old.now new.now (applied.answered clean (had was)).answers.alone.devices machine.devices (has was);
+}
 
 -- ---- some events, and one more
 
@@ -151,7 +127,7 @@ grow xs ys x y same = length-append xs (x ∷ []) ∙ ap (λ n. n + 1) same ∙ 
 
 pub record SoFar (events : List Timed) (outcomes : List Outcome) (old new : State) : Type 0 where
   pub each : length outcomes ≡ length events
-  pub goes : Goes old new
+  pub connection : KeepsConnection old new
   pub schema : HasCleanDisk new → HasSchema old.now → IsTrue new.is_open → HasSchema new.now
   pub alone : HasCleanDisk new → HasSchema old.now → RunsAlone events outcomes old.now new.is_open new.now
   pub devices : HasCleanDisk new → HasSchema old.now → RunsDevices events outcomes old.now new.is_open new.now
@@ -159,19 +135,19 @@ pub record SoFar (events : List Timed) (outcomes : List Outcome) (old new : Stat
 pub begins : (s : State) → SoFar [] [] s s
 begins s = record {
   each = refl;
-  goes = record { clean = omega arith; back = λ _ is. is; mode = λ is. is; shield = λ is. is; counts = omega arith; limit = refl; closes = λ _ is. inl is };
+  connection = record { clean = omega arith; back = λ _ is. is; mode = λ is. is; shield = λ is. is; counts = omega arith; limit = refl; closes = λ _ is. inl is };
   schema = λ _ has _. has;
   alone = λ _ _ name room devices holds has. record { replies = refl; rows = λ _. holds; devices = λ _. has };
   devices = λ _ _ devices has. record { replies = refl; devices = λ _. has };
 }
 
-pub one_more : (events : List Timed) (outcomes : List Outcome) (e : Timed) (old mid new : State) (r : Result Reply StoreFault) → SoFar events outcomes old mid → Applied e.0 e.1 mid new r → SoFar (events ++ e ∷ []) (outcomes ++ outcome_of r ∷ []) old new
+pub one_more : (events : List Timed) (outcomes : List Outcome) (e : Timed) (old mid new : State) (r : Result Reply StoreFault) → SoFar events outcomes old mid → Applies e.0 e.1 mid new r → SoFar (events ++ e ∷ []) (outcomes ++ outcome_of r ∷ []) old new
 one_more events outcomes e old mid new r so_far applied =
     let o = outcome_of r in
-    let clean : HasCleanDisk new → HasCleanDisk mid = λ is. omega (arith, applied.goes.clean, is) in
+    let clean : HasCleanDisk new → HasCleanDisk mid = λ is. omega (arith, applied.connection.clean, is) in
     record {
       each = grow outcomes events o e so_far.each;
-      goes = goes_on old mid new so_far.goes applied.goes;
+      connection = goes_on old mid new so_far.connection applied.connection;
       schema = λ is has shown. next_schema e.0 e.1 mid new r applied is (so_far.schema (clean is) has) shown;
       alone = λ is has name room devices held holds.
           let before = so_far.alone (clean is) has name room devices held holds in

@@ -6,7 +6,8 @@ use Rattle.room_core.specs.Machine.{Answer, answered}
 use Rattle.room_core.specs.declared.event.Reply.{Reply}
 use Rattle.room_rules.specs.Devices.{Devices}
 use Rattle.room_state.specs.Rooms.{RoomValue}
-use Rattle.room_serve.specs.Own.{Timed, is_of_device}
+use Rattle.room_core.specs.Events.{Timed}
+use Rattle.room_serve.specs.Own.{is_of_device}
 
 -- ---- an account
 

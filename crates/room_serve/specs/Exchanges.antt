@@ -1,13 +1,11 @@
--- What one message of HTTP comes to: which it was, what was written, and what became of the tables
--- (all this project's own).
-use Rattle.std.specs.Prelude.{◌≡◌, ◌≢◌, ◌↔◌, ◌<◌, ℕ, Bool, true, List, ◌++◌, length, take, if◌then◌else◌, IsTrue, IfOk, IsErrOf, OnErr, OnOk, Option, Result, Ok, Err}
+-- What is done about one message of HTTP: which it was, what was written, and what it did to the
+-- tables (all this project's own).
+use Rattle.std.specs.Prelude.{◌≡◌, ◌<◌, ℕ, Bool, true, List, ◌++◌, length, take, if◌then◌else◌, Option, Result, Ok, Err}
 use Rattle.std.specs.Io.KnownBytes.{Appends}
 use Rattle.sqlite.specs.Held.{Held, state}
 use Rattle.sqlite_trees.specs.declared.store.Store.{Ghosts}
 use Rattle.ipp_coding.specs.Reading.{header_in}
-use Rattle.room_core.specs.Machine.{answered}
-use Rattle.room_core.specs.declared.event.Event.{Event}
-use Rattle.room_core.specs.declared.event.Event.TheVariants as event
+use Rattle.room_core.specs.Events.{OfAccount, Ipp}
 use Rattle.room_core.specs.declared.event.Reply.{Reply}
 use Rattle.room_core.specs.declared.event.Reply.TheVariants as reply_is
 use Rattle.room_http.specs.Exchange.{AppendsFront, Takes, TakesHead}
@@ -18,16 +16,8 @@ use Rattle.room_http.specs.declared.fault.WireFault.TheVariants.{Read, Write, Me
 use Rattle.room_http.specs.declared.judging.Order.{Order}
 use Rattle.room_http.specs.declared.refusal.Refusal.{Refusal}
 use Rattle.room_http.specs.declared.refusal.Refusal.TheVariants.{NotFound}
-use Rattle.room_rules.specs.Devices.{Devices}
-use Rattle.room_rules.specs.Limits.{last_moment}
-use Rattle.room_state.specs.Rooms.{RoomValue}
+use Rattle.room_store.specs.Applied.{Applies}
 use Rattle.room_store.specs.declared.fault.StoreFault.{StoreFault}
-use Rattle.room_store.specs.declared.fault.StoreFault.TheVariants.{Moment}
-use Rattle.room_tables.specs.Accounts.{AgreeOnRows, Holds}
-use Rattle.room_tables.specs.Calls.{OfStore}
-use Rattle.room_tables.specs.Devices.{AgreeOnDevices, HoldsDevices}
-use Rattle.room_tables.specs.Keyed.{HasSchema}
-use Rattle.room_tables.specs.Tables.{meta}
 use Rattle.room_replies.specs.Replies.{internal_error_text}
 use Rattle.room_serve.specs.declared.wire.After.{After}
 use Rattle.room_serve.specs.declared.wire.After.TheVariants.{Again, Close}
@@ -52,35 +42,19 @@ after_telling closes (Ok reply_is.NoAccount) = Close
 after_telling closes (Ok other) = after_answer closes
 after_telling closes (Err fault) = after_answer closes
 
--- ---- what becomes of the tables
+-- ---- what happens to the tables
 
--- an account sends a message
-abbrev pub sends : (account body : List ℕ) → Event
-sends account body = event.Ipp account (record { ref_ptr = (0, 0); now = body })
-
--- One event was applied: the account is answered, and has, what its machine gives, and nobody
--- else's rows have changed; or it failed, and nothing has.
-pub record Applies {S : Type 0} (store : Ghosts S) (now : ℕ) (account body : List ℕ)
-    (old new : Held S) (told : Result Reply StoreFault) : Type 0 where
-  pub reply : OfStore store old new (λ db. IfOk told (λ reply.
-      (room : Option RoomValue) (devices : Devices) → Holds db account room
-      → HoldsDevices db devices → reply ≡ (answered room devices now (sends account body)).reply))
-  pub rows : OfStore store old new (λ db. OnOk told ((room : Option RoomValue) (devices : Devices)
-      → Holds db account room → HoldsDevices db devices
-      → Holds (state store new).now account (answered room devices now (sends account body)).room))
-  pub others : OfStore store old new (λ db.
-      OnOk told ((name : List ℕ) → account ≢ name → AgreeOnRows name db (state store new).now))
-  pub devices : OfStore store old new (λ db. OnOk told (AgreeOnDevices db (state store new).now))
-  pub version : OfStore store old new
-      (λ db. OnOk told ((state store new).now.trees meta.tree ≡ db.trees meta.tree))
-  pub schema : OfStore store old new (λ db. OnOk told (HasSchema (state store new).now))
-  pub unchanged : OfStore store old new
-      (λ db. OnErr told (IsTrue (state store new).is_open → (state store new).now ≡ db))
-  pub moment : IsErrOf told Moment ↔ (last_moment < now)
+-- the message was applied, once
+abbrev pub AppliesMessage :
+    {S : Type 0} (store : Ghosts S) (now : ℕ) (account body : List ℕ) (old new : Held S)
+    (told : Result Reply StoreFault) →
+    Type 0
+AppliesMessage store now account body old new told =
+    Applies now (OfAccount account (Ipp body)) (state store old) (state store new) told
 
 -- ---- both, with what was taken of the input
 
--- a text, and a front of another behind it that is not all of that
+-- a text, and a front of another after it that is not all of that
 abbrev pub AppendsBehind : (given given2 : Option (List ℕ)) (first text : List ℕ) → Type 0
 AppendsBehind given given2 first text =
     (n : ℕ) × (n < length text) × Appends given given2 (first ++ take n text)
@@ -97,7 +71,7 @@ module _ {S : Type 0} (store : Ghosts S) (now : ℕ) (before after : List ℕ �
         → new ≡ old → Answers Close
     has_carried : (order : Order) (body : List ℕ) (told : Result Reply StoreFault)
         → Takes before after (λ b rest. Http b (Carried order body rest))
-        → Applies store now order.account body old new told
+        → AppliesMessage store now order.account body old new told
         → Appends given given2 (interim_text order.expects ++ text_told body order.closes told)
         → Answers (after_telling order.closes told)
 
@@ -111,7 +85,7 @@ module _ {S : Type 0} (store : Ghosts S) (now : ℕ) (before after : List ℕ �
         → new ≡ old → IsBroken
     in_answer : (order : Order) (body : List ℕ) (told : Result Reply StoreFault)
         → Takes before after (λ b rest. Http b (Carried order body rest))
-        → Applies store now order.account body old new told
+        → AppliesMessage store now order.account body old new told
         → AppendsBehind given given2 (interim_text order.expects)
         (text_told body order.closes told)
         → IsBroken

@@ -4,12 +4,13 @@ use Rattle.sqlite.specs.Effect.{Database}
 use Rattle.room_tables.specs.Accounts.{IsSound}
 use Rattle.room_tables.specs.Devices.{AreSoundDevices}
 use Rattle.room_serve.specs.declared.outcome.Outcome.{Outcome}
-use Rattle.room_serve.specs.Own.{Timed, is_of}
+use Rattle.room_core.specs.Events.{Timed}
+use Rattle.room_serve.specs.Own.{is_of, own}
 use Rattle.room_serve.specs.Outcomes.{NoneFailed, replies_to}
 use Rattle.room_serve.specs.Runs.{RunsAlone}
-use Rattle.room_serve.specs.Agreement.{Agree, HaveSameOwn}
+use Rattle.room_serve.specs.Agreement.{Agree}
 
--- a list of events, what each came to, and what became of the database, as `run_events` has it
+-- a list of events, what each came to, and what that made of the database, as `run_events` has it
 pub record IsRun (events : List Timed) (outcomes : List Outcome) (old : Database) (is_open : Bool)
     (new : Database) : Type 0 where
   pub each : length outcomes ≡ length events
@@ -27,6 +28,6 @@ Isolation =
     (a b a_new b_new : Database) (a_open b_open : Bool)
     → IsRun first firsts a a_open a_new → IsRun second seconds b b_open b_new
     → (name : List ℕ) → IsSound a name → AreSoundDevices a
-    → Agree name a b → HaveSameOwn name first second
+    → Agree name a b → own name first ≡ own name second
     → NoneFailed name first firsts → NoneFailed name second seconds
     → AreTheSame name first second firsts seconds a_open b_open a_new b_new

@@ -1,12 +1,12 @@
 -- Which events of a list were answered, which failed, and what was answered (all this project's
 -- own).
 use Rattle.std.specs.Prelude.{◌≡◌, ℕ, Bool, List, [], ◌∷◌, Option, Some, None, Result, Ok, Err, if◌then◌else◌}
-use Rattle.room_core.specs.declared.event.Event.{Event}
+use Rattle.room_core.specs.Events.{PlainEvent, Timed}
 use Rattle.room_core.specs.declared.event.Reply.{Reply}
 use Rattle.room_store.specs.declared.fault.StoreFault.{StoreFault}
 use Rattle.room_serve.specs.declared.outcome.Outcome.{Outcome}
 use Rattle.room_serve.specs.declared.outcome.Outcome.TheVariants.{Answered, Failed}
-use Rattle.room_serve.specs.Own.{Timed, own}
+use Rattle.room_serve.specs.Own.{own}
 
 abbrev pub outcome_of : Result Reply StoreFault → Outcome
 outcome_of (Ok reply) = Answered reply
@@ -29,7 +29,7 @@ failed_of (e ∷ events) (Failed fault ∷ outcomes) = e ∷ failed_of events ou
 failed_of _ _ = []
 
 -- what was answered to the events of a kind, in order
-abbrev pub replies_to : (kind : Event → Bool) (events : List Timed) (outcomes : List Outcome)
+abbrev pub replies_to : (kind : PlainEvent → Bool) (events : List Timed) (outcomes : List Outcome)
     → List Reply
 replies_to kind (e ∷ events) (Answered reply ∷ outcomes) =
     if kind e.1 then reply ∷ replies_to kind events outcomes else replies_to kind events outcomes

@@ -7,7 +7,8 @@ use Rattle.room_state.specs.Rooms.{RoomValue}
 use Rattle.room_tables.specs.Accounts.{Holds}
 use Rattle.room_tables.specs.Devices.{HoldsDevices}
 use Rattle.room_serve.specs.declared.outcome.Outcome.{Outcome}
-use Rattle.room_serve.specs.Own.{Timed, is_of, is_of_device, of_devices, own}
+use Rattle.room_core.specs.Events.{Timed}
+use Rattle.room_serve.specs.Own.{is_of, is_of_device, of_devices, own}
 use Rattle.room_serve.specs.Alone.{Alone, DevicesAlone, alone, devices_alone}
 use Rattle.room_serve.specs.Outcomes.{answered_of, replies_to}
 

@@ -6,9 +6,9 @@ ghost use Rattle.ipp_coding.specs.Limits.{header_length};
 ghost use Rattle.room_core.specs.declared.event.Reply.{Reply as ToldReply};
 ghost use Rattle.room_http.specs.Exchange.{AppendsFront, TakesAtMost, most_taken, read_faults, write_faults};
 ghost use Rattle.room_store.specs.declared.fault.StoreFault.{StoreFault as ToldFault};
-ghost use Rattle.room_serve.specs.Exchanges.{Answers, Applies, Breaks, after_answer, after_telling, internal_error_answer, text_told};
+ghost use Rattle.room_serve.specs.Exchanges.{Answers, AppliesMessage, Breaks, after_answer, after_telling, internal_error_answer, text_told};
 ghost use Rattle.room_serve.specs.Wires.{wire_has_ended, reader_of, writer_of};
-ghost use Rattle.room_tables.specs.Calls.{Goes};
+ghost use Rattle.room_tables.specs.Calls.{KeepsConnection};
 
 use crate::wire::{After, Wire};
 use ipp_coding::header_in;
@@ -20,7 +20,7 @@ use sqlite::Alter;
 use std::alloc::Global;
 
 /// Reads one message and writes its answer, at the moment `now` in seconds from 1970; no byte
-/// behind the message is read. The message is one event of the account in its path; a fault of the
+/// after the message is read. The message is one event of the account in its path; a fault of the
 /// store is told as internal-error.
 ///
 /// `Read`, `Write` and `Memory` end the connection, as `Close` does: every later call answers
@@ -51,7 +51,7 @@ pub fn serve_one<S: Alter, R: Source, W: Sink>(
         ≡ R.failures (reader_of wire.old) + read_faults result }
     ensures writes { W.failures (writer_of wire.new)
         ≡ W.failures (writer_of wire.old) + write_faults result }
-    ensures goes { Goes (state S.Store store.old) (state S.Store store.new) }
+    ensures connection { KeepsConnection (state S.Store store.old) (state S.Store store.new) }
 {
     if wire.has_ended {
         return Err(WireFault::Ended);
@@ -78,7 +78,7 @@ fn exchange<S: Alter, R: Source, W: Sink>(
     ensures bounded { TakesAtMost most_taken (R.left reader.old) (R.left reader.new) }
     ensures reads { R.failures reader.new ≡ R.failures reader.old + read_faults result }
     ensures writes { W.failures writer.new ≡ W.failures writer.old + write_faults result }
-    ensures goes { Goes (state S.Store store.old) (state S.Store store.new) }
+    ensures connection { KeepsConnection (state S.Store store.old) (state S.Store store.new) }
 {
     match receive(alloc, reader, writer)? {
         Received::Nothing => Ok(After::Close),
@@ -94,7 +94,7 @@ fn exchange<S: Alter, R: Source, W: Sink>(
     }
 }
 
-/// Applies a message, once, and tells what it came to.
+/// Applies a message, once, and tells the outcome.
 fn carry_out<S: Alter, W: Sink>(
     alloc: Global,
     store: &mut Store<S>,
@@ -106,16 +106,16 @@ fn carry_out<S: Alter, W: Sink>(
     requires writes { W.failures writer.old < 2 ^ 64 - 1 }
     requires long { header_length ≤ length body.now }
     ensures told { IfOk result (λ after. (told : Result ToldReply ToldFault)
-        × Applies S.Store now order.account body.now store.old store.new told
+        × AppliesMessage S.Store now order.account body.now store.old store.new told
         × Appends (W.given writer.old) (W.given writer.new) (text_told body.now order.closes told)
         × (after ≡ after_telling order.closes told)) }
     ensures front { OnErr result ((told : Result ToldReply ToldFault)
-        × Applies S.Store now order.account body.now store.old store.new told
+        × AppliesMessage S.Store now order.account body.now store.old store.new told
         × AppendsFront (W.given writer.old) (W.given writer.new)
         (text_told body.now order.closes told)) }
     ensures cause { IfErr result (λ fault. fault ≡ WireFault.Write) }
     ensures count { W.failures writer.new ≡ W.failures writer.old + write_faults result }
-    ensures goes { Goes (state S.Store store.old) (state S.Store store.new) }
+    ensures connection { KeepsConnection (state S.Store store.old) (state S.Store store.new) }
 {
     let event = Event::Ipp {
         account: order.account,
@@ -125,7 +125,7 @@ fn carry_out<S: Alter, W: Sink>(
     tell(writer, &told, body, order.closes)
 }
 
-/// Tells what a message came to, and whether the connection goes on.
+/// Tells the outcome of a message, and whether the connection goes on.
 fn tell<W: Sink>(
     writer: &mut W,
     told: &Result<Reply, StoreFault>,

@@ -1,5 +1,5 @@
 //! What is promised to each account, as laws that hold of any two runs.
-ghost use Rattle.room_serve.specs.Agreement.{AgreeAgain, HoldTheSame, SameAlone};
+ghost use Rattle.room_serve.specs.Agreement.{AgreeAgain, HoldTheSame};
 ghost use Rattle.room_serve.specs.Isolation.{Isolation};
 
 /// The headline. Two databases that agree on an account's rows and on the devices', and two lists
@@ -10,11 +10,9 @@ pub fn isolation()
     ensures { Isolation }
 {}
 
-/// The account's machine alone gives the same for the same own events; what an account's rows are
-/// in one of two databases that agree, they are in the other; and where they are the same in both,
-/// the two agree.
+/// What an account's rows are in one of two databases that agree, they are in the other; and where
+/// they are the same in both, the two agree.
 pub fn agreement()
-    ensures alone { SameAlone }
     ensures rows { HoldTheSame }
     ensures again { AgreeAgain }
 {}

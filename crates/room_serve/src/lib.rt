@@ -1,5 +1,18 @@
 //! Lists of events of many accounts over one store, and what each account may rely on whatever the
-//! others ask; and messages of HTTP, each one event.
+//! others ask; and messages of HTTP, each one event:
+//!
+//! ```text
+//! let events = [(now, Event::Open { account }), (now, Event::Ipp { account, body })];
+//! for outcome in run_events(alloc, &mut store, &events)? {
+//!     match outcome {
+//!         Outcome::Answered(reply) => ..,
+//!         Outcome::Failed(fault) => ..,    // it has changed nothing, and the next was answered
+//!     }
+//! }
+//!
+//! let mut wire = Wire::new(reader, writer);
+//! while serve_one(alloc, &mut store, now, &mut wire)? == After::Again {}
+//! ```
 #![tactic(auto)]
 
 mod exchange;

@@ -1,4 +1,4 @@
-//! What an event of a list came to.
+//! The outcome of an event of a list.
 
 ghost use Rattle.std.specs.Prelude.{◌≡◌, option_copied};
 ghost use Rattle.room_serve.specs.Outcomes.{outcome_of, reply_of};
@@ -6,7 +6,7 @@ ghost use Rattle.room_serve.specs.Outcomes.{outcome_of, reply_of};
 use room_core::Reply;
 use room_store::StoreFault;
 
-/// What an event of a list came to.
+/// The outcome of an event of a list.
 #[derive(Debug, Drop)]
 pub enum Outcome {
     Answered(Reply),

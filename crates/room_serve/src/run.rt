@@ -1,9 +1,10 @@
 //! A list of events, one after another.
-ghost use Rattle.std.specs.Prelude.{◌≡◌, ◌++◌, ◌∷◌, [], ◌<◌, ◌≤◌, length, All, IfOk, OnErr, IsTrue};
+ghost use Rattle.std.specs.Prelude.{◌≡◌, ◌++◌, ◌∷◌, [], ◌<◌, ◌≤◌, length, map, All, IfOk, OnErr, IsTrue};
 ghost use Rattle.std.specs.Vec.{vec_capacity, vec_len};
 ghost use Rattle.sqlite.specs.Held.{state};
+ghost use Rattle.room_core.specs.Events.{plain_event, plain_timed};
 ghost use Rattle.room_core.specs.Fits.{fits};
-ghost use Rattle.room_tables.specs.Calls.{Goes, OfStore};
+ghost use Rattle.room_tables.specs.Calls.{KeepsConnection, IfOurTables};
 ghost use Rattle.room_tables.specs.Keyed.{HasSchema};
 ghost use Rattle.room_serve.specs.Runs.{RunsAlone, RunsDevices};
 
@@ -23,18 +24,18 @@ pub fn run_events<S: Alter>(
     store: &mut Store<S>,
     events: &[(u64, Event<'_>)],
 ) -> Result<Vec<Outcome>, RunFault>
-    requires fit { All (λ e. IsTrue (fits e.1)) events.now }
+    requires fit { All (λ e. IsTrue (fits (plain_event e.1))) events.now }
     ensures each { IfOk result (λ outcomes. length outcomes.items ≡ length events.now) }
-    ensures alone { OfStore S.Store store.old store.new (λ db. IfOk result (λ outcomes.
-        RunsAlone events.now outcomes.items db (state S.Store store.new).is_open
+    ensures alone { IfOurTables S.Store store.old store.new (λ db. IfOk result (λ outcomes.
+        RunsAlone (map plain_timed events.now) outcomes.items db (state S.Store store.new).is_open
         (state S.Store store.new).now)) }
-    ensures devices { OfStore S.Store store.old store.new (λ db. IfOk result (λ outcomes.
-        RunsDevices events.now outcomes.items db (state S.Store store.new).is_open
-        (state S.Store store.new).now)) }
-    ensures schema { OfStore S.Store store.old store.new (λ db.
+    ensures devices { IfOurTables S.Store store.old store.new (λ db. IfOk result (λ outcomes.
+        RunsDevices (map plain_timed events.now) outcomes.items db
+        (state S.Store store.new).is_open (state S.Store store.new).now)) }
+    ensures schema { IfOurTables S.Store store.old store.new (λ db.
         IsTrue (state S.Store store.new).is_open → HasSchema (state S.Store store.new).now) }
     ensures unchanged { OnErr result (store.new ≡ store.old) }
-    ensures goes { Goes (state S.Store store.old) (state S.Store store.new) }
+    ensures connection { KeepsConnection (state S.Store store.old) (state S.Store store.new) }
 {
     let mut outcomes = Vec::with_capacity(alloc, events.len())?;
     for (now, event) in events {

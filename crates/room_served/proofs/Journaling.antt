@@ -12,7 +12,7 @@ use Rattle.http_server.specs.declared.response.Response.{Response}
 use Rattle.room_http.specs.declared.refusal.Refusal.{Refusal}
 use Rattle.room_served.specs.Answers.{Answers, Gives}
 use Rattle.room_served.specs.Requests.{asked}
-use Rattle.room_served.specs.Journals.{Applies, Continues, Leads, Told, journal, store_of}
+use Rattle.room_served.specs.Journals.{AppliesEntry, Continues, Leads, Told, journal, store_of}
 
 module _ {S : Type 0} (store : Ghosts S) where
   pub stays : (served : Served S) → Continues store served served
@@ -21,7 +21,7 @@ module _ {S : Type 0} (store : Ghosts S) where
   pub as_it_was : (old new : Served S) → store_of new ≡ store_of old → journal new ≡ journal old → Continues store old new
   as_it_was old new same kept = record { more = []; journal = kept ∙ sym (append-nil (journal old)); leads = same }
 
-  pub one_more : (entry : Entry) (told : Result Reply StoreFault) (old new : Served S) → journal new ≡ journal old ++ (entry, told) ∷ [] → Applies store entry (store_of old) (store_of new) told → Continues store old new
+  pub one_more : (entry : Entry) (told : Result Reply StoreFault) (old new : Served S) → journal new ≡ journal old ++ (entry, told) ∷ [] → AppliesEntry store entry (store_of old) (store_of new) told → Continues store old new
   one_more entry told old new kept applies = record { more = (entry, told) ∷ []; journal = kept; leads = (store_of new, applies, refl) }
 
   leads_then : (first more : List Told) (old mid new : Held S) → Leads store old first mid → Leads store mid more new → Leads store old (first ++ more) new

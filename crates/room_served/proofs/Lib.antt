@@ -1,4 +1,3 @@
-pub mod Placing
 pub mod Journaling
 pub mod Running
 pub mod LineEnds

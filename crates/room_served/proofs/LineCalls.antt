@@ -8,9 +8,9 @@ use Rattle.room_served.specs.declared.line_connection.LineConnection.{LineConnec
 use Rattle.room_served.specs.declared.line_connection.Side.{Side}
 use Rattle.room_served.specs.declared.served.Served.{Served}
 use Rattle.room_served.specs.LinePeers.{Chain, TakesTurn, LineCall, taken, bytes_told}
-use Rattle.room_served.specs.LineSteps.{IsEnded, ReceivesBytes, RefusesRest, SendsBytes}
+use Rattle.room_served.specs.ProofLineSteps.{IsEnded, ReceivesBytes, RefusesRest, SendsBytes}
 
--- what is cut off in front joins, and so does what comes behind
+-- what is cut off in front joins, and so does what comes after
 joins : (a b c p q s t : List ℕ) → a ++ p ≡ s ++ b → b ++ q ≡ t ++ c → a ++ (p ++ q) ≡ (s ++ t) ++ c
 joins a b c p q s t first later =
     sym (append_assoc a p q) ∙ ap (λ x. x ++ q) first ∙ append_assoc s b q ∙ ap (λ x. s ++ x) later ∙ sym (append_assoc s t c)

@@ -5,7 +5,7 @@ use Rattle.std.proofs.lemmas.List.{take_more}
 use Rattle.std.proofs.lemmas.List.Quantifiers.{position-Some}
 use Rattle.room_served.specs.Lines.{line_end}
 
--- what ends behind its line feed is the line and the line feed
+-- what ends after its line feed is the line and the line feed
 pub ends_with_feed : (input : List ℕ) (end : ℕ) → line_end input ≡ Some end → take (end + 1) input ≡ take end input ++ 10 ∷ []
 ends_with_feed input end is =
     let found = position-Some (λ b. b == 10) input end 0 is in

@@ -2,36 +2,21 @@
 use Rattle.std.proofs.Common.{List, [], ◌∷◌, ◌++◌, sym, subst, append_assoc, append-nil}
 use Rattle.sqlite.specs.Held.{Held, state}
 use Rattle.sqlite_trees.specs.declared.store.Store.{Ghosts}
-use Rattle.room_serve.proofs.RunLemmas.{Applied, SoFar, begins, one_more}
+use Rattle.room_serve.proofs.RunLemmas.{SoFar, begins, one_more}
 use Rattle.room_serve.specs.Outcomes.{outcome_of}
-use Rattle.room_serve.specs.Own.{Timed}
+use Rattle.room_core.specs.Events.{Timed}
 use Rattle.room_serve.specs.declared.outcome.Outcome.{Outcome}
 use Rattle.room_served.specs.Entries.{timed}
-use Rattle.room_served.specs.Journals.{AlwaysRuns, Applies, Leads, Told, events_of, outcomes_of}
+use Rattle.room_served.specs.Journals.{AlwaysRuns, Leads, Told, events_of, outcomes_of}
 
 module _ {S : Type 0} (store : Ghosts S) where
-  as_applied : (told : Told) (old new : Held S) → Applies store told.0 old new told.1 → Applied (timed told.0).0 (timed told.0).1 (state store old) (state store new) told.1
-  as_applied told old new does = record {
-    reply = does.reply;
-    rows = does.rows;
-    device_reply = does.device_reply;
-    device_rows = does.device_rows;
-    others = does.others;
-    devices = does.devices;
-    schema = does.schema;
-    unchanged = does.unchanged;
-    goes = does.goes;
-    short = does.short;
-    asks = does.asks;
-  }
-
   leads_on : (more : List Told) (events : List Timed) (outcomes : List Outcome) (old mid new : Held S) → SoFar events outcomes (state store old) (state store mid) → Leads store mid more new
       → SoFar (events ++ events_of store more) (outcomes ++ outcomes_of store more) (state store old) (state store new)
   leads_on [] events outcomes old mid new so_far is = rw (append-nil events, append-nil outcomes) (subst (λ (held : Held S). SoFar events outcomes (state store old) (state store held)) (sym is) so_far)
   leads_on (told ∷ more) events outcomes old mid new so_far leads =
       let e = timed told.0 in
       let o = outcome_of told.1 in
-      let next = one_more events outcomes e (state store old) (state store mid) (state store leads.0) told.1 so_far (as_applied told mid leads.0 leads.1) in
+      let next = one_more events outcomes e (state store old) (state store mid) (state store leads.0) told.1 so_far leads.1 in
       let on = leads_on more (events ++ e ∷ []) (outcomes ++ o ∷ []) old leads.0 new next leads.2 in
       rw (append_assoc events (e ∷ []) (events_of store more), append_assoc outcomes (o ∷ []) (outcomes_of store more)) at on
 
@@ -40,5 +25,5 @@ module _ {S : Type 0} (store : Ghosts S) where
     alone = so_far.alone;
     devices = so_far.devices;
     schema = so_far.schema;
-    goes = so_far.goes;
+    connection = so_far.connection;
   }

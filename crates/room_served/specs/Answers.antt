@@ -17,7 +17,7 @@ use Rattle.room_store.specs.declared.fault.StoreFault.{StoreFault}
 use Rattle.room_replies.specs.Replies.{internal_error_text}
 use Rattle.room_served.specs.declared.entry.Entry.TheVariants as entry
 use Rattle.room_served.specs.declared.served.Served.{Served}
-use Rattle.room_served.specs.Journals.{Applies, journal, moment_of, store_of}
+use Rattle.room_served.specs.Journals.{AppliesEntry, journal, moment_of, store_of}
 use Rattle.room_served.specs.Requests.{asked, has_long_body}
 
 -- ---- the fields
@@ -51,7 +51,7 @@ IsTold header closes (Err fault) =
 abbrev pub IsLost : Response → Type 0
 IsLost = IsResponse 500 [] []
 
--- ---- what becomes of the rooms
+-- ---- what happens to the rooms
 
 module _ {S : Type 0} (store : Ghosts S) where
   -- the message is applied, once, at the moment, and stands in the journal; what it came to is told
@@ -60,7 +60,7 @@ module _ {S : Type 0} (store : Ghosts S) where
     pub told : Result Reply StoreFault
     pub journal : journal new
         ≡ journal old ++ (entry.Message (moment_of old) account (body_of request), told) ∷ []
-    pub applies : Applies store (entry.Message (moment_of old) account (body_of request))
+    pub applies : AppliesEntry store (entry.Message (moment_of old) account (body_of request))
         (store_of old) (store_of new) told
     pub moment : moment_of new ≡ moment_of old
     pub tells : IsTold (header_in (body_of request)) (has_long_body request) told response

@@ -14,7 +14,7 @@ abbrev pub connection_of : HttpPeer → Connection
 connection_of peer = peer.connection
 
 abbrev pub patience_of : HttpPeer → Patience
-patience_of peer = peer.patience
+patience_of peer = peer.progress.patience
 
 -- its requests so far, each with its answer
 abbrev pub calls_of : HttpPeer → List Call

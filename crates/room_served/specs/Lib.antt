@@ -7,4 +7,4 @@ pub mod Lines
 pub mod Patience
 pub mod HttpPeers
 pub mod LinePeers
-pub mod LineSteps
+pub mod ProofLineSteps

@@ -15,7 +15,7 @@ abbrev pub lines_of : LinePeer → LineConnection
 lines_of peer = peer.connection
 
 abbrev pub patience_of : LinePeer → Patience
-patience_of peer = peer.patience
+patience_of peer = peer.progress.patience
 
 -- a line as it came, with what ended it, and what was told
 abbrev pub LineCall : Type 0
@@ -37,7 +37,7 @@ module _ {S : Type 0} (store : Ghosts S) (side : Side) where
       × Chain next calls new
 
 module _ {S : Type 0} (store : Ghosts S) where
-  -- Bytes came, and the lines in them were taken in order; what was told of each waits behind the
+  -- Bytes came, and the lines in them were taken in order; what was told of each waits after the
   -- others, and goes in order.
   pub record TakesTurn (before after : LineConnection) (old new : Served S) : Type 0 where
     pub came : List ℕ

@@ -16,7 +16,7 @@ use Rattle.room_served.specs.declared.line_connection.LineConnection.{LineConnec
 use Rattle.room_served.specs.declared.line_connection.Side.{Side}
 use Rattle.room_served.specs.declared.line_connection.Side.TheVariants.{Station, Operator}
 use Rattle.room_served.specs.declared.served.Served.{Served}
-use Rattle.room_served.specs.Journals.{Applies, journal, moment_of, store_of}
+use Rattle.room_served.specs.Journals.{AppliesEntry, journal, moment_of, store_of}
 use Rattle.room_served.specs.LineTexts.{bad_line_text, line_text}
 
 -- ---- a connection
@@ -48,7 +48,7 @@ line_end input = position (λ b. b == 10) input
 abbrev pub begins_start : List ℕ → Bool
 begins_start input = starts_with (λ a b. a == b) input (codes "start ")
 
--- so many bytes that a reader had left came behind those that were there
+-- so many bytes that a reader had left came after those that were there
 abbrev pub Comes : (left left2 : Option (List ℕ)) (before after : LineConnection) (n : ℕ) → Type 0
 Comes left left2 before after n = (more : List ℕ) × (length more ≡ n) × Consumes left left2 more
     × (input_of after ≡ input_of before ++ more)
@@ -75,7 +75,7 @@ module _ {S : Type 0} (store : Ghosts S) where
     pub said : IsEntryOf (grammar_of side (moment_of old)) line entry
     pub told : Result Reply StoreFault
     pub journal : journal new ≡ journal old ++ (entry, told) ∷ []
-    pub applies : Applies store entry (store_of old) (store_of new) told
+    pub applies : AppliesEntry store entry (store_of old) (store_of new) told
     pub moment : moment_of new ≡ moment_of old
     pub says : text ≡ line_text told
 
@@ -83,7 +83,7 @@ module _ {S : Type 0} (store : Ghosts S) where
   abbrev pub IsBad : Served S → List ℕ → Served S → Type 0
   IsBad old text new = (text ≡ bad_line_text) × (new ≡ old)
 
-  -- the first line that came is taken, and its answer waits behind the others
+  -- the first line that came is taken, and its answer waits after the others
   pub record TakesLine (before after : LineConnection) (old new : Served S) : Type 0 where
     pub end : ℕ
     pub first : line_end (input_of before) ≡ Some end

@@ -1,7 +1,8 @@
 //! What came, and the moment at which it counts as done.
-ghost use Rattle.std.specs.Prelude.{◌≡◌, ℕ, IsTrue};
+ghost use Rattle.std.specs.Prelude.{◌≡◌, IsTrue};
+ghost use Rattle.room_core.specs.Events.{plain_event};
 ghost use Rattle.room_core.specs.Fits.{fits};
-ghost use Rattle.room_served.specs.Entries.{event_at, moment_at};
+ghost use Rattle.room_served.specs.Entries.{event_of_entry, moment_at};
 
 use bytes::Bytes;
 use room_core::{Event, Name};
@@ -32,8 +33,8 @@ impl Entry {
     }
 
     pub(crate) fn event(&self) -> Event<'_>
-        ensures fit { IsTrue (fits result) }
-        ensures same { (at : ℕ × ℕ) × (result ≡ event_at at self.now) }
+        ensures fit { IsTrue (fits (plain_event result)) }
+        ensures same { plain_event result ≡ event_of_entry self.now }
     {
         match self {
             Entry::Message { account, body, .. } => Event::Ipp {

@@ -8,7 +8,8 @@ ghost use Rattle.room_served.specs.Journals.{Continues};
 
 use crate::load::{LARGE, Load};
 use crate::patience::Patience;
-use crate::step::{Next, STEPS, Turn, after, drain, was_all};
+use crate::progress::Progress;
+use crate::step::{Next, STEPS, Turn, after, drain};
 use crate::{Served, answer_requests, connection_config};
 use http_server::{Connection, Reason, State};
 use sqlite::Alter;
@@ -22,12 +23,8 @@ const INVITATION: &[u8] = b"HTTP/1.1 100 ";
 /// A peer that speaks HTTP.
 pub struct HttpPeer {
     connection: Connection,
-    patience: Patience,
+    progress: Progress,
     load: Load,
-    /// All that came was read.
-    has_all: bool,
-    /// All was said, and what it still sends is dropped.
-    parts: bool,
 }
 
 // It is written out, so that a caller does not prove again how each part is dropped.
@@ -35,10 +32,8 @@ impl Drop for HttpPeer {
     fn drop(self) {
         let HttpPeer {
             connection: _,
-            patience: _,
+            progress: _,
             load: _,
-            has_all: _,
-            parts: _,
         } = self;
     }
 }
@@ -47,7 +42,7 @@ impl HttpPeer {
     ghost use Rattle.room_served.specs.HttpPeers.{IsAtRest, IsStill, KeepsLimits, MakesCalls, calls_of, connection_of, patience_of};
 
     /// A peer that came just now. It takes no memory.
-    pub fn new(alloc: Global, keys: RandomState, now: u64) -> HttpPeer
+    pub fn new(alloc: Global, keys: RandomState, ticks: u64) -> HttpPeer
         ensures history { history (connection_of result) ≡ new_history }
         ensures head { (config_of (connection_of result)).limits.max_head_len ≡ longest_head }
         ensures body { (config_of (connection_of result)).max_body_len ≡ longest_body }
@@ -55,10 +50,8 @@ impl HttpPeer {
     {
         HttpPeer {
             connection: Connection::new(alloc, keys, connection_config()),
-            patience: Patience::new(now),
+            progress: Progress::new(ticks),
             load: Load::new(),
-            has_all: false,
-            parts: false,
         }
     }
 
@@ -77,10 +70,10 @@ impl HttpPeer {
         ensures holds { result ≡ Next.Hold → IsFalse turn.has_room }
         ensures limits { KeepsLimits self.old self.new }
     {
-        if self.parts {
+        if self.progress.parts {
             return drain(stream);
         }
-        self.has_all = false;
+        self.progress.has_all = false;
         for _ in 0..STEPS {
             answer_requests(&mut self.connection, served);
             if let Some(next) = self.step(stream, turn) {
@@ -98,40 +91,36 @@ impl HttpPeer {
         ensures limits { KeepsLimits self.old self.new }
     {
         if self.connection.is_done() {
-            return Some(self.finish(turn.now));
+            return Some(self.finish(turn.ticks));
         }
         if self.connection.wants_write() {
-            return self.send(stream, turn.now);
+            return self.send(stream, turn.ticks);
         }
         if self.load.is_large() && !turn.has_room {
-            self.patience.held_back(turn.now);
-            return Some(Next::Hold);
+            return Some(self.progress.hold(turn.ticks));
         }
-        if self.has_all {
+        if self.progress.has_all {
             return Some(Next::Wait);
         }
-        self.patience.let_on(turn.now);
+        self.progress.patience.let_on(turn.ticks);
         self.receive(stream, turn)
     }
 
-    fn send<T: Write>(&mut self, stream: &mut T, now: u64) -> Option<Next>
+    fn send<T: Write>(&mut self, stream: &mut T, ticks: u64) -> Option<Next>
         ensures calls { calls_of self.new ≡ calls_of self.old }
         ensures waits { result ≡ Some Next.Wait → IsStill self.old self.new }
         ensures moves { result ≢ Some Next.Hold }
         ensures limits { KeepsLimits self.old self.new }
     {
         self.load.answered();
+        // The body of what was begun is to come.
         let invites = self.connection.output().starts_with(INVITATION);
         match self.connection.write_to(stream) {
             Ok(0) => Some(Next::Close),
             Ok(count) => {
-                self.patience.moved(count, now);
+                self.progress.patience.moved(count, ticks);
                 if !self.connection.wants_write() {
-                    self.patience.rested(now);
-                    // The body of what was begun is to come.
-                    if invites {
-                        self.patience.moved(0, now);
-                    }
+                    self.progress.sent_all(invites, ticks);
                 }
                 None
             }
@@ -148,8 +137,7 @@ impl HttpPeer {
         match self.connection.read_from(stream) {
             Ok(count) => {
                 self.load.came(count);
-                self.patience.moved(count, turn.now);
-                self.has_all = was_all(count, turn);
+                self.progress.received(count, turn);
                 None
             }
             Err(error) => after(&error),
@@ -157,18 +145,14 @@ impl HttpPeer {
     }
 
     /// Ends what is sent. Where the peer has ended too, or memory ran out, nothing is waited for.
-    fn finish(&mut self, now: u64) -> Next
+    fn finish(&mut self, ticks: u64) -> Next
         ensures connection { connection_of self.new ≡ connection_of self.old }
         ensures ends { result ≢ Next.Wait }
         ensures moves { result ≢ Next.Hold }
     {
         match self.connection.state() {
             State::Closing(Reason::EndOfInput) | State::Aborted => Next::Close,
-            _ => {
-                self.parts = true;
-                self.patience.parted(now);
-                Next::Part
-            }
+            _ => self.progress.part(ticks),
         }
     }
 
@@ -176,7 +160,7 @@ impl HttpPeer {
     pub fn patience(&self) -> Patience
         ensures { result ≡ patience_of self.now }
     {
-        self.patience
+        self.progress.patience
     }
 
     /// The bytes for which it has room. The buffer of an answer grows to twice what it has to hold,

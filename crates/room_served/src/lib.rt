@@ -13,6 +13,7 @@ mod line_peer;
 mod line_text;
 mod load;
 mod patience;
+mod progress;
 mod request;
 mod served;
 mod service;

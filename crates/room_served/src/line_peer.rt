@@ -5,7 +5,8 @@ ghost use Rattle.room_served.specs.Journals.{Continues};
 ghost use Rattle.room_served.specs.Lines.{input_of, output_of, side_of};
 
 use crate::patience::Patience;
-use crate::step::{Next, STEPS, Turn, after, drain, was_all};
+use crate::progress::Progress;
+use crate::step::{Next, STEPS, Turn, after, drain};
 use crate::{LineConnection, Served, Side};
 use sqlite::Alter;
 use std::alloc::Global;
@@ -15,31 +16,25 @@ use std::io::{Read, Write};
 #[derive(Drop)]
 pub struct LinePeer {
     connection: LineConnection,
-    patience: Patience,
-    /// All that came was read.
-    has_all: bool,
+    progress: Progress,
     /// No more is read: the peer has ended, or sent a line that is too long.
     has_ended: bool,
-    /// All was said, and what it still sends is dropped.
-    parts: bool,
 }
 
 impl LinePeer {
     ghost use Rattle.room_served.specs.LinePeers.{HasTaken, TurnGoesOn, lines_of, patience_of};
-    ghost use Rattle.room_served.specs.LineSteps.{IsEnded, ReceivesBytes, SendsBytes, StepGoesOn};
+    ghost use Rattle.room_served.specs.ProofLineSteps.{IsEnded, ReceivesBytes, SendsBytes, StepGoesOn};
 
     /// A peer that came just now. It takes no memory.
-    pub fn new(alloc: Global, side: Side, now: u64) -> LinePeer
+    pub fn new(alloc: Global, side: Side, ticks: u64) -> LinePeer
         ensures side { side_of (lines_of result) ≡ side }
         ensures input { input_of (lines_of result) ≡ [] }
         ensures output { output_of (lines_of result) ≡ [] }
     {
         LinePeer {
             connection: LineConnection::new(alloc, side),
-            patience: Patience::new(now),
-            has_all: false,
+            progress: Progress::new(ticks),
             has_ended: false,
-            parts: false,
         }
     }
 
@@ -57,10 +52,10 @@ impl LinePeer {
         ensures rests { result ≡ Next.Wait → HasTaken (lines_of self.new) }
         ensures holds { result ≡ Next.Hold → IsFalse turn.has_room }
     {
-        if self.parts {
+        if self.progress.parts {
             return drain(stream);
         }
-        self.has_all = false;
+        self.progress.has_all = false;
         for _ in 0..STEPS {
             if let Some(next) = self.step(stream, served, turn) {
                 return next;
@@ -83,23 +78,22 @@ impl LinePeer {
         ensures holds { result ≡ Some Next.Hold → IsFalse turn.has_room }
     {
         if self.connection.wants_write() {
-            return self.send(stream, turn.now);
+            return self.send(stream, turn.ticks);
         }
         if !turn.has_room && self.connection.begins_start() {
-            self.patience.held_back(turn.now);
-            return Some(Next::Hold);
+            return Some(self.progress.hold(turn.ticks));
         }
-        self.patience.let_on(turn.now);
+        self.progress.patience.let_on(turn.ticks);
         match self.connection.answer(served) {
             Ok(true) => None,
-            Ok(false) if self.has_ended || self.connection.is_too_long() => self.end(turn.now),
-            Ok(false) if self.has_all => Some(Next::Wait),
+            Ok(false) if self.has_ended || self.connection.is_too_long() => self.end(turn.ticks),
+            Ok(false) if self.progress.has_all => Some(Next::Wait),
             Ok(false) => self.receive(stream, turn),
             Err(_) => Some(Next::Close),
         }
     }
 
-    fn send<T: Write>(&mut self, stream: &mut T, now: u64) -> Option<Next>
+    fn send<T: Write>(&mut self, stream: &mut T, ticks: u64) -> Option<Next>
         ensures sends { SendsBytes (lines_of self.old) (lines_of self.new) }
         ensures waits { result ≡ Some Next.Wait → lines_of self.new ≡ lines_of self.old }
         ensures moves { result ≢ Some Next.Hold }
@@ -107,13 +101,9 @@ impl LinePeer {
         match self.connection.write_to(stream) {
             Ok(0) => Some(Next::Close),
             Ok(count) => {
-                self.patience.moved(count, now);
+                self.progress.patience.moved(count, ticks);
                 if !self.connection.wants_write() {
-                    self.patience.rested(now);
-                    // What came behind the line has a time of its own.
-                    if self.connection.has_rest() {
-                        self.patience.moved(0, now);
-                    }
+                    self.progress.sent_all(self.connection.has_rest(), ticks);
                 }
                 None
             }
@@ -133,8 +123,7 @@ impl LinePeer {
                 None
             }
             Ok(count) => {
-                self.patience.moved(count, turn.now);
-                self.has_all = was_all(count, turn);
+                self.progress.received(count, turn);
                 None
             }
             Err(error) => after(&error),
@@ -142,7 +131,7 @@ impl LinePeer {
     }
 
     /// No more is read: what is left and is no line is answered as a bad one.
-    fn end(&mut self, now: u64) -> Option<Next>
+    fn end(&mut self, ticks: u64) -> Option<Next>
         ensures ended { result ≢ Some Next.Close → IsEnded (lines_of self.old) (lines_of self.new) }
         ensures waits { result ≢ Some Next.Wait }
         ensures moves { result ≢ Some Next.Hold }
@@ -154,16 +143,14 @@ impl LinePeer {
                 Err(_) => Some(Next::Close),
             };
         }
-        self.parts = true;
-        self.patience.parted(now);
-        Some(Next::Part)
+        Some(self.progress.part(ticks))
     }
 
     /// How long it may take still.
     pub fn patience(&self) -> Patience
         ensures { result ≡ patience_of self.now }
     {
-        self.patience
+        self.progress.patience
     }
 
     /// How many bytes it holds.

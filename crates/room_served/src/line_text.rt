@@ -9,7 +9,7 @@ use room_core::{Part, Reply};
 use room_store::StoreFault;
 use std::alloc::{AllocError, Global};
 
-/// Puts what a line came to behind what waits to go.
+/// Puts what a line came to after what waits to go.
 pub(crate) fn put_told(
     alloc: Global,
     output: &mut Rope,
@@ -55,7 +55,7 @@ fn put_part(output: &mut Rope, part: Part) -> Result<(), AllocError>
     output.put_slice(b"\n")
 }
 
-/// Puts the answer to a bad line behind what waits to go.
+/// Puts the answer to a bad line after what waits to go.
 pub(crate) fn put_bad(output: &mut Rope) -> Result<(), AllocError>
     ensures { OnOk result (output.new.items ≡ output.old.items ++ bad_line_text) }
 {

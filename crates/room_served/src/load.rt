@@ -15,7 +15,7 @@ pub(crate) struct Load {
     /// What came since the last answer, and the last piece of it.
     coming: usize,
     last: usize,
-    /// What may have come behind the request that was answered last, with its last piece.
+    /// What may have come after the request that was answered last, with its last piece.
     before: usize,
     most: usize,
 }

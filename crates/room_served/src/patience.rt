@@ -34,8 +34,8 @@ pub enum Doing {
     Parts,
 }
 
-/// How long a connection may take still. A moment is in milliseconds since any start that all
-/// moments share.
+/// How long a connection may take still. Ticks are milliseconds since any start that all of them
+/// share.
 #[derive(Clone, Copy, Debug, PartialEq, Eq)]
 pub struct Patience {
     since: u64,
@@ -44,65 +44,65 @@ pub struct Patience {
 
 impl Patience {
     /// For a connection that came just now.
-    pub fn new(now: u64) -> Patience
+    pub fn new(ticks: u64) -> Patience
         ensures doing { doing_of result ≡ Rests }
-        ensures since { since_of result ≡ now }
+        ensures since { since_of result ≡ ticks }
     {
         Patience {
-            since: now,
+            since: ticks,
             doing: Doing::Rests,
         }
     }
 
     /// So many bytes came or went.
-    pub fn moved(&mut self, count: usize, now: u64)
-        ensures { self.new ≡ after_moving self.old count now }
+    pub fn moved(&mut self, count: usize, ticks: u64)
+        ensures { self.new ≡ after_moving self.old count ticks }
     {
         match self.doing {
-            Doing::Rests | Doing::Holds => *self = moving(now, count as u64, now),
+            Doing::Rests | Doing::Holds => *self = moving(ticks, count as u64, ticks),
             Doing::Moves(before) => {
-                *self = moving(self.since, before.saturating_add(count as u64), now);
+                *self = moving(self.since, before.saturating_add(count as u64), ticks);
             }
             Doing::Parts => {}
         }
     }
 
     /// All that was asked was answered, and its answer went.
-    pub fn rested(&mut self, now: u64)
+    pub fn rested(&mut self, ticks: u64)
         ensures doing { doing_of self.new ≡ Rests }
-        ensures since { since_of self.new ≡ now }
+        ensures since { since_of self.new ≡ ticks }
     {
-        *self = Patience::new(now);
+        *self = Patience::new(ticks);
     }
 
     /// What was begun has to wait for room.
-    pub fn held_back(&mut self, now: u64)
-        ensures { self.new ≡ after_holding self.old now }
+    pub fn held_back(&mut self, ticks: u64)
+        ensures { self.new ≡ after_holding self.old ticks }
     {
         if !self.is_held_back() {
             *self = Patience {
-                since: now,
+                since: ticks,
                 doing: Doing::Holds,
             };
         }
     }
 
     /// What had to wait for room goes on, and has its time anew.
-    pub fn let_on(&mut self, now: u64)
-        ensures { self.new ≡ after_letting_on self.old now }
+    pub fn let_on(&mut self, ticks: u64)
+        ensures { self.new ≡ after_letting_on self.old ticks }
     {
         if self.is_held_back() {
-            *self = moving(now, 0, now);
+            *self = moving(ticks, 0, ticks);
         }
     }
 
     /// The peer was told that the connection ends.
-    pub fn parted(&mut self, now: u64)
+    pub fn parted(&mut self, ticks: u64)
         ensures doing { doing_of self.new ≡ Parts }
-        ensures since { since_of self.new ≡ now }
+        ensures since { since_of self.new ≡ ticks }
     {
         *self = Patience {
-            since: now,
+            since: ticks,
             doing: Doing::Parts,
         };
     }
@@ -122,8 +122,8 @@ impl Patience {
     }
 
     /// Whether it took too long.
-    pub fn is_over(&self, now: u64) -> bool
-        ensures { result ≡ is_over self.now now }
+    pub fn is_over(&self, ticks: u64) -> bool
+        ensures { result ≡ is_over self.now ticks }
     {
         let most = match self.doing {
             Doing::Rests => MOST_REST,
@@ -131,19 +131,19 @@ impl Patience {
             Doing::Holds => MOST_HOLD,
             Doing::Parts => MOST_PARTING,
         };
-        now.saturating_sub(self.since) > most
+        ticks.saturating_sub(self.since) > most
     }
 
     /// Whether it may be let go for want of memory.
-    pub fn is_slow(&self, now: u64) -> bool
-        ensures { result ≡ is_slow self.now now }
+    pub fn is_slow(&self, ticks: u64) -> bool
+        ensures { result ≡ is_slow self.now ticks }
     {
-        now.saturating_sub(self.since) > MOST_PAUSE
+        ticks.saturating_sub(self.since) > MOST_PAUSE
     }
 }
 
-fn moving(since: u64, moved: u64, now: u64) -> Patience
-    ensures { result ≡ moving since moved now }
+fn moving(since: u64, moved: u64, ticks: u64) -> Patience
+    ensures { result ≡ moving since moved ticks }
 {
     if moved < PIECE {
         return Patience {
@@ -152,7 +152,7 @@ fn moving(since: u64, moved: u64, now: u64) -> Patience
         };
     }
     Patience {
-        since: now,
+        since: ticks,
         doing: Doing::Moves(0),
     }
 }

@@ -1,6 +1,6 @@
 //! The rooms as one process serves them to everybody.
 ghost use Rattle.std.specs.Prelude.{◌≡◌, ◌++◌, ◌∷◌, []};
-ghost use Rattle.room_served.specs.Journals.{Applies, Continues, journal, moment_of, store_of};
+ghost use Rattle.room_served.specs.Journals.{AppliesEntry, Continues, journal, moment_of, store_of};
 
 use crate::entry::Entry;
 use http_server::Log;
@@ -55,7 +55,8 @@ impl<S: Alter> Served<S> {
     /// Applies what came, once.
     pub(crate) fn apply(&mut self, entry: &Entry) -> Result<Reply, StoreFault>
         ensures journal { journal self.new ≡ journal self.old ++ (entry.now, result) ∷ [] }
-        ensures applies { Applies S.Store entry.now (store_of self.old) (store_of self.new) result }
+        ensures applies { AppliesEntry S.Store entry.now
+            (store_of self.old) (store_of self.new) result }
         ensures continues { Continues S.Store self.old self.new }
         ensures moment { moment_of self.new ≡ moment_of self.old }
     {

@@ -36,7 +36,7 @@ impl<S: Alter> Service for Served<S> {
 }
 
 impl<S: Alter> Served<S> {
-    /// Applies the message in a request, once, and tells what it came to.
+    /// Applies the message in a request, once, and tells the outcome.
     fn answer(
         &mut self,
         account: Name,
@@ -62,7 +62,7 @@ impl<S: Alter> Served<S> {
     }
 }
 
-/// Tells what a message came to, or `500 Internal Server Error` where the memory for it is refused.
+/// Tells the outcome of a message, or `500 Internal Server Error` where there is no memory for it.
 fn tell(response: &mut Response, told: Result<Reply, StoreFault>, header: Header, closes: bool)
     requires { IsBlank response.old }
     ensures { IsTold header closes told response.new ⊎ IsLost response.new }

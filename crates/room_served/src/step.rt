@@ -1,4 +1,4 @@
-//! What a turn of a connection is told, and what it comes to.
+//! What a turn of a connection is told, and its outcome.
 ghost use Rattle.std.specs.Prelude.{◌≢◌, Some};
 
 use std::io;
@@ -18,7 +18,7 @@ const DROPPED: usize = 16_384;
 #[derive(Clone, Copy, Debug)]
 pub struct Turn {
     /// In milliseconds since any start that all turns share.
-    pub now: u64,
+    pub ticks: u64,
     /// Whether a large request may go on coming.
     pub has_room: bool,
     /// Whether the system has told that the peer sends no more.

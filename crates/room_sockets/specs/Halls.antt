@@ -8,8 +8,8 @@ use Rattle.room_sockets.specs.declared.guest.Guest.{Guest}
 use Rattle.room_sockets.specs.declared.guest.Peer.{Peer}
 use Rattle.room_sockets.specs.declared.guest.Peer.TheVariants.{Http, Lines}
 use Rattle.room_sockets.specs.declared.hall.Hall.{Hall}
-use Rattle.room_sockets.specs.declared.hall.Kind.{Kind}
-use Rattle.room_sockets.specs.declared.hall.Kind.TheVariants.{Clients, Operators, Stations}
+use Rattle.room_sockets.specs.declared.doors.Kind.{Kind}
+use Rattle.room_sockets.specs.declared.doors.Kind.TheVariants.{Clients, Operators, Stations}
 
 -- who came in by a door says what that door is for
 abbrev pub CameBy : Kind → Peer → Type 0

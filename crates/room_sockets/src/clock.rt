@@ -3,7 +3,7 @@
 use std::io;
 use std::time::{Clock, SystemTime, UNIX_EPOCH};
 
-/// The whole seconds since 1970-01-01T00:00:00Z, where the clock can be read and stands behind
+/// The whole seconds since 1970-01-01T00:00:00Z, where the clock can be read and stands after
 /// that.
 pub fn moment(clock: &impl Clock) -> Option<u64> {
     let now = SystemTime::now(clock).ok()?;

@@ -53,7 +53,7 @@ impl Guest {
     }
 
     /// Has the system tell again what is ready.
-    pub(crate) fn wake(&mut self, registry: &Registry, token: Token) -> io::Result<()> {
+    pub(crate) fn rearm(&mut self, registry: &Registry, token: Token) -> io::Result<()> {
         registry.reregister(&mut self.stream, token, both())
     }
 
@@ -86,8 +86,8 @@ impl Guest {
     }
 
     /// Whether it took too long.
-    pub(crate) fn is_late(&self, now: u64) -> bool {
-        self.patience().is_over(now)
+    pub(crate) fn is_late(&self, ticks: u64) -> bool {
+        self.patience().is_over(ticks)
     }
 
     /// Whether a large answer waits to go. Of a start's documents it is not asked, since they are
@@ -100,8 +100,8 @@ impl Guest {
     }
 
     /// Whether it hardly reads a large answer.
-    pub(crate) fn reads_slowly(&self, now: u64) -> bool {
-        self.has_large_answer() && self.patience().is_slow(now)
+    pub(crate) fn reads_slowly(&self, ticks: u64) -> bool {
+        self.has_large_answer() && self.patience().is_slow(ticks)
     }
 
     /// Whether nothing was begun on it, and it keeps the room of a large request.

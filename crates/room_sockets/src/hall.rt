@@ -5,121 +5,40 @@ ghost use Rattle.room_served.specs.Journals.{Continues};
 ghost use Rattle.room_sockets.specs.Halls.{AreOthersKept, IsEmpty, guests_of};
 
 use crate::clock::{moment, ticks};
-use crate::door::Door;
-use crate::guest::{Guest, Peer};
+use crate::deadlines::TICK;
+use crate::doors::{Doors, Entrance, Kind, MOST_GUESTS};
+use crate::guest::Guest;
 use crate::pace::Pace;
 use crate::stock::Stock;
-use crate::stream::Stream;
 use mio::{Events, Interest, Poll, Token};
-use room_served::{HttpPeer, LinePeer, Next, Served, Side, Turn};
+use room_served::{Next, Served, Turn};
 use slab::Slab;
 use sqlite::Alter;
 use std::alloc::Global;
 use std::hash::RandomState;
 use std::io;
-use std::io::ErrorKind;
 use std::net::Net;
 use std::time::{Clock, Duration};
-
-/// The most peers of each door, so that those of one never keep out those of another.
-const MOST_CLIENTS: usize = 768;
-
-const MOST_STATIONS: usize = 192;
-
-const MOST_OPERATORS: usize = 64;
-
-/// The most peers of all.
-const MOST_GUESTS: usize = MOST_CLIENTS + MOST_STATIONS + MOST_OPERATORS;
 
 /// How many events are taken from the system at once.
 const MOST_EVENTS: usize = 256;
 
-/// How often, in milliseconds, the deadlines are looked at, and a door where somebody may wait.
-const TICK: u64 = 250;
-
 /// The doors have the first names among the events, and their guests those from here on.
 const FIRST_GUEST: usize = 3;
-
-/// The doors by which peers come in.
-#[derive(Drop)]
-pub struct Doors {
-    /// IPP over HTTP.
-    pub http: Door,
-    /// Lines of stations.
-    pub stations: Door,
-    /// Lines of operators.
-    pub operators: Door,
-}
-
-/// Who comes in by a door.
-#[derive(Clone, Copy, Debug, PartialEq, Eq)]
-enum Kind {
-    Clients,
-    Stations,
-    Operators,
-}
-
-impl Kind {
-    ghost use Rattle.room_sockets.specs.Halls.{CameBy};
-
-    fn most(self) -> usize {
-        match self {
-            Kind::Clients => MOST_CLIENTS,
-            Kind::Stations => MOST_STATIONS,
-            Kind::Operators => MOST_OPERATORS,
-        }
-    }
-
-    /// Who came in just now.
-    fn peer(self, alloc: Global, keys: RandomState, now: u64) -> Peer
-        ensures { CameBy self result }
-    {
-        match self {
-            Kind::Clients => Peer::Http(HttpPeer::new(alloc, keys, now)),
-            Kind::Stations => Peer::Lines(LinePeer::new(alloc, Side::Station, now)),
-            Kind::Operators => Peer::Lines(LinePeer::new(alloc, Side::Operator, now)),
-        }
-    }
-}
-
-/// A door, and how many peers that came in by it are there.
-#[derive(Drop)]
-struct Entrance {
-    door: Door,
-    kind: Kind,
-    guests: usize,
-    /// Somebody may wait, of whom the system will not tell again.
-    waits: bool,
-}
-
-impl Entrance {
-    fn new(door: Door, kind: Kind) -> Entrance {
-        Entrance {
-            door,
-            kind,
-            guests: 0,
-            waits: false,
-        }
-    }
-
-    fn is_full(&self) -> bool {
-        self.guests >= self.kind.most()
-    }
-}
 
 /// The peers of all doors, and what tells of them.
 #[derive(Drop)]
 pub struct Hall {
-    alloc: Global,
-    keys: RandomState,
-    poll: Poll,
+    pub(crate) alloc: Global,
+    pub(crate) keys: RandomState,
+    pub(crate) poll: Poll,
     events: Events,
-    entrances: Vec<Entrance>,
-    guests: Slab<Guest>,
-    stock: Stock,
+    pub(crate) entrances: Vec<Entrance>,
+    pub(crate) guests: Slab<Guest>,
+    pub(crate) stock: Stock,
     pace: Pace,
     /// When the deadlines were looked at last.
-    swept: u64,
+    pub(crate) dropped_late_at: u64,
 }
 
 impl Hall {
@@ -155,7 +74,7 @@ impl Hall {
             guests: Slab::with_capacity(alloc, MOST_GUESTS)?,
             stock: Stock::new(),
             pace: Pace::new(ticks(rt)?),
-            swept: 0,
+            dropped_late_at: 0,
         })
     }
 
@@ -176,15 +95,15 @@ impl Hall {
         let timeout = self.timeout();
         self.poll.poll(&mut self.events, timeout)?;
         self.serve_all(clock, served);
-        let now = self.now(clock)?;
-        self.admit_all(now);
-        self.let_on();
-        self.sweep(now);
+        let ticks = self.ticks(clock)?;
+        self.admit_all(ticks);
+        self.resume_held_back();
+        self.drop_late(ticks);
         Ok(())
     }
 
-    /// The moment that deadlines go by.
-    fn now(&mut self, clock: &impl Clock) -> io::Result<u64>
+    /// The ticks that deadlines go by.
+    pub(crate) fn ticks(&mut self, clock: &impl Clock) -> io::Result<u64>
         ensures { guests_of self.new ≡ guests_of self.old }
     {
         Ok(self.pace.look(ticks(clock)?))
@@ -217,45 +136,15 @@ impl Hall {
         match told.token.0.checked_sub(FIRST_GUEST) {
             Some(key) => {
                 self.serve(clock, key, served, told.is_last);
-                self.relieve(clock, served);
+                self.free_memory(clock, served);
             }
-            None => self.knock(told.token.0),
-        }
-    }
-
-    /// Where too much is held, has each large answer go on, and drops who hardly reads it, so that
-    /// one turn of the loop gives out few more.
-    fn relieve<S: Alter>(&mut self, clock: &impl Clock, served: &mut Served<S>)
-        ensures { Continues S.Store served.old served.new }
-    {
-        if !self.stock.is_over() {
-            return;
-        }
-        for key in 0..MOST_GUESTS {
-            self.relieve_of(clock, key, served);
-        }
-    }
-
-    /// Has the peer's large answer go on, if it has one, and drops it where it hardly reads it.
-    fn relieve_of<S: Alter>(&mut self, clock: &impl Clock, key: usize, served: &mut Served<S>)
-        ensures { Continues S.Store served.old served.new }
-    {
-        if !self.has_large_answer(key) {
-            return;
-        }
-        self.serve(clock, key, served, true);
-        self.drop_slow(clock, key);
-    }
-
-    fn knock(&mut self, place: usize) {
-        if let Some(entrance) = self.entrances.get_mut(place) {
-            entrance.waits = true;
+            None => self.note_waiting(told.token.0),
         }
     }
 
     /// Lets a peer go on, at the clock's moment, and drops it where it is over. All other peers
     /// stay as they are. `is_last`: the system may have told that the peer sends no more.
-    fn serve<S: Alter>(
+    pub(crate) fn serve<S: Alter>(
         &mut self,
         clock: &impl Clock,
         key: usize,
@@ -265,13 +154,13 @@ impl Hall {
         ensures continues { Continues S.Store served.old served.new }
         ensures others { AreOthersKept key self.old self.new }
     {
-        let (Some(moment), Ok(now)) = (moment(clock), self.now(clock)) else {
+        let (Some(moment), Ok(ticks)) = (moment(clock), self.ticks(clock)) else {
             self.close(key);
             return;
         };
         served.set_moment(moment);
         let turn = Turn {
-            now,
+            ticks,
             has_room: self.stock.has_room(key),
             is_last,
         };
@@ -282,20 +171,20 @@ impl Hall {
         let next = guest.drive(served, turn);
         self.stock
             .changed(key, before, guest.held(), guest.is_large());
-        self.follow(key, next);
+        self.after_turn(key, next);
     }
 
-    fn follow(&mut self, key: usize, next: Next)
+    fn after_turn(&mut self, key: usize, next: Next)
         ensures { AreOthersKept key self.old self.new }
     {
         let keeps = match next {
             Next::Wait | Next::Parted => true,
-            Next::Again => self.wake(key),
+            Next::Again => self.rearm(key),
             Next::Hold => {
                 self.stock.hold();
                 true
             }
-            Next::Part => self.end(key) && self.wake(key),
+            Next::Part => self.end(key) && self.rearm(key),
             Next::Close => false,
         };
         if !keeps {
@@ -304,11 +193,11 @@ impl Hall {
     }
 
     /// Has the system tell again what is ready, and answers whether it will.
-    fn wake(&mut self, key: usize) -> bool
+    pub(crate) fn rearm(&mut self, key: usize) -> bool
         ensures { AreOthersKept key self.old self.new }
     {
         match self.guests.get_mut(key) {
-            Some(guest) => guest.wake(self.poll.registry(), token_of(key)).is_ok(),
+            Some(guest) => guest.rearm(self.poll.registry(), token_of(key)).is_ok(),
             None => false,
         }
     }
@@ -320,7 +209,7 @@ impl Hall {
         }
     }
 
-    fn close(&mut self, key: usize)
+    pub(crate) fn close(&mut self, key: usize)
         ensures { AreOthersKept key self.old self.new }
     {
         if let Some(guest) = self.guests.try_remove(key) {
@@ -330,130 +219,9 @@ impl Hall {
             }
         }
     }
-
-    fn admit_all(&mut self, now: u64) {
-        for place in 0..self.entrances.len() {
-            self.admit(place, now);
-        }
-    }
-
-    /// Lets in who waits at a door, while it has room.
-    fn admit(&mut self, place: usize, now: u64) {
-        for _ in 0..MOST_GUESTS {
-            let Some(entrance) = self.entrances.get_mut(place) else {
-                return;
-            };
-            if !entrance.waits || entrance.is_full() {
-                return;
-            }
-            match entrance.door.accept() {
-                Ok(stream) => {
-                    let kind = entrance.kind;
-                    self.adopt(stream, kind, place, now);
-                }
-                Err(error) => {
-                    // Where it is for want of descriptors, say, the next tick tries again.
-                    entrance.waits = error.kind() != ErrorKind::WouldBlock;
-                    return;
-                }
-            }
-        }
-    }
-
-    /// Takes a peer in, or drops it where the system or the memory has no room.
-    fn adopt(&mut self, stream: Stream, kind: Kind, place: usize, now: u64) {
-        let peer = kind.peer(self.alloc, self.keys, now);
-        let mut guest = Guest::new(stream, peer, place);
-        let key = self.guests.vacant_key();
-        if guest.register(self.poll.registry(), token_of(key)).is_err() {
-            return;
-        }
-        if self.guests.insert(guest).is_ok() {
-            if let Some(entrance) = self.entrances.get_mut(place) {
-                entrance.guests = entrance.guests.saturating_add(1);
-            }
-        }
-    }
-
-    /// Where room has come, those who are held back go on: all of them, or the one that holds
-    /// least.
-    fn let_on(&mut self) {
-        if self.stock.lets_all_on() {
-            for key in 0..MOST_GUESTS {
-                if self.is_held_back(key) {
-                    self.let_one_on(key);
-                }
-            }
-        } else if self.stock.lets_one_on() {
-            let least = self.least_held_back();
-            self.stock.favour(least);
-            if let Some(key) = least {
-                self.let_one_on(key);
-            }
-        }
-    }
-
-    fn let_one_on(&mut self, key: usize) {
-        if !self.wake(key) {
-            self.close(key);
-        }
-    }
-
-    fn is_held_back(&self, key: usize) -> bool {
-        self.guests
-            .get(key)
-            .is_some_and(|guest| guest.is_held_back())
-    }
-
-    fn least_held_back(&self) -> Option<usize> {
-        (0..MOST_GUESTS)
-            .filter(|key| self.is_held_back(*key))
-            .min_by_key(|key| self.guests.get(*key).map(|guest| guest.held()))
-    }
-
-    fn has_large_answer(&self, key: usize) -> bool {
-        self.guests
-            .get(key)
-            .is_some_and(|guest| guest.has_large_answer())
-    }
-
-    fn drop_slow(&mut self, clock: &impl Clock, key: usize) {
-        let is_slow = match self.now(clock) {
-            Ok(now) => self
-                .guests
-                .get(key)
-                .is_some_and(|guest| guest.reads_slowly(now)),
-            Err(_) => true,
-        };
-        if is_slow {
-            self.close(key);
-        }
-    }
-
-    /// From time to time drops who took too long, where others wait for room who rests on it, and
-    /// where too much is held who hardly reads what it asked for.
-    fn sweep(&mut self, now: u64) {
-        if now.saturating_sub(self.swept) < TICK {
-            return;
-        }
-        self.swept = now;
-        for key in 0..MOST_GUESTS {
-            if self.has_to_go(key, now) {
-                self.close(key);
-            }
-        }
-    }
-
-    fn has_to_go(&self, key: usize, now: u64) -> bool {
-        self.guests.get(key).is_some_and(|guest| {
-            guest.is_late(now)
-                || self.stock.holds_back() && guest.rests_on_room()
-                || self.stock.is_over() && guest.reads_slowly(now)
-        })
-    }
 }
 
-fn token_of(key: usize) -> Token {
+pub(crate) fn token_of(key: usize) -> Token {
     Token(key.saturating_add(FIRST_GUEST))
 }
 

@@ -3,13 +3,17 @@
 #![tactic(auto)]
 
 mod clock;
+mod deadlines;
 mod door;
+mod doors;
 mod guest;
 mod hall;
+mod memory;
 mod pace;
 mod stock;
 mod stream;
 
 pub use clock::moment;
 pub use door::Door;
-pub use hall::{Doors, Hall};
+pub use doors::Doors;
+pub use hall::Hall;

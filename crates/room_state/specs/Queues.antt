@@ -5,7 +5,7 @@ use Rattle.std.specs.List.{AllByRecursion}
 use Rattle.std.specs.List.Sorted.{IsPermutation}
 use Rattle.room_rules.specs.JobStates.{is_unfinished}
 use Rattle.room_rules.specs.declared.job.Job.{Job}
-pub use Rattle.room_state.specs.QueueFolds.{is_later, put_by_end, completed}
+pub use Rattle.room_state.specs.ProofQueueFolds.{is_later, put_by_end, completed}
 
 -- those that have not ended, in the order that they stand in
 abbrev pub not_completed : List Job → List Job
@@ -24,7 +24,7 @@ abbrev pub EndsLater : (job other : Job) → Type 0
 EndsLater job other =
     (ended_at other < ended_at job) ⊎ ((ended_at job ≡ ended_at other) × (other.job < job.job))
 
--- each ended later than all behind it
+-- each ended later than all after it
 abbrev pub EndsFall : List Job → Type 0
 EndsFall [] = Unit {0}
 EndsFall (job ∷ jobs) = AllByRecursion (EndsLater job) jobs × EndsFall jobs

@@ -4,10 +4,10 @@ use Rattle.sqlite_trees.specs.declared.store.Store.{Ghosts}
 use Rattle.sqlite.specs.State.{HasCleanDisk}
 use Rattle.sqlite.specs.Held.{Held, state}
 use Rattle.sqlite.proofs.StateLemmas.{survives_then}
-use Rattle.room_tables.specs.Calls.{StaysInside}
+use Rattle.room_tables.specs.Calls.{WritesInTransaction}
 
 module _ {S T U E F : Type 0} (store : Ghosts S) (old mid new : MutBor (Held S)) (first : Result T E) (second : Result U F) where
-  pub inside_then : StaysInside store old mid first → StaysInside store mid new second → StaysInside store old new second
+  pub inside_then : WritesInTransaction store old mid first → WritesInTransaction store mid new second → WritesInTransaction store old new second
   inside_then before after =
       let clean : HasCleanDisk (state store new.now) → HasCleanDisk (state store mid.now) = λ is. omega (arith, after.survives.clean, is) in
       record {

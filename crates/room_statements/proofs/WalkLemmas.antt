@@ -21,8 +21,8 @@ use Rattle.sqlite.specs.Held.{Held, state}
 use Rattle.sqlite.specs.State.{State, Shown, Begins, Fails, IsUnchanged, FailsToQuery, QueriesRow}
 use Rattle.sqlite.proofs.Callers.{begins_as}
 use Rattle.room_tables.specs.Queries.{HasNoSums, Means, TakesParams, of_table, shown_of, IsShownBy}
-use Rattle.room_tables.specs.Calls.{IsSame, Stays}
-use Rattle.room_statements.specs.Walks.{GathersAll, GathersShown, RefusesShown, WalksShown, WalksOver}
+use Rattle.room_tables.specs.Calls.{IsUnchanged as HasSameTables, UnchangedIfOpen}
+use Rattle.room_statements.specs.ProofWalks.{GathersAll, GathersShown, RefusesShown, WalksShown, WalksOver}
 use Rattle.room_tables.proofs.Queries.{answer_is, answered, fails}
 use Rattle.room_tables.proofs.Reading.{BothOpen, shown_open, open_back}
 
@@ -41,14 +41,14 @@ begun_open g text params old new (inr h) = shown_open text params _ _ _ h.1
 pub went_on : (old was now : State) → BothOpen old was → IsUnchanged was now → BothOpen old now
 went_on old was now open_before same = (open_before.0, same.0.is_open)
 
-pub unchanged_same : (old new : State) → IsUnchanged old new → IsSame old new
+pub unchanged_same : (old new : State) → IsUnchanged old new → HasSameTables old new
 unchanged_same old new same = (same.0.now_is, same.0.committed_is)
 
-pub unchanged_stays : (old new : State) → IsUnchanged old new → Stays old new
+pub unchanged_stays : (old new : State) → IsUnchanged old new → UnchangedIfOpen old new
 unchanged_stays old new same is_open settled = (same.0.now_is, same.0.committed_is)
 
 -- a failure at a row leaves what was committed before the walk
-pub failed_stays : (old was now : State) (error : Error) → IsUnchanged old was → Fails was now ⊥ error ⊎ IsUnchanged was now → Stays old now
+pub failed_stays : (old was now : State) (error : Error) → IsUnchanged old was → Fails was now ⊥ error ⊎ IsUnchanged was now → UnchangedIfOpen old now
 failed_stays old was now error same (inl failed) is_open settled = let undone = failed.3.undone is_open in (undone.0 ∙ same.0.committed_is ∙ sym settled, undone.1 ∙ same.0.committed_is)
 failed_stays old was now error same (inr stopped) is_open settled = (stopped.0.now_is ∙ same.0.now_is, stopped.0.committed_is ∙ same.0.committed_is)
 
@@ -63,7 +63,7 @@ query_back text params old new error h is_open = open_back text params old new e
 -- ---- what the query shows
 
 module _ (old : State) (text : List ℕ) (query : Query) (names : List (List ℕ)) (parameters : ℕ) (means : Means old.now.schema text query names parameters) (params : Row) where
-  pub query_stays : (new : State) → HasNoSums query → TakesParams old.now.schema query params parameters → (error : Error) → FailsToQuery text params old new error → Stays old new
+  pub query_stays : (new : State) → HasNoSums query → TakesParams old.now.schema query params parameters → (error : Error) → FailsToQuery text params old new error → UnchangedIfOpen old new
   query_stays new no_sums takes error h is_open settled = elim (fails old new old.now.schema refl text query names parameters means params no_sums takes error h) [
     | inl failed ↦ let undone = failed.3.undone is_open in (undone.0 ∙ sym settled, undone.1)
     | inr stopped ↦ (stopped.2.0.now_is, stopped.2.0.committed_is)
@@ -123,12 +123,12 @@ never_damaged (errors.IntegralValueOutOfRange a) h = let e = h in cc
 never_damaged (errors.Utf8Error a) h = let e = h in cc
 
 module _ {G : Type 0} (step : G → Row → G → Type 0) (refuses : G → Row → Type 0) (old new : State) (IsShown : List Row → Type 0) (first last : G) where
-  pub walk_failed : (fault : TableFault) (result : Result (Unit {0}) TableFault) → result ≡ Err fault → (fault ≡ Damaged → RefusesShown step refuses IsShown first) → Stays old new
+  pub walk_failed : (fault : TableFault) (result : Result (Unit {0}) TableFault) → result ≡ Err fault → (fault ≡ Damaged → RefusesShown step refuses IsShown first) → UnchangedIfOpen old new
       → WalksShown step refuses old new IsShown first last result
   walk_failed fault result is damaged stays =
       subst (WalksShown step refuses old new IsShown first last) (sym is) (record { all = tt; damaged = λ e. damaged (same_fault e); same = tt; stays = stays })
 
-  pub statement_failed : (error : Error) (fault : TableFault) (result : Result (Unit {0}) TableFault) → result ≡ Err fault → fault ≡ statement_fault error → Stays old new
+  pub statement_failed : (error : Error) (fault : TableFault) (result : Result (Unit {0}) TableFault) → result ≡ Err fault → fault ≡ statement_fault error → UnchangedIfOpen old new
       → WalksShown step refuses old new IsShown first last result
   statement_failed error fault result is told stays = walk_failed fault result is (λ damaged. absurd (never_damaged error (sym told ∙ damaged))) stays
 

@@ -1,4 +1,4 @@
-pub mod Walks
+pub mod ProofWalks
 pub mod Documents
 pub mod Shown
 pub mod Totals
@@ -8,3 +8,4 @@ pub mod Updates
 pub mod Alone
 pub mod Rows
 pub mod NewDocuments
+pub mod Words

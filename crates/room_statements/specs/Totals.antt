@@ -38,7 +38,7 @@ refuses_job first row =
 
 -- ---- its grants
 
--- the cells of a grant behind the account
+-- the cells of a grant after the account
 abbrev pub granted_cells : Row → Row
 granted_cells cells = column cells 1 ∷ column cells 2 ∷ []
 

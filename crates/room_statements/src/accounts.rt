@@ -1,14 +1,11 @@
 //! The rows of the table `account`.
 
 ghost use Rattle.std.specs.Prelude.{◌≡◌, ◌≢◌, [], ◌∷◌, Some, Err, option_map, IfOk, IfSome};
-ghost use Rattle.sqlite_value.specs.Order.{column};
+ghost use Rattle.room_statements.specs.Words.{Changes, GetsRow, IfOurTables, IsRowOf, KeepsOpen, ReadsStore, SetsRow, WritesInTransaction, column, number};
 ghost use Rattle.room_rules.specs.declared.account.Account.{Account as AccountValue};
 ghost use Rattle.room_tables.specs.Tables.{account as account_table};
-ghost use Rattle.room_tables.specs.Keyed.{SetsRow};
-ghost use Rattle.room_tables.specs.Cells.{number, account_cells};
+ghost use Rattle.room_tables.specs.Cells.{account_cells};
 ghost use Rattle.room_tables.specs.Accounts.{account_at, IsAccount};
-ghost use Rattle.room_tables.specs.Calls.{Changes, GetsRow, GoesOn, OfStore, ReadsStore, StaysInside};
-ghost use Rattle.room_statements.specs.SoundRows.{IsRowOf};
 ghost use Rattle.room_statements.specs.Updates.{SetsNextJob};
 
 use crate::values::{number, number_at};
@@ -20,40 +17,44 @@ use sqlite_value::value::ValueRef;
 /// The account's own row. `Damaged` tells that the row that is there can be none of sound rows.
 pub fn find_account<S: Alter>(
     connection: &mut Connection<S>,
-    name: Name,
+    account: Name,
 ) -> Result<Option<Account>, TableFault>
-    ensures found { OfStore S.Store connection.old connection.new
-        (λ db. IfOk result (λ found. account_at db name ≡ option_map (account_cells name) found)) }
+    ensures found { IfOurTables S.Store connection.old connection.new
+        (λ db. IfOk result
+        (λ found. account_at db account ≡ option_map (account_cells account) found)) }
     ensures in_range { IfOk result (λ found. IfSome found IsAccount) }
-    ensures damaged { OfStore S.Store connection.old connection.new (λ db.
+    ensures damaged { IfOurTables S.Store connection.old connection.new (λ db.
         result ≡ Err TableFault.Damaged
-        → IsRowOf (account_cells name) IsAccount (account_at db name) → ⊥) }
+        → IsRowOf (account_cells account) IsAccount (account_at db account) → ⊥) }
     ensures reads { ReadsStore S.Store connection.old connection.new result }
 {
-    match account_row(connection, name)? {
+    match account_row(connection, account)? {
         Some(row) => Ok(Some(account_from(&row)?)),
         None => Ok(None),
     }
 }
 
-fn account_row<S: Alter>(connection: &mut Connection<S>, name: Name) -> Result<Option<Row>, Error>
-    ensures gets { GetsRow S.Store connection.old connection.new (λ db. account_at db name)
+fn account_row<S: Alter>(
+    connection: &mut Connection<S>,
+    account: Name,
+) -> Result<Option<Row>, Error>
+    ensures gets { GetsRow S.Store connection.old connection.new (λ db. account_at db account)
         (λ cells. column cells 1 ∷ column cells 2 ∷ []) result }
-    ensures going { GoesOn S.Store connection.old connection.new result }
+    ensures connection { KeepsOpen S.Store connection.old connection.new result }
 {
     find_row(
         connection,
         "SELECT opened, next_job FROM account WHERE name = ?1",
-        &[ValueRef::Text(name.bytes())],
+        &[ValueRef::Text(account.bytes())],
     )
 }
 
 fn account_from(row: &Row) -> Result<Account, TableFault>
-    ensures read { IfOk result (λ account.
-        (column row.now 0 ≡ number account.opened) × (column row.now 1 ≡ number account.next_job)) }
+    ensures read { IfOk result (λ it.
+        (column row.now 0 ≡ number it.opened) × (column row.now 1 ≡ number it.next_job)) }
     ensures in_range { IfOk result IsAccount }
-    ensures damaged { result ≡ Err TableFault.Damaged → (account : AccountValue) → IsAccount account
-        → column row.now 0 ≡ number account.opened → column row.now 1 ≢ number account.next_job }
+    ensures damaged { result ≡ Err TableFault.Damaged → (it : AccountValue) → IsAccount it
+        → column row.now 0 ≡ number it.opened → column row.now 1 ≢ number it.next_job }
 {
     let opened = number_at(row, 0)?;
     let next_job = number_at(row, 1)?;
@@ -69,21 +70,21 @@ fn account_from(row: &Row) -> Result<Account, TableFault>
 /// Sets the account's own row, inside a transaction.
 pub fn set_account<S: Alter>(
     transaction: &mut Transaction<'_, S>,
-    name: Name,
-    account: Account,
+    account: Name,
+    row: Account,
 ) -> Result<(), Error>
-    requires { IsAccount account }
+    requires { IsAccount row }
     ensures sets { Changes S.Store transaction.old.conn.now transaction.new.conn.now result
-        (SetsRow account_table (account_cells name account)) }
-    ensures inside { StaysInside S.Store transaction.old.conn transaction.new.conn result }
+        (SetsRow account_table (account_cells account row)) }
+    ensures inside { WritesInTransaction S.Store transaction.old.conn transaction.new.conn result }
 {
     write(
         transaction,
         "INSERT INTO account (name, opened, next_job) VALUES (?1, ?2, ?3) ON CONFLICT (name) DO UPDATE SET opened = excluded.opened, next_job = excluded.next_job",
         &[
-            ValueRef::Text(name.bytes()),
-            number(account.opened),
-            number(account.next_job as u64),
+            ValueRef::Text(account.bytes()),
+            number(row.opened),
+            number(row.next_job as u64),
         ],
     )
 }
@@ -91,16 +92,16 @@ pub fn set_account<S: Alter>(
 /// Sets the number of the next job of an account that is there, inside a transaction.
 pub fn set_next_job<S: Alter>(
     transaction: &mut Transaction<'_, S>,
-    name: Name,
+    account: Name,
     next_job: u32,
 ) -> Result<(), Error>
     ensures sets { Changes S.Store transaction.old.conn.now transaction.new.conn.now result
-        (SetsNextJob name next_job) }
-    ensures inside { StaysInside S.Store transaction.old.conn transaction.new.conn result }
+        (SetsNextJob account next_job) }
+    ensures inside { WritesInTransaction S.Store transaction.old.conn transaction.new.conn result }
 {
     write(
         transaction,
         "UPDATE account SET next_job = ?2 WHERE name = ?1",
-        &[ValueRef::Text(name.bytes()), number(next_job as u64)],
+        &[ValueRef::Text(account.bytes()), number(next_job as u64)],
     )
 }

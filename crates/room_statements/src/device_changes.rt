@@ -1,14 +1,13 @@
 //! A device is turned on or off, or gets another rate.
 
 ghost use Rattle.std.specs.Prelude.{◌≡◌, false, true, not, IsTrue};
+ghost use Rattle.room_statements.specs.Words.{AllOrNothing, Changes, SetsRow, WritesInTransaction};
 ghost use Rattle.std.specs.FinMap.{contains_key};
 ghost use Rattle.room_rules.specs.Devices.{Devices, turned, rated};
 ghost use Rattle.room_rules.specs.Limits.{IsRate};
 ghost use Rattle.room_rules.specs.Names.{is_name};
-ghost use Rattle.room_tables.specs.Calls.{Changes, IsWhole, StaysInside};
 ghost use Rattle.room_tables.specs.Cells.{units_cells};
 ghost use Rattle.room_tables.specs.Devices.{HoldsDevices};
-ghost use Rattle.room_tables.specs.Keyed.{SetsRow};
 ghost use Rattle.room_tables.specs.Tables.{rates as rates_table};
 ghost use Rattle.room_statements.specs.Alone.{OnlyDevices};
 ghost use Rattle.room_statements.specs.Rows.{TurnsDevice};
@@ -29,7 +28,7 @@ pub fn turn_device<S: Alter>(
         (λ before after. (devices : Devices) → HoldsDevices before devices →
         is_new ≡ not (contains_key devices name) → HoldsDevices after (turned devices name on)) }
     ensures alone { Changes S.Store connection.old connection.new result OnlyDevices }
-    ensures whole { IsWhole S.Store connection.old connection.new result }
+    ensures whole { AllOrNothing S.Store connection.old connection.new result }
 {
     put_device(connection, name, on, is_new)
 }
@@ -44,7 +43,7 @@ fn put_device<S: Alter>(
     ensures turns { Changes S.Store connection.old connection.new result
         (TurnsDevice name on is_new) }
     ensures name { IsTrue (is_name name) }
-    ensures whole { IsWhole S.Store connection.old connection.new result }
+    ensures whole { AllOrNothing S.Store connection.old connection.new result }
 {
     let mut transaction = connection.transaction();
     turn(&mut transaction, name, on, is_new)?;
@@ -60,7 +59,7 @@ fn turn<S: Alter>(
     ensures turns { Changes S.Store transaction.old.conn.now transaction.new.conn.now result
         (TurnsDevice name on is_new) }
     ensures name { IsTrue (is_name name) }
-    ensures inside { StaysInside S.Store transaction.old.conn transaction.new.conn result }
+    ensures inside { WritesInTransaction S.Store transaction.old.conn transaction.new.conn result }
 {
     set_device(transaction, name, on)?;
     if is_new {
@@ -81,7 +80,7 @@ pub fn rate_device<S: Alter>(
         (λ before after. (devices : Devices) → HoldsDevices before devices →
         contains_key devices name ≡ true → HoldsDevices after (rated devices name units)) }
     ensures alone { Changes S.Store connection.old connection.new result OnlyDevices }
-    ensures whole { IsWhole S.Store connection.old connection.new result }
+    ensures whole { AllOrNothing S.Store connection.old connection.new result }
 {
     put_rate(connection, name, units)
 }
@@ -91,7 +90,7 @@ fn put_rate<S: Alter>(connection: &mut Connection<S>, name: Name, units: u32) ->
     ensures sets { Changes S.Store connection.old connection.new result
         (SetsRow rates_table (units_cells name units)) }
     ensures name { IsTrue (is_name name) }
-    ensures whole { IsWhole S.Store connection.old connection.new result }
+    ensures whole { AllOrNothing S.Store connection.old connection.new result }
 {
     let mut transaction = connection.transaction();
     set_rate(&mut transaction, name, units)?;

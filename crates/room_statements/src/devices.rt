@@ -1,17 +1,14 @@
 //! The rows of the table `device`.
 
 ghost use Rattle.std.specs.Prelude.{◌≡◌, ◌↔◌, ℕ, Bool, ⊤, List, true, [], ◌∷◌, map, Some, Err, option_map, IfOk, IsTrue, IsPermutation};
-ghost use Rattle.sqlite_value.specs.Order.{column};
+ghost use Rattle.room_statements.specs.Words.{Changes, GetsRow, IfOurTables, IsRowOf, KeepsOpen, ReadsStore, SetsRow, WalksStore, WritesInTransaction, column};
 ghost use Rattle.room_rules.specs.Devices.{Devices, is_some_on};
 ghost use Rattle.room_rules.specs.Names.{is_name};
 ghost use Rattle.room_tables.specs.Tables.{device as device_table};
-ghost use Rattle.room_tables.specs.Keyed.{SetsRow};
 ghost use Rattle.room_tables.specs.Cells.{on_cells};
 ghost use Rattle.room_tables.specs.Devices.{device_at, HoldsDevices};
 ghost use Rattle.room_statements.specs.Totals.{GathersOn, refuses_flag};
-ghost use Rattle.room_statements.specs.Walks.{WalksStore};
-ghost use Rattle.room_tables.specs.Calls.{Changes, GetsRow, GoesOn, OfStore, ReadsStore, StaysInside};
-ghost use Rattle.room_statements.specs.SoundRows.{device_rows, AreRowsOf, IsRowOf};
+ghost use Rattle.room_statements.specs.SoundRows.{device_rows, AreRowsOf};
 
 use crate::values::{flag, flag_at};
 use crate::walking::{Gather, walk};
@@ -26,9 +23,9 @@ pub fn find_device<S: Alter>(
     connection: &mut Connection<S>,
     name: Name,
 ) -> Result<Option<bool>, TableFault>
-    ensures found { OfStore S.Store connection.old connection.new
+    ensures found { IfOurTables S.Store connection.old connection.new
         (λ db. IfOk result (λ found. device_at db name ≡ option_map (on_cells name) found)) }
-    ensures damaged { OfStore S.Store connection.old connection.new (λ db.
+    ensures damaged { IfOurTables S.Store connection.old connection.new (λ db.
         result ≡ Err TableFault.Damaged
         → IsRowOf (on_cells name) (λ _. ⊤) (device_at db name) → ⊥) }
     ensures reads { ReadsStore S.Store connection.old connection.new result }
@@ -42,7 +39,7 @@ pub fn find_device<S: Alter>(
 fn device_row<S: Alter>(connection: &mut Connection<S>, name: Name) -> Result<Option<Row>, Error>
     ensures gets { GetsRow S.Store connection.old connection.new (λ db. device_at db name)
         (λ cells. column cells 1 ∷ []) result }
-    ensures going { GoesOn S.Store connection.old connection.new result }
+    ensures connection { KeepsOpen S.Store connection.old connection.new result }
 {
     find_row(
         connection,
@@ -54,11 +51,11 @@ fn device_row<S: Alter>(connection: &mut Connection<S>, name: Name) -> Result<Op
 /// Whether some device takes jobs now, of the rows or, where they are sound, of the map that they
 /// are. `Damaged` tells that a row that is there can be none of sound rows.
 pub fn is_device_on<S: Alter>(connection: &mut Connection<S>) -> Result<bool, TableFault>
-    ensures found { OfStore S.Store connection.old connection.new (λ db. IfOk result
+    ensures found { IfOurTables S.Store connection.old connection.new (λ db. IfOk result
         (λ on. IsTrue on ↔ ((name : List ℕ) × (device_at db name ≡ Some (on_cells name true))))) }
-    ensures of_map { OfStore S.Store connection.old connection.new (λ db. IfOk result
+    ensures of_map { IfOurTables S.Store connection.old connection.new (λ db. IfOk result
         (λ on. (devices : Devices) → HoldsDevices db devices → on ≡ is_some_on devices)) }
-    ensures damaged { OfStore S.Store connection.old connection.new (λ db.
+    ensures damaged { IfOurTables S.Store connection.old connection.new (λ db.
         result ≡ Err TableFault.Damaged
         → AreRowsOf (λ (it : List ℕ × Bool). on_cells it.0 it.1) (λ _. ⊤) (device_rows db) → ⊥) }
     ensures reads { ReadsStore S.Store connection.old connection.new result }
@@ -98,7 +95,7 @@ fn walk_devices<S: Alter>(
         S.Store connection.old connection.new
         (λ db. IsPermutation (map (λ row. column row 2 ∷ []) (db.trees device_table.tree)))
         found.old found.new result }
-    ensures going { GoesOn S.Store connection.old connection.new result }
+    ensures connection { KeepsOpen S.Store connection.old connection.new result }
 {
     walk(connection, "SELECT accepting FROM device", &[], found)
 }
@@ -112,7 +109,7 @@ pub fn set_device<S: Alter>(
     ensures sets { Changes S.Store transaction.old.conn.now transaction.new.conn.now result
         (SetsRow device_table (on_cells name on)) }
     ensures name { IsTrue (is_name name) }
-    ensures inside { StaysInside S.Store transaction.old.conn transaction.new.conn result }
+    ensures inside { WritesInTransaction S.Store transaction.old.conn transaction.new.conn result }
 {
     write(
         transaction,

@@ -1,18 +1,16 @@
 //! The rows of the table `document`.
 
 ghost use Rattle.std.specs.Prelude.{◌≡◌, [], ◌∷◌, None, pos, Err, IfOk, IfErr, IsPermutation};
+ghost use Rattle.room_statements.specs.Words.{Changes, HoldsRoom, IfOurTables, KeepsOpen, ReadsStore, RoomValue, SetsRow, WalksStore, WritesInTransaction, number};
 ghost use Rattle.std.specs.List.{flat_map};
 ghost use Rattle.std.specs.Option.{option_to_list};
 ghost use Rattle.sqlite_value.specs.declared.value.Value.TheVariants.{Text};
 ghost use Rattle.room_rules.specs.declared.job.Document.{Document as DocumentValue};
 ghost use Rattle.room_state.specs.Documents.{documents_of};
-ghost use Rattle.room_state.specs.Rooms.{RoomValue};
 ghost use Rattle.room_tables.specs.Tables.{document as document_table};
-ghost use Rattle.room_tables.specs.Keyed.{RemovesRows, SetsRow};
-ghost use Rattle.room_tables.specs.Cells.{number, document_cells};
-ghost use Rattle.room_tables.specs.Accounts.{document_at, HoldsRoom};
-ghost use Rattle.room_statements.specs.Walks.{WalksStore};
-ghost use Rattle.room_tables.specs.Calls.{Changes, GoesOn, OfStore, ReadsStore, StaysInside};
+ghost use Rattle.room_tables.specs.Keyed.{RemovesRows};
+ghost use Rattle.room_tables.specs.Cells.{document_cells};
+ghost use Rattle.room_tables.specs.Accounts.{document_at};
 ghost use Rattle.room_statements.specs.Documents.{IsDocumentOf, ShowsDocument, gathers_document, refuses_document, shown_documents};
 ghost use Rattle.room_statements.specs.SoundRows.{document_rows, AreRowsOf};
 
@@ -30,21 +28,23 @@ use std::alloc::Global;
 pub fn find_documents<S: Alter>(
     alloc: Global,
     connection: &mut Connection<S>,
-    name: Name,
+    account: Name,
     job: u32,
 ) -> Result<List<Document>, TableFault>
-    ensures listed { OfStore S.Store connection.old connection.new (λ db. (room : RoomValue)
-        → HoldsRoom db name room → IfOk result (λ documents. documents ≡ documents_of room job)) }
-    ensures damaged { OfStore S.Store connection.old connection.new (λ db.
+    ensures listed { IfOurTables S.Store connection.old connection.new (λ db. (room : RoomValue)
+        → HoldsRoom db account room
+        → IfOk result (λ documents. documents ≡ documents_of room job)) }
+    ensures damaged { IfOurTables S.Store connection.old connection.new (λ db.
         result ≡ Err TableFault.Damaged
-        → AreRowsOf (document_cells name) (IsDocumentOf job) (document_rows db name job) → ⊥) }
+        → AreRowsOf (document_cells account) (IsDocumentOf job)
+        (document_rows db account job) → ⊥) }
     ensures reads { ReadsStore S.Store connection.old connection.new result }
 {
     let mut found = Found {
         job,
         places: [None, None, None, None, None, None, None, None],
     };
-    walk_documents(connection, name, &mut found)?;
+    walk_documents(connection, account, &mut found)?;
     in_order(alloc, found.places)
 }
 
@@ -96,18 +96,19 @@ fn document_from(row: &Row, job: u32) -> Result<Document, TableFault>
 
 fn walk_documents<S: Alter>(
     connection: &mut Connection<S>,
-    name: Name,
+    account: Name,
     found: &mut Found,
 ) -> Result<(), TableFault>
     ensures walks { WalksStore gathers_document (λ first row. refuses_document first.job row)
         S.Store connection.old connection.new
-        (λ db. IsPermutation (shown_documents db name found.old.job)) found.old found.new result }
-    ensures going { GoesOn S.Store connection.old connection.new result }
+        (λ db. IsPermutation (shown_documents db account found.old.job))
+        found.old found.new result }
+    ensures connection { KeepsOpen S.Store connection.old connection.new result }
 {
     walk(
         connection,
         "SELECT number, format, bytes FROM document WHERE account = ?1 AND job = ?2",
-        &[ValueRef::Text(name.bytes()), number(found.job as u64)],
+        &[ValueRef::Text(account.bytes()), number(found.job as u64)],
         found,
     )
 }
@@ -130,25 +131,25 @@ fn in_order(alloc: Global, places: [Option<Document>; PLACES]) -> Result<List<Do
 /// of the bytes. `Damaged` tells that the job has a document of this number already.
 pub fn add_document<S: Alter>(
     transaction: &mut Transaction<'_, S>,
-    name: Name,
+    account: Name,
     job: u32,
     number_in_job: u32,
     format: Format,
     bytes: &[u8],
 ) -> Result<(), TableFault>
     ensures sets { Changes S.Store transaction.old.conn.now transaction.new.conn.now result
-        (SetsRow document_table (document_cells name
+        (SetsRow document_table (document_cells account
         (record { job = job; number = number_in_job; format = format; bytes = bytes.now }))) }
-    ensures taken { OfStore S.Store transaction.old.conn.now transaction.new.conn.now (λ db.
+    ensures taken { IfOurTables S.Store transaction.old.conn.now transaction.new.conn.now (λ db.
         result ≡ Err TableFault.Damaged
-        → document_at db name (pos job) (pos number_in_job) ≡ None → ⊥) }
-    ensures inside { StaysInside S.Store transaction.old.conn transaction.new.conn result }
+        → document_at db account (pos job) (pos number_in_job) ≡ None → ⊥) }
+    ensures inside { WritesInTransaction S.Store transaction.old.conn transaction.new.conn result }
 {
     put(
         transaction,
         "INSERT INTO document (account, job, number, format, bytes) VALUES (?1, ?2, ?3, ?4, ?5)",
         &[
-            ValueRef::Text(name.bytes()),
+            ValueRef::Text(account.bytes()),
             number(job as u64),
             number(number_in_job as u64),
             format_text(format),
@@ -160,16 +161,16 @@ pub fn add_document<S: Alter>(
 /// Removes the documents of a job of the account, inside a transaction.
 pub fn remove_documents<S: Alter>(
     transaction: &mut Transaction<'_, S>,
-    name: Name,
+    account: Name,
     job: u32,
 ) -> Result<(), Error>
     ensures removes { Changes S.Store transaction.old.conn.now transaction.new.conn.now result
-        (RemovesRows document_table (Text name ∷ number job ∷ []) (1 ∷ 2 ∷ [])) }
-    ensures inside { StaysInside S.Store transaction.old.conn transaction.new.conn result }
+        (RemovesRows document_table (Text account ∷ number job ∷ []) (1 ∷ 2 ∷ [])) }
+    ensures inside { WritesInTransaction S.Store transaction.old.conn transaction.new.conn result }
 {
     write(
         transaction,
         "DELETE FROM document WHERE account = ?1 AND job = ?2",
-        &[ValueRef::Text(name.bytes()), number(job as u64)],
+        &[ValueRef::Text(account.bytes()), number(job as u64)],
     )
 }

@@ -1,18 +1,14 @@
 //! The rows of the table `grants`.
 
 ghost use Rattle.std.specs.Prelude.{◌≡◌, ◌≢◌, ℕ, ◌≤◌, pos, [], ◌∷◌, map, Err, option_map, IfOk, IfSome, OnOk, IsPermutation};
-ghost use Rattle.sqlite_value.specs.Order.{column};
+ghost use Rattle.room_statements.specs.Words.{Changes, GetsRow, HasGathered, HoldsRoom, IfOurTables, IsRowOf, KeepsOpen, ReadsStore, RoomValue, SetsRow, WalksStore, WritesInTransaction, column, number};
 ghost use Rattle.room_rules.specs.Limits.{most_pages, most_units};
-ghost use Rattle.room_state.specs.Rooms.{RoomValue};
 ghost use Rattle.room_state.specs.Sums.{granted_to};
 ghost use Rattle.room_tables.specs.Tables.{grants as grants_table};
-ghost use Rattle.room_tables.specs.Keyed.{SetsRow};
-ghost use Rattle.room_tables.specs.Cells.{number, grant_cells};
-ghost use Rattle.room_tables.specs.Accounts.{grant_at, HoldsRoom};
+ghost use Rattle.room_tables.specs.Cells.{grant_cells};
+ghost use Rattle.room_tables.specs.Accounts.{grant_at};
 ghost use Rattle.room_statements.specs.Totals.{granted_cells, gathers_grant, refuses_grant};
-ghost use Rattle.room_tables.specs.Calls.{Changes, GetsRow, GoesOn, OfStore, ReadsStore, StaysInside};
-ghost use Rattle.room_statements.specs.Walks.{HasGathered, WalksStore};
-ghost use Rattle.room_statements.specs.SoundRows.{grant_rows, CanBeAdded, IsRowOf};
+ghost use Rattle.room_statements.specs.SoundRows.{grant_rows, CanBeAdded};
 
 use crate::values::{number, number_at};
 use crate::walking::{Gather, walk};
@@ -26,19 +22,19 @@ use sqlite_value::value::ValueRef;
 /// that the row that is there can be none of sound rows.
 pub fn find_grant<S: Alter>(
     connection: &mut Connection<S>,
-    name: Name,
+    account: Name,
     month: u32,
 ) -> Result<Option<u32>, TableFault>
-    ensures found { OfStore S.Store connection.old connection.new (λ db. IfOk result
-        (λ found. grant_at db name (pos month) ≡ option_map (grant_cells name month) found)) }
+    ensures found { IfOurTables S.Store connection.old connection.new (λ db. IfOk result
+        (λ found. grant_at db account (pos month) ≡ option_map (grant_cells account month) found)) }
     ensures in_range { IfOk result (λ found. IfSome found (λ pages. pages ≤ most_pages)) }
-    ensures damaged { OfStore S.Store connection.old connection.new (λ db.
+    ensures damaged { IfOurTables S.Store connection.old connection.new (λ db.
         result ≡ Err TableFault.Damaged
-        → IsRowOf (grant_cells name month) (λ pages. pages ≤ most_pages)
-        (grant_at db name (pos month)) → ⊥) }
+        → IsRowOf (grant_cells account month) (λ pages. pages ≤ most_pages)
+        (grant_at db account (pos month)) → ⊥) }
     ensures reads { ReadsStore S.Store connection.old connection.new result }
 {
-    match grant_row(connection, name, month)? {
+    match grant_row(connection, account, month)? {
         Some(row) => Ok(Some(pages_from(&row)?)),
         None => Ok(None),
     }
@@ -46,17 +42,17 @@ pub fn find_grant<S: Alter>(
 
 fn grant_row<S: Alter>(
     connection: &mut Connection<S>,
-    name: Name,
+    account: Name,
     month: u32,
 ) -> Result<Option<Row>, Error>
     ensures gets { GetsRow S.Store connection.old connection.new
-        (λ db. grant_at db name (pos month)) (λ cells. column cells 2 ∷ []) result }
-    ensures going { GoesOn S.Store connection.old connection.new result }
+        (λ db. grant_at db account (pos month)) (λ cells. column cells 2 ∷ []) result }
+    ensures connection { KeepsOpen S.Store connection.old connection.new result }
 {
     find_row(
         connection,
         "SELECT pages FROM grants WHERE account = ?1 AND month = ?2",
-        &[ValueRef::Text(name.bytes()), number(month as u64)],
+        &[ValueRef::Text(account.bytes()), number(month as u64)],
     )
 }
 
@@ -77,18 +73,19 @@ fn pages_from(row: &Row) -> Result<u32, TableFault>
 /// a row that is there can be none of sound rows.
 pub fn granted_to<S: Alter>(
     connection: &mut Connection<S>,
-    name: Name,
+    account: Name,
     month: u32,
 ) -> Result<u64, TableFault>
-    ensures granted { OfStore S.Store connection.old connection.new (λ db. (room : RoomValue)
-        → HoldsRoom db name room → IfOk result (λ pages. pages ≡ granted_to room month)) }
+    ensures granted { IfOurTables S.Store connection.old connection.new (λ db. (room : RoomValue)
+        → HoldsRoom db account room → IfOk result (λ pages. pages ≡ granted_to room month)) }
     ensures in_range { IfOk result (λ pages. pages ≤ most_units) }
-    ensures damaged { OfStore S.Store connection.old connection.new
-        (λ db. result ≡ Err TableFault.Damaged → CanBeAdded name month (grant_rows db name) → ⊥) }
+    ensures damaged { IfOurTables S.Store connection.old connection.new
+        (λ db. result ≡ Err TableFault.Damaged
+        → CanBeAdded account month (grant_rows db account) → ⊥) }
     ensures reads { ReadsStore S.Store connection.old connection.new result }
 {
     let mut granted = Granted { month, pages: 0 };
-    walk_grants(connection, name, &mut granted)?;
+    walk_grants(connection, account, &mut granted)?;
     Ok(granted.pages)
 }
 
@@ -121,21 +118,21 @@ impl Gather for Granted {
 
 fn walk_grants<S: Alter>(
     connection: &mut Connection<S>,
-    name: Name,
+    account: Name,
     granted: &mut Granted,
 ) -> Result<(), TableFault>
     ensures gathers { OnOk result (HasGathered gathers_grant granted.old granted.new) }
     ensures walks { WalksStore gathers_grant
         (λ first row. refuses_grant first.month first.pages row)
         S.Store connection.old connection.new
-        (λ db. IsPermutation (map granted_cells (grant_rows db name)))
+        (λ db. IsPermutation (map granted_cells (grant_rows db account)))
         granted.old granted.new result }
-    ensures going { GoesOn S.Store connection.old connection.new result }
+    ensures connection { KeepsOpen S.Store connection.old connection.new result }
 {
     walk(
         connection,
         "SELECT month, pages FROM grants WHERE account = ?1",
-        &[ValueRef::Text(name.bytes())],
+        &[ValueRef::Text(account.bytes())],
         granted,
     )
 }
@@ -143,19 +140,19 @@ fn walk_grants<S: Alter>(
 /// Sets the grant of a month, inside a transaction.
 pub fn set_grant<S: Alter>(
     transaction: &mut Transaction<'_, S>,
-    name: Name,
+    account: Name,
     month: u32,
     pages: u32,
 ) -> Result<(), Error>
     ensures sets { Changes S.Store transaction.old.conn.now transaction.new.conn.now result
-        (SetsRow grants_table (grant_cells name month pages)) }
-    ensures inside { StaysInside S.Store transaction.old.conn transaction.new.conn result }
+        (SetsRow grants_table (grant_cells account month pages)) }
+    ensures inside { WritesInTransaction S.Store transaction.old.conn transaction.new.conn result }
 {
     write(
         transaction,
         "INSERT INTO grants (account, month, pages) VALUES (?1, ?2, ?3) ON CONFLICT (account, month) DO UPDATE SET pages = excluded.pages",
         &[
-            ValueRef::Text(name.bytes()),
+            ValueRef::Text(account.bytes()),
             number(month as u64),
             number(pages as u64),
         ],

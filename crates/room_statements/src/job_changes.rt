@@ -1,15 +1,14 @@
-//! A job is new, stands otherwise, or has ended.
+//! A job is made, its standing changes, or it ends.
 
 ghost use Rattle.std.specs.Prelude.{◌≡◌, ◌<◌, ◌+◌, false, pos, None, Some, Err};
+ghost use Rattle.room_statements.specs.Words.{AllOrNothing, Changes, HoldsRoom, IfOurTables, RoomValue, WritesInTransaction};
 ghost use Rattle.room_rules.specs.declared.account.Account.{Account as AccountValue};
 ghost use Rattle.room_rules.specs.declared.job.Job.{Job as JobValue};
 ghost use Rattle.room_rules.specs.Limits.{last_next_job};
 ghost use Rattle.room_rules.specs.Standings.{IsStanding};
 ghost use Rattle.room_state.specs.Changes.{with_ended, with_new_job, with_standing};
 ghost use Rattle.room_state.specs.Conditions.{CanAddJob, CanFinish, CanRestand};
-ghost use Rattle.room_state.specs.Rooms.{RoomValue};
-ghost use Rattle.room_tables.specs.Accounts.{account_at, job_at, HoldsRoom};
-ghost use Rattle.room_tables.specs.Calls.{Changes, IsWhole, OfStore, StaysInside};
+ghost use Rattle.room_tables.specs.Accounts.{account_at, job_at};
 ghost use Rattle.room_tables.specs.Cells.{account_cells, job_cells};
 ghost use Rattle.room_statements.specs.Alone.{OnlyAccount};
 ghost use Rattle.room_statements.specs.NewDocuments.{document_of, first_of};
@@ -25,7 +24,7 @@ use sqlite::{Alter, Connection, Error, Transaction};
 /// is the one after it. `Damaged` tells that the job or the document is there already.
 pub fn make_job<S: Alter>(
     connection: &mut Connection<S>,
-    name: Name,
+    account: Name,
     job: &Job,
     document: Option<NewDocument<'_>>,
 ) -> Result<(), TableFault>
@@ -33,24 +32,24 @@ pub fn make_job<S: Alter>(
     requires standing { IsStanding job.now.standing }
     requires number { job.now.job < last_next_job }
     ensures room { Changes S.Store connection.old connection.new result
-        (λ before after. (room : RoomValue) → HoldsRoom before name room →
+        (λ before after. (room : RoomValue) → HoldsRoom before account room →
         CanAddJob room job.now (first_of job.now.job document.entry) →
-        HoldsRoom after name (with_new_job room job.now (first_of job.now.job document.entry))) }
+        HoldsRoom after account (with_new_job room job.now (first_of job.now.job document.entry))) }
     ensures alone { Changes S.Store connection.old connection.new result
-        (λ before after. (account : AccountValue) →
-        account_at before name ≡ Some (account_cells name account) →
-        OnlyAccount name before after) }
-    ensures damaged { OfStore S.Store connection.old connection.new
-        (λ db. result ≡ Err TableFault.Damaged → job_at db name (pos job.now.job) ≡ None →
-        IsFree name (first_of job.now.job document.entry) db → ⊥) }
-    ensures whole { IsWhole S.Store connection.old connection.new result }
+        (λ before after. (row : AccountValue) →
+        account_at before account ≡ Some (account_cells account row) →
+        OnlyAccount account before after) }
+    ensures damaged { IfOurTables S.Store connection.old connection.new
+        (λ db. result ≡ Err TableFault.Damaged → job_at db account (pos job.now.job) ≡ None →
+        IsFree account (first_of job.now.job document.entry) db → ⊥) }
+    ensures whole { AllOrNothing S.Store connection.old connection.new result }
 {
-    put_job(connection, name, job, document)
+    put_job(connection, account, job, document)
 }
 
 fn put_job<S: Alter>(
     connection: &mut Connection<S>,
-    name: Name,
+    account: Name,
     job: &Job,
     document: Option<NewDocument<'_>>,
 ) -> Result<(), TableFault>
@@ -58,102 +57,102 @@ fn put_job<S: Alter>(
     requires standing { IsStanding job.now.standing }
     requires number { job.now.job < last_next_job }
     ensures adds { Changes S.Store connection.old connection.new result
-        (AddsJob name job.now (first_of job.now.job document.entry)) }
-    ensures damaged { OfStore S.Store connection.old connection.new
-        (λ db. result ≡ Err TableFault.Damaged → job_at db name (pos job.now.job) ≡ None →
-        IsFree name (first_of job.now.job document.entry) db → ⊥) }
-    ensures whole { IsWhole S.Store connection.old connection.new result }
+        (AddsJob account job.now (first_of job.now.job document.entry)) }
+    ensures damaged { IfOurTables S.Store connection.old connection.new
+        (λ db. result ≡ Err TableFault.Damaged → job_at db account (pos job.now.job) ≡ None →
+        IsFree account (first_of job.now.job document.entry) db → ⊥) }
+    ensures whole { AllOrNothing S.Store connection.old connection.new result }
 {
     let mut transaction = connection.transaction();
-    add(&mut transaction, name, job, document)?;
+    add(&mut transaction, account, job, document)?;
     Ok(transaction.commit()?)
 }
 
 fn add<S: Alter>(
     transaction: &mut Transaction<'_, S>,
-    name: Name,
+    account: Name,
     job: &Job,
     document: Option<NewDocument<'_>>,
 ) -> Result<(), TableFault>
     requires standing { IsStanding job.now.standing }
     requires number { job.now.job < last_next_job }
     ensures adds { Changes S.Store transaction.old.conn.now transaction.new.conn.now result
-        (AddsJob name job.now (first_of job.now.job document.entry)) }
-    ensures damaged { OfStore S.Store transaction.old.conn.now transaction.new.conn.now
-        (λ db. result ≡ Err TableFault.Damaged → job_at db name (pos job.now.job) ≡ None →
-        IsFree name (first_of job.now.job document.entry) db → ⊥) }
-    ensures inside { StaysInside S.Store transaction.old.conn transaction.new.conn result }
+        (AddsJob account job.now (first_of job.now.job document.entry)) }
+    ensures damaged { IfOurTables S.Store transaction.old.conn.now transaction.new.conn.now
+        (λ db. result ≡ Err TableFault.Damaged → job_at db account (pos job.now.job) ≡ None →
+        IsFree account (first_of job.now.job document.entry) db → ⊥) }
+    ensures inside { WritesInTransaction S.Store transaction.old.conn transaction.new.conn result }
 {
     match document {
-        Some(first) => add_with(transaction, name, job, first),
-        None => add_without(transaction, name, job),
+        Some(first) => add_with(transaction, account, job, first),
+        None => add_without(transaction, account, job),
     }
 }
 
 fn add_with<S: Alter>(
     transaction: &mut Transaction<'_, S>,
-    name: Name,
+    account: Name,
     job: &Job,
     first: NewDocument<'_>,
 ) -> Result<(), TableFault>
     requires standing { IsStanding job.now.standing }
     requires number { job.now.job < last_next_job }
     ensures adds { Changes S.Store transaction.old.conn.now transaction.new.conn.now result
-        (AddsJob name job.now (Some (document_of job.now.job first.entry))) }
-    ensures damaged { OfStore S.Store transaction.old.conn.now transaction.new.conn.now
-        (λ db. result ≡ Err TableFault.Damaged → job_at db name (pos job.now.job) ≡ None →
-        IsFree name (Some (document_of job.now.job first.entry)) db → ⊥) }
-    ensures inside { StaysInside S.Store transaction.old.conn transaction.new.conn result }
+        (AddsJob account job.now (Some (document_of job.now.job first.entry))) }
+    ensures damaged { IfOurTables S.Store transaction.old.conn.now transaction.new.conn.now
+        (λ db. result ≡ Err TableFault.Damaged → job_at db account (pos job.now.job) ≡ None →
+        IsFree account (Some (document_of job.now.job first.entry)) db → ⊥) }
+    ensures inside { WritesInTransaction S.Store transaction.old.conn transaction.new.conn result }
 {
-    add_job(transaction, name, job)?;
+    add_job(transaction, account, job)?;
     add_document(
         transaction,
-        name,
+        account,
         job.job,
         first.number,
         first.format,
         first.bytes,
     )?;
-    count_on(transaction, name, job)
+    count_on(transaction, account, job)
 }
 
 fn add_without<S: Alter>(
     transaction: &mut Transaction<'_, S>,
-    name: Name,
+    account: Name,
     job: &Job,
 ) -> Result<(), TableFault>
     requires standing { IsStanding job.now.standing }
     requires number { job.now.job < last_next_job }
     ensures adds { Changes S.Store transaction.old.conn.now transaction.new.conn.now result
-        (AddsJob name job.now None) }
-    ensures damaged { OfStore S.Store transaction.old.conn.now transaction.new.conn.now
-        (λ db. result ≡ Err TableFault.Damaged → job_at db name (pos job.now.job) ≡ None → ⊥) }
-    ensures inside { StaysInside S.Store transaction.old.conn transaction.new.conn result }
+        (AddsJob account job.now None) }
+    ensures damaged { IfOurTables S.Store transaction.old.conn.now transaction.new.conn.now
+        (λ db. result ≡ Err TableFault.Damaged → job_at db account (pos job.now.job) ≡ None → ⊥) }
+    ensures inside { WritesInTransaction S.Store transaction.old.conn transaction.new.conn result }
 {
-    add_job(transaction, name, job)?;
-    count_on(transaction, name, job)
+    add_job(transaction, account, job)?;
+    count_on(transaction, account, job)
 }
 
 /// Sets the account's next number to the one after the job.
 fn count_on<S: Alter>(
     transaction: &mut Transaction<'_, S>,
-    name: Name,
+    account: Name,
     job: &Job,
 ) -> Result<(), TableFault>
     requires { job.now.job < last_next_job }
     ensures counts { Changes S.Store transaction.old.conn.now transaction.new.conn.now result
-        (SetsNextJob name (job.now.job + 1)) }
+        (SetsNextJob account (job.now.job + 1)) }
     ensures undamaged { result ≡ Err TableFault.Damaged → ⊥ }
-    ensures inside { StaysInside S.Store transaction.old.conn transaction.new.conn result }
+    ensures inside { WritesInTransaction S.Store transaction.old.conn transaction.new.conn result }
 {
-    Ok(set_next_job(transaction, name, job.job + 1)?)
+    Ok(set_next_job(transaction, account, job.job + 1)?)
 }
 
 /// Gives a job that is there another standing, with its next document or with none. `Damaged` tells
 /// that the document is there already.
 pub fn restand_job<S: Alter>(
     connection: &mut Connection<S>,
-    name: Name,
+    account: Name,
     number: u32,
     standing: &Standing,
     document: Option<NewDocument<'_>>,
@@ -161,25 +160,25 @@ pub fn restand_job<S: Alter>(
     requires mode { connection.old.in_transaction ≡ false }
     requires standing { IsStanding standing.now }
     ensures room { Changes S.Store connection.old connection.new result
-        (λ before after. (room : RoomValue) → HoldsRoom before name room →
+        (λ before after. (room : RoomValue) → HoldsRoom before account room →
         CanRestand room number standing.now (first_of number document.entry) →
-        HoldsRoom after name
+        HoldsRoom after account
         (with_standing room number standing.now (first_of number document.entry))) }
     ensures alone { Changes S.Store connection.old connection.new result
         (λ before after. (job : JobValue) →
-        job_at before name (pos number) ≡ Some (job_cells name job) →
-        OnlyAccount name before after) }
-    ensures damaged { OfStore S.Store connection.old connection.new
+        job_at before account (pos number) ≡ Some (job_cells account job) →
+        OnlyAccount account before after) }
+    ensures damaged { IfOurTables S.Store connection.old connection.new
         (λ db. result ≡ Err TableFault.Damaged →
-        IsFree name (first_of number document.entry) db → ⊥) }
-    ensures whole { IsWhole S.Store connection.old connection.new result }
+        IsFree account (first_of number document.entry) db → ⊥) }
+    ensures whole { AllOrNothing S.Store connection.old connection.new result }
 {
-    put_standing(connection, name, number, standing, document)
+    put_standing(connection, account, number, standing, document)
 }
 
 fn put_standing<S: Alter>(
     connection: &mut Connection<S>,
-    name: Name,
+    account: Name,
     number: u32,
     standing: &Standing,
     document: Option<NewDocument<'_>>,
@@ -187,129 +186,129 @@ fn put_standing<S: Alter>(
     requires mode { connection.old.in_transaction ≡ false }
     requires standing { IsStanding standing.now }
     ensures restands { Changes S.Store connection.old connection.new result
-        (Restands name number standing.now (first_of number document.entry)) }
-    ensures damaged { OfStore S.Store connection.old connection.new
+        (Restands account number standing.now (first_of number document.entry)) }
+    ensures damaged { IfOurTables S.Store connection.old connection.new
         (λ db. result ≡ Err TableFault.Damaged →
-        IsFree name (first_of number document.entry) db → ⊥) }
-    ensures whole { IsWhole S.Store connection.old connection.new result }
+        IsFree account (first_of number document.entry) db → ⊥) }
+    ensures whole { AllOrNothing S.Store connection.old connection.new result }
 {
     let mut transaction = connection.transaction();
-    restand(&mut transaction, name, number, standing, document)?;
+    restand(&mut transaction, account, number, standing, document)?;
     Ok(transaction.commit()?)
 }
 
 fn restand<S: Alter>(
     transaction: &mut Transaction<'_, S>,
-    name: Name,
+    account: Name,
     number: u32,
     standing: &Standing,
     document: Option<NewDocument<'_>>,
 ) -> Result<(), TableFault>
     requires { IsStanding standing.now }
     ensures restands { Changes S.Store transaction.old.conn.now transaction.new.conn.now result
-        (Restands name number standing.now (first_of number document.entry)) }
-    ensures damaged { OfStore S.Store transaction.old.conn.now transaction.new.conn.now
+        (Restands account number standing.now (first_of number document.entry)) }
+    ensures damaged { IfOurTables S.Store transaction.old.conn.now transaction.new.conn.now
         (λ db. result ≡ Err TableFault.Damaged →
-        IsFree name (first_of number document.entry) db → ⊥) }
-    ensures inside { StaysInside S.Store transaction.old.conn transaction.new.conn result }
+        IsFree account (first_of number document.entry) db → ⊥) }
+    ensures inside { WritesInTransaction S.Store transaction.old.conn transaction.new.conn result }
 {
     match document {
-        Some(next) => restand_with(transaction, name, number, standing, next),
-        None => restand_without(transaction, name, number, standing),
+        Some(next) => restand_with(transaction, account, number, standing, next),
+        None => restand_without(transaction, account, number, standing),
     }
 }
 
 fn restand_with<S: Alter>(
     transaction: &mut Transaction<'_, S>,
-    name: Name,
+    account: Name,
     number: u32,
     standing: &Standing,
     next: NewDocument<'_>,
 ) -> Result<(), TableFault>
     requires { IsStanding standing.now }
     ensures restands { Changes S.Store transaction.old.conn.now transaction.new.conn.now result
-        (Restands name number standing.now (Some (document_of number next.entry))) }
-    ensures damaged { OfStore S.Store transaction.old.conn.now transaction.new.conn.now
+        (Restands account number standing.now (Some (document_of number next.entry))) }
+    ensures damaged { IfOurTables S.Store transaction.old.conn.now transaction.new.conn.now
         (λ db. result ≡ Err TableFault.Damaged →
-        IsFree name (Some (document_of number next.entry)) db → ⊥) }
-    ensures inside { StaysInside S.Store transaction.old.conn transaction.new.conn result }
+        IsFree account (Some (document_of number next.entry)) db → ⊥) }
+    ensures inside { WritesInTransaction S.Store transaction.old.conn transaction.new.conn result }
 {
     add_document(
         transaction,
-        name,
+        account,
         number,
         next.number,
         next.format,
         next.bytes,
     )?;
-    Ok(set_standing(transaction, name, number, standing)?)
+    Ok(set_standing(transaction, account, number, standing)?)
 }
 
 fn restand_without<S: Alter>(
     transaction: &mut Transaction<'_, S>,
-    name: Name,
+    account: Name,
     number: u32,
     standing: &Standing,
 ) -> Result<(), TableFault>
     requires { IsStanding standing.now }
     ensures restands { Changes S.Store transaction.old.conn.now transaction.new.conn.now result
-        (Restands name number standing.now None) }
+        (Restands account number standing.now None) }
     ensures undamaged { result ≡ Err TableFault.Damaged → ⊥ }
-    ensures inside { StaysInside S.Store transaction.old.conn transaction.new.conn result }
+    ensures inside { WritesInTransaction S.Store transaction.old.conn transaction.new.conn result }
 {
-    Ok(set_standing(transaction, name, number, standing)?)
+    Ok(set_standing(transaction, account, number, standing)?)
 }
 
 /// Gives a job that is there a standing in which it has ended, and removes its documents.
 pub fn end_job<S: Alter>(
     connection: &mut Connection<S>,
-    name: Name,
+    account: Name,
     number: u32,
     standing: &Standing,
 ) -> Result<(), Error>
     requires mode { connection.old.in_transaction ≡ false }
     requires standing { IsStanding standing.now }
     ensures room { Changes S.Store connection.old connection.new result
-        (λ before after. (room : RoomValue) → HoldsRoom before name room →
+        (λ before after. (room : RoomValue) → HoldsRoom before account room →
         CanFinish room number standing.now →
-        HoldsRoom after name (with_ended room number standing.now)) }
+        HoldsRoom after account (with_ended room number standing.now)) }
     ensures alone { Changes S.Store connection.old connection.new result
         (λ before after. (job : JobValue) →
-        job_at before name (pos number) ≡ Some (job_cells name job) →
-        OnlyAccount name before after) }
-    ensures whole { IsWhole S.Store connection.old connection.new result }
+        job_at before account (pos number) ≡ Some (job_cells account job) →
+        OnlyAccount account before after) }
+    ensures whole { AllOrNothing S.Store connection.old connection.new result }
 {
-    put_ended(connection, name, number, standing)
+    put_ended(connection, account, number, standing)
 }
 
 fn put_ended<S: Alter>(
     connection: &mut Connection<S>,
-    name: Name,
+    account: Name,
     number: u32,
     standing: &Standing,
 ) -> Result<(), Error>
     requires mode { connection.old.in_transaction ≡ false }
     requires standing { IsStanding standing.now }
     ensures ends { Changes S.Store connection.old connection.new result
-        (EndsJob name number standing.now) }
-    ensures whole { IsWhole S.Store connection.old connection.new result }
+        (EndsJob account number standing.now) }
+    ensures whole { AllOrNothing S.Store connection.old connection.new result }
 {
     let mut transaction = connection.transaction();
-    end(&mut transaction, name, number, standing)?;
+    end(&mut transaction, account, number, standing)?;
     transaction.commit()
 }
 
 fn end<S: Alter>(
     transaction: &mut Transaction<'_, S>,
-    name: Name,
+    account: Name,
     number: u32,
     standing: &Standing,
 ) -> Result<(), Error>
     requires { IsStanding standing.now }
     ensures ends { Changes S.Store transaction.old.conn.now transaction.new.conn.now result
-        (EndsJob name number standing.now) }
-    ensures inside { StaysInside S.Store transaction.old.conn transaction.new.conn result }
+        (EndsJob account number standing.now) }
+    ensures inside { WritesInTransaction S.Store transaction.old.conn transaction.new.conn result }
 {
-    set_standing(transaction, name, number, standing)?;
-    remove_documents(transaction, name, number)
+    set_standing(transaction, account, number, standing)?;
+    remove_documents(transaction, account, number)
 }

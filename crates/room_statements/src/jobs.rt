@@ -1,17 +1,15 @@
 //! The rows of the table `job`.
 
 ghost use Rattle.std.specs.Prelude.{◌≡◌, None, Some, Err, pos, IfOk, IfSome, option_map, OnOk, OnErr, IfErr};
+ghost use Rattle.room_statements.specs.Words.{Changes, GetsRow, IfOurTables, IsRowOf, KeepsOpen, ReadsStore, SetsRow, WritesInTransaction};
 ghost use Rattle.room_rules.specs.Standings.{HasRanges, IsStanding};
 ghost use Rattle.room_rules.specs.declared.job.Job.{Job as JobValue};
 ghost use Rattle.room_rules.specs.declared.job.Standing.{Standing as StandingValue};
 ghost use Rattle.room_tables.specs.Tables.{job as job_table};
-ghost use Rattle.room_tables.specs.Keyed.{SetsRow};
 ghost use Rattle.room_tables.specs.Cells.{job_cells};
 ghost use Rattle.room_tables.specs.Accounts.{job_at};
-ghost use Rattle.room_tables.specs.Calls.{Changes, GetsRow, GoesOn, OfStore, ReadsStore, StaysInside};
 ghost use Rattle.room_rules.specs.Names.{IsNameOrNone};
 ghost use Rattle.room_statements.specs.Shown.{behind_key, ShowsStanding, ShowsJob, IsJob};
-ghost use Rattle.room_statements.specs.SoundRows.{IsRowOf};
 ghost use Rattle.room_statements.specs.Updates.{SetsStanding};
 
 use crate::values::{
@@ -27,19 +25,20 @@ use sqlite_value::value::ValueRef;
 /// of sound rows.
 pub fn find_job<S: Alter>(
     connection: &mut Connection<S>,
-    name: Name,
+    account: Name,
     number: u32,
 ) -> Result<Option<Job>, TableFault>
-    ensures found { OfStore S.Store connection.old connection.new (λ db.
-        IfOk result (λ found. job_at db name (pos number) ≡ option_map (job_cells name) found)) }
+    ensures found { IfOurTables S.Store connection.old connection.new (λ db.
+        IfOk result
+        (λ found. job_at db account (pos number) ≡ option_map (job_cells account) found)) }
     ensures in_range { IfOk result (λ found. IfSome found (λ job. (job.job ≡ number) × IsJob job)) }
-    ensures damaged { OfStore S.Store connection.old connection.new (λ db.
+    ensures damaged { IfOurTables S.Store connection.old connection.new (λ db.
         result ≡ Err TableFault.Damaged
-        → IsRowOf (job_cells name) (λ job. (job.job ≡ number) × IsJob job)
-        (job_at db name (pos number)) → ⊥) }
+        → IsRowOf (job_cells account) (λ job. (job.job ≡ number) × IsJob job)
+        (job_at db account (pos number)) → ⊥) }
     ensures reads { ReadsStore S.Store connection.old connection.new result }
 {
-    match job_row(connection, name, number)? {
+    match job_row(connection, account, number)? {
         Some(row) => Ok(Some(job_from(&row, number)?)),
         None => Ok(None),
     }
@@ -47,17 +46,17 @@ pub fn find_job<S: Alter>(
 
 fn job_row<S: Alter>(
     connection: &mut Connection<S>,
-    name: Name,
+    account: Name,
     job: u32,
 ) -> Result<Option<Row>, Error>
     ensures gets { GetsRow S.Store connection.old connection.new
-        (λ db. job_at db name (pos job)) behind_key result }
-    ensures going { GoesOn S.Store connection.old connection.new result }
+        (λ db. job_at db account (pos job)) behind_key result }
+    ensures connection { KeepsOpen S.Store connection.old connection.new result }
 {
     find_row(
         connection,
         "SELECT name, password, state, open, stopping, copies, impressions, reserved, charged, documents, rate, device, created, started, ended FROM job WHERE account = ?1 AND job = ?2",
-        &[ValueRef::Text(name.bytes()), number(job as u64)],
+        &[ValueRef::Text(account.bytes()), number(job as u64)],
     )
 }
 
@@ -135,22 +134,22 @@ fn columns_from(row: &Row) -> Result<Standing, TableFault>
 /// job of this number is there already.
 pub fn add_job<S: Alter>(
     transaction: &mut Transaction<'_, S>,
-    name: Name,
+    account: Name,
     job: &Job,
 ) -> Result<(), TableFault>
     requires { IsStanding job.now.standing }
     ensures sets { Changes S.Store transaction.old.conn.now transaction.new.conn.now result
-        (SetsRow job_table (job_cells name job.now)) }
-    ensures taken { OfStore S.Store transaction.old.conn.now transaction.new.conn.now
-        (λ db. result ≡ Err TableFault.Damaged → job_at db name (pos job.now.job) ≡ None → ⊥) }
-    ensures inside { StaysInside S.Store transaction.old.conn transaction.new.conn result }
+        (SetsRow job_table (job_cells account job.now)) }
+    ensures taken { IfOurTables S.Store transaction.old.conn.now transaction.new.conn.now
+        (λ db. result ≡ Err TableFault.Damaged → job_at db account (pos job.now.job) ≡ None → ⊥) }
+    ensures inside { WritesInTransaction S.Store transaction.old.conn transaction.new.conn result }
 {
     let s = &job.standing;
     put(
         transaction,
         "INSERT INTO job (account, job, name, password, state, open, stopping, copies, impressions, reserved, charged, documents, rate, device, created, started, ended) VALUES (?1, ?2, ?3, ?4, ?5, ?6, ?7, ?8, ?9, ?10, ?11, ?12, ?13, ?14, ?15, ?16, ?17)",
         &[
-            ValueRef::Text(name.bytes()),
+            ValueRef::Text(account.bytes()),
             number(job.job as u64),
             ValueRef::Blob(job.name.as_slice()),
             ValueRef::Blob(job.password.as_slice()),
@@ -175,20 +174,20 @@ pub fn add_job<S: Alter>(
 /// name and its password stay.
 pub fn set_standing<S: Alter>(
     transaction: &mut Transaction<'_, S>,
-    name: Name,
+    account: Name,
     job: u32,
     standing: &Standing,
 ) -> Result<(), Error>
     requires { IsStanding standing.now }
     ensures sets { Changes S.Store transaction.old.conn.now transaction.new.conn.now result
-        (SetsStanding name job standing.now) }
-    ensures inside { StaysInside S.Store transaction.old.conn transaction.new.conn result }
+        (SetsStanding account job standing.now) }
+    ensures inside { WritesInTransaction S.Store transaction.old.conn transaction.new.conn result }
 {
     write(
         transaction,
         "UPDATE job SET state = ?3, open = ?4, stopping = ?5, copies = ?6, impressions = ?7, reserved = ?8, charged = ?9, documents = ?10, rate = ?11, device = ?12, created = ?13, started = ?14, ended = ?15 WHERE account = ?1 AND job = ?2",
         &[
-            ValueRef::Text(name.bytes()),
+            ValueRef::Text(account.bytes()),
             number(job as u64),
             number_of_state(standing.state),
             flag(standing.is_open),

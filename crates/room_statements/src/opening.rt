@@ -1,12 +1,11 @@
 //! An account is opened.
 
 ghost use Rattle.std.specs.Prelude.{◌≡◌, ◌≤◌, false};
+ghost use Rattle.room_statements.specs.Words.{AllOrNothing, Changes, HoldsRoom, SetsRow};
 ghost use Rattle.room_rules.specs.Limits.{last_moment};
 ghost use Rattle.room_state.specs.Rooms.{empty_room};
-ghost use Rattle.room_tables.specs.Accounts.{HoldsNothing, HoldsRoom};
-ghost use Rattle.room_tables.specs.Calls.{Changes, IsWhole};
+ghost use Rattle.room_tables.specs.Accounts.{HoldsNothing};
 ghost use Rattle.room_tables.specs.Cells.{account_cells};
-ghost use Rattle.room_tables.specs.Keyed.{SetsRow};
 ghost use Rattle.room_tables.specs.Tables.{account as account_table};
 ghost use Rattle.room_statements.specs.Alone.{OnlyAccount};
 
@@ -17,31 +16,35 @@ use sqlite::{Alter, Connection, Error};
 /// Opens the account at the moment `now`, at most `LAST_MOMENT`.
 pub fn open_account<S: Alter>(
     connection: &mut Connection<S>,
-    name: Name,
+    account: Name,
     now: u64,
 ) -> Result<(), Error>
     requires mode { connection.old.in_transaction ≡ false }
     requires moment { now ≤ last_moment }
     ensures room { Changes S.Store connection.old connection.new result
-        (λ before after. HoldsNothing before name → HoldsRoom after name (empty_room now)) }
-    ensures alone { Changes S.Store connection.old connection.new result (OnlyAccount name) }
-    ensures whole { IsWhole S.Store connection.old connection.new result }
+        (λ before after. HoldsNothing before account → HoldsRoom after account (empty_room now)) }
+    ensures alone { Changes S.Store connection.old connection.new result (OnlyAccount account) }
+    ensures whole { AllOrNothing S.Store connection.old connection.new result }
 {
-    put_account(connection, name, now)
+    put_account(connection, account, now)
 }
 
-fn put_account<S: Alter>(connection: &mut Connection<S>, name: Name, now: u64) -> Result<(), Error>
+fn put_account<S: Alter>(
+    connection: &mut Connection<S>,
+    account: Name,
+    now: u64,
+) -> Result<(), Error>
     requires mode { connection.old.in_transaction ≡ false }
     requires moment { now ≤ last_moment }
     ensures sets { Changes S.Store connection.old connection.new result
-        (SetsRow account_table (account_cells name (record { opened = now; next_job = 1 }))) }
-    ensures whole { IsWhole S.Store connection.old connection.new result }
+        (SetsRow account_table (account_cells account (record { opened = now; next_job = 1 }))) }
+    ensures whole { AllOrNothing S.Store connection.old connection.new result }
 {
-    let account = Account {
+    let row = Account {
         opened: now,
         next_job: 1,
     };
     let mut transaction = connection.transaction();
-    set_account(&mut transaction, name, account)?;
+    set_account(&mut transaction, account, row)?;
     transaction.commit()
 }

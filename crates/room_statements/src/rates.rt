@@ -1,15 +1,12 @@
 //! The rows of the table `rates`.
 
 ghost use Rattle.std.specs.Prelude.{◌≡◌, ◌≢◌, ◌≤◌, ℕ, [], ◌∷◌, Err, option_map, IfOk, IfSome, IsTrue};
-ghost use Rattle.sqlite_value.specs.Order.{column};
+ghost use Rattle.room_statements.specs.Words.{Changes, GetsRow, IfOurTables, IsRowOf, KeepsOpen, ReadsStore, SetsRow, WritesInTransaction, column, number};
 ghost use Rattle.room_rules.specs.Limits.{most_rate, IsRate};
 ghost use Rattle.room_rules.specs.Names.{is_name};
 ghost use Rattle.room_tables.specs.Tables.{rates as rates_table};
-ghost use Rattle.room_tables.specs.Keyed.{SetsRow};
-ghost use Rattle.room_tables.specs.Cells.{number, units_cells};
+ghost use Rattle.room_tables.specs.Cells.{units_cells};
 ghost use Rattle.room_tables.specs.Devices.{rate_at};
-ghost use Rattle.room_tables.specs.Calls.{Changes, GetsRow, GoesOn, OfStore, ReadsStore, StaysInside};
-ghost use Rattle.room_statements.specs.SoundRows.{IsRowOf};
 
 use crate::values::{number, number_at};
 use room_rules::{MOST_RATE, Name};
@@ -23,11 +20,11 @@ pub fn find_rate<S: Alter>(
     connection: &mut Connection<S>,
     name: Name,
 ) -> Result<Option<u32>, TableFault>
-    ensures found { OfStore S.Store connection.old connection.new
+    ensures found { IfOurTables S.Store connection.old connection.new
         (λ db. IfOk result (λ found. rate_at db name ≡ option_map (units_cells name) found)) }
     ensures in_range { IfOk result
         (λ found. IfSome found IsRate) }
-    ensures damaged { OfStore S.Store connection.old connection.new (λ db.
+    ensures damaged { IfOurTables S.Store connection.old connection.new (λ db.
         result ≡ Err TableFault.Damaged
         → IsRowOf (units_cells name) IsRate (rate_at db name)
         → ⊥) }
@@ -42,7 +39,7 @@ pub fn find_rate<S: Alter>(
 fn rate_row<S: Alter>(connection: &mut Connection<S>, name: Name) -> Result<Option<Row>, Error>
     ensures gets { GetsRow S.Store connection.old connection.new (λ db. rate_at db name)
         (λ cells. column cells 1 ∷ []) result }
-    ensures going { GoesOn S.Store connection.old connection.new result }
+    ensures connection { KeepsOpen S.Store connection.old connection.new result }
 {
     find_row(
         connection,
@@ -73,7 +70,7 @@ pub fn set_rate<S: Alter>(
     ensures sets { Changes S.Store transaction.old.conn.now transaction.new.conn.now result
         (SetsRow rates_table (units_cells name units)) }
     ensures name { IsTrue (is_name name) }
-    ensures inside { StaysInside S.Store transaction.old.conn transaction.new.conn result }
+    ensures inside { WritesInTransaction S.Store transaction.old.conn transaction.new.conn result }
 {
     write(
         transaction,

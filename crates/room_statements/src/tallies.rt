@@ -1,14 +1,11 @@
 //! What is counted of the rows of an account's jobs.
 
 ghost use Rattle.std.specs.Prelude.{◌≡◌, ◌≤◌, map, Err, IfOk, OnOk, IsPermutation};
+ghost use Rattle.room_statements.specs.Words.{HasGathered, HoldsRoom, IfOurTables, KeepsOpen, ReadsStore, RoomValue, WalksStore};
 ghost use Rattle.std.specs.FinMap.{values};
 ghost use Rattle.room_rules.specs.Limits.{most_unfinished, most_units};
-ghost use Rattle.room_state.specs.Rooms.{RoomValue};
 ghost use Rattle.room_state.specs.Tallies.{tally_of};
-ghost use Rattle.room_tables.specs.Accounts.{HoldsRoom};
 ghost use Rattle.room_statements.specs.Totals.{counted_cells, CountsJob, refuses_job};
-ghost use Rattle.room_tables.specs.Calls.{GoesOn, OfStore, ReadsStore};
-ghost use Rattle.room_statements.specs.Walks.{HasGathered, WalksStore};
 ghost use Rattle.room_statements.specs.SoundRows.{job_rows, CanBeCounted};
 
 use crate::values::{number_at, state_at};
@@ -21,18 +18,21 @@ use sqlite_value::value::ValueRef;
 
 /// What is counted of all jobs of the account. `Damaged` tells that a row that is there can be none
 /// of sound rows.
-pub fn tally_jobs<S: Alter>(connection: &mut Connection<S>, name: Name) -> Result<Tally, TableFault>
-    ensures counted { OfStore S.Store connection.old connection.new (λ db. (room : RoomValue)
-        → HoldsRoom db name room → IfOk result (λ tally. tally ≡ tally_of (values room.jobs))) }
+pub fn tally_jobs<S: Alter>(
+    connection: &mut Connection<S>,
+    account: Name,
+) -> Result<Tally, TableFault>
+    ensures counted { IfOurTables S.Store connection.old connection.new (λ db. (room : RoomValue)
+        → HoldsRoom db account room → IfOk result (λ tally. tally ≡ tally_of (values room.jobs))) }
     ensures few { IfOk result (λ tally. tally.unfinished ≤ most_unfinished) }
     ensures bounds { IfOk result
         (λ tally. (tally.reserved ≤ most_units) × (tally.charged ≤ most_units)) }
-    ensures damaged { OfStore S.Store connection.old connection.new
-        (λ db. result ≡ Err TableFault.Damaged → CanBeCounted name (job_rows db name) → ⊥) }
+    ensures damaged { IfOurTables S.Store connection.old connection.new
+        (λ db. result ≡ Err TableFault.Damaged → CanBeCounted account (job_rows db account) → ⊥) }
     ensures reads { ReadsStore S.Store connection.old connection.new result }
 {
     let mut tally = Tally::new();
-    walk_jobs(connection, name, &mut tally)?;
+    walk_jobs(connection, account, &mut tally)?;
     Ok(tally)
 }
 
@@ -55,18 +55,18 @@ impl Gather for Tally {
 
 fn walk_jobs<S: Alter>(
     connection: &mut Connection<S>,
-    name: Name,
+    account: Name,
     tally: &mut Tally,
 ) -> Result<(), TableFault>
     ensures gathers { OnOk result (HasGathered CountsJob tally.old tally.new) }
     ensures walks { WalksStore CountsJob refuses_job S.Store connection.old connection.new
-        (λ db. IsPermutation (map counted_cells (job_rows db name))) tally.old tally.new result }
-    ensures going { GoesOn S.Store connection.old connection.new result }
+        (λ db. IsPermutation (map counted_cells (job_rows db account))) tally.old tally.new result }
+    ensures connection { KeepsOpen S.Store connection.old connection.new result }
 {
     walk(
         connection,
         "SELECT state, reserved, charged FROM job WHERE account = ?1",
-        &[ValueRef::Text(name.bytes())],
+        &[ValueRef::Text(account.bytes())],
         tally,
     )
 }

@@ -1,17 +1,14 @@
 //! What is counted of the rows of an account's jobs that have not ended.
 
 ghost use Rattle.std.specs.Prelude.{◌≡◌, ◌≤◌, map, Err, IfOk, OnOk, IsPermutation};
+ghost use Rattle.room_statements.specs.Words.{HasGathered, HoldsRoom, IfOurTables, KeepsOpen, ReadsStore, RoomValue, WalksStore};
 ghost use Rattle.std.specs.FinMap.{values};
 ghost use Rattle.room_rules.specs.Limits.{most_unfinished, most_units};
-ghost use Rattle.room_state.specs.Rooms.{RoomValue};
 ghost use Rattle.room_state.specs.Queues.{not_completed};
 ghost use Rattle.room_state.specs.RoomRules.{unfinished_count};
 ghost use Rattle.room_state.specs.Sums.{has_processing};
 ghost use Rattle.room_state.specs.Tallies.{tally_of};
-ghost use Rattle.room_tables.specs.Accounts.{HoldsRoom};
-ghost use Rattle.room_tables.specs.Calls.{GoesOn, OfStore, ReadsStore};
 ghost use Rattle.room_statements.specs.Totals.{counted_cells, CountsJob, refuses_job};
-ghost use Rattle.room_statements.specs.Walks.{HasGathered, WalksStore};
 ghost use Rattle.room_statements.specs.SoundRows.{unfinished_rows, CanBeCounted};
 
 use crate::walking::walk;
@@ -26,41 +23,42 @@ use sqlite_value::value::ValueRef;
 /// of sound rows.
 pub fn tally_unfinished<S: Alter>(
     connection: &mut Connection<S>,
-    name: Name,
+    account: Name,
 ) -> Result<Tally, TableFault>
-    ensures counted { OfStore S.Store connection.old connection.new (λ db.
-        (room : RoomValue) → HoldsRoom db name room
+    ensures counted { IfOurTables S.Store connection.old connection.new (λ db.
+        (room : RoomValue) → HoldsRoom db account room
         → IfOk result (λ tally. tally ≡ tally_of (not_completed (values room.jobs)))) }
-    ensures queue { OfStore S.Store connection.old connection.new (λ db.
-        (room : RoomValue) → HoldsRoom db name room → IfOk result (λ tally.
+    ensures queue { IfOurTables S.Store connection.old connection.new (λ db.
+        (room : RoomValue) → HoldsRoom db account room → IfOk result (λ tally.
         (tally.unfinished ≡ unfinished_count room) × (tally.is_processing ≡ has_processing room))) }
     ensures few { IfOk result (λ tally. tally.unfinished ≤ most_unfinished) }
     ensures bounds { IfOk result
         (λ tally. (tally.reserved ≤ most_units) × (tally.charged ≤ most_units)) }
-    ensures damaged { OfStore S.Store connection.old connection.new
-        (λ db. result ≡ Err TableFault.Damaged → CanBeCounted name (unfinished_rows db name) → ⊥) }
+    ensures damaged { IfOurTables S.Store connection.old connection.new
+        (λ db. result ≡ Err TableFault.Damaged
+        → CanBeCounted account (unfinished_rows db account) → ⊥) }
     ensures reads { ReadsStore S.Store connection.old connection.new result }
 {
     let mut tally = Tally::new();
-    walk_queued(connection, name, &mut tally)?;
+    walk_queued(connection, account, &mut tally)?;
     Ok(tally)
 }
 
 fn walk_queued<S: Alter>(
     connection: &mut Connection<S>,
-    name: Name,
+    account: Name,
     tally: &mut Tally,
 ) -> Result<(), TableFault>
     ensures gathers { OnOk result (HasGathered CountsJob tally.old tally.new) }
     ensures walks { WalksStore CountsJob refuses_job S.Store connection.old connection.new
-        (λ db. IsPermutation (map counted_cells (unfinished_rows db name)))
+        (λ db. IsPermutation (map counted_cells (unfinished_rows db account)))
         tally.old tally.new result }
-    ensures going { GoesOn S.Store connection.old connection.new result }
+    ensures connection { KeepsOpen S.Store connection.old connection.new result }
 {
     walk(
         connection,
         "SELECT state, reserved, charged FROM job WHERE account = ?1 AND ended = -1",
-        &[ValueRef::Text(name.bytes())],
+        &[ValueRef::Text(account.bytes())],
         tally,
     )
 }

@@ -30,7 +30,7 @@ use Rattle.room_tables.specs.Accounts.{job_at, HoldsRoom}
 use Rattle.room_tables.specs.declared.fault.TableFault.{TableFault}
 use Rattle.room_tables.proofs.KeyedRows.{same_row}
 use Rattle.room_statements.specs.Shown.{IsJob}
-use Rattle.room_store.specs.Known.{IsThere}
+use Rattle.room_store.specs.ProofKnown.{HasJobRow}
 use Rattle.room_tables.proofs.ReadBackLemmas.{rows_are_read_back}
 
 one_value : {X : Type 0} (cells : X → Row) → ((a b : X) → cells a ≡ cells b → a ≡ b) → (o p : Option X) → option_map cells o ≡ option_map cells p → o ≡ p
@@ -81,7 +81,7 @@ showable job is =
     (all_showable last_next_job (job ∷ []) (omega arith) (at, tt)).0
 
 -- a job whose row is there is in the room
-pub job_in_room : (db : Database) (name : List ℕ) (job : Job) → IsThere name job db → IsStanding job.standing → (room : RoomValue) → HoldsRoom db name room → get room.jobs job.job ≡ Some job
+pub job_in_room : (db : Database) (name : List ℕ) (job : Job) → HasJobRow name job db → IsStanding job.standing → (room : RoomValue) → HoldsRoom db name room → get room.jobs job.job ≡ Some job
 job_in_room db name job there is room holds = by_room (get room.jobs job.job) refl
   where
     by_room : (o : Option Job) → get room.jobs job.job ≡ o → o ≡ Some job
@@ -122,5 +122,5 @@ release_of_found room ask now job there password same asked decided moved is =
     is ∙ sym (moved (left_in room now)) ∙ ap (λ b. move (ReleaseJob b (left_in room now)) job.standing) same
     ∙ ap (λ (o : Option Job). and_then (job_or_refusal o) (λ (job : Job). move (ReleaseJob (has_password job) (left_in room now)) job.standing)) (sym there)
 
-pub there_still : (name : List ℕ) (job : Job) (old new : Database) → new ≡ old → IsThere name job old → IsThere name job new
-there_still name job old new same there = subst (IsThere name job) (sym same) there
+pub there_still : (name : List ℕ) (job : Job) (old new : Database) → new ≡ old → HasJobRow name job old → HasJobRow name job new
+there_still name job old new same there = subst (HasJobRow name job) (sym same) there

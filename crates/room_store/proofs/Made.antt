@@ -30,10 +30,10 @@ use Rattle.room_tables.proofs.KeyedRows.{same_row}
 use Rattle.room_tables.proofs.ReadBackLemmas.{rows_are_read_back}
 use Rattle.room_replies.specs.JobAttributes.{job_group}
 use Rattle.room_replies.specs.Places.{PlainPlace}
-use Rattle.room_store.specs.Known.{IsOpen}
+use Rattle.room_store.specs.ProofKnown.{HasAccountRow}
 
 -- the account's own row is that of its room
-pub account_in_room : (db : Database) (name : List ℕ) (account : Account) → IsOpen name account db → (room : RoomValue) → HoldsRoom db name room → account ≡ account_of_room room
+pub account_in_room : (db : Database) (name : List ℕ) (account : Account) → HasAccountRow name account db → (room : RoomValue) → HoldsRoom db name room → account ≡ account_of_room room
 account_in_room db name account opened room holds = (rows_are_read_back.accounts name name account (account_of_room room) (same_row (sym opened ∙ holds.rows.account_row))).1
 
 accepted : (unfinished next : ℕ) → accepting_refusal unfinished next ≡ Ok tt → (unfinished < most_unfinished) × (next < last_next_job)
@@ -87,7 +87,7 @@ module _ (room : RoomValue) (account : Account) (same : account ≡ account_of_r
         documents = subst (λ n. GoesOn n 0 (new_job account.next_job ask now).standing.documents (new_document account.next_job ask)) next (goes_on ask.operation account.next_job ask.format ask.payload (λ is. is_ask.document_fits (ap hands_in_document is)));
       }
 
-  -- and that is what the request comes to
+  -- and that is what the request makes
   abbrev made_as : List ℕ → ℕ → ℕ → Response
   made_as name number opened = doing_ask (with_new_job room (new_job number ask now) (new_document number ask)) ask (job_group (asked_at opened name now ask) (new_job number ask now) made_names ∷ [])
 

@@ -8,8 +8,7 @@ use Rattle.ipp_coding.specs.Reading.{header_at, header_in}
 use Rattle.room_asks.specs.Asks.{ask_of}
 use Rattle.room_core.specs.Machine.{Answer, answered_unopened, requested, responded_to}
 use Rattle.room_core.specs.Steps.{Step}
-use Rattle.room_core.specs.declared.event.Event.{Event}
-use Rattle.room_core.specs.declared.event.Event.TheVariants as event
+use Rattle.room_core.specs.Events.{PlainEvent, OfAccount, OfDevice, Open, Ipp, Release, Start, Settle, Grant}
 use Rattle.room_core.specs.declared.event.Reply.{Reply}
 use Rattle.room_core.specs.declared.event.Reply.TheVariants as reply
 use Rattle.room_rules.specs.declared.refusal.Word.TheVariants.{NoAccount}
@@ -17,36 +16,36 @@ use Rattle.room_rules.specs.Devices.{Devices}
 use Rattle.room_rules.specs.declared.account.Account.{Account}
 use Rattle.room_state.specs.Rooms.{RoomValue}
 use Rattle.room_tables.specs.Accounts.{account_at, Holds, HoldsRoom}
-use Rattle.room_tables.specs.Calls.{OfStore}
+use Rattle.room_tables.specs.Calls.{IfOurTables}
 use Rattle.room_tables.specs.Keyed.{HasSchema}
 use Rattle.room_tables.specs.declared.fault.TableFault.{TableFault}
 use Rattle.room_tables.specs.declared.fault.TableFault.TheVariants as fault
 use Rattle.room_replies.specs.Words.{word_text}
 use Rattle.room_store.specs.Events.{IsLine}
 use Rattle.room_statements.proofs.LeftAlone.{same_rows}
-use Rattle.room_store.specs.Known.{IsOpen}
-use Rattle.room_store.specs.Serving.{Answers, GoesFrom, RowsHold, MayBeHeld, Serves}
+use Rattle.room_store.specs.ProofKnown.{HasAccountRow}
+use Rattle.room_store.specs.Serving.{DoesAnswer, StaysOpen, RowsHold, MayBeHeld, DoesAsRoom}
 use Rattle.room_store.proofs.ServingLemmas.{Passed, says, serves_after_so, serves_as}
 
 module _ {S : Type 0} (store : Ghosts S) (name : List ℕ) (answered : Option RoomValue → Devices → Answer) where
   -- it is open
-  module _ (old mid new : Held S) (passed : Passed (state store old) (state store mid)) (account : Account) (opened : HasCleanDisk (state store mid) → HasSchema (state store old).now → IsOpen name account (state store old).now)
+  module _ (old mid new : Held S) (passed : Passed (state store old) (state store mid)) (account : Account) (opened : HasCleanDisk (state store mid) → HasSchema (state store old).now → HasAccountRow name account (state store old).now)
       (told : RoomValue → Devices → Reply) (left : RoomValue → Devices → RoomValue)
       (is : (room : RoomValue) (devices : Devices) → (told room devices ≡ (answered (Some room) devices).reply) × (Some (left room devices) ≡ (answered (Some room) devices).room)) where
-    is_that : IsOpen name account (state store old).now → (of : Option RoomValue × Devices) → MayBeHeld name of (state store old).now
+    is_that : HasAccountRow name account (state store old).now → (of : Option RoomValue × Devices) → MayBeHeld name of (state store old).now
         → (one : RoomValue × Devices) × RowsHold name one (state store old).now × (told one.0 one.1 ≡ (answered of.0 of.1).reply) × (HoldsRoom (state store new).now name (left one.0 one.1) → Holds (state store new).now name (answered of.0 of.1).room)
     is_that found (None, devices) held = let same = sym held.room.no_account ∙ found in let no : ⊥ = cc in absurd no
     is_that found (Some room, devices) held =
         ((room, devices), record { room = held.room; devices = held.devices }, (is room devices).0, λ holds. subst (Holds (state store new).now name) (is room devices).1 holds)
 
-    pub opened_answers : (result : Result Reply TableFault) → GoesFrom store mid new result → (OfStore store mid new (IsOpen name account) → Serves store mid new name told left result) → Answers store old new name answered result
+    pub opened_answers : (result : Result Reply TableFault) → StaysOpen store mid new result → (IfOurTables store mid new (HasAccountRow name account) → DoesAsRoom store mid new name told left result) → DoesAnswer store old new name answered result
     opened_answers result going serves =
         serves_as (λ (of : RoomValue × Devices). told of.0 of.1) _ (λ (of : RoomValue × Devices) db. HoldsRoom db name (left of.0 of.1)) _ store old new result
         (λ clean has. is_that (opened (omega_clean clean) has))
-        (serves_after_so _ _ _ _ store old mid passed new result (IsOpen name account) going (λ clean _ has. subst (IsOpen name account) (sym (passed.same clean has).0) (opened clean has)) serves)
+        (serves_after_so _ _ _ _ store old mid passed new result (HasAccountRow name account) going (λ clean _ has. subst (HasAccountRow name account) (sym (passed.same clean has).0) (opened clean has)) serves)
       where
         omega_clean : HasCleanDisk (state store new) → HasCleanDisk (state store mid)
-        omega_clean clean = omega (arith, going.goes.clean, clean)
+        omega_clean clean = omega (arith, going.keeps.clean, clean)
 
   -- it is not
   module _ (old mid : Held S) (passed : Passed (state store old) (state store mid)) (none : HasCleanDisk (state store mid) → HasSchema (state store old).now → account_at (state store old).now name ≡ None)
@@ -56,19 +55,18 @@ module _ {S : Type 0} (store : Ghosts S) (name : List ℕ) (answered : Option Ro
     is_none absent (None, devices) held = ((is devices).0, subst (Holds (state store old).now name) (sym (is devices).1) held.room)
     is_none absent (Some room, devices) held = let same = sym held.room.rows.account_row ∙ absent in let no : ⊥ = cc in absurd no
 
-    pub unopened_answers : (r : Result Reply TableFault) → IfOk r (λ it. it ≡ said) → IfErr r (λ e. e ≡ fault.Memory) → Answers store old mid name answered r
+    pub unopened_answers : (r : Result Reply TableFault) → IfOk r (λ it. it ≡ said) → IfErr r (λ e. e ≡ fault.Memory) → DoesAnswer store old mid name answered r
     unopened_answers r line memory = says _ _ _ _ store old mid passed (same_rows name) said r line memory (λ clean has. is_none (none clean has))
 
 -- a line tells that the account is not open
-pub unopened_line : (now : ℕ) (e : Event) → IsLine e → (reply.Line (word_text NoAccount) ≡ (answered_unopened now e).reply) × ((answered_unopened now e).room ≡ None)
-unopened_line now (event.Open account) is = absurd is
-unopened_line now (event.Ipp account body) is = absurd is
-unopened_line now (event.Release device account job password impressions) is = (refl, refl)
-unopened_line now (event.Start device account job) is = (refl, refl)
-unopened_line now (event.Settle device account job impressions failed) is = (refl, refl)
-unopened_line now (event.Grant account month pages) is = (refl, refl)
-unopened_line now (event.Device name on) is = absurd is
-unopened_line now (event.Rate name units) is = absurd is
+pub unopened_line : (now : ℕ) (e : PlainEvent) → IsLine e → (reply.Line (word_text NoAccount) ≡ (answered_unopened now e).reply) × ((answered_unopened now e).room ≡ None)
+unopened_line now (OfAccount account Open) is = absurd is
+unopened_line now (OfAccount account (Ipp body)) is = absurd is
+unopened_line now (OfAccount account (Release device job password impressions)) is = (refl, refl)
+unopened_line now (OfAccount account (Start device job)) is = (refl, refl)
+unopened_line now (OfAccount account (Settle device job impressions failed)) is = (refl, refl)
+unopened_line now (OfAccount account (Grant month pages)) is = (refl, refl)
+unopened_line now (OfDevice device it) is = absurd is
 
 -- a request of eight bytes is answered by its response
 module _ (room : RoomValue) (devices : Devices) (now : ℕ) (name body : List ℕ) where

@@ -28,7 +28,7 @@ use Rattle.room_tables.specs.Accounts.{account_of_room, HoldsRoom}
 use Rattle.room_tables.specs.Cells.{document_cells}
 use Rattle.room_replies.specs.JobAttributes.{job_group}
 use Rattle.room_replies.specs.Places.{PlainPlace}
-use Rattle.room_store.specs.Known.{TakesDocument}
+use Rattle.room_store.specs.ProofKnown.{TakesDocument}
 use Rattle.room_store.proofs.Made.{none_of}
 
 module _ (room : RoomValue) (ask : PlainAsk) (job : Job) (there : get room.jobs ask.job ≡ Some job) (standing : Standing) (takes : TakesDocument (has_data ask) job.standing standing) where
@@ -51,7 +51,7 @@ module _ (room : RoomValue) (ask : PlainAsk) (job : Job) (there : get room.jobs 
     documents = in_some (λ (j : Job). GoesOn ask.job j.standing.documents standing.documents (sent_document ask job)) (goes_on (has_data ask) takes.documents fits);
   }
 
-  -- the place behind its documents is free
+  -- the place after its documents is free
   past : (unfinished : Bool) (n : ℕ) → (unfinished && nat_le 1 (n + 1) && nat_le (n + 1) n) ≡ false
   past unfinished n = grind (arith, nat_tests)
 

@@ -4,32 +4,32 @@ use Rattle.sqlite_trees.specs.declared.store.Store.{Ghosts}
 use Rattle.sqlite.specs.Effect.{Database}
 use Rattle.sqlite.specs.State.{State, HasCleanDisk}
 use Rattle.sqlite.specs.Held.{Held, state}
-use Rattle.room_tables.specs.Calls.{Goes, GoesOn, IsSame, OfStore, ReadsStore, Stays}
+use Rattle.room_tables.specs.Calls.{KeepsConnection, KeepsOpen, IsUnchanged, IfOurTables, ReadsStore, UnchangedIfOpen}
 use Rattle.room_tables.specs.Keyed.{HasSchema}
 use Rattle.room_tables.specs.declared.fault.TableFault.{TableFault}
 use Rattle.room_tables.specs.declared.fault.TableFault.TheVariants as fault
 use Rattle.room_tables.proofs.Going.{goes_on}
 use Rattle.room_tables.proofs.KeyedRows.{same_fault}
-use Rattle.room_store.specs.Serving.{ComesTo, GoesFrom, LooksUp}
+use Rattle.room_store.specs.Serving.{DoesToTables, StaysOpen, LooksUp}
 
 -- a read that was answered: the tables are as they were
 pub record Passed (old new : State) : Type 0 where
-  pub goes : Goes old new
+  pub keeps : KeepsConnection old new
   pub opened : HasCleanDisk new → IsTrue old.is_open → IsTrue new.is_open
-  pub same : HasCleanDisk new → HasSchema old.now → IsSame old new
+  pub same : HasCleanDisk new → HasSchema old.now → IsUnchanged old new
 
 module _ {S T : Type 0} (store : Ghosts S) where
   pub read_passed : (old new : Held S) (it : T) → ReadsStore store old new {T = T} {E = TableFault} (Ok it) → Passed (state store old) (state store new)
-  read_passed old new it reads = record { goes = reads.goes; opened = λ clean _. (reads.opened clean).1; same = reads.same }
+  read_passed old new it reads = record { keeps = reads.keeps; opened = λ clean _. (reads.opened clean).1; same = reads.same }
 
   pub look_passed : (old new : Held S) (it : T) → LooksUp store old new {T = T} (Ok it) → Passed (state store old) (state store new)
-  look_passed old new it looks = record { goes = looks.going.goes; opened = looks.going.opened; same = looks.same }
+  look_passed old new it looks = record { keeps = looks.connection.keeps; opened = looks.connection.opened; same = looks.same }
 
 pub passed_then : (a b c : State) → Passed a b → Passed b c → Passed a c
 passed_then a b c one two =
-    let clean : HasCleanDisk c → HasCleanDisk b = λ is. omega (arith, two.goes.clean, is) in
+    let clean : HasCleanDisk c → HasCleanDisk b = λ is. omega (arith, two.keeps.clean, is) in
     record {
-      goes = goes_on a b c one.goes two.goes;
+      keeps = goes_on a b c one.keeps two.keeps;
       opened = λ is was. two.opened is (one.opened (clean is) was);
       same = λ is has.
           let first = one.same (clean is) has in
@@ -64,22 +64,22 @@ module _ {S T : Type 0} (store : Ghosts S) where
   -- a read is one
   pub looks_read : (old new : Held S) (r : Result T TableFault) → ReadsStore store old new {T = T} {E = TableFault} r → LooksUp store old new r
   looks_read old new r reads = record {
-    going = record { goes = reads.goes; opened = λ clean. on_ok_with r (λ opened _. opened.1) (reads.opened clean) };
+    connection = record { keeps = reads.keeps; opened = λ clean. on_ok_with r (λ opened _. opened.1) (reads.opened clean) };
     same = λ clean has. reads.same clean has;
     undone = λ clean has. on_err_of r (reads.stays clean has);
   }
 
-  -- and what comes behind one
-  pub goes_after : (old mid new : Held S) (r : Result T TableFault) → Passed (state store old) (state store mid) → GoesFrom store mid new r → GoesFrom store old new r
+  -- and what comes after one
+  pub goes_after : (old mid new : Held S) (r : Result T TableFault) → Passed (state store old) (state store mid) → StaysOpen store mid new r → StaysOpen store old new r
   goes_after old mid new r passed going = record {
-    goes = goes_on (state store old) (state store mid) (state store new) passed.goes going.goes;
-    opened = λ is. on_ok_with r (λ still was. still (passed.opened (omega (arith, going.goes.clean, is)) was)) (going.opened is);
+    keeps = goes_on (state store old) (state store mid) (state store new) passed.keeps going.keeps;
+    opened = λ is. on_ok_with r (λ still was. still (passed.opened (omega (arith, going.keeps.clean, is)) was)) (going.opened is);
   }
 
 module _ {S T U : Type 0} (store : Ghosts S) where
   -- what a connection keeps after a fault that is handed on
-  pub goes_as : (old new : Held S) (r : Result U TableFault) (other : Result T TableFault) (e f : TableFault) → r ≡ Err f → other ≡ Err e → e ≡ f → GoesFrom store old new r → GoesFrom store old new other
-  goes_as old new r other e f is handed same going = subst (GoesFrom store old new) (sym handed) (record { goes = going.goes; opened = λ clean. tt })
+  pub goes_as : (old new : Held S) (r : Result U TableFault) (other : Result T TableFault) (e f : TableFault) → r ≡ Err f → other ≡ Err e → e ≡ f → StaysOpen store old new r → StaysOpen store old new other
+  goes_as old new r other e f is handed same going = subst (StaysOpen store old new) (sym handed) (record { keeps = going.keeps; opened = λ clean. tt })
 
 -- ---- events
 
@@ -88,9 +88,9 @@ module _ {R T : Type 0} (Before : R → Database → Type 0) (Alone : Database �
     -- reads alone, and an answer
     pub answers : (stay : (db : Database) → Alone db db) (it : T)
         → (HasCleanDisk (state store mid) → HasSchema (state store old).now → (of : R) → Before of (state store old).now → (it ≡ told of) × After of (state store old).now)
-        → ComesTo store old mid Before Alone told After (Ok it)
+        → DoesToTables store old mid Before Alone told After (Ok it)
     answers stay it is = record {
-      going = record { goes = passed.goes; opened = passed.opened };
+      connection = record { keeps = passed.keeps; opened = passed.opened };
       schema = λ clean has. subst HasSchema (sym (passed.same clean has).0) has;
       answer = λ clean has of held. (is clean has of held).0;
       left = λ clean has of held. subst (After of) (sym (passed.same clean has).0) (is clean has of held).1;
@@ -100,9 +100,9 @@ module _ {R T : Type 0} (Before : R → Database → Type 0) (Alone : Database �
     }
 
     -- and want of memory
-    pub wants_memory : ComesTo store old mid Before Alone told After (Err fault.Memory)
+    pub wants_memory : DoesToTables store old mid Before Alone told After (Err fault.Memory)
     wants_memory = record {
-      going = record { goes = passed.goes; opened = λ clean. tt };
+      connection = record { keeps = passed.keeps; opened = λ clean. tt };
       schema = λ clean has. tt;
       answer = λ clean has. tt;
       left = λ clean has. tt;
@@ -114,19 +114,19 @@ module _ {R T : Type 0} (Before : R → Database → Type 0) (Alone : Database �
     -- so a reply that says this, or wants memory
     pub says : (stay : (db : Database) → Alone db db) (said : T) (r : Result T TableFault) → IfOk r (λ it. it ≡ said) → IfErr r (λ e. e ≡ fault.Memory)
         → (HasCleanDisk (state store mid) → HasSchema (state store old).now → (of : R) → Before of (state store old).now → (said ≡ told of) × After of (state store old).now)
-        → ComesTo store old mid Before Alone told After r
+        → DoesToTables store old mid Before Alone told After r
     says stay said (Ok it) line memory is = answers stay it (λ clean has of held. let one = is clean has of held in (line ∙ one.0, one.1))
-    says stay said (Err e) line memory is = subst (λ e. ComesTo store old mid Before Alone told After (Err e)) (sym memory) wants_memory
+    says stay said (Err e) line memory is = subst (λ e. DoesToTables store old mid Before Alone told After (Err e)) (sym memory) wants_memory
 
     -- reads first, and then the rest
-    pub serves_after : (new : Held S) (result : Result T TableFault) → ComesTo store mid new Before Alone told After result → ComesTo store old new Before Alone told After result
+    pub serves_after : (new : Held S) (result : Result T TableFault) → DoesToTables store mid new Before Alone told After result → DoesToTables store old new Before Alone told After result
     serves_after new result rest =
-        let clean : HasCleanDisk (state store new) → HasCleanDisk (state store mid) = λ is. omega (arith, rest.going.goes.clean, is) in
-        let same : (is : HasCleanDisk (state store new)) (has : HasSchema (state store old).now) → IsSame (state store old) (state store mid) = λ is has. passed.same (clean is) has in
+        let clean : HasCleanDisk (state store new) → HasCleanDisk (state store mid) = λ is. omega (arith, rest.connection.keeps.clean, is) in
+        let same : (is : HasCleanDisk (state store new)) (has : HasSchema (state store old).now) → IsUnchanged (state store old) (state store mid) = λ is has. passed.same (clean is) has in
         let has_mid : (is : HasCleanDisk (state store new)) (has : HasSchema (state store old).now) → HasSchema (state store mid).now = λ is has. subst HasSchema (sym (same is has).0) has in
         let still : (is : HasCleanDisk (state store new)) (has : HasSchema (state store old).now) (of : R) → Before of (state store old).now → Before of (state store mid).now = λ is has of held. subst (Before of) (sym (same is has).0) held in
         record {
-          going = goes_after store old mid new result passed rest.going;
+          connection = goes_after store old mid new result passed rest.connection;
           schema = λ is has. rest.schema is (has_mid is has);
           answer = λ is has. if_ok_with result (λ it told_so of held. told_so of (still is has of held)) (rest.answer is (has_mid is has));
           left = λ is has. on_ok_with result (λ kept of held. kept of (still is has of held)) (rest.left is (has_mid is has));
@@ -140,13 +140,13 @@ module _ {R T : Type 0} (Before : R → Database → Type 0) (Alone : Database �
 
     -- and where the rest rests on what the reads have shown
     pub serves_after_so : (new : Held S) (result : Result T TableFault) (Shown : Database → Type 0)
-        → GoesFrom store mid new result → (HasCleanDisk (state store mid) → HasCleanDisk (state store new) → HasSchema (state store old).now → Shown (state store mid).now)
-        → (OfStore store mid new Shown → ComesTo store mid new Before Alone told After result) → ComesTo store old new Before Alone told After result
+        → StaysOpen store mid new result → (HasCleanDisk (state store mid) → HasCleanDisk (state store new) → HasSchema (state store old).now → Shown (state store mid).now)
+        → (IfOurTables store mid new Shown → DoesToTables store mid new Before Alone told After result) → DoesToTables store old new Before Alone told After result
     serves_after_so new result Shown going shown serves =
-        let rest : (is : HasCleanDisk (state store new)) (has : HasSchema (state store old).now) → ComesTo store old new Before Alone told After result = λ is has.
-        serves_after new result (serves (λ _ _. shown (omega (arith, going.goes.clean, is)) is has)) in
+        let rest : (is : HasCleanDisk (state store new)) (has : HasSchema (state store old).now) → DoesToTables store old new Before Alone told After result = λ is has.
+        serves_after new result (serves (λ _ _. shown (omega (arith, going.keeps.clean, is)) is has)) in
         record {
-          going = goes_after store old mid new result passed going;
+          connection = goes_after store old mid new result passed going;
           schema = λ is has. (rest is has).schema is has;
           answer = λ is has. (rest is has).answer is has;
           left = λ is has. (rest is has).left is has;
@@ -156,15 +156,15 @@ module _ {R T : Type 0} (Before : R → Database → Type 0) (Alone : Database �
         }
 
     -- reads first, and then a change that was made
-    pub changed_after : (new : Held S) (it : T) → GoesOn store mid new {T = Unit {0}} {E = TableFault} (Ok tt)
+    pub changed_after : (new : Held S) (it : T) → KeepsOpen store mid new {T = Unit {0}} {E = TableFault} (Ok tt)
         → (HasCleanDisk (state store mid) → HasCleanDisk (state store new) → HasSchema (state store old).now → (state store mid).now ≡ (state store old).now
         → HasSchema (state store new).now × Alone (state store mid).now (state store new).now
         × ((of : R) → Before of (state store old).now → (it ≡ told of) × After of (state store new).now))
-        → ComesTo store old new Before Alone told After (Ok it)
+        → DoesToTables store old new Before Alone told After (Ok it)
     changed_after new it going made =
-        let was : HasCleanDisk (state store new) → HasCleanDisk (state store mid) = λ clean. omega (arith, going.goes.clean, clean) in
+        let was : HasCleanDisk (state store new) → HasCleanDisk (state store mid) = λ clean. omega (arith, going.keeps.clean, clean) in
         record {
-          going = goes_after store old mid new (Ok it) passed (record { goes = going.goes; opened = λ clean _. (going.opened clean).1 });
+          connection = goes_after store old mid new (Ok it) passed (record { keeps = going.keeps; opened = λ clean _. (going.opened clean).1 });
           schema = λ clean has. (made (was clean) clean has (passed.same (was clean) has).0).0;
           answer = λ clean has of held. ((made (was clean) clean has (passed.same (was clean) has).0).2 of held).0;
           left = λ clean has of held. ((made (was clean) clean has (passed.same (was clean) has).0).2 of held).1;
@@ -174,13 +174,13 @@ module _ {R T : Type 0} (Before : R → Database → Type 0) (Alone : Database �
         }
 
     -- or was not
-    pub not_changed_after : (new : Held S) (e : TableFault) → Goes (state store mid) (state store new) → (HasCleanDisk (state store new) → Stays (state store mid) (state store new))
+    pub not_changed_after : (new : Held S) (e : TableFault) → KeepsConnection (state store mid) (state store new) → (HasCleanDisk (state store new) → UnchangedIfOpen (state store mid) (state store new))
         → (HasCleanDisk (state store mid) → HasCleanDisk (state store new) → HasSchema (state store old).now → (state store mid).now ≡ (state store old).now → e ≡ fault.Damaged → (of : R) → Before of (state store old).now → ⊥)
-        → ComesTo store old new Before Alone told After (Err e)
+        → DoesToTables store old new Before Alone told After (Err e)
     not_changed_after new e goes undone damaged =
         let was : HasCleanDisk (state store new) → HasCleanDisk (state store mid) = λ clean. omega (arith, goes.clean, clean) in
         record {
-          going = goes_after store old mid new (Err e) passed (record { goes = goes; opened = λ clean. tt });
+          connection = goes_after store old mid new (Err e) passed (record { keeps = goes; opened = λ clean. tt });
           schema = λ clean has. tt;
           answer = λ clean has. tt;
           left = λ clean has. tt;
@@ -196,9 +196,9 @@ module _ {R T : Type 0} (Before : R → Database → Type 0) (Alone : Database �
     -- a look-up that failed
     pub look_failed_as : (r : Result T TableFault) (e f : TableFault) → r ≡ Err e → e ≡ f → LooksUp store old new {T = U} (Err f)
         → (HasCleanDisk (state store new) → HasSchema (state store old).now → f ≡ fault.Damaged → (of : R) → Before of (state store old).now → ⊥)
-        → ComesTo store old new Before Alone told After r
-    look_failed_as r e f is same looks damaged = subst (ComesTo store old new Before Alone told After) (sym (is ∙ ap (λ e. Err e) same)) (record {
-      going = record { goes = looks.going.goes; opened = λ clean. tt };
+        → DoesToTables store old new Before Alone told After r
+    look_failed_as r e f is same looks damaged = subst (DoesToTables store old new Before Alone told After) (sym (is ∙ ap (λ e. Err e) same)) (record {
+      connection = record { keeps = looks.connection.keeps; opened = λ clean. tt };
       schema = λ clean has. tt;
       answer = λ clean has. tt;
       left = λ clean has. tt;
@@ -210,21 +210,21 @@ module _ {R T : Type 0} (Before : R → Database → Type 0) (Alone : Database �
     -- or a read
     pub read_failed_as : (r : Result T TableFault) (e f : TableFault) → r ≡ Err e → e ≡ f → ReadsStore store old new {T = U} {E = TableFault} (Err f)
         → (HasCleanDisk (state store new) → HasSchema (state store old).now → f ≡ fault.Damaged → (of : R) → Before of (state store old).now → ⊥)
-        → ComesTo store old new Before Alone told After r
+        → DoesToTables store old new Before Alone told After r
     read_failed_as r e f is same reads = look_failed_as r e f is same (looks_read store old new (Err f) reads)
 
   -- a fault is handed on
-  pub handed : (old new : Held S) (r : Result T TableFault) (e f : TableFault) → r ≡ Err e → e ≡ f → ComesTo store old new Before Alone told After (Err f) → ComesTo store old new Before Alone told After r
-  handed old new r e f is same comes = subst (ComesTo store old new Before Alone told After) (sym (is ∙ ap (λ e. Err e) same)) comes
+  pub handed : (old new : Held S) (r : Result T TableFault) (e f : TableFault) → r ≡ Err e → e ≡ f → DoesToTables store old new Before Alone told After (Err f) → DoesToTables store old new Before Alone told After r
+  handed old new r e f is same comes = subst (DoesToTables store old new Before Alone told After) (sym (is ∙ ap (λ e. Err e) same)) comes
 
   -- a change that was made or not
   module _ (old new : Held S) where
-    pub changed : (it : T) → GoesOn store old new {T = Unit {0}} {E = TableFault} (Ok tt)
+    pub changed : (it : T) → KeepsOpen store old new {T = Unit {0}} {E = TableFault} (Ok tt)
         → (HasCleanDisk (state store new) → HasSchema (state store old).now → HasSchema (state store new).now × Alone (state store old).now (state store new).now
         × ((of : R) → Before of (state store old).now → (it ≡ told of) × After of (state store new).now))
-        → ComesTo store old new Before Alone told After (Ok it)
+        → DoesToTables store old new Before Alone told After (Ok it)
     changed it going made = record {
-      going = record { goes = going.goes; opened = λ clean _. (going.opened clean).1 };
+      connection = record { keeps = going.keeps; opened = λ clean _. (going.opened clean).1 };
       schema = λ clean has. (made clean has).0;
       answer = λ clean has of held. ((made clean has).2 of held).0;
       left = λ clean has of held. ((made clean has).2 of held).1;
@@ -233,11 +233,11 @@ module _ {R T : Type 0} (Before : R → Database → Type 0) (Alone : Database �
       damaged = λ clean has e. absurd (let no : ⊥ = cc in no);
     }
 
-    pub not_changed : (e : TableFault) → Goes (state store old) (state store new) → (HasCleanDisk (state store new) → Stays (state store old) (state store new))
+    pub not_changed : (e : TableFault) → KeepsConnection (state store old) (state store new) → (HasCleanDisk (state store new) → UnchangedIfOpen (state store old) (state store new))
         → (HasCleanDisk (state store new) → HasSchema (state store old).now → e ≡ fault.Damaged → (of : R) → Before of (state store old).now → ⊥)
-        → ComesTo store old new Before Alone told After (Err e)
+        → DoesToTables store old new Before Alone told After (Err e)
     not_changed e goes undone damaged = record {
-      going = record { goes = goes; opened = λ clean. tt };
+      connection = record { keeps = goes; opened = λ clean. tt };
       schema = λ clean has. tt;
       answer = λ clean has. tt;
       left = λ clean has. tt;
@@ -250,9 +250,9 @@ module _ {R T : Type 0} (Before : R → Database → Type 0) (Alone : Database �
 module _ {R R_so T : Type 0} {Before : R → Database → Type 0} {Before_so : R_so → Database → Type 0} {Alone : Database → Database → Type 0} (told : R → T) (told_so : R_so → T) (After : R → Database → Type 0) (After_so : R_so → Database → Type 0) {S : Type 0} (store : Ghosts S) (old new : Held S) (result : Result T TableFault) where
   pub serves_as : (HasCleanDisk (state store new) → HasSchema (state store old).now → (of_so : R_so) → Before_so of_so (state store old).now
       → (of : R) × Before of (state store old).now × (told of ≡ told_so of_so) × (After of (state store new).now → After_so of_so (state store new).now))
-      → ComesTo store old new Before Alone told After result → ComesTo store old new Before_so Alone told_so After_so result
+      → DoesToTables store old new Before Alone told After result → DoesToTables store old new Before_so Alone told_so After_so result
   serves_as alike serves = record {
-    going = record { goes = serves.going.goes; opened = serves.going.opened };
+    connection = record { keeps = serves.connection.keeps; opened = serves.connection.opened };
     schema = serves.schema;
     answer = λ clean has. if_ok_with result (λ it is of_so held. let one = alike clean has of_so held in is one.0 one.1 ∙ one.2) (serves.answer clean has);
     left = λ clean has. on_ok_with result (λ kept of_so held. let one = alike clean has of_so held in one.3 (kept one.0 one.1)) (serves.left clean has);
@@ -267,9 +267,9 @@ module _ {R T U : Type 0} (Before : R → Database → Type 0) (Alone : Database
   wrapped (Ok it) = Ok (wrap it)
   wrapped (Err e) = Err e
 
-  wraps : (r : Result T TableFault) → ComesTo store old new Before Alone told After r → ComesTo store old new Before Alone (λ of. wrap (told of)) After (wrapped r)
+  wraps : (r : Result T TableFault) → DoesToTables store old new Before Alone told After r → DoesToTables store old new Before Alone (λ of. wrap (told of)) After (wrapped r)
   wraps (Ok it) comes = record {
-    going = record { goes = comes.going.goes; opened = comes.going.opened };
+    connection = record { keeps = comes.connection.keeps; opened = comes.connection.opened };
     schema = comes.schema;
     answer = λ clean has of held. ap wrap (comes.answer clean has of held);
     left = comes.left;
@@ -278,7 +278,7 @@ module _ {R T U : Type 0} (Before : R → Database → Type 0) (Alone : Database
     damaged = λ clean has e. absurd (let no : ⊥ = cc in no);
   }
   wraps (Err e) comes = record {
-    going = record { goes = comes.going.goes; opened = comes.going.opened };
+    connection = record { keeps = comes.connection.keeps; opened = comes.connection.opened };
     schema = comes.schema;
     answer = λ clean has. tt;
     left = comes.left;
@@ -287,8 +287,8 @@ module _ {R T U : Type 0} (Before : R → Database → Type 0) (Alone : Database
     damaged = λ clean has is. comes.damaged clean has (ap (λ e. Err e) (same_fault is));
   }
 
-  pub wraps_ok : (r : Result T TableFault) (it : T) → r ≡ Ok it → ComesTo store old new Before Alone told After r → ComesTo store old new Before Alone (λ of. wrap (told of)) After (Ok (wrap it))
-  wraps_ok r it is comes = subst (λ r. ComesTo store old new Before Alone (λ of. wrap (told of)) After (wrapped r)) is (wraps r comes)
+  pub wraps_ok : (r : Result T TableFault) (it : T) → r ≡ Ok it → DoesToTables store old new Before Alone told After r → DoesToTables store old new Before Alone (λ of. wrap (told of)) After (Ok (wrap it))
+  wraps_ok r it is comes = subst (λ r. DoesToTables store old new Before Alone (λ of. wrap (told of)) After (wrapped r)) is (wraps r comes)
 
-  pub wraps_err : (r : Result T TableFault) (other : Result U TableFault) (e f : TableFault) → r ≡ Err f → other ≡ Err e → e ≡ f → ComesTo store old new Before Alone told After r → ComesTo store old new Before Alone (λ of. wrap (told of)) After other
-  wraps_err r other e f is hands same comes = subst (ComesTo store old new Before Alone (λ of. wrap (told of)) After) (sym (hands ∙ ap (λ e. Err e) same)) (subst (λ r. ComesTo store old new Before Alone (λ of. wrap (told of)) After (wrapped r)) is (wraps r comes))
+  pub wraps_err : (r : Result T TableFault) (other : Result U TableFault) (e f : TableFault) → r ≡ Err f → other ≡ Err e → e ≡ f → DoesToTables store old new Before Alone told After r → DoesToTables store old new Before Alone (λ of. wrap (told of)) After other
+  wraps_err r other e f is hands same comes = subst (DoesToTables store old new Before Alone (λ of. wrap (told of)) After) (sym (hands ∙ ap (λ e. Err e) same)) (subst (λ r. DoesToTables store old new Before Alone (λ of. wrap (told of)) After (wrapped r)) is (wraps r comes))

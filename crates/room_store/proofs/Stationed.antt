@@ -25,7 +25,7 @@ use Rattle.room_state.specs.Rooms.{RoomValue}
 use Rattle.room_state.specs.Sums.{left_in}
 use Rattle.room_tables.specs.Cells.{device_cells, on_cells}
 use Rattle.room_tables.specs.Devices.{device_at, HoldsDevices}
-use Rattle.room_store.specs.Known.{ready_rate}
+use Rattle.room_store.specs.ProofKnown.{ready_rate}
 
 -- a job is released as it was asked, or not at all
 within_is : (standing : Standing) (left : ℤ) (kept : Standing) → within_quota standing left ≡ Ok kept → within_quota standing left ≡ Ok standing

@@ -1,8 +1,7 @@
 -- What an event may tell damage of (this project's own).
-use Rattle.std.specs.Prelude.{ℕ, List, Option}
+use Rattle.std.specs.Prelude.{Option}
 use Rattle.sqlite.specs.Effect.{Database}
-use Rattle.room_core.specs.declared.event.Event.{Event}
-use Rattle.room_store.specs.Events.{IsOf, IsOfNone}
+use Rattle.room_core.specs.Events.{PlainEvent, OfAccount, OfDevice}
 use Rattle.room_rules.specs.Devices.{Devices}
 use Rattle.room_state.specs.Rooms.{RoomValue}
 use Rattle.room_tables.specs.Accounts.{Holds}
@@ -10,7 +9,7 @@ use Rattle.room_tables.specs.Devices.{HoldsDevices}
 
 -- the rows of its account and of the devices are not both sound, nor are the devices' where it is
 -- of a device
-pub record IsDamaged (e : Event) (db : Database) : Type 0 where
-  pub account : (name : List ℕ) → IsOf e name → (room : Option RoomValue) (devices : Devices)
-      → Holds db name room → HoldsDevices db devices → ⊥
-  pub devices : IsOfNone e → (devices : Devices) → HoldsDevices db devices → ⊥
+abbrev pub IsDamaged : (e : PlainEvent) (db : Database) → Type 0
+IsDamaged (OfAccount account it) db = (room : Option RoomValue) (devices : Devices)
+    → Holds db account room → HoldsDevices db devices → ⊥
+IsDamaged (OfDevice device it) db = (devices : Devices) → HoldsDevices db devices → ⊥

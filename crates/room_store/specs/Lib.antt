@@ -1,5 +1,7 @@
 pub mod Faults
 pub mod Damage
+pub mod Applied
 pub mod Serving
-pub mod Known
+pub mod ProofKnown
 pub mod Events
+pub mod Words

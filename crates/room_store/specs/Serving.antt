@@ -1,19 +1,20 @@
--- What an event comes to over the tables: what is answered, and what becomes of the rows (all this
+-- What an event does to the tables: what is answered, and what it does to the rows (all this
 -- project's own).
 use Rattle.std.specs.Prelude.{◌≡◌, ℕ, List, Option, Result, Err, IfOk, OnOk, OnErr, IsTrue}
 use Rattle.sqlite_trees.specs.declared.store.Store.{Ghosts}
 use Rattle.sqlite.specs.Effect.{Database}
 use Rattle.sqlite.specs.State.{HasCleanDisk}
 use Rattle.sqlite.specs.Held.{Held, state}
-use Rattle.room_core.specs.DeviceEvents.{DeviceAnswer}
-use Rattle.room_core.specs.Machine.{Answer}
+use Rattle.room_core.specs.DeviceEvents.{DeviceAnswer, device_answered}
+use Rattle.room_core.specs.Events.{PlainEvent, OfAccount, OfDevice}
+use Rattle.room_core.specs.Machine.{Answer, answered}
 use Rattle.room_core.specs.Requests.{Response}
 use Rattle.room_core.specs.Steps.{Step}
 use Rattle.room_core.specs.declared.event.Reply.{Reply}
 use Rattle.room_rules.specs.Devices.{Devices}
 use Rattle.room_state.specs.Rooms.{RoomValue}
 use Rattle.room_tables.specs.Accounts.{Holds, HoldsRoom}
-use Rattle.room_tables.specs.Calls.{Goes, IsSame, OfStore, Stays}
+use Rattle.room_tables.specs.Calls.{KeepsConnection, IsUnchanged, IfOurTables, UnchangedIfOpen}
 use Rattle.room_tables.specs.Devices.{HoldsDevices}
 use Rattle.room_tables.specs.Keyed.{HasSchema}
 use Rattle.room_tables.specs.declared.fault.TableFault.{TableFault}
@@ -34,8 +35,8 @@ pub record MayBeHeld
 module _ {S : Type 0} (store : Ghosts S) (old new : Held S) where
   -- what a connection keeps, whether it was asked or not; one that is open stays so where there is
   -- an answer
-  pub record GoesFrom {T : Type 0} (result : Result T TableFault) : Type 0 where
-    pub goes : Goes (state store old) (state store new)
+  pub record StaysOpen {T : Type 0} (result : Result T TableFault) : Type 0 where
+    pub keeps : KeepsConnection (state store old) (state store new)
     pub opened : HasCleanDisk (state store new) →
         OnOk result (IsTrue (state store old).is_open → IsTrue (state store new).is_open)
 
@@ -45,68 +46,76 @@ module _ {S : Type 0} (store : Ghosts S) (old new : Held S) where
 
   -- a look-up, which may ask the tables or not
   pub record LooksUp {T : Type 0} (result : Result T TableFault) : Type 0 where
-    pub going : GoesFrom result
-    pub same : OfStore store old new (λ db.
-        OnOk result (IsSame (state store old) (state store new)))
-    pub undone : OfStore store old new (λ db.
-        OnErr result (Stays (state store old) (state store new)))
+    pub connection : StaysOpen result
+    pub same : IfOurTables store old new (λ db.
+        OnOk result (IsUnchanged (state store old) (state store new)))
+    pub undone : IfOurTables store old new (λ db.
+        OnErr result (UnchangedIfOpen (state store old) (state store new)))
 
   -- Of rows that are held this is answered and that is left; besides, only these change; after a
   -- fault nothing has changed, and damage is told of no sound rows.
-  pub record ComesTo
+  pub record DoesToTables
       {R T : Type 0} (Before : R → Database → Type 0) (Alone : Database → Database → Type 0)
       (told : R → T) (After : R → Database → Type 0) (result : Result T TableFault) : Type 0 where
-    pub going : GoesFrom result
-    pub schema : OfStore store old new (λ db. OnOk result (HasSchema (state store new).now))
-    pub answer : OfStore store old new (λ db.
+    pub connection : StaysOpen result
+    pub schema : IfOurTables store old new (λ db. OnOk result (HasSchema (state store new).now))
+    pub answer : IfOurTables store old new (λ db.
         IfOk result (λ it. (of : R) → Before of db → it ≡ told of))
-    pub left : OfStore store old new (λ db.
+    pub left : IfOurTables store old new (λ db.
         OnOk result ((of : R) → Before of db → After of (state store new).now))
-    pub alone : OfStore store old new (λ db. OnOk result (Alone db (state store new).now))
-    pub undone : OfStore store old new (λ db.
-        OnErr result (Stays (state store old) (state store new)))
-    pub damaged : OfStore store old new (λ db. result ≡ Err Damaged → (of : R) → Before of db → ⊥)
+    pub alone : IfOurTables store old new (λ db. OnOk result (Alone db (state store new).now))
+    pub undone : IfOurTables store old new (λ db.
+        OnErr result (UnchangedIfOpen (state store old) (state store new)))
+    pub damaged : IfOurTables store old new
+        (λ db. result ≡ Err Damaged → (of : R) → Before of db → ⊥)
 
   -- of an account that is open: no other account's rows change, and no device's
-  abbrev pub Serves :
+  abbrev pub DoesAsRoom :
       {T : Type 0} (name : List ℕ) (told : RoomValue → Devices → T)
       (left : RoomValue → Devices → RoomValue) (result : Result T TableFault) →
       Type 0
-  Serves name told left result =
-      ComesTo (RowsHold name) (OnlyAccount name) (λ of. told of.0 of.1)
+  DoesAsRoom name told left result =
+      DoesToTables (RowsHold name) (OnlyAccount name) (λ of. told of.0 of.1)
       (λ of db. HoldsRoom db name (left of.0 of.1)) result
 
-  -- by the step that an event comes to
-  abbrev pub ServesStep :
+  -- by the step that an event makes
+  abbrev pub DoesStep :
       (name : List ℕ) (step : RoomValue → Devices → Step) (result : Result Reply TableFault) →
       Type 0
-  ServesStep name step result =
-      Serves name (λ room devices. (step room devices).reply)
+  DoesStep name step result =
+      DoesAsRoom name (λ room devices. (step room devices).reply)
       (λ room devices. (step room devices).room) result
 
   -- and by the response to a request
-  abbrev pub ServesResponse :
+  abbrev pub DoesResponse :
       (name : List ℕ) (response : RoomValue → Devices → Response)
       (result : Result (List ℕ) TableFault) →
       Type 0
-  ServesResponse name response result =
-      Serves name (λ room devices. (response room devices).text)
+  DoesResponse name response result =
+      DoesAsRoom name (λ room devices. (response room devices).text)
       (λ room devices. (response room devices).room) result
 
   -- of one that may not be
-  abbrev pub Answers :
+  abbrev pub DoesAnswer :
       (name : List ℕ) (answered : Option RoomValue → Devices → Answer)
       (result : Result Reply TableFault) →
       Type 0
-  Answers name answered result =
-      ComesTo (MayBeHeld name) (OnlyAccount name) (λ of. (answered of.0 of.1).reply)
+  DoesAnswer name answered result =
+      DoesToTables (MayBeHeld name) (OnlyAccount name) (λ of. (answered of.0 of.1).reply)
       (λ of db. Holds db name (answered of.0 of.1).room) result
 
   -- and of a device: no account's rows change
-  abbrev pub ServesDevices :
+  abbrev pub DoesAsDevices :
       (answered : Devices → DeviceAnswer) (result : Result Reply TableFault) →
       Type 0
-  ServesDevices answered result =
-      ComesTo (λ devices db. HoldsDevices db devices) OnlyDevices
+  DoesAsDevices answered result =
+      DoesToTables (λ devices db. HoldsDevices db devices) OnlyDevices
       (λ devices. (answered devices).reply)
       (λ devices db. HoldsDevices db (answered devices).devices) result
+
+  -- by whose it is
+  abbrev pub DoesEvent : (now : ℕ) (e : PlainEvent) (result : Result Reply TableFault) → Type 0
+  DoesEvent now (OfAccount account it) result =
+      DoesAnswer account (λ room devices. answered room devices now (OfAccount account it)) result
+  DoesEvent now (OfDevice device it) result =
+      DoesAsDevices (λ devices. device_answered devices (OfDevice device it)) result

@@ -1,9 +1,10 @@
 //! The events of devices.
 
 ghost use Rattle.std.specs.Prelude.{◌≡◌, false};
+ghost use Rattle.room_store.specs.Words.{WasOpen};
 ghost use Rattle.room_core.specs.DeviceEvents.{rated_answer, turned_answer};
 ghost use Rattle.room_rules.specs.Limits.{IsRate};
-ghost use Rattle.room_store.specs.Serving.{ServesDevices, WasOpen};
+ghost use Rattle.room_store.specs.Serving.{DoesAsDevices};
 
 use crate::told::{refusing, telling};
 use room_core::{Name, Reply, Success, known_device};
@@ -20,7 +21,7 @@ pub fn turn<S: Alter>(
     on: bool,
 ) -> Result<Reply, TableFault>
     requires mode { connection.old.in_transaction ≡ false }
-    ensures served { ServesDevices S.Store connection.old connection.new
+    ensures served { DoesAsDevices S.Store connection.old connection.new
         (λ devices. turned_answer devices name on) result }
     ensures asks { WasOpen S.Store connection.old connection.new result }
 {
@@ -39,7 +40,7 @@ pub fn rate<S: Alter>(
 ) -> Result<Reply, TableFault>
     requires mode { connection.old.in_transaction ≡ false }
     requires units { IsRate units }
-    ensures served { ServesDevices S.Store connection.old connection.new
+    ensures served { DoesAsDevices S.Store connection.old connection.new
         (λ devices. rated_answer devices name units) result }
     ensures asks { WasOpen S.Store connection.old connection.new result }
 {

@@ -1,13 +1,13 @@
 //! Any event, over the shared tables.
 
-ghost use Rattle.std.specs.Prelude.{◌≡◌, ◌≤◌, false, IfOk, IsTrue, List, ℕ};
-ghost use Rattle.room_core.specs.DeviceEvents.{device_answered};
+ghost use Rattle.std.specs.Prelude.{◌≡◌, ◌≤◌, false, IfOk, IsTrue};
+ghost use Rattle.room_store.specs.Words.{DoesAnswer, DoesStep, WasOpen, answered, last_moment};
+ghost use Rattle.room_core.specs.Events.{plain_event};
 ghost use Rattle.room_core.specs.Fits.{fits};
-ghost use Rattle.room_core.specs.Machine.{answered, answered_open};
+ghost use Rattle.room_core.specs.Machine.{answered_open};
 ghost use Rattle.room_core.specs.declared.event.Reply.TheVariants as reply_is;
-ghost use Rattle.room_rules.specs.Limits.{last_moment};
-ghost use Rattle.room_store.specs.Events.{IsLine, IsOf, IsOfNone, IsShort};
-ghost use Rattle.room_store.specs.Serving.{Answers, ServesDevices, ServesStep, WasOpen};
+ghost use Rattle.room_store.specs.Events.{IsLine, IsShort};
+ghost use Rattle.room_store.specs.Serving.{DoesEvent};
 
 use crate::devices::{rate, turn};
 use crate::granting::grant;
@@ -21,8 +21,8 @@ use room_tables::TableFault;
 use sqlite::{Alter, Connection};
 use std::alloc::Global;
 
-/// What the event is answered at the moment `now`, and what becomes of the tables: of the rows of
-/// its account, or of those of its device, and of no other.
+/// Answers the event at the moment `now`. Of the tables it changes the rows of its account, or of its
+/// device, and no others.
 pub fn answer_event<S: Alter>(
     alloc: Global,
     connection: &mut Connection<S>,
@@ -30,25 +30,22 @@ pub fn answer_event<S: Alter>(
     e: &Event<'_>,
 ) -> Result<Reply, TableFault>
     requires mode { connection.old.in_transaction ≡ false }
-    requires fits { IsTrue (fits e.now) }
+    requires fits { IsTrue (fits (plain_event e.now)) }
     requires moment { now ≤ last_moment }
-    ensures of_account { (name : List ℕ) → IsOf e.entry.now name →
-        Answers S.Store connection.old connection.new name
-        (λ room devices. answered room devices now e.entry.now) result }
-    ensures of_devices { IsOfNone e.entry.now →
-        ServesDevices S.Store connection.old connection.new
-        (λ devices. device_answered devices e.entry.now) result }
-    ensures short { IsShort e.entry.now → IfOk result (λ told. told ≡ reply_is.Short) }
-    ensures asks { (IsShort e.entry.now → ⊥) →
+    ensures served { DoesEvent S.Store connection.old connection.new now
+        (plain_event e.entry.now) result }
+    ensures short { IsShort (plain_event e.entry.now) →
+        IfOk result (λ told. told ≡ reply_is.Short) }
+    ensures asks { (IsShort (plain_event e.entry.now) → ⊥) →
         WasOpen S.Store connection.old connection.new result }
 {
     match *e {
         Event::Open { account } => open(alloc, connection, account, now),
         Event::Ipp { account, body } => answer_request(alloc, connection, account, now, body),
-        Event::Release { account, .. }
-        | Event::Start { account, .. }
-        | Event::Settle { account, .. }
-        | Event::Grant { account, .. } => answer_line(alloc, connection, account, now, e),
+        Event::Release { account, .. } => answer_line(alloc, connection, account, now, e),
+        Event::Start { account, .. } => answer_line(alloc, connection, account, now, e),
+        Event::Settle { account, .. } => answer_line(alloc, connection, account, now, e),
+        Event::Grant { account, .. } => answer_line(alloc, connection, account, now, e),
         Event::Device { name, on } => turn(alloc, connection, name, on),
         Event::Rate { name, units } => rate(alloc, connection, name, units),
     }
@@ -58,20 +55,20 @@ pub fn answer_event<S: Alter>(
 fn answer_line<S: Alter>(
     alloc: Global,
     connection: &mut Connection<S>,
-    name: Name,
+    account: Name,
     now: u64,
     e: &Event<'_>,
 ) -> Result<Reply, TableFault>
     requires mode { connection.old.in_transaction ≡ false }
-    requires fits { IsTrue (fits e.now) }
-    requires line { IsLine e.now }
+    requires fits { IsTrue (fits (plain_event e.now)) }
+    requires line { IsLine (plain_event e.now) }
     requires moment { now ≤ last_moment }
-    ensures served { Answers S.Store connection.old connection.new name
-        (λ room devices. answered room devices now e.entry.now) result }
+    ensures served { DoesAnswer S.Store connection.old connection.new account
+        (λ room devices. answered room devices now (plain_event e.entry.now)) result }
     ensures asks { WasOpen S.Store connection.old connection.new result }
 {
-    match find_account(connection, name)? {
-        Some(_) => answer_open(alloc, connection, name, now, e),
+    match find_account(connection, account)? {
+        Some(_) => answer_open(alloc, connection, account, now, e),
         None => refusing(alloc, Word::NoAccount),
     }
 }
@@ -80,16 +77,16 @@ fn answer_line<S: Alter>(
 fn answer_open<S: Alter>(
     alloc: Global,
     connection: &mut Connection<S>,
-    name: Name,
+    account: Name,
     now: u64,
     e: &Event<'_>,
 ) -> Result<Reply, TableFault>
     requires mode { connection.old.in_transaction ≡ false }
-    requires fits { IsTrue (fits e.now) }
-    requires line { IsLine e.now }
+    requires fits { IsTrue (fits (plain_event e.now)) }
+    requires line { IsLine (plain_event e.now) }
     requires moment { now ≤ last_moment }
-    ensures served { ServesStep S.Store connection.old connection.new name
-        (λ room devices. answered_open room devices now e.entry.now) result }
+    ensures served { DoesStep S.Store connection.old connection.new account
+        (λ room devices. answered_open room devices now (plain_event e.entry.now)) result }
 {
     match *e {
         Event::Release {
@@ -101,14 +98,14 @@ fn answer_open<S: Alter>(
         } => release_at(
             alloc,
             connection,
-            name,
+            account,
             device,
             now,
             job,
             password,
             impressions,
         ),
-        Event::Start { device, job, .. } => start(alloc, connection, name, device, now, job),
+        Event::Start { device, job, .. } => start(alloc, connection, account, device, now, job),
         Event::Settle {
             device,
             job,
@@ -118,14 +115,14 @@ fn answer_open<S: Alter>(
         } => settle(
             alloc,
             connection,
-            name,
+            account,
             device,
             now,
             job,
             impressions,
             failed,
         ),
-        Event::Grant { month, pages, .. } => grant(alloc, connection, name, month, pages),
+        Event::Grant { month, pages, .. } => grant(alloc, connection, account, month, pages),
         Event::Open { .. } | Event::Ipp { .. } | Event::Device { .. } | Event::Rate { .. } => {
             unreachable!()
         }

@@ -1,9 +1,9 @@
 //! Pages are granted.
 
 ghost use Rattle.std.specs.Prelude.{◌≡◌, false};
+ghost use Rattle.room_store.specs.Words.{DoesStep};
 ghost use Rattle.room_core.specs.Grants.{granted};
 ghost use Rattle.room_state.specs.RoomRules.{IsGrant};
-ghost use Rattle.room_store.specs.Serving.{ServesStep};
 
 use crate::told::{refusing, telling};
 use room_core::{Name, Reply, Success, check_grant};
@@ -17,20 +17,20 @@ use std::alloc::Global;
 pub fn grant<S: Alter>(
     alloc: Global,
     connection: &mut Connection<S>,
-    name: Name,
+    account: Name,
     month: u32,
     pages: u32,
 ) -> Result<Reply, TableFault>
     requires mode { connection.old.in_transaction ≡ false }
     requires grant { IsGrant month pages }
-    ensures served { ServesStep S.Store connection.old connection.new name
+    ensures served { DoesStep S.Store connection.old connection.new account
         (λ room devices. granted room month pages) result }
 {
-    let held = find_grant(connection, name, month)?;
+    let held = find_grant(connection, account, month)?;
     if let Err(word) = check_grant(held, pages) {
         return refusing(alloc, word);
     }
     let reply = telling(alloc, Success::Ok)?;
-    add_grant(connection, name, month, pages)?;
+    add_grant(connection, account, month, pages)?;
     Ok(reply)
 }

@@ -1,15 +1,8 @@
 //! The requests about one job.
 
 ghost use Rattle.std.specs.Prelude.{◌≡◌, ◌≤◌, false, IfOk};
-ghost use Rattle.room_asks.specs.Asks.{IsAsk, plain_ask};
+ghost use Rattle.room_store.specs.Words.{DoesAsRoom, DoesResponse, HasAccountRow, HasJobRow, IfOurTables, IsAccount, IsAsk, IsStanding, Keeps, StaysOpen, last_moment, plain_ask};
 ghost use Rattle.room_core.specs.JobRequests.{acted, cancel_of, job_shown, hold_of, release_of};
-ghost use Rattle.room_core.specs.Moving.{Keeps};
-ghost use Rattle.room_rules.specs.Limits.{last_moment};
-ghost use Rattle.room_rules.specs.Standings.{IsStanding};
-ghost use Rattle.room_tables.specs.Accounts.{IsAccount};
-ghost use Rattle.room_tables.specs.Calls.{OfStore};
-ghost use Rattle.room_store.specs.Known.{IsOpen, IsThere};
-ghost use Rattle.room_store.specs.Serving.{GoesFrom, Serves, ServesResponse};
 
 use crate::lookup::look_up;
 use crate::quota::keep_to_quota;
@@ -28,24 +21,25 @@ use std::alloc::Global;
 pub fn describe<S: Alter>(
     alloc: Global,
     connection: &mut Connection<S>,
-    name: Name,
-    account: Account,
+    account: Name,
+    row: Account,
     now: u64,
     ask: &Ask<'_>,
 ) -> Result<List<u8>, TableFault>
     requires ask { IsAsk (plain_ask ask.now) }
-    requires account { IsAccount account }
+    requires row { IsAccount row }
     requires moment { now ≤ last_moment }
-    ensures going { GoesFrom S.Store connection.old connection.new result }
-    ensures served { OfStore S.Store connection.old connection.new (IsOpen name account) →
-        Serves S.Store connection.old connection.new name
-        (λ room devices. (job_shown room name now (plain_ask ask.entry.now)).text)
+    ensures connection { StaysOpen S.Store connection.old connection.new result }
+    ensures served { IfOurTables S.Store connection.old connection.new
+        (HasAccountRow account row) →
+        DoesAsRoom S.Store connection.old connection.new account
+        (λ room devices. (job_shown room account now (plain_ask ask.entry.now)).text)
         (λ room devices. room) result }
 {
-    let Some(job) = look_up(connection, name, ask.job)? else {
+    let Some(job) = look_up(connection, account, ask.job)? else {
         return refused_as(alloc, ask, no_job());
     };
-    let at = asked_at(account.opened, name, now, ask);
+    let at = asked_at(row.opened, account, now, ask);
     shown_as(alloc, ask, &at, &job, wanted_names(ask))
 }
 
@@ -53,73 +47,73 @@ pub fn describe<S: Alter>(
 pub fn cancel<S: Alter>(
     alloc: Global,
     connection: &mut Connection<S>,
-    name: Name,
+    account: Name,
     now: u64,
     ask: &Ask<'_>,
 ) -> Result<List<u8>, TableFault>
     requires mode { connection.old.in_transaction ≡ false }
     requires ask { IsAsk (plain_ask ask.now) }
     requires moment { now ≤ last_moment }
-    ensures served { ServesResponse S.Store connection.old connection.new name
+    ensures served { DoesResponse S.Store connection.old connection.new account
         (λ room devices. acted room (plain_ask ask.entry.now)
         (cancel_of room now (plain_ask ask.entry.now))) result }
 {
-    let Some(job) = look_up(connection, name, ask.job)? else {
+    let Some(job) = look_up(connection, account, ask.job)? else {
         return refused_as(alloc, ask, no_job());
     };
     let decided = canceled(job.standing, now);
-    act(alloc, connection, name, ask, &job, decided)
+    act(alloc, connection, account, ask, &job, decided)
 }
 
 /// Hold-Job, of an account that is open.
 pub fn hold<S: Alter>(
     alloc: Global,
     connection: &mut Connection<S>,
-    name: Name,
+    account: Name,
     ask: &Ask<'_>,
 ) -> Result<List<u8>, TableFault>
     requires mode { connection.old.in_transaction ≡ false }
     requires ask { IsAsk (plain_ask ask.now) }
-    ensures served { ServesResponse S.Store connection.old connection.new name
+    ensures served { DoesResponse S.Store connection.old connection.new account
         (λ room devices. acted room (plain_ask ask.entry.now)
         (hold_of room (plain_ask ask.entry.now))) result }
 {
-    let Some(job) = look_up(connection, name, ask.job)? else {
+    let Some(job) = look_up(connection, account, ask.job)? else {
         return refused_as(alloc, ask, no_job());
     };
     let decided = held(job.standing);
-    act(alloc, connection, name, ask, &job, decided)
+    act(alloc, connection, account, ask, &job, decided)
 }
 
 /// Release-Job, of an account that is open.
 pub fn release<S: Alter>(
     alloc: Global,
     connection: &mut Connection<S>,
-    name: Name,
+    account: Name,
     now: u64,
     ask: &Ask<'_>,
 ) -> Result<List<u8>, TableFault>
     requires mode { connection.old.in_transaction ≡ false }
     requires ask { IsAsk (plain_ask ask.now) }
     requires moment { now ≤ last_moment }
-    ensures served { ServesResponse S.Store connection.old connection.new name
+    ensures served { DoesResponse S.Store connection.old connection.new account
         (λ room devices. acted room (plain_ask ask.entry.now)
         (release_of room now (plain_ask ask.entry.now))) result }
 {
-    let Some(job) = look_up(connection, name, ask.job)? else {
+    let Some(job) = look_up(connection, account, ask.job)? else {
         return refused_as(alloc, ask, no_job());
     };
     let has_password = !job.password.as_slice().is_empty();
     let asked = released(job.standing, has_password);
-    let decided = keep_to_quota(connection, name, now, job.standing.state, asked)?;
-    act(alloc, connection, name, ask, &job, decided)
+    let decided = keep_to_quota(connection, account, now, job.standing.state, asked)?;
+    act(alloc, connection, account, ask, &job, decided)
 }
 
 /// Gives the job the standing that an act makes of it.
 fn act<S: Alter>(
     alloc: Global,
     connection: &mut Connection<S>,
-    name: Name,
+    account: Name,
     ask: &Ask<'_>,
     job: &Job,
     decided: Result<Standing, Refusal>,
@@ -130,9 +124,9 @@ fn act<S: Alter>(
     requires before { IsStanding job.now.standing }
     requires in_range { IfOk decided IsStanding }
     requires kept { IfOk decided (Keeps job.now.standing) }
-    ensures going { GoesFrom S.Store connection.old connection.new result }
-    ensures served { OfStore S.Store connection.old connection.new (IsThere name job.now) →
-        ServesResponse S.Store connection.old connection.new name
+    ensures connection { StaysOpen S.Store connection.old connection.new result }
+    ensures served { IfOurTables S.Store connection.old connection.new (HasJobRow account job.now) →
+        DoesResponse S.Store connection.old connection.new account
         (λ room devices. acted room (plain_ask ask.entry.now) decided) result }
 {
     let standing = match decided {
@@ -140,6 +134,6 @@ fn act<S: Alter>(
         Err(refusal) => return refused_as(alloc, ask, refusal),
     };
     let text = done_as(alloc, ask)?;
-    stand(connection, name, job, &standing)?;
+    stand(connection, account, job, &standing)?;
     Ok(text)
 }

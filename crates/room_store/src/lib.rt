@@ -1,5 +1,18 @@
 //! The shared tables of all accounts as a store, which is made, opened, migrated and closed, and
-//! what each event does to them.
+//! what each event does to them:
+//!
+//! ```text
+//! let mut store = match Store::create(Connection::open(rt, "room.db")?) {
+//!     Ok(store) => store,
+//!     Err(Refused { fault, .. }) => return Err(fault.into()),
+//! };
+//! let account = Name::read(b"alice").unwrap();
+//! store.apply(alloc, now, &Event::Open { account })?;                    // Reply::Line("ok")
+//! let reply = store.apply(alloc, now, &Event::Ipp { account, body })?;   // Reply::Ipp(response)
+//! store.close().close()?;
+//! ```
+//!
+//! A fault of `apply` has changed nothing, and the next event can follow.
 #![tactic(auto)]
 
 mod devices;

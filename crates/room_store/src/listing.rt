@@ -1,17 +1,11 @@
 //! Get-Jobs.
 
 ghost use Rattle.std.specs.Prelude.{◌≡◌, ◌≤◌, Err, IfOk};
+ghost use Rattle.room_store.specs.Words.{DoesAsRoom, HasAccountRow, HoldsRoom, IfOurTables, IsAccount, IsAsk, IsNumbered, RoomValue, StaysOpen, last_moment, plain_ask};
 ghost use Rattle.std.specs.FinMap.{values};
 ghost use Rattle.std.specs.List.{AllByRecursion};
-ghost use Rattle.room_asks.specs.Asks.{IsAsk, plain_ask};
 ghost use Rattle.room_core.specs.Queues.{asked_jobs, listed};
-ghost use Rattle.room_rules.specs.Limits.{last_moment};
-ghost use Rattle.room_state.specs.Rooms.{RoomValue};
-ghost use Rattle.room_statements.specs.Queues.{IsNumbered};
-ghost use Rattle.room_tables.specs.Accounts.{HoldsRoom, IsAccount};
-ghost use Rattle.room_tables.specs.Calls.{OfStore, ReadsStore};
-ghost use Rattle.room_store.specs.Known.{IsOpen};
-ghost use Rattle.room_store.specs.Serving.{GoesFrom, Serves};
+ghost use Rattle.room_tables.specs.Calls.{ReadsStore};
 
 use crate::told::jobs_as;
 use ipp_coding::List;
@@ -25,22 +19,23 @@ use std::alloc::Global;
 pub fn list<S: Alter>(
     alloc: Global,
     connection: &mut Connection<S>,
-    name: Name,
-    account: Account,
+    account: Name,
+    row: Account,
     now: u64,
     ask: &Ask<'_>,
 ) -> Result<List<u8>, TableFault>
     requires ask { IsAsk (plain_ask ask.now) }
-    requires account { IsAccount account }
+    requires row { IsAccount row }
     requires moment { now ≤ last_moment }
-    ensures going { GoesFrom S.Store connection.old connection.new result }
-    ensures served { OfStore S.Store connection.old connection.new (IsOpen name account) →
-        Serves S.Store connection.old connection.new name
-        (λ room devices. (listed room name now (plain_ask ask.entry.now)).text)
+    ensures connection { StaysOpen S.Store connection.old connection.new result }
+    ensures served { IfOurTables S.Store connection.old connection.new
+        (HasAccountRow account row) →
+        DoesAsRoom S.Store connection.old connection.new account
+        (λ room devices. (listed room account now (plain_ask ask.entry.now)).text)
         (λ room devices. room) result }
 {
-    let jobs = asked_jobs(alloc, connection, name, ask)?;
-    let at = asked_at(account.opened, name, now, ask);
+    let jobs = asked_jobs(alloc, connection, account, ask)?;
+    let at = asked_at(row.opened, account, now, ask);
     jobs_as(alloc, ask, &at, jobs.as_slice())
 }
 
@@ -48,19 +43,20 @@ pub fn list<S: Alter>(
 fn asked_jobs<S: Alter>(
     alloc: Global,
     connection: &mut Connection<S>,
-    name: Name,
+    account: Name,
     ask: &Ask<'_>,
 ) -> Result<List<Job>, TableFault>
-    ensures listed { OfStore S.Store connection.old connection.new
-        (λ db. (room : RoomValue) → HoldsRoom db name room →
+    ensures listed { IfOurTables S.Store connection.old connection.new
+        (λ db. (room : RoomValue) → HoldsRoom db account room →
         IfOk result (λ jobs. jobs ≡ asked_jobs (plain_ask ask.entry.now) (values room.jobs))) }
     ensures numbered { IfOk result (AllByRecursion IsNumbered) }
-    ensures damaged { OfStore S.Store connection.old connection.new
-        (λ db. result ≡ Err TableFault.Damaged → (room : RoomValue) → HoldsRoom db name room → ⊥) }
+    ensures damaged { IfOurTables S.Store connection.old connection.new
+        (λ db. result ≡ Err TableFault.Damaged
+        → (room : RoomValue) → HoldsRoom db account room → ⊥) }
     ensures reads { ReadsStore S.Store connection.old connection.new result }
 {
     match ask.which {
-        Which::NotCompleted => unfinished_jobs(alloc, connection, name, ask.limit),
-        Which::Completed => ended_jobs(alloc, connection, name, ask.limit),
+        Which::NotCompleted => unfinished_jobs(alloc, connection, account, ask.limit),
+        Which::Completed => ended_jobs(alloc, connection, account, ask.limit),
     }
 }

@@ -1,10 +1,8 @@
 //! An account is opened.
 
 ghost use Rattle.std.specs.Prelude.{◌≡◌, ◌≤◌, false};
-ghost use Rattle.room_core.specs.Machine.{answered};
-ghost use Rattle.room_core.specs.declared.event.Event.TheVariants as event;
-ghost use Rattle.room_rules.specs.Limits.{last_moment};
-ghost use Rattle.room_store.specs.Serving.{Answers, WasOpen};
+ghost use Rattle.room_store.specs.Words.{DoesAnswer, WasOpen, answered, last_moment};
+ghost use Rattle.room_core.specs.Events.{OfAccount, Open};
 
 use crate::told::{refusing, telling};
 use room_core::{Name, Reply, Success, Word};
@@ -17,19 +15,19 @@ use std::alloc::Global;
 pub fn open<S: Alter>(
     alloc: Global,
     connection: &mut Connection<S>,
-    name: Name,
+    account: Name,
     now: u64,
 ) -> Result<Reply, TableFault>
     requires mode { connection.old.in_transaction ≡ false }
     requires moment { now ≤ last_moment }
-    ensures served { Answers S.Store connection.old connection.new name
-        (λ room devices. answered room devices now (event.Open name)) result }
+    ensures served { DoesAnswer S.Store connection.old connection.new account
+        (λ room devices. answered room devices now (OfAccount account Open)) result }
     ensures asks { WasOpen S.Store connection.old connection.new result }
 {
-    if find_account(connection, name)?.is_some() {
+    if find_account(connection, account)?.is_some() {
         return refusing(alloc, Word::Exists);
     }
     let reply = telling(alloc, Success::Ok)?;
-    open_account(connection, name, now)?;
+    open_account(connection, account, now)?;
     Ok(reply)
 }

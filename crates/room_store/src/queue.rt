@@ -1,14 +1,9 @@
 //! Validate-Job, and what the printer shows.
 
 ghost use Rattle.std.specs.Prelude.{◌≤◌};
-ghost use Rattle.room_asks.specs.Asks.{IsAsk, plain_ask};
+ghost use Rattle.room_store.specs.Words.{DoesAsRoom, HasAccountRow, IfOurTables, IsAccount, IsAsk, StaysOpen, last_moment, plain_ask};
 ghost use Rattle.room_core.specs.NewJobs.{validated};
 ghost use Rattle.room_core.specs.Printers.{printer_shown};
-ghost use Rattle.room_rules.specs.Limits.{last_moment};
-ghost use Rattle.room_tables.specs.Accounts.{IsAccount};
-ghost use Rattle.room_tables.specs.Calls.{OfStore};
-ghost use Rattle.room_store.specs.Known.{IsOpen};
-ghost use Rattle.room_store.specs.Serving.{GoesFrom, Serves};
 
 use crate::told::{done_as, printer_as, refused_as};
 use ipp_coding::List;
@@ -22,19 +17,20 @@ use std::alloc::Global;
 pub fn validate<S: Alter>(
     alloc: Global,
     connection: &mut Connection<S>,
-    name: Name,
-    account: Account,
+    account: Name,
+    row: Account,
     ask: &Ask<'_>,
 ) -> Result<List<u8>, TableFault>
     requires { IsAsk (plain_ask ask.now) }
-    ensures going { GoesFrom S.Store connection.old connection.new result }
-    ensures served { OfStore S.Store connection.old connection.new (IsOpen name account) →
-        Serves S.Store connection.old connection.new name
+    ensures connection { StaysOpen S.Store connection.old connection.new result }
+    ensures served { IfOurTables S.Store connection.old connection.new
+        (HasAccountRow account row) →
+        DoesAsRoom S.Store connection.old connection.new account
         (λ room devices. (validated room (plain_ask ask.entry.now)).text)
         (λ room devices. room) result }
 {
-    let tally = tally_unfinished(connection, name)?;
-    match check_accepting(tally.unfinished, account.next_job) {
+    let tally = tally_unfinished(connection, account)?;
+    match check_accepting(tally.unfinished, row.next_job) {
         Ok(()) => done_as(alloc, ask),
         Err(refusal) => refused_as(alloc, ask, refusal),
     }
@@ -44,23 +40,24 @@ pub fn validate<S: Alter>(
 pub fn show<S: Alter>(
     alloc: Global,
     connection: &mut Connection<S>,
-    name: Name,
-    account: Account,
+    account: Name,
+    row: Account,
     now: u64,
     ask: &Ask<'_>,
 ) -> Result<List<u8>, TableFault>
     requires ask { IsAsk (plain_ask ask.now) }
-    requires account { IsAccount account }
+    requires row { IsAccount row }
     requires moment { now ≤ last_moment }
-    ensures going { GoesFrom S.Store connection.old connection.new result }
-    ensures served { OfStore S.Store connection.old connection.new (IsOpen name account) →
-        Serves S.Store connection.old connection.new name
-        (λ room devices. (printer_shown room devices name now (plain_ask ask.entry.now)).text)
+    ensures connection { StaysOpen S.Store connection.old connection.new result }
+    ensures served { IfOurTables S.Store connection.old connection.new
+        (HasAccountRow account row) →
+        DoesAsRoom S.Store connection.old connection.new account
+        (λ room devices. (printer_shown room devices account now (plain_ask ask.entry.now)).text)
         (λ room devices. room) result }
 {
-    let tally = tally_unfinished(connection, name)?;
+    let tally = tally_unfinished(connection, account)?;
     let on = is_device_on(connection)?;
-    let printer = printer_now(tally.unfinished, account.next_job, tally.is_processing, on);
-    let at = asked_at(account.opened, name, now, ask);
+    let printer = printer_now(tally.unfinished, row.next_job, tally.is_processing, on);
+    let at = asked_at(row.opened, account, now, ask);
     printer_as(alloc, ask, &at, printer)
 }

@@ -1,15 +1,13 @@
 //! What is left of the quota of an account.
 
 ghost use Rattle.std.specs.Prelude.{◌≡◌, ◌≤◌, pos, ◌≤ℤ◌, Err, IfOk, Ok};
-ghost use Rattle.room_rules.specs.Limits.{last_moment, most_units};
+ghost use Rattle.room_store.specs.Words.{HoldsRoom, IfOurTables, LooksUp, RoomValue, last_moment};
+ghost use Rattle.room_rules.specs.Limits.{most_units};
 ghost use Rattle.room_rules.specs.Months.{month_at};
 ghost use Rattle.room_rules.specs.Quota.{left_of, least_left, most_left};
 ghost use Rattle.room_rules.specs.StateLaws.{kept_to_quota};
-ghost use Rattle.room_state.specs.Rooms.{RoomValue};
 ghost use Rattle.room_state.specs.Sums.{granted_to, left_in};
-ghost use Rattle.room_tables.specs.Accounts.{HoldsRoom};
-ghost use Rattle.room_tables.specs.Calls.{OfStore, ReadsStore};
-ghost use Rattle.room_store.specs.Serving.{LooksUp};
+ghost use Rattle.room_tables.specs.Calls.{ReadsStore};
 
 use room_core::{JobState, Name, Refusal, Standing, Tally, left_with, month_of, within_quota};
 use room_statements::{granted_to, tally_jobs};
@@ -19,40 +17,42 @@ use sqlite::{Alter, Connection};
 /// What is left at the moment `now`: all jobs of the account are added up, and its grants.
 pub(crate) fn left_now<S: Alter>(
     connection: &mut Connection<S>,
-    name: Name,
+    account: Name,
     now: u64,
 ) -> Result<i64, TableFault>
     requires { now ≤ last_moment }
-    ensures left { OfStore S.Store connection.old connection.new
-        (λ db. (room : RoomValue) → HoldsRoom db name room →
+    ensures left { IfOurTables S.Store connection.old connection.new
+        (λ db. (room : RoomValue) → HoldsRoom db account room →
         IfOk result (λ left. left ≡ left_in room now)) }
     ensures low { IfOk result (λ left. least_left ≤ℤ left) }
     ensures high { IfOk result (λ left. left ≤ℤ most_left) }
-    ensures damaged { OfStore S.Store connection.old connection.new
-        (λ db. result ≡ Err TableFault.Damaged → (room : RoomValue) → HoldsRoom db name room → ⊥) }
+    ensures damaged { IfOurTables S.Store connection.old connection.new
+        (λ db. result ≡ Err TableFault.Damaged
+        → (room : RoomValue) → HoldsRoom db account room → ⊥) }
     ensures looks { LooksUp S.Store connection.old connection.new result }
 {
-    let tally = tally_jobs(connection, name)?;
-    let granted = granted_now(connection, name, now)?;
+    let tally = tally_jobs(connection, account)?;
+    let granted = granted_now(connection, account, now)?;
     Ok(left_of(granted, &tally))
 }
 
 /// What was granted up to the month of the moment `now`, in units.
 fn granted_now<S: Alter>(
     connection: &mut Connection<S>,
-    name: Name,
+    account: Name,
     now: u64,
 ) -> Result<u64, TableFault>
     requires { now ≤ last_moment }
-    ensures granted { OfStore S.Store connection.old connection.new
-        (λ db. (room : RoomValue) → HoldsRoom db name room →
+    ensures granted { IfOurTables S.Store connection.old connection.new
+        (λ db. (room : RoomValue) → HoldsRoom db account room →
         IfOk result (λ granted. granted ≡ granted_to room (month_at now))) }
     ensures bound { IfOk result (λ granted. granted ≤ most_units) }
-    ensures damaged { OfStore S.Store connection.old connection.new
-        (λ db. result ≡ Err TableFault.Damaged → (room : RoomValue) → HoldsRoom db name room → ⊥) }
+    ensures damaged { IfOurTables S.Store connection.old connection.new
+        (λ db. result ≡ Err TableFault.Damaged
+        → (room : RoomValue) → HoldsRoom db account room → ⊥) }
     ensures reads { ReadsStore S.Store connection.old connection.new result }
 {
-    granted_to(connection, name, month_of(now).unwrap())
+    granted_to(connection, account, month_of(now).unwrap())
 }
 
 /// What is left of what was granted, with what the jobs come to.
@@ -71,18 +71,19 @@ fn left_of(granted: u64, tally: &Tally) -> i64
 /// nothing: kept to what is left at the moment `now`. The sums are taken only where they decide.
 pub(crate) fn keep_to_quota<S: Alter>(
     connection: &mut Connection<S>,
-    name: Name,
+    account: Name,
     now: u64,
     before: JobState,
     asked: Result<Standing, Refusal>,
 ) -> Result<Result<Standing, Refusal>, TableFault>
     requires { now ≤ last_moment }
-    ensures kept { OfStore S.Store connection.old connection.new
-        (λ db. (room : RoomValue) → HoldsRoom db name room →
+    ensures kept { IfOurTables S.Store connection.old connection.new
+        (λ db. (room : RoomValue) → HoldsRoom db account room →
         IfOk result (λ decided. decided ≡ kept_to_quota before (left_in room now) asked)) }
     ensures same { IfOk result (λ decided. IfOk decided (λ released. asked ≡ Ok released)) }
-    ensures damaged { OfStore S.Store connection.old connection.new
-        (λ db. result ≡ Err TableFault.Damaged → (room : RoomValue) → HoldsRoom db name room → ⊥) }
+    ensures damaged { IfOurTables S.Store connection.old connection.new
+        (λ db. result ≡ Err TableFault.Damaged
+        → (room : RoomValue) → HoldsRoom db account room → ⊥) }
     ensures looks { LooksUp S.Store connection.old connection.new result }
 {
     let released = match asked {
@@ -92,6 +93,6 @@ pub(crate) fn keep_to_quota<S: Alter>(
     if before.is_released() {
         return Ok(Ok(released));
     }
-    let left = left_now(connection, name, now)?;
+    let left = left_now(connection, account, now)?;
     Ok(within_quota(released, left))
 }

@@ -1,20 +1,15 @@
 //! Send-Document.
 
 ghost use Rattle.std.specs.Prelude.{◌≡◌, ◌≤◌, false, IfOk};
-ghost use Rattle.room_asks.specs.Asks.{IsAsk, plain_ask};
+ghost use Rattle.room_store.specs.Words.{DoesResponse, HasAccountRow, HasJobRow, IfOurTables, IsAccount, IsAsk, IsNumbered, IsStanding, StaysOpen, last_moment, plain_ask};
 ghost use Rattle.room_statements.specs.NewDocuments.{first_of};
 ghost use Rattle.room_core.specs.JobRequests.{document_taken, has_data, sent, sent_document};
 ghost use Rattle.room_core.specs.Requests.{refusing_ask_or};
 ghost use Rattle.room_rules.specs.Acts.{SendDocument};
-ghost use Rattle.room_rules.specs.Limits.{last_moment, most_documents};
+ghost use Rattle.room_rules.specs.Limits.{most_documents};
 ghost use Rattle.room_rules.specs.Moves.{move};
-ghost use Rattle.room_rules.specs.Standings.{IsStanding};
 ghost use Rattle.room_rules.specs.declared.job.Job.{Job as JobValue};
-ghost use Rattle.room_statements.specs.Queues.{IsNumbered};
-ghost use Rattle.room_tables.specs.Accounts.{IsAccount};
-ghost use Rattle.room_tables.specs.Calls.{OfStore};
-ghost use Rattle.room_store.specs.Known.{IsOpen, IsThere, TakesDocument};
-ghost use Rattle.room_store.specs.Serving.{GoesFrom, ServesResponse};
+ghost use Rattle.room_store.specs.ProofKnown.{TakesDocument};
 
 use crate::lookup::look_up;
 use crate::told::{refused_as, shown_as};
@@ -32,26 +27,27 @@ use std::alloc::Global;
 pub fn send<S: Alter>(
     alloc: Global,
     connection: &mut Connection<S>,
-    name: Name,
-    account: Account,
+    account: Name,
+    row: Account,
     now: u64,
     ask: &Ask<'_>,
 ) -> Result<List<u8>, TableFault>
     requires mode { connection.old.in_transaction ≡ false }
     requires ask { IsAsk (plain_ask ask.now) }
     requires operation { ask.now.operation ≡ Operation.SendDocument }
-    requires account { IsAccount account }
+    requires row { IsAccount row }
     requires moment { now ≤ last_moment }
-    ensures going { GoesFrom S.Store connection.old connection.new result }
-    ensures served { OfStore S.Store connection.old connection.new (IsOpen name account) →
-        ServesResponse S.Store connection.old connection.new name
-        (λ room devices. sent room name now (plain_ask ask.entry.now)) result }
+    ensures connection { StaysOpen S.Store connection.old connection.new result }
+    ensures served { IfOurTables S.Store connection.old connection.new
+        (HasAccountRow account row) →
+        DoesResponse S.Store connection.old connection.new account
+        (λ room devices. sent room account now (plain_ask ask.entry.now)) result }
 {
-    let Some(job) = look_up(connection, name, ask.job)? else {
+    let Some(job) = look_up(connection, account, ask.job)? else {
         return refused_as(alloc, ask, no_job());
     };
     let decided = added(job.standing, ask);
-    take(alloc, connection, name, account, now, ask, job, decided)
+    take(alloc, connection, account, row, now, ask, job, decided)
 }
 
 /// What Send-Document makes of a job: `add_document`, and what it keeps of the job.
@@ -69,8 +65,8 @@ fn added(standing: Standing, ask: &Ask<'_>) -> Result<Standing, Refusal>
 fn take<S: Alter>(
     alloc: Global,
     connection: &mut Connection<S>,
-    name: Name,
-    account: Account,
+    account: Name,
+    row: Account,
     now: u64,
     ask: &Ask<'_>,
     job: Job,
@@ -79,18 +75,18 @@ fn take<S: Alter>(
     requires mode { connection.old.in_transaction ≡ false }
     requires ask { IsAsk (plain_ask ask.now) }
     requires operation { ask.now.operation ≡ Operation.SendDocument }
-    requires account { IsAccount account }
+    requires row { IsAccount row }
     requires moment { now ≤ last_moment }
     requires number { job.job ≡ ask.now.job }
     requires numbered { IsNumbered job }
     requires in_range { IfOk decided IsStanding }
     requires takes { IfOk decided (TakesDocument (has_data (plain_ask ask.now)) job.standing) }
-    ensures going { GoesFrom S.Store connection.old connection.new result }
-    ensures served { OfStore S.Store connection.old connection.new
-        (λ db. IsThere name job db × IsOpen name account db) →
-        ServesResponse S.Store connection.old connection.new name
+    ensures connection { StaysOpen S.Store connection.old connection.new result }
+    ensures served { IfOurTables S.Store connection.old connection.new
+        (λ db. HasJobRow account job db × HasAccountRow account row db) →
+        DoesResponse S.Store connection.old connection.new account
         (λ room devices. refusing_ask_or room (plain_ask ask.entry.now) decided
-        (document_taken room name now (plain_ask ask.entry.now) job)) result }
+        (document_taken room account now (plain_ask ask.entry.now) job)) result }
 {
     let standing = match decided {
         Ok(standing) => standing,
@@ -98,9 +94,9 @@ fn take<S: Alter>(
     };
     let document = next_document(ask, job.standing.documents);
     let shown = Job { standing, ..job };
-    let at = asked_at(account.opened, name, now, ask);
+    let at = asked_at(row.opened, account, now, ask);
     let text = shown_as(alloc, ask, &at, &shown, Some(&made_names()))?;
-    restand_job(connection, name, ask.job, &standing, document)?;
+    restand_job(connection, account, ask.job, &standing, document)?;
     Ok(text)
 }
 

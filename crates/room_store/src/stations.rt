@@ -1,20 +1,17 @@
 //! What a station is answered.
 
 ghost use Rattle.std.specs.Prelude.{◌≡◌, ◌≤◌, false, map, IfErr, IfOk, Err};
+ghost use Rattle.room_store.specs.Words.{DoesStep, HasJobRow, IfOurTables, IsStanding, Keeps, LooksUp, StaysOpen, last_moment};
 ghost use Rattle.std.specs.FinMap.{get};
 ghost use Rattle.room_replies.specs.Parts.{part_of};
-ghost use Rattle.room_core.specs.Moving.{Keeps};
 ghost use Rattle.room_core.specs.Stations.{by_word, station, station_release, release_told, station_settle, settling_told, station_start, start_told};
 ghost use Rattle.room_core.specs.Steps.{telling, with_moved};
 ghost use Rattle.room_rules.specs.Devices.{Devices};
-ghost use Rattle.room_rules.specs.Limits.{last_moment, most_impressions, IsRate};
-ghost use Rattle.room_rules.specs.Standings.{IsStanding};
+ghost use Rattle.room_rules.specs.Limits.{most_impressions, IsRate};
 ghost use Rattle.room_rules.specs.StateLaws.{kept_to_quota};
 ghost use Rattle.room_state.specs.Sums.{left_in};
-ghost use Rattle.room_tables.specs.Calls.{OfStore};
 ghost use Rattle.room_tables.specs.Devices.{HoldsDevices};
-ghost use Rattle.room_store.specs.Known.{IsThere, ready_rate};
-ghost use Rattle.room_store.specs.Serving.{GoesFrom, LooksUp, ServesStep};
+ghost use Rattle.room_store.specs.ProofKnown.{ready_rate};
 
 use crate::lookup::look_up;
 use crate::quota::left_now;
@@ -35,7 +32,7 @@ use std::alloc::Global;
 pub fn release_at<S: Alter>(
     alloc: Global,
     connection: &mut Connection<S>,
-    name: Name,
+    account: Name,
     device: Name,
     now: u64,
     number: u32,
@@ -45,7 +42,7 @@ pub fn release_at<S: Alter>(
     requires mode { connection.old.in_transaction ≡ false }
     requires moment { now ≤ last_moment }
     requires impressions { impressions ≤ most_impressions }
-    ensures served { ServesStep S.Store connection.old connection.new name
+    ensures served { DoesStep S.Store connection.old connection.new account
         (λ room devices. release_told room now number
         (station_release room (station devices device now) number password.now impressions))
         result }
@@ -54,25 +51,25 @@ pub fn release_at<S: Alter>(
         Ok(rate) => rate,
         Err(word) => return refusing(alloc, word),
     };
-    let Some(job) = look_up(connection, name, number)? else {
+    let Some(job) = look_up(connection, account, number)? else {
         return refusing(alloc, Word::NoJob);
     };
     let asked = released_at(&job, device, rate, password, impressions);
-    reserve(alloc, connection, name, now, &job, asked)
+    reserve(alloc, connection, account, now, &job, asked)
 }
 
 /// The device of the station takes the job of an account that is open: hands its documents over.
 pub fn start<S: Alter>(
     alloc: Global,
     connection: &mut Connection<S>,
-    name: Name,
+    account: Name,
     device: Name,
     now: u64,
     number: u32,
 ) -> Result<Reply, TableFault>
     requires mode { connection.old.in_transaction ≡ false }
     requires moment { now ≤ last_moment }
-    ensures served { ServesStep S.Store connection.old connection.new name
+    ensures served { DoesStep S.Store connection.old connection.new account
         (λ room devices. start_told room number
         (station_start room (station devices device now) number)) result }
 {
@@ -80,11 +77,11 @@ pub fn start<S: Alter>(
         Ok(rate) => rate,
         Err(word) => return refusing(alloc, word),
     };
-    let Some(job) = look_up(connection, name, number)? else {
+    let Some(job) = look_up(connection, account, number)? else {
         return refusing(alloc, Word::NoJob);
     };
     let decided = started(job.standing, device, rate, now);
-    hand_over(alloc, connection, name, &job, decided)
+    hand_over(alloc, connection, account, &job, decided)
 }
 
 /// The device of the station is done with the job of an account that is open, of which it completed
@@ -92,7 +89,7 @@ pub fn start<S: Alter>(
 pub fn settle<S: Alter>(
     alloc: Global,
     connection: &mut Connection<S>,
-    name: Name,
+    account: Name,
     device: Name,
     now: u64,
     number: u32,
@@ -102,18 +99,18 @@ pub fn settle<S: Alter>(
     requires mode { connection.old.in_transaction ≡ false }
     requires moment { now ≤ last_moment }
     requires impressions { impressions ≤ most_impressions }
-    ensures served { ServesStep S.Store connection.old connection.new name
+    ensures served { DoesStep S.Store connection.old connection.new account
         (λ room devices. settling_told room now number
         (station_settle room (station devices device now) number impressions failed)) result }
 {
     if let Err(word) = known_device(find_device(connection, device)?) {
         return refusing(alloc, word);
     }
-    let Some(job) = look_up(connection, name, number)? else {
+    let Some(job) = look_up(connection, account, number)? else {
         return refusing(alloc, Word::NoJob);
     };
     let decided = settled(job.standing, device, impressions, failed, now);
-    charge(alloc, connection, name, now, &job, decided)
+    charge(alloc, connection, account, now, &job, decided)
 }
 
 /// The units that an impression counts on the device, where it takes jobs. Of a device that takes
@@ -122,11 +119,11 @@ fn ready_rate<S: Alter>(
     connection: &mut Connection<S>,
     device: Name,
 ) -> Result<Result<u32, Word>, TableFault>
-    ensures ready { OfStore S.Store connection.old connection.new
+    ensures ready { IfOurTables S.Store connection.old connection.new
         (λ db. (devices : Devices) → HoldsDevices db devices →
         IfOk result (λ ready. ready ≡ ready_rate (get devices device))) }
     ensures rate { IfOk result (λ ready. IfOk ready IsRate) }
-    ensures damaged { OfStore S.Store connection.old connection.new
+    ensures damaged { IfOurTables S.Store connection.old connection.new
         (λ db. result ≡ Err TableFault.Damaged → (devices : Devices) →
         HoldsDevices db devices → ⊥) }
     ensures looks { LooksUp S.Store connection.old connection.new result }
@@ -148,7 +145,7 @@ fn ready_rate<S: Alter>(
 fn reserve<S: Alter>(
     alloc: Global,
     connection: &mut Connection<S>,
-    name: Name,
+    account: Name,
     now: u64,
     job: &Job,
     asked: Result<Standing, Refusal>,
@@ -158,9 +155,9 @@ fn reserve<S: Alter>(
     requires before { IsStanding job.now.standing }
     requires in_range { IfOk asked IsStanding }
     requires kept { IfOk asked (Keeps job.now.standing) }
-    ensures going { GoesFrom S.Store connection.old connection.new result }
-    ensures served { OfStore S.Store connection.old connection.new (IsThere name job.now) →
-        ServesStep S.Store connection.old connection.new name
+    ensures connection { StaysOpen S.Store connection.old connection.new result }
+    ensures served { IfOurTables S.Store connection.old connection.new (HasJobRow account job.now) →
+        DoesStep S.Store connection.old connection.new account
         (λ room devices. release_told room now job.now.job
         (by_word (kept_to_quota job.now.standing.state (left_in room now) asked))) result }
 {
@@ -168,7 +165,7 @@ fn reserve<S: Alter>(
         Ok(released) => released,
         Err(refusal) => return refusing(alloc, refusal.word),
     };
-    let left = left_now(connection, name, now)?;
+    let left = left_now(connection, account, now)?;
     if let Err(refusal) = kept_to(left, job.standing, released) {
         return refusing(alloc, refusal.word);
     }
@@ -176,7 +173,7 @@ fn reserve<S: Alter>(
         reserved: released.reserved,
         left: left_after(left, &job.standing, &released),
     };
-    tell(alloc, connection, name, job, &released, told)
+    tell(alloc, connection, account, job, &released, told)
 }
 
 /// The job as it was released, where so much is left, or where it was released before.
@@ -193,7 +190,7 @@ fn kept_to(left: i64, before: Standing, released: Standing) -> Result<Standing, 
 fn charge<S: Alter>(
     alloc: Global,
     connection: &mut Connection<S>,
-    name: Name,
+    account: Name,
     now: u64,
     job: &Job,
     decided: Result<Standing, Word>,
@@ -203,28 +200,28 @@ fn charge<S: Alter>(
     requires before { IsStanding job.now.standing }
     requires in_range { IfOk decided IsStanding }
     requires kept { IfOk decided (Keeps job.now.standing) }
-    ensures going { GoesFrom S.Store connection.old connection.new result }
-    ensures served { OfStore S.Store connection.old connection.new (IsThere name job.now) →
-        ServesStep S.Store connection.old connection.new name
+    ensures connection { StaysOpen S.Store connection.old connection.new result }
+    ensures served { IfOurTables S.Store connection.old connection.new (HasJobRow account job.now) →
+        DoesStep S.Store connection.old connection.new account
         (λ room devices. settling_told room now job.now.job decided) result }
 {
     let settled = match decided {
         Ok(settled) => settled,
         Err(word) => return refusing(alloc, word),
     };
-    let left = left_now(connection, name, now)?;
+    let left = left_now(connection, account, now)?;
     let told = Success::Settled {
         charged: settled.charged,
         left: left_after(left, &job.standing, &settled),
     };
-    tell(alloc, connection, name, job, &settled, told)
+    tell(alloc, connection, account, job, &settled, told)
 }
 
 /// Hands the job's documents to the device, and gives it its standing.
 fn hand_over<S: Alter>(
     alloc: Global,
     connection: &mut Connection<S>,
-    name: Name,
+    account: Name,
     job: &Job,
     decided: Result<Standing, Word>,
 ) -> Result<Reply, TableFault>
@@ -232,18 +229,18 @@ fn hand_over<S: Alter>(
     requires before { IsStanding job.now.standing }
     requires in_range { IfOk decided IsStanding }
     requires kept { IfOk decided (Keeps job.now.standing) }
-    ensures going { GoesFrom S.Store connection.old connection.new result }
-    ensures served { OfStore S.Store connection.old connection.new (IsThere name job.now) →
-        ServesStep S.Store connection.old connection.new name
+    ensures connection { StaysOpen S.Store connection.old connection.new result }
+    ensures served { IfOurTables S.Store connection.old connection.new (HasJobRow account job.now) →
+        DoesStep S.Store connection.old connection.new account
         (λ room devices. start_told room job.now.job decided) result }
 {
     let standing = match decided {
         Ok(standing) => standing,
         Err(word) => return refusing(alloc, word),
     };
-    let documents = find_documents(alloc, connection, name, job.job)?;
+    let documents = find_documents(alloc, connection, account, job.job)?;
     let parts = parts(alloc, standing.copies, documents)?;
-    stand(connection, name, job, &standing)?;
+    stand(connection, account, job, &standing)?;
     Ok(Reply::Documents(parts))
 }
 
@@ -254,24 +251,16 @@ fn parts(alloc: Global, copies: u32, documents: List<Document>) -> Result<List<P
 {
     let mut items = Vec::new(alloc);
     for document in documents.items {
-        items.push(handed_as(alloc, copies, document)?)?;
+        items.push(handed(alloc, copies, document)?)?;
     }
     Ok(List { items })
-}
-
-/// The document, as it is handed to a device. `Memory` is its only fault.
-fn handed_as(alloc: Global, copies: u32, document: Document) -> Result<Part, TableFault>
-    ensures part { IfOk result (λ part. part ≡ part_of copies document) }
-    ensures memory { IfErr result (λ fault. fault ≡ TableFault.Memory) }
-{
-    handed(alloc, copies, document).map_err(|fault| TableFault::of_core(fault))
 }
 
 /// Tells what was done, and gives the job its standing.
 fn tell<S: Alter>(
     alloc: Global,
     connection: &mut Connection<S>,
-    name: Name,
+    account: Name,
     job: &Job,
     standing: &Standing,
     told: Success,
@@ -280,12 +269,12 @@ fn tell<S: Alter>(
     requires before { IsStanding job.now.standing }
     requires in_range { IsStanding standing.now }
     requires kept { Keeps job.now.standing standing.now }
-    ensures going { GoesFrom S.Store connection.old connection.new result }
-    ensures served { OfStore S.Store connection.old connection.new (IsThere name job.now) →
-        ServesStep S.Store connection.old connection.new name
+    ensures connection { StaysOpen S.Store connection.old connection.new result }
+    ensures served { IfOurTables S.Store connection.old connection.new (HasJobRow account job.now) →
+        DoesStep S.Store connection.old connection.new account
         (λ room devices. telling (with_moved room job.now.job standing.now) told) result }
 {
     let reply = telling(alloc, told)?;
-    stand(connection, name, job, standing)?;
+    stand(connection, account, job, standing)?;
     Ok(reply)
 }

@@ -1,24 +1,23 @@
 //! The store: the shared tables of all accounts.
 
 ghost use Rattle.std.specs.Prelude.{◌≡◌, ◌⊎◌, ◌↔◌, ◌<◌, ℕ, false, List, Option, Err, IfOk, IfErr, OnOk, OnErr, IsErrAnd, IsErrOf, IsTrue, MatchResult};
+ghost use Rattle.room_store.specs.Words.{IfOurTables, RoomValue, last_moment};
 ghost use Rattle.sqlite.specs.Held.{state};
 ghost use Rattle.sqlite.specs.State.{HasCleanDisk};
-ghost use Rattle.room_core.specs.DeviceEvents.{device_answered};
+ghost use Rattle.room_core.specs.Events.{plain_event};
 ghost use Rattle.room_core.specs.Fits.{fits};
-ghost use Rattle.room_core.specs.Machine.{answered};
 ghost use Rattle.room_core.specs.declared.event.Reply.TheVariants as reply_is;
-ghost use Rattle.room_store.specs.Events.{IsOf, IsOfNone, IsShort};
-ghost use Rattle.room_rules.specs.Limits.{last_moment};
+ghost use Rattle.room_store.specs.Applied.{IsAnswered};
+ghost use Rattle.room_store.specs.Events.{IsShort};
 ghost use Rattle.room_store.specs.Damage.{IsDamaged};
-ghost use Rattle.room_tables.specs.Tables.{meta, no_schema};
+ghost use Rattle.room_tables.specs.Tables.{no_schema};
 ghost use Rattle.room_tables.specs.Making.{IsNew, IsOpened, IsOpenFault};
-ghost use Rattle.room_tables.specs.Calls.{Goes, IsLeft, IsSame, OfStore, OnDisk};
+ghost use Rattle.room_tables.specs.Calls.{KeepsConnection, UnchangedIfHonest, IsUnchanged, IfDiskHonest};
 ghost use Rattle.room_tables.specs.Keyed.{AreNumbered, HasSchema};
 ghost use Rattle.room_tables.specs.Accounts.{AgreeOnRows, Holds};
 ghost use Rattle.room_rules.specs.Devices.{Devices};
-ghost use Rattle.room_tables.specs.Devices.{AgreeOnDevices, HoldsDevices};
+ghost use Rattle.room_tables.specs.Devices.{HoldsDevices};
 ghost use Rattle.room_tables.specs.Migrating.{HoldsFirstDevices, IsMigrated, IsMigrateFault};
-ghost use Rattle.room_state.specs.Rooms.{RoomValue};
 
 use crate::answer_event;
 use crate::fault::StoreFault;
@@ -59,16 +58,18 @@ impl<S: Alter> Store<S> {
     /// Makes the tables, in one transaction. `Storage` tells also that the database has some table
     /// already, or that the connection is in a transaction.
     pub fn create(mut connection: Connection<S>) -> Result<Store<S>, Refused<S>>
-        ensures made { IfOk result (λ store. OnDisk S.Store connection store
+        ensures made { IfOk result (λ store. IfDiskHonest S.Store connection store
             (λ db. (db.schema ≡ no_schema) × IsNew (state S.Store store).now)) }
         ensures fault { IfErr result
             (λ refused. (refused.fault ≡ OpenFault.Storage) ⊎ (refused.fault ≡ OpenFault.Memory)) }
         ensures taken { ((state S.Store connection).now.schema ≡ no_schema → ⊥)
             → IsErrAnd result (λ refused. refused.fault ≡ OpenFault.Storage) }
-        ensures unchanged { IfErr result (λ refused. IsLeft S.Store connection refused.connection) }
-        ensures goes { MatchResult result
-            (λ store. Goes (state S.Store connection) (state S.Store store))
-            (λ refused. Goes (state S.Store connection) (state S.Store refused.connection)) }
+        ensures unchanged { IfErr result
+            (λ refused. UnchangedIfHonest S.Store connection refused.connection) }
+        ensures connection { MatchResult result
+            (λ store. KeepsConnection (state S.Store connection) (state S.Store store))
+            (λ refused.
+            KeepsConnection (state S.Store connection) (state S.Store refused.connection)) }
     {
         if !connection.is_autocommit() || !is_blank(connection.schema()) {
             return Err(Refused {
@@ -90,16 +91,19 @@ impl<S: Alter> Store<S> {
     /// are, and `NotOurs` that none can be read, or that it is 2 over other tables. `Storage` tells
     /// also that the connection is in a transaction.
     pub fn open(mut connection: Connection<S>) -> Result<Store<S>, Refused<S>>
-        ensures opened { IfOk result (λ store. OnDisk S.Store connection store
-            (λ db. IsOpened db × IsSame (state S.Store connection) (state S.Store store))) }
-        ensures has_schema { IfOk result (λ store. OnDisk S.Store connection store
+        ensures opened { IfOk result (λ store. IfDiskHonest S.Store connection store
+            (λ db. IsOpened db × IsUnchanged (state S.Store connection) (state S.Store store))) }
+        ensures has_schema { IfOk result (λ store. IfDiskHonest S.Store connection store
             (λ db. AreNumbered db.schema.tables db → HasSchema (state S.Store store).now)) }
         ensures fault { IfErr result (λ refused.
-            OnDisk S.Store connection refused.connection (λ db. IsOpenFault db refused.fault)) }
-        ensures unchanged { IfErr result (λ refused. IsLeft S.Store connection refused.connection) }
-        ensures goes { MatchResult result
-            (λ store. Goes (state S.Store connection) (state S.Store store))
-            (λ refused. Goes (state S.Store connection) (state S.Store refused.connection)) }
+            IfDiskHonest S.Store connection refused.connection
+            (λ db. IsOpenFault db refused.fault)) }
+        ensures unchanged { IfErr result
+            (λ refused. UnchangedIfHonest S.Store connection refused.connection) }
+        ensures connection { MatchResult result
+            (λ store. KeepsConnection (state S.Store connection) (state S.Store store))
+            (λ refused.
+            KeepsConnection (state S.Store connection) (state S.Store refused.connection)) }
     {
         if !connection.is_autocommit() {
             return Err(Refused {
@@ -120,25 +124,28 @@ impl<S: Alter> Store<S> {
     /// the tables of version 2, among them the table `rates` that would be made, or that the
     /// connection is in a transaction.
     pub fn migrate(mut connection: Connection<S>) -> Result<Store<S>, Refused<S>>
-        ensures migrated { IfOk result (λ store. OnDisk S.Store connection store (λ db.
-            (IsOpened db × IsSame (state S.Store connection) (state S.Store store))
+        ensures migrated { IfOk result (λ store. IfDiskHonest S.Store connection store (λ db.
+            (IsOpened db × IsUnchanged (state S.Store connection) (state S.Store store))
             ⊎ IsMigrated db (state S.Store store).now)) }
-        ensures has_schema { IfOk result (λ store. OnDisk S.Store connection store
+        ensures has_schema { IfOk result (λ store. IfDiskHonest S.Store connection store
             (λ db. AreNumbered db.schema.tables db → HasSchema (state S.Store store).now)) }
-        ensures rows { IfOk result (λ store. OnDisk S.Store connection store
+        ensures rows { IfOk result (λ store. IfDiskHonest S.Store connection store
             (λ db. (name : List ℕ) → AgreeOnRows name db (state S.Store store).now)) }
-        ensures rooms { IfOk result (λ store. OnDisk S.Store connection store (λ db.
+        ensures rooms { IfOk result (λ store. IfDiskHonest S.Store connection store (λ db.
             (name : List ℕ) (room : Option RoomValue) → Holds db name room
             → Holds (state S.Store store).now name room)) }
-        ensures devices { IfOk result (λ store. OnDisk S.Store connection store (λ db.
+        ensures devices { IfOk result (λ store. IfDiskHonest S.Store connection store (λ db.
             (devices : Devices) → HoldsFirstDevices db devices
             → HoldsDevices (state S.Store store).now devices)) }
         ensures fault { IfErr result (λ refused.
-            OnDisk S.Store connection refused.connection (λ db. IsMigrateFault db refused.fault)) }
-        ensures unchanged { IfErr result (λ refused. IsLeft S.Store connection refused.connection) }
-        ensures goes { MatchResult result
-            (λ store. Goes (state S.Store connection) (state S.Store store))
-            (λ refused. Goes (state S.Store connection) (state S.Store refused.connection)) }
+            IfDiskHonest S.Store connection refused.connection
+            (λ db. IsMigrateFault db refused.fault)) }
+        ensures unchanged { IfErr result
+            (λ refused. UnchangedIfHonest S.Store connection refused.connection) }
+        ensures connection { MatchResult result
+            (λ store. KeepsConnection (state S.Store connection) (state S.Store store))
+            (λ refused.
+            KeepsConnection (state S.Store connection) (state S.Store refused.connection)) }
     {
         if !connection.is_autocommit() {
             return Err(Refused {
@@ -152,50 +159,29 @@ impl<S: Alter> Store<S> {
         }
     }
 
-    /// What the event is answered at the moment `now`, in seconds from 1970, and what becomes of
-    /// the tables: of the rows of its account, or of its device, and of no other. It writes in one
-    /// transaction, last.
+    /// Answers the event at the moment `now`, in seconds from 1970. Of the tables it changes the
+    /// rows of its account, or of its device, and no others, in one transaction, last.
     ///
     /// `Moment` where `now` is past `LAST_MOMENT`, which is looked at first; `Damaged` where what
     /// the event reads can stand in no sound rows; `Storage` and `Memory` where a statement was
     /// refused, the device failed or memory was wanting. Nothing has changed then.
     pub fn apply(&mut self, alloc: Global, now: u64, e: &Event<'_>) -> Result<Reply, StoreFault>
-        requires { IsTrue (fits e.now) }
-        ensures reply { OfStore S.Store self.old self.new (λ db. IfOk result (λ reply.
-            (name : List ℕ) → IsOf e.entry.now name
-            → (room : Option RoomValue) (devices : Devices) → Holds db name room
-            → HoldsDevices db devices → reply ≡ (answered room devices now e.entry.now).reply)) }
-        ensures rows { OfStore S.Store self.old self.new (λ db. OnOk result
-            ((name : List ℕ) → IsOf e.entry.now name → (room : Option RoomValue) (devices : Devices)
-            → Holds db name room → HoldsDevices db devices
-            → Holds (state S.Store self.new).now name
-            (answered room devices now e.entry.now).room)) }
-        ensures device_reply { OfStore S.Store self.old self.new (λ db. IfOk result (λ reply.
-            IsOfNone e.entry.now → (devices : Devices) → HoldsDevices db devices
-            → reply ≡ (device_answered devices e.entry.now).reply)) }
-        ensures device_rows { OfStore S.Store self.old self.new (λ db. OnOk result
-            (IsOfNone e.entry.now → (devices : Devices) → HoldsDevices db devices
-            → HoldsDevices (state S.Store self.new).now
-            (device_answered devices e.entry.now).devices)) }
-        ensures others { OfStore S.Store self.old self.new (λ db. OnOk result ((name : List ℕ)
-            → (IsOf e.entry.now name → ⊥) → AgreeOnRows name db (state S.Store self.new).now)) }
-        ensures devices { OfStore S.Store self.old self.new (λ db. OnOk result
-            ((IsOfNone e.entry.now → ⊥) → AgreeOnDevices db (state S.Store self.new).now)) }
-        ensures version { OfStore S.Store self.old self.new (λ db.
-            OnOk result ((state S.Store self.new).now.trees meta.tree ≡ db.trees meta.tree)) }
-        ensures schema { OfStore S.Store self.old self.new
-            (λ db. OnOk result (HasSchema (state S.Store self.new).now)) }
-        ensures moment { IsErrOf result StoreFault.Moment ↔ (last_moment < now) }
-        ensures damaged { OfStore S.Store self.old self.new
-            (λ db. result ≡ Err StoreFault.Damaged → IsDamaged e.entry.now db) }
-        ensures unchanged { OfStore S.Store self.old self.new (λ db. OnErr result
+        requires { IsTrue (fits (plain_event e.now)) }
+        ensures answered { IfOurTables S.Store self.old self.new (λ db. IfOk result
+            (IsAnswered now (plain_event e.entry.now) db (state S.Store self.new).now)) }
+        ensures unchanged { IfOurTables S.Store self.old self.new (λ db. OnErr result
             (IsTrue (state S.Store self.new).is_open → (state S.Store self.new).now ≡ db)) }
-        ensures goes { Goes (state S.Store self.old) (state S.Store self.new) }
+        ensures damaged { IfOurTables S.Store self.old self.new
+            (λ db. result ≡ Err StoreFault.Damaged → IsDamaged (plain_event e.entry.now) db) }
+        ensures moment { IsErrOf result StoreFault.Moment ↔ (last_moment < now) }
+        ensures short { IsShort (plain_event e.entry.now) →
+            IfOk result (λ reply. reply ≡ reply_is.Short) }
+        ensures asked { (IsShort (plain_event e.entry.now) → ⊥)
+            → HasCleanDisk (state S.Store self.new)
+            → OnOk result (IsTrue (state S.Store self.old).is_open) }
+        ensures connection { KeepsConnection (state S.Store self.old) (state S.Store self.new) }
         ensures opened { HasCleanDisk (state S.Store self.new) → OnOk result
             (IsTrue (state S.Store self.old).is_open → IsTrue (state S.Store self.new).is_open) }
-        ensures short { IsShort e.entry.now → IfOk result (λ reply. reply ≡ reply_is.Short) }
-        ensures asks { (IsShort e.entry.now → ⊥) → HasCleanDisk (state S.Store self.new)
-            → OnOk result (IsTrue (state S.Store self.old).is_open) }
     {
         if now > LAST_MOMENT {
             return Err(StoreFault::Moment);

@@ -2,10 +2,10 @@
 use Rattle.std.proofs.Common.{◌≡◌, false, ◌∙◌, inl, inr, IsTrue, arith}
 use Rattle.sqlite_trees.specs.Tree.{Trees}
 use Rattle.sqlite.specs.State.{State, HasCleanDisk, Survives}
-use Rattle.room_tables.specs.Calls.{Goes}
+use Rattle.room_tables.specs.Calls.{KeepsConnection}
 
 -- by what the library says of a call
-pub goes_by : (old new : State) (Commits : Trees → Type 0) → Survives old new Commits → (HasCleanDisk new → IsTrue new.is_open → IsTrue old.is_open) → (old.in_transaction ≡ false → new.in_transaction ≡ false) → Goes old new
+pub goes_by : (old new : State) (Commits : Trees → Type 0) → Survives old new Commits → (HasCleanDisk new → IsTrue new.is_open → IsTrue old.is_open) → (old.in_transaction ≡ false → new.in_transaction ≡ false) → KeepsConnection old new
 goes_by old new Commits survives back mode = record {
   clean = survives.clean;
   back = back;
@@ -16,7 +16,7 @@ goes_by old new Commits survives back mode = record {
   closes = survives.closes;
 }
 
-pub goes_on : (old was now : State) → Goes old was → Goes was now → Goes old now
+pub goes_on : (old was now : State) → KeepsConnection old was → KeepsConnection was now → KeepsConnection old now
 goes_on old was now first second =
     let before : HasCleanDisk now → HasCleanDisk was = λ clean. omega (arith, second.clean, clean) in
     record {

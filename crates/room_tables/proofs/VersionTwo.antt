@@ -39,6 +39,7 @@ use Rattle.room_tables.specs.Queries.{of_table, passes, shows_of}
 use Rattle.room_tables.specs.Making.{version_tests, HasVersion}
 use Rattle.room_tables.specs.Migrating.{NotesVersionTwo}
 use Rattle.room_tables.proofs.Edits.{edit_wrote, tie_of}
+use Rattle.room_tables.proofs.Statements.{only_changes}
 use Rattle.room_tables.proofs.Queries.{answer_is, permuted_has}
 use Rattle.room_tables.proofs.Upserts.{went, same_value, cast_integer, equal_ties}
 
@@ -114,7 +115,7 @@ notes_two old new count h was version =
     record {
       schema_is = ap (λ (d : Database). d.schema) now;
       is_database = ran.sound;
-      kept = subst (λ (f : Trees). AllByRecursion (λ t. t.tree ≢ 0 → f t.tree ≡ db t.tree) room_schema.tables) (sym trees) step.tables;
+      kept = only_changes meta old.now new.now (subst (λ (f : Trees). AllByRecursion (λ t. t.tree ≢ 0 → f t.tree ≡ db t.tree) room_schema.tables) (sym trees) step.tables);
       version_two = (new_row row, (subst (λ (f : Trees). Has (f 0) (new_row row)) (sym trees) there, still_one (rowid row) version.1.1), cast_integer (pos 2));
       numbered = λ was. subst (λ (f : Trees). IsShaped shape.Table (f 0)) (sym trees) (edit_wrote meta db wrote.0 (ids_of asked.0) edit.news was wrote.1).numbered;
     }

@@ -18,7 +18,7 @@ use Rattle.room_tables.specs.Keyed.{HasSchema}
 
 -- No fault of the disk is forgotten, only a fault shuts the connection and nothing opens it again,
 -- no transaction is left under way, and how its queries are limited and its reads tested stays.
-pub record Goes (old new : State) : Type 0 where
+pub record KeepsConnection (old new : State) : Type 0 where
   pub clean : doubt old.is_clean ≤ doubt new.is_clean
   pub back : HasCleanDisk new → IsTrue new.is_open → IsTrue old.is_open
   pub mode : old.in_transaction ≡ false → new.in_transaction ≡ false
@@ -29,19 +29,19 @@ pub record Goes (old new : State) : Type 0 where
       → IsTrue new.is_open ⊎ MoreFaults old.faults new.faults
 
 -- outside a transaction, where what is seen is what was committed, the tables are as they were
-abbrev pub Stays : (old new : State) → Type 0
-Stays old new = IsTrue new.is_open → old.now ≡ old.committed
+abbrev pub UnchangedIfOpen : (old new : State) → Type 0
+UnchangedIfOpen old new = IsTrue new.is_open → old.now ≡ old.committed
     → (new.now ≡ old.now) × (new.committed ≡ old.committed)
 
-abbrev pub IsSame : (old new : State) → Type 0
-IsSame old new = (new.now ≡ old.now) × (new.committed ≡ old.committed)
+abbrev pub IsUnchanged : (old new : State) → Type 0
+IsUnchanged old new = (new.now ≡ old.now) × (new.committed ≡ old.committed)
 
 -- a read by a key: what is shown of the row that is there, and nothing is changed
 pub record Gets (old new : State) (there : Option Row) (shown : Row → Row)
     (result : Result (Option Row) Error) : Type 0 where
   pub found : IfOk result (λ o. o ≡ option_map shown there)
-  pub same : OnOk result (IsSame old new)
-  pub stays : Stays old new
+  pub same : OnOk result (IsUnchanged old new)
+  pub stays : UnchangedIfOpen old new
 
 -- a write: the statement has run, whatever it counted
 abbrev pub HasRun : (text : List ℕ) (params : Row) (old new : State) → Type 0
@@ -56,33 +56,36 @@ IsTaken text params old new =
 
 module _ {S : Type 0} (store : Ghosts S) (old new : Held S) where
   -- told of the tables as the call found them, where the disk was honest
-  abbrev pub OnDisk : (Database → Type 0) → Type 0
-  OnDisk told = HasCleanDisk (state store new) → told (state store old).now
+  abbrev pub IfDiskHonest : (Database → Type 0) → Type 0
+  IfDiskHonest told = HasCleanDisk (state store new) → told (state store old).now
 
   -- a connection that is still open sees the tables as they were
-  abbrev pub IsLeft : Type 0
-  IsLeft = OnDisk (λ db. IsTrue (state store new).is_open → (state store new).now ≡ db)
+  abbrev pub UnchangedIfHonest : Type 0
+  UnchangedIfHonest =
+      IfDiskHonest (λ db. IsTrue (state store new).is_open → (state store new).now ≡ db)
 
   -- and where they are the store's
-  abbrev pub OfStore : (Database → Type 0) → Type 0
-  OfStore told =
+  abbrev pub IfOurTables : (Database → Type 0) → Type 0
+  IfOurTables told =
       HasCleanDisk (state store new) → HasSchema (state store old).now → told (state store old).now
 
   module _ {T E : Type 0} where
     -- what answers had an open connection, and leaves it open
-    pub record GoesOn (result : Result T E) : Type 0 where
-      pub goes : Goes (state store old) (state store new)
+    pub record KeepsOpen (result : Result T E) : Type 0 where
+      pub keeps : KeepsConnection (state store old) (state store new)
       pub opened : HasCleanDisk (state store new)
           → OnOk result (IsTrue (state store old).is_open × IsTrue (state store new).is_open)
 
     -- a read: where so much is known of the tables it leaves them as they were, whether it answers
     -- or not
     pub record OnlyReads (Known : Database → Type 0) (result : Result T E) : Type 0 where
-      pub goes : Goes (state store old) (state store new)
+      pub keeps : KeepsConnection (state store old) (state store new)
       pub opened : HasCleanDisk (state store new)
           → OnOk result (IsTrue (state store old).is_open × IsTrue (state store new).is_open)
-      pub same : OnDisk (λ db. Known db → OnOk result (IsSame (state store old) (state store new)))
-      pub stays : OnDisk (λ db. Known db → Stays (state store old) (state store new))
+      pub same : IfDiskHonest
+          (λ db. Known db → OnOk result (IsUnchanged (state store old) (state store new)))
+      pub stays : IfDiskHonest
+          (λ db. Known db → UnchangedIfOpen (state store old) (state store new))
 
     -- of the store's tables
     abbrev pub ReadsStore : Result T E → Type 0
@@ -91,29 +94,29 @@ module _ {S : Type 0} (store : Ghosts S) (old new : Held S) where
   -- of the store's tables, by a key
   abbrev pub GetsRow : (Database → Option Row) → (Row → Row) → Result (Option Row) Error → Type 0
   GetsRow there shown result =
-      OfStore (λ db. Gets (state store old) (state store new) (there db) shown result)
+      IfOurTables (λ db. Gets (state store old) (state store new) (there db) shown result)
 
   module _ {T E : Type 0} (result : Result T E) where
     -- what is made of the tables, where the disk was honest
-    abbrev pub Makes : (Database → Database → Type 0) → Type 0
-    Makes made = HasCleanDisk (state store new)
+    abbrev pub MakesIfHonest : (Database → Database → Type 0) → Type 0
+    MakesIfHonest made = HasCleanDisk (state store new)
         → OnOk result (made (state store old).now (state store new).now)
 
     -- and of the store's, which they stay
     abbrev pub Changes : (Database → Database → Type 0) → Type 0
     Changes changed =
-        Makes (λ before after. HasSchema before → HasSchema after × changed before after)
+        MakesIfHonest (λ before after. HasSchema before → HasSchema after × changed before after)
 
     -- the whole is made, or nothing is
-    pub record IsWhole : Type 0 where
-      pub goes : Goes (state store old) (state store new)
+    pub record AllOrNothing : Type 0 where
+      pub keeps : KeepsConnection (state store old) (state store new)
       pub opened : HasCleanDisk (state store new)
           → OnOk result (IsTrue (state store old).is_open × IsTrue (state store new).is_open)
       pub undone : HasCleanDisk (state store new)
-          → OnErr result (Stays (state store old) (state store new))
+          → OnErr result (UnchangedIfOpen (state store old) (state store new))
 
 -- a write inside a transaction, which it leaves under way where it answers; it commits nothing
-pub record StaysInside {S T E : Type 0} (store : Ghosts S) (old new : MutBor (Held S))
+pub record WritesInTransaction {S T E : Type 0} (store : Ghosts S) (old new : MutBor (Held S))
     (result : Result T E) : Type 0 where
   pub same_reference : new.ghost_name ≡ old.ghost_name
   pub mode : HasCleanDisk (state store new.now) → OnOk result (IsTrue new.now.in_transaction)

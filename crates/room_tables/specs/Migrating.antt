@@ -1,4 +1,4 @@
--- What becomes of a database of version 1 when it is migrated (all this project's own).
+-- What migrating makes of a database of version 1 (all this project's own).
 use Rattle.std.specs.Prelude.{◌≡◌, ◌≢◌, ◌⊎◌, ⊤, ℕ, ℤ, pos, List, [], option_map, IfSome}
 use Rattle.std.specs.List.{AllByRecursion}
 use Rattle.std.specs.FinMap.{get}

@@ -2,7 +2,7 @@
 
 ghost use Rattle.std.specs.Prelude.{◌≡◌, false};
 ghost use Rattle.room_tables.specs.Tables.{no_schema, first_schema, rated_schema, room_schema};
-ghost use Rattle.room_tables.specs.Calls.{IsWhole, Makes, StaysInside};
+ghost use Rattle.room_tables.specs.Calls.{AllOrNothing, MakesIfHonest, WritesInTransaction};
 ghost use Rattle.room_tables.specs.Making.{with_meta, with_account, with_job, with_documents, with_grants, IsBlank, IsNew};
 ghost use Rattle.room_tables.specs.Migrating.{AddsIndex, AddsRates};
 
@@ -12,9 +12,9 @@ use sqlite::{Alter, Connection, Error, Transaction};
 /// Makes the tables of version 2, with no row but that of the version, in one transaction.
 pub fn make_tables<S: Alter>(connection: &mut Connection<S>) -> Result<(), Error>
     requires mode { connection.old.in_transaction ≡ false }
-    ensures made { Makes S.Store connection.old connection.new result
+    ensures made { MakesIfHonest S.Store connection.old connection.new result
         (λ before after. before.schema ≡ no_schema → IsNew after) }
-    ensures whole { IsWhole S.Store connection.old connection.new result }
+    ensures whole { AllOrNothing S.Store connection.old connection.new result }
 {
     let mut transaction = connection.transaction();
     make_first_tables(&mut transaction)?;
@@ -25,9 +25,9 @@ pub fn make_tables<S: Alter>(connection: &mut Connection<S>) -> Result<(), Error
 
 /// The tables of version 1.
 fn make_first_tables<S: Alter>(transaction: &mut Transaction<'_, S>) -> Result<(), Error>
-    ensures made { Makes S.Store transaction.old.conn.now transaction.new.conn.now result
+    ensures made { MakesIfHonest S.Store transaction.old.conn.now transaction.new.conn.now result
         (λ before after. IsBlank no_schema before → IsBlank first_schema after) }
-    ensures inside { StaysInside S.Store transaction.old.conn transaction.new.conn result }
+    ensures inside { WritesInTransaction S.Store transaction.old.conn transaction.new.conn result }
 {
     make_meta(transaction)?;
     make_account(transaction)?;
@@ -38,9 +38,9 @@ fn make_first_tables<S: Alter>(transaction: &mut Transaction<'_, S>) -> Result<(
 }
 
 fn make_meta<S: Alter>(transaction: &mut Transaction<'_, S>) -> Result<(), Error>
-    ensures made { Makes S.Store transaction.old.conn.now transaction.new.conn.now result
+    ensures made { MakesIfHonest S.Store transaction.old.conn.now transaction.new.conn.now result
         (λ before after. IsBlank no_schema before → IsBlank with_meta after) }
-    ensures inside { StaysInside S.Store transaction.old.conn transaction.new.conn result }
+    ensures inside { WritesInTransaction S.Store transaction.old.conn transaction.new.conn result }
 {
     write(
         transaction,
@@ -50,9 +50,9 @@ fn make_meta<S: Alter>(transaction: &mut Transaction<'_, S>) -> Result<(), Error
 }
 
 fn make_account<S: Alter>(transaction: &mut Transaction<'_, S>) -> Result<(), Error>
-    ensures made { Makes S.Store transaction.old.conn.now transaction.new.conn.now result
+    ensures made { MakesIfHonest S.Store transaction.old.conn.now transaction.new.conn.now result
         (λ before after. IsBlank with_meta before → IsBlank with_account after) }
-    ensures inside { StaysInside S.Store transaction.old.conn transaction.new.conn result }
+    ensures inside { WritesInTransaction S.Store transaction.old.conn transaction.new.conn result }
 {
     write(
         transaction,
@@ -62,9 +62,9 @@ fn make_account<S: Alter>(transaction: &mut Transaction<'_, S>) -> Result<(), Er
 }
 
 fn make_job<S: Alter>(transaction: &mut Transaction<'_, S>) -> Result<(), Error>
-    ensures made { Makes S.Store transaction.old.conn.now transaction.new.conn.now result
+    ensures made { MakesIfHonest S.Store transaction.old.conn.now transaction.new.conn.now result
         (λ before after. IsBlank with_account before → IsBlank with_job after) }
-    ensures inside { StaysInside S.Store transaction.old.conn transaction.new.conn result }
+    ensures inside { WritesInTransaction S.Store transaction.old.conn transaction.new.conn result }
 {
     write(
         transaction,
@@ -74,9 +74,9 @@ fn make_job<S: Alter>(transaction: &mut Transaction<'_, S>) -> Result<(), Error>
 }
 
 fn make_document<S: Alter>(transaction: &mut Transaction<'_, S>) -> Result<(), Error>
-    ensures made { Makes S.Store transaction.old.conn.now transaction.new.conn.now result
+    ensures made { MakesIfHonest S.Store transaction.old.conn.now transaction.new.conn.now result
         (λ before after. IsBlank with_job before → IsBlank with_documents after) }
-    ensures inside { StaysInside S.Store transaction.old.conn transaction.new.conn result }
+    ensures inside { WritesInTransaction S.Store transaction.old.conn transaction.new.conn result }
 {
     write(
         transaction,
@@ -86,9 +86,9 @@ fn make_document<S: Alter>(transaction: &mut Transaction<'_, S>) -> Result<(), E
 }
 
 fn make_grants<S: Alter>(transaction: &mut Transaction<'_, S>) -> Result<(), Error>
-    ensures made { Makes S.Store transaction.old.conn.now transaction.new.conn.now result
+    ensures made { MakesIfHonest S.Store transaction.old.conn.now transaction.new.conn.now result
         (λ before after. IsBlank with_documents before → IsBlank with_grants after) }
-    ensures inside { StaysInside S.Store transaction.old.conn transaction.new.conn result }
+    ensures inside { WritesInTransaction S.Store transaction.old.conn transaction.new.conn result }
 {
     write(
         transaction,
@@ -98,9 +98,9 @@ fn make_grants<S: Alter>(transaction: &mut Transaction<'_, S>) -> Result<(), Err
 }
 
 fn make_device<S: Alter>(transaction: &mut Transaction<'_, S>) -> Result<(), Error>
-    ensures made { Makes S.Store transaction.old.conn.now transaction.new.conn.now result
+    ensures made { MakesIfHonest S.Store transaction.old.conn.now transaction.new.conn.now result
         (λ before after. IsBlank with_grants before → IsBlank first_schema after) }
-    ensures inside { StaysInside S.Store transaction.old.conn transaction.new.conn result }
+    ensures inside { WritesInTransaction S.Store transaction.old.conn transaction.new.conn result }
 {
     write(
         transaction,
@@ -112,22 +112,22 @@ fn make_device<S: Alter>(transaction: &mut Transaction<'_, S>) -> Result<(), Err
 /// What version 2 has beside the tables of version 1: the rates, and the index by which an
 /// account's jobs are found by their ends.
 pub(crate) fn extend_tables<S: Alter>(transaction: &mut Transaction<'_, S>) -> Result<(), Error>
-    ensures made { Makes S.Store transaction.old.conn.now transaction.new.conn.now result
+    ensures made { MakesIfHonest S.Store transaction.old.conn.now transaction.new.conn.now result
         (λ before after. IsBlank first_schema before → IsBlank room_schema after) }
-    ensures adds { Makes S.Store transaction.old.conn.now transaction.new.conn.now result
+    ensures adds { MakesIfHonest S.Store transaction.old.conn.now transaction.new.conn.now result
         (λ before after. before.schema ≡ first_schema → AddsRates room_schema before after) }
-    ensures inside { StaysInside S.Store transaction.old.conn transaction.new.conn result }
+    ensures inside { WritesInTransaction S.Store transaction.old.conn transaction.new.conn result }
 {
     make_rates(transaction)?;
     make_job_ended(transaction)
 }
 
 fn make_rates<S: Alter>(transaction: &mut Transaction<'_, S>) -> Result<(), Error>
-    ensures made { Makes S.Store transaction.old.conn.now transaction.new.conn.now result
+    ensures made { MakesIfHonest S.Store transaction.old.conn.now transaction.new.conn.now result
         (λ before after. IsBlank first_schema before → IsBlank rated_schema after) }
-    ensures adds { Makes S.Store transaction.old.conn.now transaction.new.conn.now result
+    ensures adds { MakesIfHonest S.Store transaction.old.conn.now transaction.new.conn.now result
         (λ before after. before.schema ≡ first_schema → AddsRates rated_schema before after) }
-    ensures inside { StaysInside S.Store transaction.old.conn transaction.new.conn result }
+    ensures inside { WritesInTransaction S.Store transaction.old.conn transaction.new.conn result }
 {
     write(
         transaction,
@@ -137,9 +137,9 @@ fn make_rates<S: Alter>(transaction: &mut Transaction<'_, S>) -> Result<(), Erro
 }
 
 fn make_job_ended<S: Alter>(transaction: &mut Transaction<'_, S>) -> Result<(), Error>
-    ensures adds { Makes S.Store transaction.old.conn.now transaction.new.conn.now result
+    ensures adds { MakesIfHonest S.Store transaction.old.conn.now transaction.new.conn.now result
         (λ before after. before.schema ≡ rated_schema → AddsIndex before after) }
-    ensures inside { StaysInside S.Store transaction.old.conn transaction.new.conn result }
+    ensures inside { WritesInTransaction S.Store transaction.old.conn transaction.new.conn result }
 {
     write(
         transaction,
@@ -149,9 +149,9 @@ fn make_job_ended<S: Alter>(transaction: &mut Transaction<'_, S>) -> Result<(), 
 }
 
 fn note_version<S: Alter>(transaction: &mut Transaction<'_, S>) -> Result<(), Error>
-    ensures made { Makes S.Store transaction.old.conn.now transaction.new.conn.now result
+    ensures made { MakesIfHonest S.Store transaction.old.conn.now transaction.new.conn.now result
         (λ before after. IsBlank room_schema before → IsNew after) }
-    ensures inside { StaysInside S.Store transaction.old.conn transaction.new.conn result }
+    ensures inside { WritesInTransaction S.Store transaction.old.conn transaction.new.conn result }
 {
     write(
         transaction,

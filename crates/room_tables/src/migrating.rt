@@ -4,7 +4,7 @@ ghost use Rattle.std.specs.Prelude.{◌≡◌, ◌⊎◌, [], false, pos, OnOk, 
 ghost use Rattle.sqlite.specs.State.{HasCleanDisk};
 ghost use Rattle.sqlite.specs.Held.{state};
 ghost use Rattle.room_tables.specs.Tables.{room_schema, rates, first_version};
-ghost use Rattle.room_tables.specs.Calls.{IsSame, IsWhole, Makes, OnDisk, StaysInside};
+ghost use Rattle.room_tables.specs.Calls.{IsUnchanged, AllOrNothing, MakesIfHonest, IfDiskHonest, WritesInTransaction};
 ghost use Rattle.room_tables.specs.Making.{HasVersion, IsOpened};
 ghost use Rattle.room_tables.specs.Migrating.{IsFirstVersion, IsMigrated, IsMigrateFault, RatesDevices, NotesVersionTwo};
 
@@ -19,11 +19,11 @@ pub fn migrate_tables<S: Alter>(connection: &mut Connection<S>) -> Result<(), Op
     requires mode { connection.old.in_transaction ≡ false }
     ensures migrated { HasCleanDisk (state S.Store connection.new)
         → OnOk result ((IsOpened (state S.Store connection.old).now
-        × IsSame (state S.Store connection.old) (state S.Store connection.new))
+        × IsUnchanged (state S.Store connection.old) (state S.Store connection.new))
         ⊎ IsMigrated (state S.Store connection.old).now (state S.Store connection.new).now) }
-    ensures fault { OnDisk S.Store connection.old connection.new
+    ensures fault { IfDiskHonest S.Store connection.old connection.new
         (λ db. IfErr result (IsMigrateFault db)) }
-    ensures whole { IsWhole S.Store connection.old connection.new result }
+    ensures whole { AllOrNothing S.Store connection.old connection.new result }
 {
     if is_older(connection)? {
         add_rates(connection)?;
@@ -35,9 +35,9 @@ pub fn migrate_tables<S: Alter>(connection: &mut Connection<S>) -> Result<(), Op
 /// version 2, in one transaction.
 fn add_rates<S: Alter>(connection: &mut Connection<S>) -> Result<(), Error>
     requires mode { connection.old.in_transaction ≡ false }
-    ensures migrated { Makes S.Store connection.old connection.new result
+    ensures migrated { MakesIfHonest S.Store connection.old connection.new result
         (λ before after. IsFirstVersion before → IsMigrated before after) }
-    ensures whole { IsWhole S.Store connection.old connection.new result }
+    ensures whole { AllOrNothing S.Store connection.old connection.new result }
 {
     let mut transaction = connection.transaction();
     become_version_two(&mut transaction)?;
@@ -45,9 +45,9 @@ fn add_rates<S: Alter>(connection: &mut Connection<S>) -> Result<(), Error>
 }
 
 fn become_version_two<S: Alter>(transaction: &mut Transaction<'_, S>) -> Result<(), Error>
-    ensures migrated { Makes S.Store transaction.old.conn.now transaction.new.conn.now result
-        (λ before after. IsFirstVersion before → IsMigrated before after) }
-    ensures inside { StaysInside S.Store transaction.old.conn transaction.new.conn result }
+    ensures migrated { MakesIfHonest S.Store transaction.old.conn.now transaction.new.conn.now
+        result (λ before after. IsFirstVersion before → IsMigrated before after) }
+    ensures inside { WritesInTransaction S.Store transaction.old.conn transaction.new.conn result }
 {
     extend_tables(transaction)?;
     rate_devices(transaction)?;
@@ -55,10 +55,10 @@ fn become_version_two<S: Alter>(transaction: &mut Transaction<'_, S>) -> Result<
 }
 
 fn rate_devices<S: Alter>(transaction: &mut Transaction<'_, S>) -> Result<(), Error>
-    ensures rates { Makes S.Store transaction.old.conn.now transaction.new.conn.now result
+    ensures rates { MakesIfHonest S.Store transaction.old.conn.now transaction.new.conn.now result
         (λ before after. before.schema ≡ room_schema → before.trees rates.tree ≡ []
         → RatesDevices before after) }
-    ensures inside { StaysInside S.Store transaction.old.conn transaction.new.conn result }
+    ensures inside { WritesInTransaction S.Store transaction.old.conn transaction.new.conn result }
 {
     write(
         transaction,
@@ -68,10 +68,10 @@ fn rate_devices<S: Alter>(transaction: &mut Transaction<'_, S>) -> Result<(), Er
 }
 
 fn note_version_two<S: Alter>(transaction: &mut Transaction<'_, S>) -> Result<(), Error>
-    ensures notes { Makes S.Store transaction.old.conn.now transaction.new.conn.now result
+    ensures notes { MakesIfHonest S.Store transaction.old.conn.now transaction.new.conn.now result
         (λ before after. before.schema ≡ room_schema → HasVersion before first_version
         → NotesVersionTwo before after) }
-    ensures inside { StaysInside S.Store transaction.old.conn transaction.new.conn result }
+    ensures inside { WritesInTransaction S.Store transaction.old.conn transaction.new.conn result }
 {
     write(transaction, "UPDATE meta SET version = 2 WHERE id = 1", &[])
 }

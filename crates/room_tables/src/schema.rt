@@ -4,7 +4,7 @@ ghost use Rattle.std.specs.Prelude.{◌≡◌, ◌↔◌, ◌+◌, ◌<◌, ◌^
 ghost use Rattle.sqlite_value.specs.Keys.{plain};
 ghost use Rattle.sqlite_schema.specs.declared.schema.Kind.TheVariants.{Integer, Text as TextKind, Blob as BlobKind};
 ghost use Rattle.room_tables.specs.Tables.{column_of, keyed, meta, account, job, document, grants, device, rates, no_schema, first_schema, rated_schema, job_ended, room_schema};
-ghost use Rattle.room_tables.specs.Forms.{column_formed};
+ghost use Rattle.room_tables.specs.ProofForms.{column_formed};
 ghost use Rattle.room_tables.specs.Making.{IsLaidOut, KeepsVersion};
 
 use sqlite_items::Items;

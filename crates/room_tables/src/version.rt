@@ -7,7 +7,7 @@ ghost use Rattle.sqlite_value.specs.Order.{column};
 ghost use Rattle.sqlite_sql.specs.Term.{col};
 ghost use Rattle.sqlite.specs.State.{HasCleanDisk};
 ghost use Rattle.sqlite.specs.Held.{state};
-ghost use Rattle.room_tables.specs.Calls.{GoesOn, OnDisk, OnlyReads};
+ghost use Rattle.room_tables.specs.Calls.{KeepsOpen, IfDiskHonest, OnlyReads};
 ghost use Rattle.room_tables.specs.Queries.{FindsRow};
 ghost use Rattle.room_tables.specs.Making.{HasVersion, LacksVersion, KeepsVersion, IsEdition, IsNoEdition, IsOpened, IsOpenFault, version_tests};
 ghost use Rattle.room_tables.specs.Migrating.{IsFirstVersion, IsMigrateFault};
@@ -32,9 +32,9 @@ struct Edition {
 
 /// Whether the database is one that the store can be opened on.
 pub fn check<S: Alter>(connection: &mut Connection<S>) -> Result<(), OpenFault>
-    ensures opened { OnDisk S.Store connection.old connection.new
+    ensures opened { IfDiskHonest S.Store connection.old connection.new
         (λ db. OnOk result (IsOpened db)) }
-    ensures fault { OnDisk S.Store connection.old connection.new
+    ensures fault { IfDiskHonest S.Store connection.old connection.new
         (λ db. IfErr result (IsOpenFault db)) }
     ensures reads { OnlyReads S.Store connection.old connection.new (λ _. ⊤) result }
 {
@@ -44,9 +44,9 @@ pub fn check<S: Alter>(connection: &mut Connection<S>) -> Result<(), OpenFault>
 
 /// Whether the database is to be migrated. If not, the store can be opened on it.
 pub(crate) fn is_older<S: Alter>(connection: &mut Connection<S>) -> Result<bool, OpenFault>
-    ensures found { OnDisk S.Store connection.old connection.new (λ db.
+    ensures found { IfDiskHonest S.Store connection.old connection.new (λ db.
         IfOk result (λ older. (IsTrue older → IsFirstVersion db) × (older ≡ false → IsOpened db))) }
-    ensures fault { OnDisk S.Store connection.old connection.new
+    ensures fault { IfDiskHonest S.Store connection.old connection.new
         (λ db. IfErr result (IsMigrateFault db)) }
     ensures reads { OnlyReads S.Store connection.old connection.new (λ _. ⊤) result }
 {
@@ -101,9 +101,9 @@ fn judge_older(edition: Edition) -> Result<bool, OpenFault>
 
 /// The edition that a database is, where it is one.
 fn find_edition<S: Alter>(connection: &mut Connection<S>) -> Result<Edition, OpenFault>
-    ensures found { OnDisk S.Store connection.old connection.new
+    ensures found { IfDiskHonest S.Store connection.old connection.new
         (λ db. IfOk result (IsEdition db)) }
-    ensures fault { OnDisk S.Store connection.old connection.new
+    ensures fault { IfDiskHonest S.Store connection.old connection.new
         (λ db. IfErr result (IsNoEdition db)) }
     ensures reads { OnlyReads S.Store connection.old connection.new (λ _. ⊤) result }
 {
@@ -119,7 +119,7 @@ fn find_edition<S: Alter>(connection: &mut Connection<S>) -> Result<Edition, Ope
 
 /// The version that the row of `meta` tells, where it tells one.
 fn find_version<S: Alter>(connection: &mut Connection<S>) -> Result<Option<i64>, OpenFault>
-    ensures found { OnDisk S.Store connection.old connection.new (λ db. KeepsVersion db.schema
+    ensures found { IfDiskHonest S.Store connection.old connection.new (λ db. KeepsVersion db.schema
         → IfOk result (λ found. MatchOption found (LacksVersion db) (HasVersion db))) }
     ensures fault { IfErr result
         (λ fault. (fault ≡ OpenFault.Storage) ⊎ (fault ≡ OpenFault.Memory)) }
@@ -137,7 +137,7 @@ fn version_row<S: Alter>(connection: &mut Connection<S>) -> Result<Option<Row>, 
         → KeepsVersion (state S.Store connection.old).now.schema
         → FindsRow (state S.Store connection.old) (state S.Store connection.new) 0 version_tests
         (col 1 2 ∷ []) [] result }
-    ensures going { GoesOn S.Store connection.old connection.new result }
+    ensures connection { KeepsOpen S.Store connection.old connection.new result }
 {
     find_row(connection, "SELECT version FROM meta WHERE id = 1", &[])
 }

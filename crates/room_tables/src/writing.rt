@@ -4,7 +4,7 @@ ghost use Rattle.std.specs.Prelude.{◌≡◌, Err, OnOk};
 ghost use Rattle.sqlite.specs.State.{HasCleanDisk};
 ghost use Rattle.sqlite.specs.Held.{state};
 ghost use Rattle.sqlite.specs.Values.{bound};
-ghost use Rattle.room_tables.specs.Calls.{HasRun, IsTaken, StaysInside};
+ghost use Rattle.room_tables.specs.Calls.{HasRun, IsTaken, WritesInTransaction};
 
 use crate::fault::TableFault;
 use sqlite::{Alter, Error, Transaction};
@@ -20,7 +20,7 @@ pub fn write<S: Alter>(
     ensures runs { HasCleanDisk (state S.Store transaction.new.conn.now)
         → OnOk result (HasRun text.now (bound params.now)
         (state S.Store transaction.old.conn.now) (state S.Store transaction.new.conn.now)) }
-    ensures inside { StaysInside S.Store transaction.old.conn transaction.new.conn result }
+    ensures inside { WritesInTransaction S.Store transaction.old.conn transaction.new.conn result }
 {
     transaction.execute(text, params)?;
     Ok(())
@@ -39,7 +39,7 @@ pub fn put<S: Alter>(
     ensures taken { HasCleanDisk (state S.Store transaction.new.conn.now)
         → result ≡ Err TableFault.Damaged → IsTaken text.now (bound params.now)
         (state S.Store transaction.old.conn.now) (state S.Store transaction.new.conn.now) }
-    ensures inside { StaysInside S.Store transaction.old.conn transaction.new.conn result }
+    ensures inside { WritesInTransaction S.Store transaction.old.conn transaction.new.conn result }
 {
     match transaction.execute(text, params) {
         Ok(_) => Ok(()),

@@ -1,6 +1,6 @@
 use Rattle.std.proofs.Common.{rules, ◌≡◌, ◌+◌, ◌≤◌, length, ◌==◌, ◌&&◌, ◌||◌, ◌++◌, ◌∷◌, false, [], refl, sym, ap, arith, ◌∙◌, subst}
 use Rattle.httparse.specs.Grammar.{HasNoRequest}
-use Rattle.room_http.specs.Kinds.{ends_empty_line, has_space, may_end_head}
+use Rattle.room_http.specs.ProofKinds.{ends_empty_line, has_space, may_end_head}
 use Rattle.room_http.proofs.Heads.{no_head_in_nothing, no_head_with_byte, space_with_byte}
 use Rattle.room_http.proofs.Streams.{Yields_more}
 use Rattle.room_http.proofs.Taking.{takes_more}
@@ -16,7 +16,7 @@ bytes-init g c = rw c.requires.empty (record {
   count = refl;
 })
 
--- a byte behind which no head ends
+-- a byte after which no head ends
 pub bytes-preserved : goal.bytes-preserved
 bytes-preserved g c =
     let left = g.R.Source.left in

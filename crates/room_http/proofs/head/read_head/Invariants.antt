@@ -1,7 +1,7 @@
 use Rattle.std.proofs.Common.{◌≡◌, ◌-◌, ◌≤◌, length, vec_len}
 use Rattle.httparse.specs.Grammar.{HasNoRequest}
 use Rattle.room_input.specs.Streams.{Yields}
-use Rattle.room_http.specs.Kinds.{has_space}
+use Rattle.room_http.specs.ProofKinds.{has_space}
 use Rattle.room_http.proofs.head.read_head.Given as goal
 
 abbrev pub invariant-bytes : goal.invariant-bytes

@@ -47,7 +47,7 @@ returns-then-not-found-clause-few c =
     let few = inv.few in
     omega arith
 
--- one record behind as many as there may be
+-- one record after as many as there may be
 pub returns-then-len-eq-MOST_RECORDS-clause-many :
     goal.returns-then-len-eq-MOST_RECORDS-clause-many
 returns-then-len-eq-MOST_RECORDS-clause-many c =

@@ -7,7 +7,7 @@ use Rattle.room_input.specs.GrantFiles.{most_records}
 use Rattle.room_input.specs.GrantLines.{IsInRange, grant_lines}
 use Rattle.room_input.proofs.grants.lines_of.Given as goal
 
--- the rows that were read so far, whose lines are those so far, and the bytes behind them
+-- the rows that were read so far, whose lines are those so far, and the bytes after them
 abbrev pub invariant-loop-found : goal.invariant-loop-found
 invariant-loop-found l = record {
   trim : reader_trim l.reader ≡ trim.None;

@@ -1,5 +1,5 @@
-use Rattle.room_serve.proofs.Agreed.{agree_again, hold_the_same, same_alone}
+use Rattle.room_serve.proofs.Agreed.{agree_again, hold_the_same}
 use Rattle.room_serve.proofs.laws.agreement.Goals as goal
 
 pub returns : goal.returns
-returns c = record { alone = same_alone; rows = hold_the_same; again = agree_again }
+returns c = record { rows = hold_the_same; again = agree_again }

@@ -1,6 +1,7 @@
-use Rattle.std.proofs.Common.{◌≤◌, length, take}
+use Rattle.std.proofs.Common.{◌≤◌, length, map, take}
 use Rattle.std.specs.Vec.{vec_capacity}
 use Rattle.sqlite.specs.Held.{state}
+use Rattle.room_core.specs.Events.{plain_timed}
 use Rattle.room_serve.proofs.RunLemmas.{SoFar}
 use Rattle.room_serve.proofs.run.run_events.Given as goal
 
@@ -10,4 +11,4 @@ pub record Runs (so_far : Type 0) (room : Type 0) : Type 0 where
   pub fits : room
 
 abbrev pub invariant-loop-now : goal.invariant-loop-now
-invariant-loop-now g l = Runs (SoFar (take l.now-index l.events) l.outcomes.items (state g.S.Store l.fn.store) (state g.S.Store l.store)) (length l.events ≤ vec_capacity l.outcomes)
+invariant-loop-now g l = Runs (SoFar (map plain_timed (take l.now-index l.events)) l.outcomes.items (state g.S.Store l.fn.store) (state g.S.Store l.store)) (length l.events ≤ vec_capacity l.outcomes)

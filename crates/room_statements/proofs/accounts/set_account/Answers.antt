@@ -12,7 +12,7 @@ pub returns-clause-sets : goal.returns-clause-sets
 returns-clause-sets g c clean =
     let old = state g.S.Store c.args.transaction.now.conn.now in
     let new = state g.S.Store c.write.new.transaction.conn.now in
-    let cells = account_cells c.args.name c.args.account in
+    let cells = account_cells c.args.account c.args.row in
     let ran : HasCleanDisk new → OnOk c.write.result (HasRun set_account_text cells old new) = rw (c.bytes.ensures.value, c.number.ensures, c.number-2.ensures) at c.write.ensures.runs in
     then_changed c.write.result _ _
-    (λ run has. sets_row (sets_account c.args.name c.args.account) old new run.0 has run.1) (ran clean)
+    (λ run has. sets_row (sets_account c.args.account c.args.row) old new run.0 has run.1) (ran clean)

@@ -14,10 +14,10 @@ pub returns-clause-sets : goal.returns-clause-sets
 returns-clause-sets g c clean =
     let old = state g.S.Store c.args.transaction.now.conn.now in
     let new = state g.S.Store c.write.new.transaction.conn.now in
-    let given = Text c.args.name ∷ number c.args.next_job ∷ [] in
+    let given = Text c.args.account ∷ number c.args.next_job ∷ [] in
     let ran : HasCleanDisk new → OnOk c.write.result (HasRun next_text given old new) = rw (c.bytes.ensures.value, c.number.ensures) at c.write.ensures.runs in
     then_changed c.write.result _ _
     (λ run has.
-    let left = updates_row (Text c.args.name ∷ []) account_in next_text next_tests next_terms given (updates_next c.args.name c.args.next_job) old new run.0 has run.1 in
-    (left.0, λ it there. left.1 (account_cells c.args.name it) there (next_kept c.args.name it c.args.next_job) (next_keyed c.args.name (record it { next_job = c.args.next_job }))))
+    let left = updates_row (Text c.args.account ∷ []) account_in next_text next_tests next_terms given (updates_next c.args.account c.args.next_job) old new run.0 has run.1 in
+    (left.0, λ it there. left.1 (account_cells c.args.account it) there (next_kept c.args.account it c.args.next_job) (next_keyed c.args.account (record it { next_job = c.args.next_job }))))
     (ran clean)

@@ -17,14 +17,14 @@ returns-clause-sets g c clean =
     let old = state g.S.Store c.args.transaction.now.conn.now in
     let new = state g.S.Store c.put.new.transaction.conn.now in
     let it : Document = record { job = c.args.job; number = c.args.number_in_job; format = c.args.format; bytes = c.args.bytes.now } in
-    let ran : HasCleanDisk new → OnOk c.put.result (HasRun add_text (document_cells c.args.name it) old new) = rw (c.bytes.ensures.value, c.number.ensures, c.number-2.ensures, c.format_text.ensures) at c.put.ensures.runs in
+    let ran : HasCleanDisk new → OnOk c.put.result (HasRun add_text (document_cells c.args.account it) old new) = rw (c.bytes.ensures.value, c.number.ensures, c.number-2.ensures, c.format_text.ensures) at c.put.ensures.runs in
     then_changed c.put.result _ _
-    (λ run has. puts_row (Text c.args.name ∷ number it.job ∷ number it.number ∷ []) (Text (media_type it.format) ∷ Blob it.bytes ∷ []) document_in add_text add_terms (puts_document c.args.name it) old new run.0 has run.1) (ran clean)
+    (λ run has. puts_row (Text c.args.account ∷ number it.job ∷ number it.number ∷ []) (Text (media_type it.format) ∷ Blob it.bytes ∷ []) document_in add_text add_terms (puts_document c.args.account it) old new run.0 has run.1) (ran clean)
 
 pub returns-clause-taken : goal.returns-clause-taken
 returns-clause-taken g c clean has is_damaged =
     let old = state g.S.Store c.args.transaction.now.conn.now in
     let new = state g.S.Store c.put.new.transaction.conn.now in
     let it : Document = record { job = c.args.job; number = c.args.number_in_job; format = c.args.format; bytes = c.args.bytes.now } in
-    let refused : IsTaken add_text (document_cells c.args.name it) old new = rw (c.bytes.ensures.value, c.number.ensures, c.number-2.ensures, c.format_text.ensures) at (c.put.ensures.taken clean is_damaged) in
-    was_taken (Text c.args.name ∷ number it.job ∷ number it.number ∷ []) (Text (media_type it.format) ∷ Blob it.bytes ∷ []) document_in add_text add_terms (puts_document c.args.name it) old new has refused
+    let refused : IsTaken add_text (document_cells c.args.account it) old new = rw (c.bytes.ensures.value, c.number.ensures, c.number-2.ensures, c.format_text.ensures) at (c.put.ensures.taken clean is_damaged) in
+    was_taken (Text c.args.account ∷ number it.job ∷ number it.number ∷ []) (Text (media_type it.format) ∷ Blob it.bytes ∷ []) document_in add_text add_terms (puts_document c.args.account it) old new has refused

@@ -14,7 +14,7 @@ pub returns-clause-removes : goal.returns-clause-removes
 returns-clause-removes g c clean =
     let old = state g.S.Store c.args.transaction.now.conn.now in
     let new = state g.S.Store c.write.new.transaction.conn.now in
-    let params : Row = Text c.args.name ∷ number c.args.job ∷ [] in
+    let params : Row = Text c.args.account ∷ number c.args.job ∷ [] in
     let ran : HasCleanDisk new → OnOk c.write.result (HasRun remove_text params old new) = rw (c.bytes.ensures.value, c.number.ensures) at c.write.ensures.runs in
     then_changed c.write.result _ _
-    (λ run has. let gone = removes_documents c.args.name c.args.job old new run.0 has run.1 in (gone.1, gone.0)) (ran clean)
+    (λ run has. let gone = removes_documents c.args.account c.args.job old new run.0 has run.1 in (gone.1, gone.0)) (ran clean)

@@ -15,14 +15,14 @@ returns-clause-sets g c clean =
     let old = state g.S.Store c.args.transaction.now.conn.now in
     let new = state g.S.Store c.put.new.transaction.conn.now in
     let it = c.args.job.now in
-    let ran : HasCleanDisk new → OnOk c.put.result (HasRun add_text (job_cells c.args.name it) old new) = rw (c.bytes.ensures.value, c.number.ensures, c.as_slice.ensures, c.as_slice-2.ensures, c.number_of_state.ensures, c.flag.ensures, c.flag-2.ensures, c.number-2.ensures, c.number-3.ensures, c.number-4.ensures, c.number-5.ensures, c.number-6.ensures, c.number-7.ensures, c.device_text.ensures, c.number-8.ensures, c.moment.ensures, c.moment-2.ensures) at c.put.ensures.runs in
+    let ran : HasCleanDisk new → OnOk c.put.result (HasRun add_text (job_cells c.args.account it) old new) = rw (c.bytes.ensures.value, c.number.ensures, c.as_slice.ensures, c.as_slice-2.ensures, c.number_of_state.ensures, c.flag.ensures, c.flag-2.ensures, c.number-2.ensures, c.number-3.ensures, c.number-4.ensures, c.number-5.ensures, c.number-6.ensures, c.number-7.ensures, c.device_text.ensures, c.number-8.ensures, c.moment.ensures, c.moment-2.ensures) at c.put.ensures.runs in
     then_changed c.put.result _ _
-    (λ run has. puts_row (Text c.args.name ∷ number it.job ∷ []) (Blob it.name ∷ Blob it.password ∷ standing_cells it.standing) job_in add_text add_terms (puts_job c.args.name it) old new run.0 has run.1) (ran clean)
+    (λ run has. puts_row (Text c.args.account ∷ number it.job ∷ []) (Blob it.name ∷ Blob it.password ∷ standing_cells it.standing) job_in add_text add_terms (puts_job c.args.account it) old new run.0 has run.1) (ran clean)
 
 pub returns-clause-taken : goal.returns-clause-taken
 returns-clause-taken g c clean has is_damaged =
     let old = state g.S.Store c.args.transaction.now.conn.now in
     let new = state g.S.Store c.put.new.transaction.conn.now in
     let it = c.args.job.now in
-    let refused : IsTaken add_text (job_cells c.args.name it) old new = rw (c.bytes.ensures.value, c.number.ensures, c.as_slice.ensures, c.as_slice-2.ensures, c.number_of_state.ensures, c.flag.ensures, c.flag-2.ensures, c.number-2.ensures, c.number-3.ensures, c.number-4.ensures, c.number-5.ensures, c.number-6.ensures, c.number-7.ensures, c.device_text.ensures, c.number-8.ensures, c.moment.ensures, c.moment-2.ensures) at (c.put.ensures.taken clean is_damaged) in
-    was_taken (Text c.args.name ∷ number it.job ∷ []) (Blob it.name ∷ Blob it.password ∷ standing_cells it.standing) job_in add_text add_terms (puts_job c.args.name it) old new has refused
+    let refused : IsTaken add_text (job_cells c.args.account it) old new = rw (c.bytes.ensures.value, c.number.ensures, c.as_slice.ensures, c.as_slice-2.ensures, c.number_of_state.ensures, c.flag.ensures, c.flag-2.ensures, c.number-2.ensures, c.number-3.ensures, c.number-4.ensures, c.number-5.ensures, c.number-6.ensures, c.number-7.ensures, c.device_text.ensures, c.number-8.ensures, c.moment.ensures, c.moment-2.ensures) at (c.put.ensures.taken clean is_damaged) in
+    was_taken (Text c.args.account ∷ number it.job ∷ []) (Blob it.name ∷ Blob it.password ∷ standing_cells it.standing) job_in add_text add_terms (puts_job c.args.account it) old new has refused

@@ -27,11 +27,11 @@ rows-preserved g c =
     let old = state g.S.Store c.args.connection.now in
     let was = state g.S.Store c.rows.rows.conn.now in
     let now = state g.S.Store c.next.follows.lender-at-none.conn.now in
-    let goes = c.rows.invariant.1 in
+    let keeps = c.rows.invariant.1 in
     let before : HasCleanDisk now → HasCleanDisk was = λ clean. omega (arith, moved.survives.clean, clean) in
     let row = c.in-Some.row.now in (
       moved.same_reference ∙ c.rows.invariant.0,
-      goes_on old was now goes (goes_by was now _ moved.survives (λ clean is_open. (c.rows.invariant.2 (before clean)).1) moved.mode),
+      goes_on old was now keeps (goes_by was now _ moved.survives (λ clean is_open. (c.rows.invariant.2 (before clean)).1) moved.mode),
       λ clean. let stays = rw c.in_ok-row.was at (moved.same clean) in went_on old was now (c.rows.invariant.2 (before clean)) stays,
       λ clean plain.
           let so_far = c.rows.invariant.3 (before clean) plain in
@@ -46,11 +46,11 @@ rows-preserved g c =
           (before.0 ++ row ∷ [], gathers_more g.G.Gather.step c.args.gathered.now c.rows.gathered c.gather.new.self before.0 row before.1 c.in_ok-gather.ensures.gathered),
     )
 
-pub returns-in_err-rows-clause-going : goal.returns-in_err-rows-clause-going
-returns-in_err-rows-clause-going g c =
+pub returns-in_err-rows-clause-connection : goal.returns-in_err-rows-clause-connection
+returns-in_err-rows-clause-connection g c =
     let held = rw c.in_err-rows.was at c.query.follows.holds-at-none in
     let told = err_from_is_err_and c.from_residual.result c.from_residual.ensures.1 in
-    record { goes = goes_by _ _ _ held.survives (λ clean is_open. query_back _ _ _ _ _ (held.err clean) is_open) held.mode; opened = λ clean. rw told.1 tt }
+    record { keeps = goes_by _ _ _ held.survives (λ clean is_open. query_back _ _ _ _ _ (held.err clean) is_open) held.mode; opened = λ clean. rw told.1 tt }
 
 pub returns-in_err-rows-clause-walks : goal.returns-in_err-rows-clause-walks
 returns-in_err-rows-clause-walks g c clean query names parameters no_sums means takes =

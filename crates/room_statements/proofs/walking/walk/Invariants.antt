@@ -5,14 +5,14 @@ use Rattle.sqlite.specs.State.{HasCleanDisk, IsUnchanged}
 use Rattle.sqlite.specs.Held.{state}
 use Rattle.sqlite.specs.Values.{bound}
 use Rattle.sqlite.specs.Given.{HasGiven, IsPlain}
-use Rattle.room_tables.specs.Calls.{Goes}
-use Rattle.room_statements.specs.Walks.{GathersAll, HasGathered}
+use Rattle.room_tables.specs.Calls.{KeepsConnection}
+use Rattle.room_statements.specs.ProofWalks.{GathersAll, HasGathered}
 use Rattle.room_statements.proofs.walking.walk.Given as goal
 
 abbrev pub invariant-rows : goal.invariant-rows
 invariant-rows g l =
     let old = state g.S.Store l.fn.connection in
     let now = state g.S.Store l.rows.conn.now in
-    (l.rows.conn.ghost_name ≡ l.initial.rows.conn.ghost_name) × Goes old now × (HasCleanDisk now → IsTrue old.is_open × IsTrue now.is_open)
+    (l.rows.conn.ghost_name ≡ l.initial.rows.conn.ghost_name) × KeepsConnection old now × (HasCleanDisk now → IsTrue old.is_open × IsTrue now.is_open)
     × (HasCleanDisk now → IsPlain (understood old.now.schema l.text) → (given : List Row) × HasGiven g.S.Store l.text (bound l.params) l.rows.conn.now given × IsUnchanged old now × GathersAll g.G.Gather.step l.fn.gathered given l.gathered)
     × HasGathered g.G.Gather.step l.fn.gathered l.gathered

@@ -9,5 +9,5 @@ returns-in_err-held g c =
     let told = err_from_is_err_and c.from_residual.result c.from_residual.ensures.1 in
     record {
       served = read_failed_as _ _ _ _ g.S.Store _ _ c.from_residual.result told.0 _ told.1 told.2 c.in_err-held.ensures.reads
-          (λ clean has is of held. c.in_err-held.ensures.damaged clean has (ap (λ e. Err e) is) (grant_read _ c.args.name c.args.month (Some of.0, held.room)));
+          (λ clean has is of held. c.in_err-held.ensures.damaged clean has (ap (λ e. Err e) is) (grant_read _ c.args.account c.args.month (Some of.0, held.room)));
     }

@@ -21,8 +21,8 @@ jobs_as-requires-clause-jobs g c =
 pub returns-clause-served : goal.returns-clause-served
 returns-clause-served g c opened =
     let ask = plain_ask c.args.ask.now in
-    says _ _ _ _ g.S.Store c.args.connection.now c.asked_jobs.new.connection (read_passed g.S.Store _ _ _ c.in_ok-jobs.ensures.reads) (same_rows c.args.name)
+    says _ _ _ _ g.S.Store c.args.connection.now c.asked_jobs.new.connection (read_passed g.S.Store _ _ _ c.in_ok-jobs.ensures.reads) (same_rows c.args.account)
     (done_text ask.header ask.unsupported (job_groups (plain_place c.asked_at-at.result) c.as_slice.result.now (listed_names ask.wanted))) c.jobs_as.result c.jobs_as.ensures.text c.jobs_as.ensures.memory
     (λ clean has of held.
-    let account = account_in_room _ c.args.name c.args.account (opened clean has) of.0 held.room in
-    (listed_so of.0 c.args.name c.args.now ask c.args.account account (plain_place c.asked_at-at.result) c.asked_at-at.ensures.place c.as_slice.result.now (c.as_slice.ensures ∙ c.in_ok-jobs.ensures.listed clean has of.0 held.room), held.room))
+    let account = account_in_room _ c.args.account c.args.row (opened clean has) of.0 held.room in
+    (listed_so of.0 c.args.account c.args.now ask c.args.row account (plain_place c.asked_at-at.result) c.asked_at-at.ensures.place c.as_slice.result.now (c.as_slice.ensures ∙ c.in_ok-jobs.ensures.listed clean has of.0 held.room), held.room))

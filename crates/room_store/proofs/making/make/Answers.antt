@@ -9,7 +9,7 @@ use Rattle.room_statements.proofs.QueuedWalk.{queued_read}
 use Rattle.room_tables.specs.Accounts.{HoldsRoom}
 use Rattle.room_tables.specs.Keyed.{HasSchema}
 use Rattle.room_replies.specs.Places.{plain_place}
-use Rattle.room_store.specs.Known.{IsOpen}
+use Rattle.room_store.specs.ProofKnown.{HasAccountRow}
 use Rattle.room_store.proofs.Made.{account_in_room, free_so, grown, told}
 use Rattle.room_store.proofs.ServingLemmas.{changed_after, handed, not_changed_after, read_failed_as, read_passed}
 use Rattle.room_store.proofs.making.make.Goals as goal
@@ -18,7 +18,7 @@ pub returns-in_err-tally-clause-served : goal.returns-in_err-tally-clause-served
 returns-in_err-tally-clause-served g c is_open =
     let told = err_from_is_err_and c.from_residual.result c.from_residual.ensures.1 in
     read_failed_as _ _ _ _ g.S.Store _ _ c.from_residual.result told.0 _ told.1 told.2 c.in_err-tally.ensures.reads
-    (λ clean has is of held. c.in_err-tally.ensures.damaged clean has (ap (λ e. Err e) is) (queued_read _ has c.args.name (Some of.0, held.room)))
+    (λ clean has is of held. c.in_err-tally.ensures.damaged clean has (ap (λ e. Err e) is) (queued_read _ has c.args.account (Some of.0, held.room)))
 
 pub returns-in_err-make_job-clause-served : goal.returns-in_err-make_job-clause-served
 returns-in_err-make_job-clause-served g c opened =
@@ -33,10 +33,10 @@ returns-in_err-make_job-clause-served g c opened =
     let fault = err_from_is_err_and c.from_residual-in_err-make_job.result c.from_residual-in_err-make_job.ensures.1 in
     let made = c.in_err-make_job.ensures in
     handed _ _ _ _ g.S.Store old new c.from_residual-in_err-make_job.result fault.0 _ fault.1 fault.2
-    (not_changed_after _ _ _ _ g.S.Store old mid passed new c.in_err-make_job.field-0.0 made.whole.goes made.whole.undone
+    (not_changed_after _ _ _ _ g.S.Store old mid passed new c.in_err-make_job.field-0.0 made.whole.keeps made.whole.undone
     (λ was clean has same is of held.
-    let own = account_in_room _ c.args.name c.args.account (opened clean has) of.0 held.room in
-    let free = free_so (state g.S.Store mid).now c.args.name c.args.account of.0 own (subst (λ db. HoldsRoom db c.args.name of.0) (sym same) held.room) ask c.args.now job (first_of job.job c.first_document.result) is_job is_first in
+    let own = account_in_room _ c.args.account c.args.row (opened clean has) of.0 held.room in
+    let free = free_so (state g.S.Store mid).now c.args.account c.args.row of.0 own (subst (λ db. HoldsRoom db c.args.account of.0) (sym same) held.room) ask c.args.now job (first_of job.job c.first_document.result) is_job is_first in
     made.damaged clean (subst HasSchema (sym same) has) (ap (λ e. Err e) is) free.0 free.1))
 
 pub returns-clause-served : goal.returns-clause-served
@@ -45,8 +45,8 @@ returns-clause-served g c opened =
     let old = c.args.connection.now in
     let mid = c.tally_unfinished.new.connection in
     let new = c.make_job.new.connection in
-    let name = c.args.name in
-    let account = c.args.account in
+    let name = c.args.account in
+    let account = c.args.row in
     let job = c.in_ok-job.job in
     let first = first_of job.job c.first_document.result in
     let is_job = c.in_ok-job.ensures.job in
@@ -54,12 +54,12 @@ returns-clause-served g c opened =
     let passed = read_passed g.S.Store old mid _ c.in_ok-tally.ensures.reads in
     let made = c.in_ok-make_job.ensures in
     let takes = sym c.check_accepting.ensures ∙ c.in_default.is in
-    changed_after _ _ _ _ g.S.Store old mid passed new c.in_ok-text.text (record { goes = made.whole.goes; opened = made.whole.opened })
+    changed_after _ _ _ _ g.S.Store old mid passed new c.in_ok-text.text (record { keeps = made.whole.keeps; opened = made.whole.opened })
     (λ was clean has same.
     let has_mid = subst HasSchema (sym same) has in
     let after = made.room clean has_mid in (
       after.0,
-      (made.alone clean has_mid).1 account (subst (IsOpen name account) (sym same) (opened clean has)),
+      (made.alone clean has_mid).1 account (subst (HasAccountRow name account) (sym same) (opened clean has)),
       λ of held.
           let own = account_in_room _ name account (opened clean has) of.0 held.room in
           let queue = c.in_ok-tally.ensures.queue was has of.0 held.room in (

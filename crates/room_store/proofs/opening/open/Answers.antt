@@ -8,4 +8,4 @@ pub returns-in_err-find_account-clause-served : goal.returns-in_err-find_account
 returns-in_err-find_account-clause-served g c =
     let told = err_from_is_err_and c.from_residual.result c.from_residual.ensures.1 in
     read_failed_as _ _ _ _ g.S.Store _ _ c.from_residual.result told.0 _ told.1 told.2 c.in_err-find_account.ensures.reads
-    (λ clean has is of held. c.in_err-find_account.ensures.damaged clean has (ap (λ e. Err e) is) (sound_rows_are_read.accounts _ c.args.name has (of.0, held.room)).account)
+    (λ clean has is of held. c.in_err-find_account.ensures.damaged clean has (ap (λ e. Err e) is) (sound_rows_are_read.accounts _ c.args.account has (of.0, held.room)).account)

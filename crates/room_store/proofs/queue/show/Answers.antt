@@ -21,7 +21,7 @@ pub returns-in_err-tally-clause-served : goal.returns-in_err-tally-clause-served
 returns-in_err-tally-clause-served g c is_open =
     let told = err_from_is_err_and c.from_residual.result c.from_residual.ensures.1 in
     read_failed_as _ _ _ _ g.S.Store _ _ c.from_residual.result told.0 _ told.1 told.2 c.in_err-tally.ensures.reads
-    (λ clean has is of held. c.in_err-tally.ensures.damaged clean has (ap (λ e. Err e) is) (queued_read _ has c.args.name (Some of.0, held.room)))
+    (λ clean has is of held. c.in_err-tally.ensures.damaged clean has (ap (λ e. Err e) is) (queued_read _ has c.args.account (Some of.0, held.room)))
 
 pub returns-in_err-on-clause-served : goal.returns-in_err-on-clause-served
 returns-in_err-on-clause-served g c is_open =
@@ -39,14 +39,14 @@ returns-clause-served g c opened =
     let new = c.is_device_on.new.connection in
     let counted = read_passed g.S.Store old mid _ c.in_ok-tally.ensures.reads in
     let passed = passed_then (state g.S.Store old) (state g.S.Store mid) (state g.S.Store new) counted (read_passed g.S.Store mid new _ c.in_ok-on.ensures.reads) in
-    says _ _ _ _ g.S.Store old new passed (same_rows c.args.name)
+    says _ _ _ _ g.S.Store old new passed (same_rows c.args.account)
     (done_text ask.header ask.unsupported (printer_group (plain_place c.asked_at-at.result) c.printer_now-printer.result ask.wanted ∷ [])) c.printer_as.result c.printer_as.ensures.text c.printer_as.ensures.memory
     (λ clean has of held.
-    let was : HasCleanDisk (state g.S.Store mid) = omega (arith, c.in_ok-on.ensures.reads.goes.clean, clean) in
+    let was : HasCleanDisk (state g.S.Store mid) = omega (arith, c.in_ok-on.ensures.reads.keeps.clean, clean) in
     let still = (counted.same was has).0 in
-    let account = account_in_room _ c.args.name c.args.account (opened clean has) of.0 held.room in
+    let account = account_in_room _ c.args.account c.args.row (opened clean has) of.0 held.room in
     let on = c.in_ok-on.ensures.of_map clean (subst HasSchema (sym still) has) of.1 (subst (λ (db : Database). HoldsDevices db of.1) (sym still) held.devices) in (
-      shown_so of.0 c.args.name c.args.now ask c.args.account account (plain_place c.asked_at-at.result) c.asked_at-at.ensures.place of.1 c.printer_now-printer.result c.in_ok-tally.tally.unfinished c.in_ok-tally.tally.is_processing c.in_ok-on.on
+      shown_so of.0 c.args.account c.args.now ask c.args.row account (plain_place c.asked_at-at.result) c.asked_at-at.ensures.place of.1 c.printer_now-printer.result c.in_ok-tally.tally.unfinished c.in_ok-tally.tally.is_processing c.in_ok-on.on
           c.printer_now-printer.ensures.printer (c.in_ok-tally.ensures.queue was has of.0 held.room) on,
       held.room,
     ))

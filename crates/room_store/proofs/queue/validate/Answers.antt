@@ -8,4 +8,4 @@ pub returns-in_err-tally-clause-served : goal.returns-in_err-tally-clause-served
 returns-in_err-tally-clause-served g c is_open =
     let told = err_from_is_err_and c.from_residual.result c.from_residual.ensures.1 in
     read_failed_as _ _ _ _ g.S.Store _ _ c.from_residual.result told.0 _ told.1 told.2 c.in_err-tally.ensures.reads
-    (λ clean has is of held. c.in_err-tally.ensures.damaged clean has (ap (λ e. Err e) is) (queued_read _ has c.args.name (Some of.0, held.room)))
+    (λ clean has is of held. c.in_err-tally.ensures.damaged clean has (ap (λ e. Err e) is) (queued_read _ has c.args.account (Some of.0, held.room)))

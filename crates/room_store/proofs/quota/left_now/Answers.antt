@@ -16,25 +16,25 @@ use Rattle.room_store.proofs.quota.left_now.Goals as goal
 pub returns-in_err-tally-clause-damaged : goal.returns-in_err-tally-clause-damaged
 returns-in_err-tally-clause-damaged g c clean has is room held =
     let told = err_from_is_err_and c.from_residual.result c.from_residual.ensures.1 in
-    c.in_err-tally.ensures.damaged clean has (ap (λ e. Err e) (fault_of c.from_residual.result told.0 _ _ told.1 told.2 is)) (sound_rows_are_read.accounts _ c.args.name has (Some room, held)).counted
+    c.in_err-tally.ensures.damaged clean has (ap (λ e. Err e) (fault_of c.from_residual.result told.0 _ _ told.1 told.2 is)) (sound_rows_are_read.accounts _ c.args.account has (Some room, held)).counted
 
 pub returns-in_err-granted-clause-damaged : goal.returns-in_err-granted-clause-damaged
 returns-in_err-granted-clause-damaged g c clean has is room held =
     let old = c.args.connection.now in
     let mid = c.tally_jobs.new.connection in
     let told = err_from_is_err_and c.from_residual-in_err-granted.result c.from_residual-in_err-granted.ensures.1 in
-    let was : HasCleanDisk (state g.S.Store mid) = omega (arith, c.in_err-granted.ensures.reads.goes.clean, clean) in
+    let was : HasCleanDisk (state g.S.Store mid) = omega (arith, c.in_err-granted.ensures.reads.keeps.clean, clean) in
     let same = ((read_passed g.S.Store old mid _ c.in_ok-tally.ensures.reads).same was has).0 in
-    c.in_err-granted.ensures.damaged clean (subst HasSchema (sym same) has) (ap (λ e. Err e) (fault_of c.from_residual-in_err-granted.result told.0 _ _ told.1 told.2 is)) room (subst (λ (db : Database). HoldsRoom db c.args.name room) (sym same) held)
+    c.in_err-granted.ensures.damaged clean (subst HasSchema (sym same) has) (ap (λ e. Err e) (fault_of c.from_residual-in_err-granted.result told.0 _ _ told.1 told.2 is)) room (subst (λ (db : Database). HoldsRoom db c.args.account room) (sym same) held)
 
 pub returns-clause-left : goal.returns-clause-left
 returns-clause-left g c clean has room held =
     let old = c.args.connection.now in
     let mid = c.tally_jobs.new.connection in
-    let was : HasCleanDisk (state g.S.Store mid) = omega (arith, c.in_ok-granted.ensures.reads.goes.clean, clean) in
+    let was : HasCleanDisk (state g.S.Store mid) = omega (arith, c.in_ok-granted.ensures.reads.keeps.clean, clean) in
     let same = ((read_passed g.S.Store old mid _ c.in_ok-tally.ensures.reads).same was has).0 in
     let counted = c.in_ok-tally.ensures.counted was has room held in
-    let granted = c.in_ok-granted.ensures.granted clean (subst HasSchema (sym same) has) room (subst (λ (db : Database). HoldsRoom db c.args.name room) (sym same) held) in
+    let granted = c.in_ok-granted.ensures.granted clean (subst HasSchema (sym same) has) room (subst (λ (db : Database). HoldsRoom db c.args.account room) (sym same) held) in
     let left : c.left_of.result ≡ left_in room c.args.now =
     c.left_of.ensures.left
     ∙ ap (λ units. left_of (pos units) (pos c.in_ok-tally.tally.reserved) (pos c.in_ok-tally.tally.charged)) granted

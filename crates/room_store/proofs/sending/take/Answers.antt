@@ -13,7 +13,7 @@ use Rattle.room_statements.specs.Rows.{IsFree}
 use Rattle.room_tables.specs.Accounts.{job_at}
 use Rattle.room_tables.specs.Cells.{job_cells}
 use Rattle.room_replies.specs.Places.{plain_place}
-use Rattle.room_store.specs.Known.{TakesDocument}
+use Rattle.room_store.specs.ProofKnown.{TakesDocument}
 use Rattle.room_store.proofs.Found.{job_in_room}
 use Rattle.room_store.proofs.Made.{account_in_room}
 use Rattle.room_store.proofs.Sent.{next_place_is_free, taken, told}
@@ -30,10 +30,10 @@ returns-in_err-restand_job-clause-served g c known =
     let fault = err_from_is_err_and c.from_residual-in_err-restand_job.result c.from_residual-in_err-restand_job.ensures.1 in
     let made = c.in_err-restand_job.ensures in
     handed _ _ _ _ g.S.Store old new c.from_residual-in_err-restand_job.result fault.0 _ fault.1 fault.2
-    (not_changed _ _ _ _ g.S.Store old new c.in_err-restand_job.field-0.0 made.whole.goes made.whole.undone
+    (not_changed _ _ _ _ g.S.Store old new c.in_err-restand_job.field-0.0 made.whole.keeps made.whole.undone
     (λ clean has is of held.
-    let there : get of.0.jobs ask.job ≡ Some job = ap (get of.0.jobs) (sym c.requires.number) ∙ job_in_room _ c.args.name job (known clean has).0 c.requires.numbered.in_range.standing of.0 held.room in
-    made.damaged clean has (ap (λ e. Err e) is) (subst (λ d. IsFree c.args.name d (state g.S.Store old).now) (sym (c.next_document-document.ensures job refl)) (next_place_is_free of.0 ask job there c.in-Ok.standing takes _ c.args.name held.room))))
+    let there : get of.0.jobs ask.job ≡ Some job = ap (get of.0.jobs) (sym c.requires.number) ∙ job_in_room _ c.args.account job (known clean has).0 c.requires.numbered.in_range.standing of.0 held.room in
+    made.damaged clean has (ap (λ e. Err e) is) (subst (λ d. IsFree c.args.account d (state g.S.Store old).now) (sym (c.next_document-document.ensures job refl)) (next_place_is_free of.0 ask job there c.in-Ok.standing takes _ c.args.account held.room))))
 
 pub returns-clause-served : goal.returns-clause-served
 returns-clause-served g c known =
@@ -41,20 +41,20 @@ returns-clause-served g c known =
     let old = c.args.connection.now in
     let new = c.restand_job.new.connection in
     let job = c.args.job in
-    let name = c.args.name in
+    let name = c.args.account in
     let standing = c.in-Ok.standing in
     let takes : TakesDocument (has_data ask) job.standing standing = subst (λ (d : Result Standing Refusal). IfOk d (TakesDocument (has_data ask) job.standing)) c.in-Ok.is c.requires.takes in
     let in_range : IsStanding standing = subst (λ (d : Result Standing Refusal). IfOk d IsStanding) c.in-Ok.is c.requires.in_range in
     let made = c.in_ok-restand_job.ensures in
-    changed _ _ _ _ g.S.Store old new c.in_ok-text.text (record { goes = made.whole.goes; opened = made.whole.opened })
+    changed _ _ _ _ g.S.Store old new c.in_ok-text.text (record { keeps = made.whole.keeps; opened = made.whole.opened })
     (λ clean has.
     let after = made.room clean has in (
       after.0,
       (made.alone clean has).1 job (subst (λ (n : ℕ). job_at (state g.S.Store old).now name (pos n) ≡ Some (job_cells name job)) c.requires.number (known clean has).0),
       λ of held.
           let there : get of.0.jobs ask.job ≡ Some job = ap (get of.0.jobs) (sym c.requires.number) ∙ job_in_room _ name job (known clean has).0 c.requires.numbered.in_range.standing of.0 held.room in
-          let own = account_in_room _ name c.args.account (known clean has).1 of.0 held.room in (
-            c.in_ok-text.ensures.text ∙ told of.0 ask job there standing takes name c.args.now c.args.decided c.in-Ok.is c.args.account own (plain_place c.asked_at-at.result) c.asked_at-at.ensures.place _ c.made_names.ensures,
+          let own = account_in_room _ name c.args.row (known clean has).1 of.0 held.room in (
+            c.in_ok-text.ensures.text ∙ told of.0 ask job there standing takes name c.args.now c.args.decided c.in-Ok.is c.args.row own (plain_place c.asked_at-at.result) c.asked_at-at.ensures.place _ c.made_names.ensures,
             taken of.0 ask job there standing takes name c.args.now c.args.decided c.in-Ok.is (first_of ask.job c.next_document-document.result) (c.next_document-document.ensures job refl) in_range (c.requires.ask.document_fits (ap hands_in_document c.requires.operation)) (state g.S.Store new).now (after.1 of.0 held.room),
           ),
     ))

@@ -11,7 +11,7 @@ returns-then-is_unfinished-clause-room g c clean =
     let it = made has in (
       it.0,
       λ there room holds.
-          let in_room = job_in_room _ c.args.name c.args.job.now there c.requires.before room holds in
+          let in_room = job_in_room _ c.args.account c.args.job.now there c.requires.before room holds in
           rw unfinished (it.1 room holds (can_restand room c.args.job.now in_room c.args.standing.now c.requires.in_range c.requires.kept unfinished)),
     ))
     (c.restand_job.ensures.room clean)
@@ -22,6 +22,6 @@ returns-clause-room g c clean has =
     let it = c.in_ok-end_job.ensures.room clean has in (
       it.0,
       λ there room holds.
-          let in_room = job_in_room _ c.args.name c.args.job.now there c.requires.before room holds in
+          let in_room = job_in_room _ c.args.account c.args.job.now there c.requires.before room holds in
           rw ended (it.1 room holds (can_finish room c.args.job.now in_room c.args.standing.now c.requires.in_range c.requires.kept ended)),
     )

@@ -8,4 +8,4 @@ pub returns-in_err-documents-clause-served : goal.returns-in_err-documents-claus
 returns-in_err-documents-clause-served g c known =
     let told = err_from_is_err_and c.from_residual.result c.from_residual.ensures.1 in
     read_failed_as _ _ _ _ g.S.Store _ _ c.from_residual.result told.0 _ told.1 told.2 c.in_err-documents.ensures.reads
-    (λ clean has is of held. c.in_err-documents.ensures.damaged clean has (ap (λ e. Err e) is) ((sound_rows_are_read.accounts _ c.args.name has (Some of.0, held.room)).documents c.args.job.now.job))
+    (λ clean has is of held. c.in_err-documents.ensures.damaged clean has (ap (λ e. Err e) is) ((sound_rows_are_read.accounts _ c.args.account has (Some of.0, held.room)).documents c.args.job.now.job))

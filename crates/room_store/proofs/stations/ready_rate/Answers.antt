@@ -19,7 +19,7 @@ returns-in_err-rate-clause-damaged g c clean has is devices held =
     let old = c.args.connection.now in
     let mid = c.find_device.new.connection in
     let told = err_from_is_err_and c.from_residual-in_err-rate.result c.from_residual-in_err-rate.ensures.1 in
-    let was : HasCleanDisk (state g.S.Store mid) = omega (arith, c.in_err-rate.ensures.reads.goes.clean, clean) in
+    let was : HasCleanDisk (state g.S.Store mid) = omega (arith, c.in_err-rate.ensures.reads.keeps.clean, clean) in
     let same = ((read_passed g.S.Store old mid _ c.in_ok-find_device.ensures.reads).same was has).0 in
     let has_mid = subst HasSchema (sym same) has in
     c.in_err-rate.ensures.damaged clean has_mid (ap (λ e. Err e) (fault_of c.from_residual-in_err-rate.result told.0 _ _ told.1 told.2 is))

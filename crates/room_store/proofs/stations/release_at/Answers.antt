@@ -10,7 +10,7 @@ use Rattle.room_state.specs.Sums.{left_in}
 use Rattle.room_statements.specs.Queues.{IsNumbered}
 use Rattle.room_tables.specs.Accounts.{HoldsRoom}
 use Rattle.room_tables.specs.Keyed.{HasSchema}
-use Rattle.room_store.specs.Known.{IsThere}
+use Rattle.room_store.specs.ProofKnown.{HasJobRow}
 use Rattle.room_store.proofs.Found.{there_still}
 use Rattle.room_store.proofs.ServingLemmas.{look_passed, passed_then, serves_after_so}
 use Rattle.room_store.proofs.Stationed.{release_found, release_refused}
@@ -20,7 +20,7 @@ use Rattle.room_store.proofs.stations.release_at.Goals as goal
 pub returns-in-Err : goal.returns-in-Err
 returns-in-Err g c =
     record {
-      served = refuses_as g.S.Store c.args.connection.now c.ready_rate.new.connection c.args.name (look_passed g.S.Store c.args.connection.now c.ready_rate.new.connection _ c.in_ok-rate.ensures.looks) (λ room devices. release_told room c.args.now c.args.number (station_release room (station devices c.args.device c.args.now) c.args.number c.args.password.now c.args.impressions)) c.in-Err.word c.refusing.result c.refusing.ensures.line c.refusing.ensures.memory
+      served = refuses_as g.S.Store c.args.connection.now c.ready_rate.new.connection c.args.account (look_passed g.S.Store c.args.connection.now c.ready_rate.new.connection _ c.in_ok-rate.ensures.looks) (λ room devices. release_told room c.args.now c.args.number (station_release room (station devices c.args.device c.args.now) c.args.number c.args.password.now c.args.impressions)) c.in-Err.word c.refusing.result c.refusing.ensures.line c.refusing.ensures.memory
           (λ clean has of held. ap (release_told of.0 c.args.now c.args.number) (release_refused of.0 (station of.1 c.args.device c.args.now) c.args.number c.args.password.now c.args.impressions c.in-Err.word (sym (c.in_ok-rate.ensures.ready clean has of.1 held.devices) ∙ c.in-Err.is)));
     }
 
@@ -30,7 +30,7 @@ returns g c =
     let mid = c.ready_rate.new.connection in
     let last = c.look_up.new.connection in
     let new = c.reserve.new.connection in
-    let name = c.args.name in
+    let name = c.args.account in
     let job = c.in-Some.job in
     let looked = c.in_ok-job.ensures in
     let first = look_passed g.S.Store c.args.connection.now c.ready_rate.new.connection _ c.in_ok-rate.ensures.looks in
@@ -40,17 +40,17 @@ returns g c =
     record {
       served = steps_as g.S.Store old new name (λ room devices. release_told room c.args.now job.job (by_word (kept_to_quota job.standing.state (left_in room c.args.now) c.released_at-asked.result))) (λ room devices. release_told room c.args.now c.args.number (station_release room (station devices c.args.device c.args.now) c.args.number c.args.password.now c.args.impressions)) c.reserve.result
           (λ clean has of held.
-          let last_clean : HasCleanDisk (state g.S.Store last) = omega (arith, c.reserve.ensures.going.goes.clean, clean) in
-          let mid_clean : HasCleanDisk (state g.S.Store mid) = omega (arith, looked.looks.going.goes.clean, last_clean) in
+          let last_clean : HasCleanDisk (state g.S.Store last) = omega (arith, c.reserve.ensures.connection.keeps.clean, clean) in
+          let mid_clean : HasCleanDisk (state g.S.Store mid) = omega (arith, looked.looks.connection.keeps.clean, last_clean) in
           let same = (first.same mid_clean has).0 in
           let there : get of.0.jobs c.args.number ≡ Some job = sym (looked.found last_clean (subst HasSchema (sym same) has) of.0 (subst (λ (db : Database). HoldsRoom db name of.0) (sym same) held.room)) ∙ c.in-Some.is in
           ap (λ (n : ℕ). release_told of.0 c.args.now n (by_word (kept_to_quota job.standing.state (left_in of.0 c.args.now) c.released_at-asked.result))) numbered.0
           ∙ ap (release_told of.0 c.args.now c.args.number) (release_found of.0 (station of.1 c.args.device c.args.now) c.args.number c.args.password.now c.args.impressions c.in-Ok.rate job (sym (c.in_ok-rate.ensures.ready mid_clean has of.1 held.devices) ∙ c.in-Ok.is) there c.released_at-asked.result c.released_at-asked.ensures.moved))
-          (serves_after_so _ _ _ _ g.S.Store old last passed new c.reserve.result (IsThere name job) c.reserve.ensures.going
+          (serves_after_so _ _ _ _ g.S.Store old last passed new c.reserve.result (HasJobRow name job) c.reserve.ensures.connection
           (λ clean _ has.
-          let mid_clean : HasCleanDisk (state g.S.Store mid) = omega (arith, looked.looks.going.goes.clean, clean) in
+          let mid_clean : HasCleanDisk (state g.S.Store mid) = omega (arith, looked.looks.connection.keeps.clean, clean) in
           let has_mid = subst HasSchema (sym (first.same mid_clean has).0) has in
           there_still name job (state g.S.Store mid).now (state g.S.Store last).now (second.same clean has_mid).0
-          (subst (λ (o : Option Job). IfSome o (λ job. IsThere name job (state g.S.Store mid).now)) c.in-Some.is (looked.is_there clean has_mid)))
+          (subst (λ (o : Option Job). IfSome o (λ job. HasJobRow name job (state g.S.Store mid).now)) c.in-Some.is (looked.is_there clean has_mid)))
           c.reserve.ensures.served);
     }

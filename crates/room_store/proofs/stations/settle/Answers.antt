@@ -10,7 +10,7 @@ use Rattle.room_statements.specs.Queues.{IsNumbered}
 use Rattle.room_statements.proofs.SoundReads.{sound_rows_are_read}
 use Rattle.room_tables.specs.Accounts.{HoldsRoom}
 use Rattle.room_tables.specs.Keyed.{HasSchema}
-use Rattle.room_store.specs.Known.{IsThere}
+use Rattle.room_store.specs.ProofKnown.{HasJobRow}
 use Rattle.room_store.proofs.Found.{there_still}
 use Rattle.room_store.proofs.ServingLemmas.{look_passed, passed_then, read_failed_as, read_passed, serves_after_so}
 use Rattle.room_store.proofs.Stationed.{settle_found, settle_refused}
@@ -20,7 +20,7 @@ use Rattle.room_store.proofs.stations.settle.Goals as goal
 pub returns-in-Err : goal.returns-in-Err
 returns-in-Err g c =
     record {
-      served = refuses_as g.S.Store c.args.connection.now c.find_device.new.connection c.args.name (read_passed g.S.Store c.args.connection.now c.find_device.new.connection _ c.in_ok-find_device.ensures.reads) (λ room devices. settling_told room c.args.now c.args.number (station_settle room (station devices c.args.device c.args.now) c.args.number c.args.impressions c.args.failed)) c.in-Err.word c.refusing.result c.refusing.ensures.line c.refusing.ensures.memory
+      served = refuses_as g.S.Store c.args.connection.now c.find_device.new.connection c.args.account (read_passed g.S.Store c.args.connection.now c.find_device.new.connection _ c.in_ok-find_device.ensures.reads) (λ room devices. settling_told room c.args.now c.args.number (station_settle room (station devices c.args.device c.args.now) c.args.number c.args.impressions c.args.failed)) c.in-Err.word c.refusing.result c.refusing.ensures.line c.refusing.ensures.memory
           (λ clean has of held. ap (settling_told of.0 c.args.now c.args.number) (settle_refused of.0 (station of.1 c.args.device c.args.now) c.args.number c.args.impressions c.args.failed _ held.devices c.in_ok-find_device.field-0 (c.in_ok-find_device.ensures.found clean has) c.in-Err.word (sym c.known_device.ensures ∙ c.in-Err.is)));
     }
 
@@ -30,7 +30,7 @@ returns g c =
     let mid = c.find_device.new.connection in
     let last = c.look_up.new.connection in
     let new = c.charge.new.connection in
-    let name = c.args.name in
+    let name = c.args.account in
     let job = c.in-Some.job in
     let looked = c.in_ok-job.ensures in
     let first = read_passed g.S.Store c.args.connection.now c.find_device.new.connection _ c.in_ok-find_device.ensures.reads in
@@ -40,18 +40,18 @@ returns g c =
     record {
       served = steps_as g.S.Store old new name (λ room devices. settling_told room c.args.now job.job c.settled-decided.result) (λ room devices. settling_told room c.args.now c.args.number (station_settle room (station devices c.args.device c.args.now) c.args.number c.args.impressions c.args.failed)) c.charge.result
           (λ clean has of held.
-          let last_clean : HasCleanDisk (state g.S.Store last) = omega (arith, c.charge.ensures.going.goes.clean, clean) in
-          let mid_clean : HasCleanDisk (state g.S.Store mid) = omega (arith, looked.looks.going.goes.clean, last_clean) in
+          let last_clean : HasCleanDisk (state g.S.Store last) = omega (arith, c.charge.ensures.connection.keeps.clean, clean) in
+          let mid_clean : HasCleanDisk (state g.S.Store mid) = omega (arith, looked.looks.connection.keeps.clean, last_clean) in
           let same = (first.same mid_clean has).0 in
           let there : get of.0.jobs c.args.number ≡ Some job = sym (looked.found last_clean (subst HasSchema (sym same) has) of.0 (subst (λ (db : Database). HoldsRoom db name of.0) (sym same) held.room)) ∙ c.in-Some.is in
           ap (λ (n : ℕ). settling_told of.0 c.args.now n c.settled-decided.result) numbered.0
           ∙ ap (settling_told of.0 c.args.now c.args.number) (settle_found of.0 (station of.1 c.args.device c.args.now) c.args.number c.args.impressions c.args.failed _ held.devices c.in_ok-find_device.field-0 (c.in_ok-find_device.ensures.found mid_clean has) c.in_default.field-0 (sym c.known_device.ensures ∙ c.in_default.is) job there c.settled-decided.result c.settled-decided.ensures.moved))
-          (serves_after_so _ _ _ _ g.S.Store old last passed new c.charge.result (IsThere name job) c.charge.ensures.going
+          (serves_after_so _ _ _ _ g.S.Store old last passed new c.charge.result (HasJobRow name job) c.charge.ensures.connection
           (λ clean _ has.
-          let mid_clean : HasCleanDisk (state g.S.Store mid) = omega (arith, looked.looks.going.goes.clean, clean) in
+          let mid_clean : HasCleanDisk (state g.S.Store mid) = omega (arith, looked.looks.connection.keeps.clean, clean) in
           let has_mid = subst HasSchema (sym (first.same mid_clean has).0) has in
           there_still name job (state g.S.Store mid).now (state g.S.Store last).now (second.same clean has_mid).0
-          (subst (λ (o : Option Job). IfSome o (λ job. IsThere name job (state g.S.Store mid).now)) c.in-Some.is (looked.is_there clean has_mid)))
+          (subst (λ (o : Option Job). IfSome o (λ job. HasJobRow name job (state g.S.Store mid).now)) c.in-Some.is (looked.is_there clean has_mid)))
           c.charge.ensures.served);
     }
 

@@ -18,20 +18,20 @@ pub returns-in_default-clause-finds : goal.returns-in_default-clause-finds
 returns-in_default-clause-finds g c clean tree tests shows names parameters means takes =
     fails_to_find (state g.S.Store c.args.connection.now) (state g.S.Store c.query_row.new.self) c.args.connection.now.schema refl c.args.text.now tree tests shows names parameters means (bound c.args.params.now) takes c.in-Err.error c.in_default.not-QueryReturnedNoRows (c.in-Err.ensures.row clean)
 
-pub returns-in-Ok-clause-going : goal.returns-in-Ok-clause-going
-returns-in-Ok-clause-going g c = record {
-  goes = goes_by _ _ _ c.query_row.ensures.survives (λ clean is_open. (some_open _ _ _ _ _ (c.in-Ok.ensures.row clean)).0) c.query_row.ensures.mode;
+pub returns-in-Ok-clause-connection : goal.returns-in-Ok-clause-connection
+returns-in-Ok-clause-connection g c = record {
+  keeps = goes_by _ _ _ c.query_row.ensures.survives (λ clean is_open. (some_open _ _ _ _ _ (c.in-Ok.ensures.row clean)).0) c.query_row.ensures.mode;
   opened = λ clean. some_open _ _ _ _ _ (c.in-Ok.ensures.row clean);
 }
 
-pub returns-in-QueryReturnedNoRows-clause-going : goal.returns-in-QueryReturnedNoRows-clause-going
-returns-in-QueryReturnedNoRows-clause-going g c = record {
-  goes = goes_by _ _ _ c.query_row.ensures.survives (λ clean is_open. open_back _ _ _ _ _ (c.in-Err.ensures.row clean) is_open) c.query_row.ensures.mode;
+pub returns-in-QueryReturnedNoRows-clause-connection : goal.returns-in-QueryReturnedNoRows-clause-connection
+returns-in-QueryReturnedNoRows-clause-connection g c = record {
+  keeps = goes_by _ _ _ c.query_row.ensures.survives (λ clean is_open. open_back _ _ _ _ _ (c.in-Err.ensures.row clean) is_open) c.query_row.ensures.mode;
   opened = λ clean. none_open _ _ _ _ (rw c.in-QueryReturnedNoRows.is at (c.in-Err.ensures.row clean));
 }
 
-pub returns-in_default-clause-going : goal.returns-in_default-clause-going
-returns-in_default-clause-going g c = record {
-  goes = goes_by _ _ _ c.query_row.ensures.survives (λ clean is_open. open_back _ _ _ _ _ (c.in-Err.ensures.row clean) is_open) c.query_row.ensures.mode;
+pub returns-in_default-clause-connection : goal.returns-in_default-clause-connection
+returns-in_default-clause-connection g c = record {
+  keeps = goes_by _ _ _ c.query_row.ensures.survives (λ clean is_open. open_back _ _ _ _ _ (c.in-Err.ensures.row clean) is_open) c.query_row.ensures.mode;
   opened = λ clean. tt;
 }

@@ -1,5 +1,5 @@
 use Rattle.std.proofs.Common.{◌∷◌, ◌∙◌, ap, sym}
-use Rattle.room_lines.specs.Taking.{left}
+use Rattle.room_lines.specs.ProofTaking.{left}
 use Rattle.room_lines.proofs.Taken.{AreFields-taken, SaysLine-Operator, SaysLine-Script, SaysLine-Station}
 use Rattle.room_lines.proofs.lines.Grammar.read_line.Goals.{in-Script+in_ok-moment-in-Script+in_ok-script_action-in-Script, in-Station+in_ok-kind-in-Station+in_ok-action-in-Station, in-Operator+in_ok-kind-in-Operator+in_ok-action-in-Operator}
 use Rattle.room_lines.proofs.lines.Grammar.read_line.Goals as goal

@@ -2,4 +2,4 @@ use Rattle.std.proofs.Common.{refl, sym}
 use Rattle.room_served.proofs.entry.Entry.event.Goals as goal
 
 pub returns-in-Message-clause-same : goal.returns-in-Message-clause-same
-returns-in-Message-clause-same c = (c.as_slice.result.ref_ptr, rw (c.in-Message.is, sym c.as_slice.ensures) refl)
+returns-in-Message-clause-same c = rw (c.in-Message.is, sym c.as_slice.ensures) refl

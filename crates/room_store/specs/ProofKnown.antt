@@ -13,12 +13,12 @@ use Rattle.room_tables.specs.Accounts.{account_at, job_at}
 use Rattle.room_tables.specs.Cells.{account_cells, job_cells}
 
 -- it is open, and this is its own row
-abbrev pub IsOpen : (name : List ℕ) (account : Account) (db : Database) → Type 0
-IsOpen name account db = account_at db name ≡ Some (account_cells name account)
+abbrev pub HasAccountRow : (name : List ℕ) (account : Account) (db : Database) → Type 0
+HasAccountRow name account db = account_at db name ≡ Some (account_cells name account)
 
 -- the row of the job is there under its number
-abbrev pub IsThere : (name : List ℕ) (job : Job) (db : Database) → Type 0
-IsThere name job db = job_at db name (pos job.job) ≡ Some (job_cells name job)
+abbrev pub HasJobRow : (name : List ℕ) (job : Job) (db : Database) → Type 0
+HasJobRow name job db = job_at db name (pos job.job) ≡ Some (job_cells name job)
 
 -- the units that an impression counts on a device that takes jobs
 abbrev pub ready_rate : (device : Option Device) → Result ℕ Word

@@ -9,7 +9,7 @@ use Rattle.sqlite.specs.State.{State}
 use Rattle.sqlite.specs.Held.{Held, state}
 use Rattle.room_tables.specs.declared.fault.TableFault.{TableFault}
 use Rattle.room_tables.specs.declared.fault.TableFault.TheVariants.{Damaged}
-use Rattle.room_tables.specs.Calls.{IsSame, Stays, OfStore}
+use Rattle.room_tables.specs.Calls.{IsUnchanged, UnchangedIfOpen, IfOurTables}
 use Rattle.room_tables.specs.Queries.{HasNoSums, Means, TakesParams, IsShownBy}
 
 -- row by row, each step from what the one before left
@@ -43,8 +43,8 @@ module _ {G : Type 0} (step : G → Row → G → Type 0) (refuses : G → Row �
       (result : Result (Unit {0}) TableFault) : Type 0 where
     pub all : OnOk result (GathersShown IsShown first last)
     pub damaged : result ≡ Err Damaged → RefusesShown IsShown first
-    pub same : OnOk result (IsSame old new)
-    pub stays : Stays old new
+    pub same : OnOk result (IsUnchanged old new)
+    pub stays : UnchangedIfOpen old new
 
   -- whatever query the text means, this is what the walk comes to
   abbrev pub Walks : (old new : State) (text : List ℕ) (params : Row) (first last : G)
@@ -59,7 +59,7 @@ module _ {G : Type 0} (step : G → Row → G → Type 0) (refuses : G → Row �
   abbrev pub WalksStore : {S : Type 0}
       → (store : Ghosts S) (old new : Held S) (IsShown : Database → List Row → Type 0)
       (first last : G) (result : Result (Unit {0}) TableFault) → Type 0
-  WalksStore store old new IsShown first last result = OfStore store old new
+  WalksStore store old new IsShown first last result = IfOurTables store old new
       (λ db. WalksShown (state store old) (state store new) (IsShown db) first last result)
 
   -- ---- over rows that are shown in some order

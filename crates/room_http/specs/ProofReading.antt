@@ -54,7 +54,7 @@ HeadIs room left text headers head_is.TooLong =
 
 -- ---- so many bytes
 
--- they were read behind what was there, or fewer and the end
+-- they were read after what was there, or fewer and the end
 abbrev pub ReadsInto : (before after : List ℕ → Type 0) (old new : List ℕ) (count : ℕ)
     (is_whole : Bool) → Type 0
 ReadsInto before after old new count true =
@@ -73,7 +73,7 @@ abbrev pub LineEndIs : (before after : List ℕ → Type 0) (is_there : Bool) �
 LineEndIs before after true = Yields before after crlf_bytes
 LineEndIs before after false = Takes before after (λ b rest. HasNoLineEnd b)
 
--- the chunks of this body, and the line of size 0 behind them
+-- the chunks of this body, and the line of size 0 after them
 abbrev pub EndsChunks : (before after : List ℕ → Type 0) (body : List ℕ) → Type 0
 EndsChunks before after body =
     (chunks : List Chunk) × (text : List ℕ) × (last : ChunkLine) × AreChunks chunks text body

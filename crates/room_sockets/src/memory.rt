@@ -1,0 +1,91 @@
+//! What a hall does where its peers hold much: it frees some, and has those go on whom it
+//! held back.
+
+ghost use Rattle.room_served.specs.Journals.{Continues};
+
+use crate::doors::MOST_GUESTS;
+use crate::hall::Hall;
+use room_served::Served;
+use sqlite::Alter;
+use std::time::Clock;
+
+impl Hall {
+    /// Where too much is held, has each large answer go on, and drops who hardly reads it, so that
+    /// one turn of the loop gives out few more.
+    pub(crate) fn free_memory<S: Alter>(&mut self, clock: &impl Clock, served: &mut Served<S>)
+        ensures { Continues S.Store served.old served.new }
+    {
+        if !self.stock.is_over() {
+            return;
+        }
+        for key in 0..MOST_GUESTS {
+            self.free_memory_of(clock, key, served);
+        }
+    }
+
+    /// Has the peer's large answer go on, if it has one, and drops it where it hardly reads it.
+    fn free_memory_of<S: Alter>(&mut self, clock: &impl Clock, key: usize, served: &mut Served<S>)
+        ensures { Continues S.Store served.old served.new }
+    {
+        if !self.has_large_answer(key) {
+            return;
+        }
+        self.serve(clock, key, served, true);
+        self.drop_slow(clock, key);
+    }
+
+    /// Where room has come, those who are held back go on: all of them, or the one that holds
+    /// least.
+    pub(crate) fn resume_held_back(&mut self) {
+        if self.stock.lets_all_on() {
+            for key in 0..MOST_GUESTS {
+                if self.is_held_back(key) {
+                    self.resume(key);
+                }
+            }
+        } else if self.stock.lets_one_on() {
+            let least = self.least_held_back();
+            self.stock.favour(least);
+            if let Some(key) = least {
+                self.resume(key);
+            }
+        }
+    }
+
+    fn resume(&mut self, key: usize) {
+        if !self.rearm(key) {
+            self.close(key);
+        }
+    }
+
+    fn is_held_back(&self, key: usize) -> bool {
+        self.guests
+            .get(key)
+            .is_some_and(|guest| guest.is_held_back())
+    }
+
+    fn least_held_back(&self) -> Option<usize> {
+        (0..MOST_GUESTS)
+            .filter(|key| self.is_held_back(*key))
+            .min_by_key(|key| self.guests.get(*key).map(|guest| guest.held()))
+    }
+
+    fn has_large_answer(&self, key: usize) -> bool {
+        self.guests
+            .get(key)
+            .is_some_and(|guest| guest.has_large_answer())
+    }
+
+    fn drop_slow(&mut self, clock: &impl Clock, key: usize) {
+        let is_slow = match self.ticks(clock) {
+            Ok(ticks) => self
+                .guests
+                .get(key)
+                .is_some_and(|guest| guest.reads_slowly(ticks)),
+            Err(_) => true,
+        };
+        if is_slow {
+            self.close(key);
+        }
+    }
+}
