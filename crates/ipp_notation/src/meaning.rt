@@ -11,7 +11,9 @@ use crate::value_tag::{
 use ipp_coding::{Value, bool_of, int_of, text_of};
 use std::{fmt, str};
 
-/// A value in the notation: in quotes what is text and what is empty, and otherwise in digits.
+/// A value in the notation: `""` where it is empty, hexadecimal digits where it is a number, a truth,
+/// a date, a resolution or a range, and otherwise in quotes, or in hexadecimal digits where it cannot
+/// stand in quotes.
 #[derive(Clone, Copy)]
 pub(crate) enum Shown<'a> {
     Digits(&'a [u8]),

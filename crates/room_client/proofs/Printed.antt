@@ -64,10 +64,6 @@ documents_printed-more shown account job number (first ∷ rest) last =
     (documents_printed shown account job (number + 1) rest)
     (document_printed shown account job (number + length (first ∷ rest)) last))
 
-pub TakesDocuments-none : (shown : Shows) (a p : Known) (account : List ℕ) (job : ℕ)
-    → TakesDocuments shown a a p p account job 0
-TakesDocuments-none shown a p account job = ([], refl, Consumes-nil a, Appends-nil p)
-
 pub TakesDocuments-more : (shown : Shows) (ha hb hc pa pb pc : Known) (account : List ℕ)
     → (job count : ℕ) → TakesDocuments shown ha hb pa pb account job count
     → (now : Shows) → now ≡ shown → HearsDocument now hb hc pb pc account job (count + 1)

@@ -30,7 +30,7 @@ fn every_proper_prefix_is_malformed(rt: HostRuntime) {
 }
 
 #[test]
-fn the_calls_write_an_answer(rt: HostRuntime) -> Result<(), Fail> {
+fn the_puts_write_an_answer(rt: HostRuntime) -> Result<(), Fail> {
     let mut out = Vec::new(rt.alloc());
     let header = Header {
         major: 1,

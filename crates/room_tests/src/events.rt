@@ -14,6 +14,7 @@ use std::process::Abort;
 
 const NEXT_CENTURY: u64 = 4_102_444_800;
 
+/// `alice`, as an account and as a device.
 fn name(rt: &impl Abort) -> Name {
     Name::read(b"alice").expect(rt, "a name")
 }
