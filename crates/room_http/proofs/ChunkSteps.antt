@@ -13,9 +13,6 @@ use Rattle.room_http.specs.Trailers.{AreTrailers, HasNoTrailers, Section, print_
 use Rattle.room_http.specs.declared.framing.Framing.TheVariants.{Chunked, Length}
 use Rattle.room_http.proofs.Streams.{Yields_more}
 
-pub no_chunks : AreChunks [] [] []
-no_chunks = record { each = tt; spelled = refl; together = refl }
-
 all_and_one : (P : Chunk → Type 0) (chunks : List Chunk) (chunk : Chunk) → AllByRecursion P chunks → P chunk → AllByRecursion P (chunks ++ chunk ∷ [])
 all_and_one P [] chunk all one = (one, tt)
 all_and_one P (first ∷ others) chunk all one = (all.0, all_and_one P others chunk all.1 one)

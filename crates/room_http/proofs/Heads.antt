@@ -9,7 +9,7 @@ use Rattle.httparse.specs.Grammar.{LineEnd, crlf, lf, Field, IsRequestHead, prin
 use Rattle.httparse.specs.Spans.{IsRequestAt}
 use Rattle.httparse.specs.declared.spans.HeaderSpan.{HeaderSpan}
 use Rattle.httparse.specs.declared.spans.RequestSpans.{RequestSpans}
-use Rattle.room_http.specs.ProofKinds.{ends_empty_line, ends_line, has_space, may_end_head}
+use Rattle.room_http.specs.ProofKinds.{ends_empty_line, has_space, may_end_head}
 use Rattle.room_http.proofs.Completing.{none_in_nothing, none_with_byte, whole_with_byte}
 
 -- ---- what a text ends with
@@ -23,9 +23,6 @@ ends_with_back front back =
 pub line_end_ends : (e : LineEnd) → (front : List ℕ) × (print_end e ≡ front ++ 10 ∷ [])
 line_end_ends crlf = (13 ∷ [], refl)
 line_end_ends lf = ([], refl)
-
-pub ends_line_by : (text front : List ℕ) → text ≡ front ++ 10 ∷ [] → ends_line text ≡ true
-ends_line_by text front e = ap ends_line e ∙ ends_with_back front (10 ∷ [])
 
 empty_line_ends : (front : List ℕ) (e : LineEnd) → ends_empty_line ((front ++ 10 ∷ []) ++ print_end e) ≡ true
 empty_line_ends front lf =

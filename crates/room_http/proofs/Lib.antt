@@ -10,3 +10,6 @@ pub mod ChunkSteps
 pub mod Spelling
 pub mod Joining
 pub mod Openings
+pub mod OneBody
+pub mod OneHead
+pub mod OneReading

@@ -1,14 +1,19 @@
 -- What stands at the front of an input in the place of a head.
-use Rattle.std.proofs.Common.{◌≡◌, ◌≢◌, ℕ, ◌<◌, ◌≤◌, List, [], ◌++◌, length, take, sym, ap, ◌∙◌, subst, append_assoc, arith, length-take}
+use Rattle.std.proofs.Common.{◌≡◌, ◌≢◌, ℕ, ◌<◌, ◌≤◌, Bool, true, false, Option, refl, List, [], ◌++◌, length, take, sym, ap, ◌∙◌, subst, append_assoc, arith, length-take}
 use Rattle.std.proofs.lemmas.List.{append-nil, drop_all, length-map}
+use Rattle.std.specs.Io.KnownBytes.{Appends}
 use Rattle.httparse.specs.Grammar.{RequestHead, print_request, HasNoRequest}
 use Rattle.httparse.specs.Spans.{IsRequestAt, header_bytes, name_and_value}
 use Rattle.httparse.specs.declared.spans.HeaderSpan.{HeaderSpan}
 use Rattle.httparse.specs.declared.spans.RequestSpans.{RequestSpans}
-use Rattle.room_http.specs.Exchange.{Takes, TakesHead}
+use Rattle.room_http.specs.Exchange.{AppendsInterim, FailedReceiving, Takes, TakesAtMost, TakesHead, is_asked, is_untold}
 use Rattle.room_http.specs.Http.{Orders}
+use Rattle.room_http.specs.ProofReading.{IsReading}
+use Rattle.room_http.specs.Texts.{interim_text}
+use Rattle.room_http.specs.declared.fault.WireFault.{WireFault}
+use Rattle.room_http.specs.declared.fault.WireFault.TheVariants.{Read, Write, Memory, Ended}
 use Rattle.room_http.specs.declared.judging.Order.{Order}
-use Rattle.room_http.proofs.Streams.{Yields_more}
+use Rattle.room_http.proofs.Streams.{Yields_more, nothing_sent}
 use Rattle.room_http.specs.Heads.{Opens, IsNoHead, is_cut}
 
 -- a head that is all of a text stands before whatever follows that
@@ -37,3 +42,30 @@ behind_head a b c order Q H first second join = (
   λ rest left. subst (λ (text : List ℕ). H text rest) (sym (append_assoc first.taken second.0 rest))
       (join (first.taken ++ (second.0 ++ rest)) (second.0 ++ rest) rest (first.orders (second.0 ++ rest)) (second.2 rest left)),
 )
+
+-- ---- the 100 text before a fault
+
+reading_failed : (a c : List ℕ → Type 0) (old new : Option (List ℕ)) (fault : WireFault) → IsReading fault → AppendsInterim a c old new → FailedReceiving a c old new fault
+reading_failed a c old new Read reading told = told
+reading_failed a c old new Write reading told = absurd (reading.0 refl)
+reading_failed a c old new Memory reading told = told
+reading_failed a c old new Ended reading told = absurd (reading.1 refl)
+
+-- within the head
+pub head_failed : (a c : List ℕ → Type 0) (old : Option (List ℕ)) (fault : WireFault) → IsReading fault → FailedReceiving a c old old fault
+head_failed a c old fault reading = reading_failed a c old old fault reading (is_untold (nothing_sent old))
+
+-- behind it
+pub body_failed : (a b c : List ℕ → Type 0) (old new : Option (List ℕ)) (order : Order) (most : ℕ) (fault : WireFault) → TakesHead a b order → TakesAtMost most b c
+    → Appends old new (interim_text order.expects) → IsReading fault → FailedReceiving a c old new fault
+body_failed a b c old new order most fault first second told reading = reading_failed a c old new fault reading (by order.expects refl told)
+  where
+    by : (expects : Bool) → order.expects ≡ expects → Appends old new (interim_text expects) → AppendsInterim a c old new
+    by false is told = is_untold told
+    by true is told =
+        is_asked order (record {
+          head = first.taken;
+          more = second.taken;
+          yields = Yields_more a b c first.taken second.taken first.yields second.yields;
+          orders = first.orders;
+        }) is told

@@ -8,14 +8,8 @@ use Rattle.room_http.specs.Chunks.{AreChunks, Chunk, IsChunk, print_chunk}
 use Rattle.room_http.specs.Exchange.{TakesAtMost, most_of_chunks}
 use Rattle.room_http.proofs.Streams.{Yields_more}
 
-pub takes_none : (a : List ℕ → Type 0) (most : ℕ) → TakesAtMost most a a
-takes_none a most = record { taken = []; yields = λ rest h. h; short = omega arith }
-
 pub takes_text : (a b : List ℕ → Type 0) (text : List ℕ) (most : ℕ) → Yields a b text → length text ≤ most → TakesAtMost most a b
 takes_text a b text most gave short = record { taken = text; yields = gave; short = short }
-
-pub takes_within : {a b : List ℕ → Type 0} {few most : ℕ} → TakesAtMost few a b → few ≤ most → TakesAtMost most a b
-takes_within took fits = record { taken = took.taken; yields = took.yields; short = omega (arith, took.short, fits) }
 
 -- one call after another
 pub takes_both : {a b c : List ℕ → Type 0} {few more most : ℕ} → TakesAtMost few a b → TakesAtMost more b c → few + more ≤ most → TakesAtMost most a c

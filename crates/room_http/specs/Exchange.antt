@@ -1,5 +1,5 @@
 -- What a call takes of an input, and writes.
-use Rattle.std.specs.Prelude.{◌≡◌, ℕ, ◌+◌, ◌*◌, ◌<◌, ◌≤◌, ⊤, Bool, true, List, ◌++◌, length, take, Option, Result, Ok, Err}
+use Rattle.std.specs.Prelude.{◌≡◌, ℕ, ◌+◌, ◌*◌, ◌<◌, ◌≤◌, ⊤, Bool, true, List, [], ◌++◌, length, take, Option, Result, Ok, Err}
 use Rattle.std.specs.Io.KnownBytes.{Appends}
 use Rattle.room_http.specs.Limits.{longest_body, longest_head, longest_size_line, longest_trailers, shortest_body}
 use Rattle.room_input.specs.Streams.{Yields}
@@ -42,6 +42,13 @@ pub record TakesHead (before after : List ℕ → Type 0) (order : Order) : Type
   pub yields : Yields before after taken
   pub orders : (rest : List ℕ) → Orders (taken ++ rest) order rest
 
+-- A head that orders this was taken, and perhaps bytes after it.
+pub record TakesHeadFirst (before after : List ℕ → Type 0) (order : Order) : Type 0 where
+  pub head : List ℕ
+  pub more : List ℕ
+  pub yields : Yields before after (head ++ more)
+  pub orders : (rest : List ℕ) → Orders (head ++ rest) order rest
+
 -- Some bytes were taken, and no more than so many.
 pub record TakesAtMost (most : ℕ) (before after : List ℕ → Type 0) : Type 0 where
   pub taken : List ℕ
@@ -74,14 +81,18 @@ ReceivedIs before after old new (received.Carried order body) =
     Takes before after (λ b rest. Http b (Carried order body.items rest))
     × Appends old new (interim_text order.expects)
 
--- what is written where there was a fault: nothing or the 100 text, or a front of it, before
--- anything after the head was taken
+-- what was written where reading or memory failed: nothing, or the 100 text where a head was taken
+-- that asks for it
+pub data AppendsInterim (before after : List ℕ → Type 0) (old new : Option (List ℕ)) : Type 0 where
+  is_untold : Appends old new [] → AppendsInterim before after old new
+  is_asked : (order : Order) → TakesHeadFirst before after order → order.expects ≡ true
+      → Appends old new (interim_text true) → AppendsInterim before after old new
+
+-- what is written where there was a fault; a write fails before anything after the head was taken
 abbrev pub FailedReceiving : (before after : List ℕ → Type 0) (old new : Option (List ℕ))
     (fault : WireFault) → Type 0
-FailedReceiving before after old new Read =
-    (interim : Bool) × Appends old new (interim_text interim)
-FailedReceiving before after old new Memory =
-    (interim : Bool) × Appends old new (interim_text interim)
+FailedReceiving before after old new Read = AppendsInterim before after old new
+FailedReceiving before after old new Memory = AppendsInterim before after old new
 FailedReceiving before after old new Write = (order : Order) × TakesHead before after order
     × (order.expects ≡ true) × AppendsFront old new (interim_text true)
 FailedReceiving before after old new Ended = ⊥

@@ -12,5 +12,6 @@ pub mod Chunks
 pub mod Trailers
 pub mod Bodies
 pub mod Http
+pub mod HttpLaws
 pub mod Exchange
 pub mod ProofReading

@@ -50,8 +50,9 @@ pub(crate) enum Opening {
 /// written between head and body.
 ///
 /// `Read`, `Write` or `Memory` where that failed; nothing but the 100 text, or a front of it, was
-/// written then. Where it is due, that text is written before anything after the head is read.
-/// However a call ends, it has read at most `most_taken` bytes.
+/// written then, and that only where a head was read that asks for it. Where it is due, that text
+/// is written before anything after the head is read. However a call ends, it has read at most
+/// `most_taken` bytes.
 pub fn receive<R: Source, W: Sink>(
     alloc: Global,
     reader: &mut R,

@@ -1,8 +1,10 @@
 use Rattle.std.proofs.Common.{rules, ◌<◌, ◌≤◌, length, arith}
+use Rattle.std.proofs.lemmas.Result.{err_from_is_err_and}
 use Rattle.room_http.specs.Bodies.{HasBody, IsNoBody, IsTooLongBody}
+use Rattle.room_http.specs.Exchange.{most_of_body}
 use Rattle.room_http.specs.Http.{Http, Carried, Refused, has_long_body, has_message, has_no_body, has_short_body}
 use Rattle.room_http.specs.declared.refusal.Refusal.TheVariants.{BadRequest, PayloadTooLarge}
-use Rattle.room_http.proofs.Openings.{behind_head}
+use Rattle.room_http.proofs.Openings.{behind_head, body_failed, head_failed}
 use Rattle.room_http.proofs.Taking.{takes_both}
 use Rattle.room_http.proofs.receiving.receive.Goals as goal
 
@@ -73,3 +75,15 @@ returns-in-Bad-clause-bounded g c = takes_both c.read_order.ensures.bounded c.re
 
 pub returns-in-TooLong-clause-bounded : goal.returns-in-TooLong-clause-bounded
 returns-in-TooLong-clause-bounded g c = takes_both c.read_order.ensures.bounded c.read_body.ensures.bounded (omega arith)
+
+pub returns-in_err-read_order-clause-fault : goal.returns-in_err-read_order-clause-fault
+returns-in_err-read_order-clause-fault g c =
+    let exit = err_from_is_err_and c.from_residual.result c.from_residual.ensures.1 in
+    rw (exit.1, exit.2) (head_failed (g.R.Source.left c.args.reader.now) (g.R.Source.left c.read_order.new.reader) (g.W.Sink.given c.args.writer.now) _ c.in_err-read_order.ensures.cause)
+
+pub returns-in_err-body-clause-fault : goal.returns-in_err-body-clause-fault
+returns-in_err-body-clause-fault g c =
+    let left = g.R.Source.left in
+    let opening = rw c.in-Ordered.is at c.in_ok-read_order.ensures.is in
+    let exit = err_from_is_err_and c.from_residual-in_err-body.result c.from_residual-in_err-body.ensures.1 in
+    rw (exit.1, exit.2) (body_failed (left c.args.reader.now) (left c.read_order.new.reader) (left c.read_body.new.reader) (g.W.Sink.given c.args.writer.now) (g.W.Sink.given c.send_interim.new.writer) c.in-Ordered.order most_of_body _ opening.0 c.read_body.ensures.bounded c.in_ok-send_interim.ensures.sent c.in_err-body.ensures.cause)

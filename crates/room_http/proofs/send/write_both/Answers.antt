@@ -1,5 +1,5 @@
 use Rattle.room_http.proofs.Streams.{failed_behind, front_of_more, sent_behind}
-use Rattle.std.specs.Prelude.{Result, Ok, Err, OnErr, ⊤}
+use Rattle.std.specs.Prelude.{Result, Ok, Err, OnErr}
 use Rattle.room_http.proofs.send.write_both.Goals as goal
 
 -- what holds, holds where a call failed
