@@ -70,7 +70,7 @@ fn pages_from(row: &Row) -> Result<u32, TableFault>
 }
 
 /// The pages that the account was granted for the months up to the given one. `Damaged` tells that
-/// a row that is there can be none of sound rows.
+/// the rows that are there, one of them or all together, can be none of sound rows.
 pub fn granted_to<S: Alter>(
     connection: &mut Connection<S>,
     account: Name,

@@ -19,8 +19,8 @@ use sqlite::{Alter, Connection};
 use sqlite_value::value::ValueRef;
 
 /// What is counted of the jobs of the account that have not ended: all that says whether its queue
-/// takes a job and what its printer is doing. `Damaged` tells that a row that is there can be none
-/// of sound rows.
+/// takes a job and what its printer is doing. `Damaged` tells that the rows that are there, one
+/// of them or all together, can be none of sound rows.
 pub fn tally_unfinished<S: Alter>(
     connection: &mut Connection<S>,
     account: Name,

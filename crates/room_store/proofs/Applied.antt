@@ -1,11 +1,11 @@
 -- What an event does to the tables, whether it is of an account or of a device.
-use Rattle.std.proofs.Common.{◌≡◌, ℕ, Result, Ok, Err, OnErr, IfOk, refl, subst}
+use Rattle.std.proofs.Common.{◌≡◌, ℕ, Result, Ok, Err, OnErr, refl, subst}
 use Rattle.sqlite_trees.specs.declared.store.Store.{Ghosts}
 use Rattle.sqlite.specs.Held.{Held, state}
 use Rattle.room_core.specs.Events.{PlainEvent, OfAccount, OfDevice}
 use Rattle.room_core.specs.declared.event.Reply.{Reply}
 use Rattle.room_store.specs.Applied.{IsAnswered}
-use Rattle.room_store.specs.Damage.{IsDamaged}
+use Rattle.room_store.specs.Reading.{IsReadable}
 use Rattle.room_store.specs.Faults.{store_fault}
 use Rattle.room_store.specs.Serving.{StaysOpen, DoesEvent}
 use Rattle.room_store.specs.declared.fault.StoreFault.TheVariants as store_of
@@ -33,9 +33,9 @@ module _ {S : Type 0} (store : Ghosts S) (now : ℕ) where
     undone (OfAccount name it) r serves = serves.undone
     undone (OfDevice name it) r serves = serves.undone
 
-    pub damaged : (e : PlainEvent) (r : Result Reply TableFault) → DoesEvent store old new now e r → IfOurTables store old new (λ db. r ≡ Err table.Damaged → IsDamaged e db)
-    damaged (OfAccount name it) r serves clean has is = λ room devices held holds. serves.damaged clean has is (room, devices) (record { room = held; devices = holds })
-    damaged (OfDevice name it) r serves clean has is = λ devices holds. serves.damaged clean has is devices holds
+    pub damaged : (e : PlainEvent) (r : Result Reply TableFault) → DoesEvent store old new now e r → IfOurTables store old new (λ db. r ≡ Err table.Damaged → IsReadable now e db → ⊥)
+    damaged (OfAccount name it) r serves = serves.damaged
+    damaged (OfDevice name it) r serves = serves.damaged
 
     pub answered : (e : PlainEvent) (told : Reply) → DoesEvent store old new now e (Ok told) → IfOurTables store old new (λ db. IsAnswered now e db (state store new).now told)
     answered (OfAccount name it) told serves clean has = record {

@@ -81,14 +81,17 @@ showable job is =
     (all_showable last_next_job (job ∷ []) (omega arith) (at, tt)).0
 
 -- a job whose row is there is in the room
-pub job_in_room : (db : Database) (name : List ℕ) (job : Job) → HasJobRow name job db → IsStanding job.standing → (room : RoomValue) → HoldsRoom db name room → get room.jobs job.job ≡ Some job
-job_in_room db name job there is room holds = by_room (get room.jobs job.job) refl
+pub job_under : (db : Database) (name : List ℕ) (number : ℕ) (job : Job) → job_at db name (pos number) ≡ Some (job_cells name job) → IsStanding job.standing → (room : RoomValue) → HoldsRoom db name room → get room.jobs number ≡ Some job
+job_under db name number job there is room holds = by_room (get room.jobs number) refl
   where
-    by_room : (o : Option Job) → get room.jobs job.job ≡ o → o ≡ Some job
-    by_room None of = let e = sym there ∙ holds.rows.job_rows (pos job.job) ∙ ap (option_map (job_cells name)) of in let no : ⊥ = cc in absurd no
+    by_room : (o : Option Job) → get room.jobs number ≡ o → o ≡ Some job
+    by_room None of = let e = sym there ∙ holds.rows.job_rows (pos number) ∙ ap (option_map (job_cells name)) of in let no : ⊥ = cc in absurd no
     by_room (Some b) of =
-        let same = same_row (sym there ∙ holds.rows.job_rows (pos job.job) ∙ ap (option_map (job_cells name)) of) in
-        ap (λ (job : Job). Some job) (sym (rows_are_read_back.jobs name name job b is.named_device (holds.is_room.jobs job.job b of).standing.named_device same).1)
+        let same = same_row (sym there ∙ holds.rows.job_rows (pos number) ∙ ap (option_map (job_cells name)) of) in
+        ap (λ (job : Job). Some job) (sym (rows_are_read_back.jobs name name job b is.named_device (holds.is_room.jobs number b of).standing.named_device same).1)
+
+pub job_in_room : (db : Database) (name : List ℕ) (job : Job) → HasJobRow name job db → IsStanding job.standing → (room : RoomValue) → HoldsRoom db name room → get room.jobs job.job ≡ Some job
+job_in_room db name job = job_under db name job.job job
 
 module _ (room : RoomValue) (job : Job) (there : get room.jobs job.job ≡ Some job) (standing : Standing) (is : IsStanding standing) (kept : Keeps job.standing standing) where
   in_some : (P : Job → Type 0) → P job → IfSome (get room.jobs job.job) P

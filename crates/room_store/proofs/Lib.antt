@@ -1,4 +1,5 @@
 pub mod Applied
+pub mod Kept
 pub mod ServingLemmas
 pub mod Found
 pub mod Made
@@ -6,4 +7,5 @@ pub mod Opened
 pub mod Stationed
 pub mod Shown
 pub mod Sent
+pub mod Readable
 pub mod StepLemmas

@@ -1,8 +1,12 @@
 -- An event of an account that is open, and of one that is not, is one of an account that may be.
-use Rattle.std.proofs.Common.{◌≡◌, ℕ, true, false, nat_lt, if◌then◌else◌, List, length, Option, Some, None, Result, IfErr, IfOk, refl, sym, ap, subst, ◌∙◌, arith}
+use Rattle.std.proofs.Common.{◌≡◌, ℕ, ◌<◌, Bool, true, false, nat_lt, if◌then◌else◌, List, length, Option, Some, None, Result, IfErr, IfOk, IsSome, refl, sym, ap, subst, ◌∙◌, arith}
 use Rattle.sqlite_trees.specs.declared.store.Store.{Ghosts}
+use Rattle.sqlite.specs.Effect.{Database}
 use Rattle.sqlite.specs.State.{HasCleanDisk}
 use Rattle.sqlite.specs.Held.{Held, state}
+use Rattle.std.proofs.lemmas.Bool.Decides.{nat_tests}
+use Rattle.sqlite_value.specs.Order.{Row}
+use Rattle.ipp_coding.specs.Limits.{header_length}
 use Rattle.ipp_coding.specs.declared.message.Header.{Header}
 use Rattle.ipp_coding.specs.Reading.{header_at, header_in}
 use Rattle.room_asks.specs.Asks.{ask_of}
@@ -38,11 +42,12 @@ module _ {S : Type 0} (store : Ghosts S) (name : List ℕ) (answered : Option Ro
     is_that found (Some room, devices) held =
         ((room, devices), record { room = held.room; devices = held.devices }, (is room devices).0, λ holds. subst (Holds (state store new).now name) (is room devices).1 holds)
 
-    pub opened_answers : (result : Result Reply TableFault) → StaysOpen store mid new result → (IfOurTables store mid new (HasAccountRow name account) → DoesAsRoom store mid new name told left result) → DoesAnswer store old new name answered result
-    opened_answers result going serves =
+    pub opened_answers : {Readable Rest : Database → Type 0} (result : Result Reply TableFault) → (HasAccountRow name account (state store old).now → Readable (state store old).now → Rest (state store old).now)
+        → StaysOpen store mid new result → (IfOurTables store mid new (HasAccountRow name account) → DoesAsRoom store mid new name Rest told left result) → DoesAnswer store old new name Readable answered result
+    opened_answers result rest_of going serves =
         serves_as (λ (of : RoomValue × Devices). told of.0 of.1) _ (λ (of : RoomValue × Devices) db. HoldsRoom db name (left of.0 of.1)) _ store old new result
         (λ clean has. is_that (opened (omega_clean clean) has))
-        (serves_after_so _ _ _ _ store old mid passed new result (HasAccountRow name account) going (λ clean _ has. subst (HasAccountRow name account) (sym (passed.same clean has).0) (opened clean has)) serves)
+        (serves_after_so _ _ _ _ _ store old mid passed new result (HasAccountRow name account) (λ clean has. rest_of (opened (omega_clean clean) has)) going (λ clean _ has. subst (HasAccountRow name account) (sym (passed.same clean has).0) (opened clean has)) serves)
       where
         omega_clean : HasCleanDisk (state store new) → HasCleanDisk (state store mid)
         omega_clean clean = omega (arith, going.keeps.clean, clean)
@@ -55,8 +60,12 @@ module _ {S : Type 0} (store : Ghosts S) (name : List ℕ) (answered : Option Ro
     is_none absent (None, devices) held = ((is devices).0, subst (Holds (state store old).now name) (sym (is devices).1) held.room)
     is_none absent (Some room, devices) held = let same = sym held.room.rows.account_row ∙ absent in let no : ⊥ = cc in absurd no
 
-    pub unopened_answers : (r : Result Reply TableFault) → IfOk r (λ it. it ≡ said) → IfErr r (λ e. e ≡ fault.Memory) → DoesAnswer store old mid name answered r
-    unopened_answers r line memory = says _ _ _ _ store old mid passed (same_rows name) said r line memory (λ clean has. is_none (none clean has))
+    pub unopened_answers : {Readable : Database → Type 0} (r : Result Reply TableFault) → IfOk r (λ it. it ≡ said) → IfErr r (λ e. e ≡ fault.Memory) → DoesAnswer store old mid name Readable answered r
+    unopened_answers r line memory = says _ _ _ _ _ store old mid passed (same_rows name) said r line memory (λ clean has. is_none (none clean has))
+
+-- the row of an account that is open is there
+pub is_there : (name : List ℕ) (account : Account) (db : Database) → HasAccountRow name account db → IsSome (account_at db name)
+is_there name account db found = subst (λ (o : Option Row). IsSome o) (sym found) refl
 
 -- a line tells that the account is not open
 pub unopened_line : (now : ℕ) (e : PlainEvent) → IsLine e → (reply.Line (word_text NoAccount) ≡ (answered_unopened now e).reply) × ((answered_unopened now e).room ≡ None)
@@ -67,6 +76,13 @@ unopened_line now (OfAccount account (Start device job)) is = (refl, refl)
 unopened_line now (OfAccount account (Settle device job impressions failed)) is = (refl, refl)
 unopened_line now (OfAccount account (Grant month pages)) is = (refl, refl)
 unopened_line now (OfDevice device it) is = absurd is
+
+-- a request whose header was read is not short
+pub not_short : (body : List ℕ) (header : Header) → header_at body ≡ Some header → length body < header_length → ⊥
+not_short body header is short =
+    let is_short : nat_lt (length body) 8 ≡ true = grind (arith, nat_tests) in
+    let none = sym is ∙ ap (λ (b : Bool). if b then None else Some (header_in body)) is_short in
+    let no : ⊥ = cc in absurd no
 
 -- a request of eight bytes is answered by its response
 module _ (room : RoomValue) (devices : Devices) (now : ℕ) (name body : List ℕ) where

@@ -83,12 +83,12 @@ module _ {S T U : Type 0} (store : Ghosts S) where
 
 -- ---- events
 
-module _ {R T : Type 0} (Before : R → Database → Type 0) (Alone : Database → Database → Type 0) (told : R → T) (After : R → Database → Type 0) {S : Type 0} (store : Ghosts S) where
+module _ {R T : Type 0} (Before : R → Database → Type 0) (Readable : Database → Type 0) (Alone : Database → Database → Type 0) (told : R → T) (After : R → Database → Type 0) {S : Type 0} (store : Ghosts S) where
   module _ (old mid : Held S) (passed : Passed (state store old) (state store mid)) where
     -- reads alone, and an answer
     pub answers : (stay : (db : Database) → Alone db db) (it : T)
         → (HasCleanDisk (state store mid) → HasSchema (state store old).now → (of : R) → Before of (state store old).now → (it ≡ told of) × After of (state store old).now)
-        → DoesToTables store old mid Before Alone told After (Ok it)
+        → DoesToTables store old mid Before Readable Alone told After (Ok it)
     answers stay it is = record {
       connection = record { keeps = passed.keeps; opened = passed.opened };
       schema = λ clean has. subst HasSchema (sym (passed.same clean has).0) has;
@@ -100,7 +100,7 @@ module _ {R T : Type 0} (Before : R → Database → Type 0) (Alone : Database �
     }
 
     -- and want of memory
-    pub wants_memory : DoesToTables store old mid Before Alone told After (Err fault.Memory)
+    pub wants_memory : DoesToTables store old mid Before Readable Alone told After (Err fault.Memory)
     wants_memory = record {
       connection = record { keeps = passed.keeps; opened = λ clean. tt };
       schema = λ clean has. tt;
@@ -114,13 +114,15 @@ module _ {R T : Type 0} (Before : R → Database → Type 0) (Alone : Database �
     -- so a reply that says this, or wants memory
     pub says : (stay : (db : Database) → Alone db db) (said : T) (r : Result T TableFault) → IfOk r (λ it. it ≡ said) → IfErr r (λ e. e ≡ fault.Memory)
         → (HasCleanDisk (state store mid) → HasSchema (state store old).now → (of : R) → Before of (state store old).now → (said ≡ told of) × After of (state store old).now)
-        → DoesToTables store old mid Before Alone told After r
+        → DoesToTables store old mid Before Readable Alone told After r
     says stay said (Ok it) line memory is = answers stay it (λ clean has of held. let one = is clean has of held in (line ∙ one.0, one.1))
-    says stay said (Err e) line memory is = subst (λ e. DoesToTables store old mid Before Alone told After (Err e)) (sym memory) wants_memory
+    says stay said (Err e) line memory is = subst (λ e. DoesToTables store old mid Before Readable Alone told After (Err e)) (sym memory) wants_memory
 
     -- reads first, and then the rest
-    pub serves_after : (new : Held S) (result : Result T TableFault) → DoesToTables store mid new Before Alone told After result → DoesToTables store old new Before Alone told After result
-    serves_after new result rest =
+    pub serves_after : {Rest : Database → Type 0} (new : Held S) (result : Result T TableFault)
+        → (HasCleanDisk (state store new) → HasSchema (state store old).now → Readable (state store old).now → Rest (state store old).now)
+        → DoesToTables store mid new Before Rest Alone told After result → DoesToTables store old new Before Readable Alone told After result
+    serves_after {Rest} new result rest_of rest =
         let clean : HasCleanDisk (state store new) → HasCleanDisk (state store mid) = λ is. omega (arith, rest.connection.keeps.clean, is) in
         let same : (is : HasCleanDisk (state store new)) (has : HasSchema (state store old).now) → IsUnchanged (state store old) (state store mid) = λ is has. passed.same (clean is) has in
         let has_mid : (is : HasCleanDisk (state store new)) (has : HasSchema (state store old).now) → HasSchema (state store mid).now = λ is has. subst HasSchema (sym (same is has).0) has in
@@ -135,16 +137,16 @@ module _ {R T : Type 0} (Before : R → Database → Type 0) (Alone : Database �
               let first = same is has in
               let second = stays is_open (first.0 ∙ settled ∙ sym first.1) in
               (second.0 ∙ first.0, second.1 ∙ first.1)) (rest.undone is (has_mid is has));
-          damaged = λ is has e of held. rest.damaged is (has_mid is has) e of (still is has of held);
+          damaged = λ is has e readable. rest.damaged is (has_mid is has) e (subst Rest (sym (same is has).0) (rest_of is has readable));
         }
 
     -- and where the rest rests on what the reads have shown
-    pub serves_after_so : (new : Held S) (result : Result T TableFault) (Shown : Database → Type 0)
-        → StaysOpen store mid new result → (HasCleanDisk (state store mid) → HasCleanDisk (state store new) → HasSchema (state store old).now → Shown (state store mid).now)
-        → (IfOurTables store mid new Shown → DoesToTables store mid new Before Alone told After result) → DoesToTables store old new Before Alone told After result
-    serves_after_so new result Shown going shown serves =
-        let rest : (is : HasCleanDisk (state store new)) (has : HasSchema (state store old).now) → DoesToTables store old new Before Alone told After result = λ is has.
-        serves_after new result (serves (λ _ _. shown (omega (arith, going.keeps.clean, is)) is has)) in
+    pub serves_after_so : {Rest : Database → Type 0} (new : Held S) (result : Result T TableFault) (Shown : Database → Type 0)
+        → (HasCleanDisk (state store new) → HasSchema (state store old).now → Readable (state store old).now → Rest (state store old).now) → StaysOpen store mid new result → (HasCleanDisk (state store mid) → HasCleanDisk (state store new) → HasSchema (state store old).now → Shown (state store mid).now)
+        → (IfOurTables store mid new Shown → DoesToTables store mid new Before Rest Alone told After result) → DoesToTables store old new Before Readable Alone told After result
+    serves_after_so new result Shown rest_of going shown serves =
+        let rest : (is : HasCleanDisk (state store new)) (has : HasSchema (state store old).now) → DoesToTables store old new Before Readable Alone told After result = λ is has.
+        serves_after new result rest_of (serves (λ _ _. shown (omega (arith, going.keeps.clean, is)) is has)) in
         record {
           connection = goes_after store old mid new result passed going;
           schema = λ is has. (rest is has).schema is has;
@@ -160,7 +162,7 @@ module _ {R T : Type 0} (Before : R → Database → Type 0) (Alone : Database �
         → (HasCleanDisk (state store mid) → HasCleanDisk (state store new) → HasSchema (state store old).now → (state store mid).now ≡ (state store old).now
         → HasSchema (state store new).now × Alone (state store mid).now (state store new).now
         × ((of : R) → Before of (state store old).now → (it ≡ told of) × After of (state store new).now))
-        → DoesToTables store old new Before Alone told After (Ok it)
+        → DoesToTables store old new Before Readable Alone told After (Ok it)
     changed_after new it going made =
         let was : HasCleanDisk (state store new) → HasCleanDisk (state store mid) = λ clean. omega (arith, going.keeps.clean, clean) in
         record {
@@ -175,8 +177,8 @@ module _ {R T : Type 0} (Before : R → Database → Type 0) (Alone : Database �
 
     -- or was not
     pub not_changed_after : (new : Held S) (e : TableFault) → KeepsConnection (state store mid) (state store new) → (HasCleanDisk (state store new) → UnchangedIfOpen (state store mid) (state store new))
-        → (HasCleanDisk (state store mid) → HasCleanDisk (state store new) → HasSchema (state store old).now → (state store mid).now ≡ (state store old).now → e ≡ fault.Damaged → (of : R) → Before of (state store old).now → ⊥)
-        → DoesToTables store old new Before Alone told After (Err e)
+        → (HasCleanDisk (state store mid) → HasCleanDisk (state store new) → HasSchema (state store old).now → (state store mid).now ≡ (state store old).now → e ≡ fault.Damaged → Readable (state store old).now → ⊥)
+        → DoesToTables store old new Before Readable Alone told After (Err e)
     not_changed_after new e goes undone damaged =
         let was : HasCleanDisk (state store new) → HasCleanDisk (state store mid) = λ clean. omega (arith, goes.clean, clean) in
         record {
@@ -195,9 +197,9 @@ module _ {R T : Type 0} (Before : R → Database → Type 0) (Alone : Database �
   module _ {U : Type 0} (old new : Held S) where
     -- a look-up that failed
     pub look_failed_as : (r : Result T TableFault) (e f : TableFault) → r ≡ Err e → e ≡ f → LooksUp store old new {T = U} (Err f)
-        → (HasCleanDisk (state store new) → HasSchema (state store old).now → f ≡ fault.Damaged → (of : R) → Before of (state store old).now → ⊥)
-        → DoesToTables store old new Before Alone told After r
-    look_failed_as r e f is same looks damaged = subst (DoesToTables store old new Before Alone told After) (sym (is ∙ ap (λ e. Err e) same)) (record {
+        → (HasCleanDisk (state store new) → HasSchema (state store old).now → f ≡ fault.Damaged → Readable (state store old).now → ⊥)
+        → DoesToTables store old new Before Readable Alone told After r
+    look_failed_as r e f is same looks damaged = subst (DoesToTables store old new Before Readable Alone told After) (sym (is ∙ ap (λ e. Err e) same)) (record {
       connection = record { keeps = looks.connection.keeps; opened = λ clean. tt };
       schema = λ clean has. tt;
       answer = λ clean has. tt;
@@ -209,20 +211,20 @@ module _ {R T : Type 0} (Before : R → Database → Type 0) (Alone : Database �
 
     -- or a read
     pub read_failed_as : (r : Result T TableFault) (e f : TableFault) → r ≡ Err e → e ≡ f → ReadsStore store old new {T = U} {E = TableFault} (Err f)
-        → (HasCleanDisk (state store new) → HasSchema (state store old).now → f ≡ fault.Damaged → (of : R) → Before of (state store old).now → ⊥)
-        → DoesToTables store old new Before Alone told After r
+        → (HasCleanDisk (state store new) → HasSchema (state store old).now → f ≡ fault.Damaged → Readable (state store old).now → ⊥)
+        → DoesToTables store old new Before Readable Alone told After r
     read_failed_as r e f is same reads = look_failed_as r e f is same (looks_read store old new (Err f) reads)
 
   -- a fault is handed on
-  pub handed : (old new : Held S) (r : Result T TableFault) (e f : TableFault) → r ≡ Err e → e ≡ f → DoesToTables store old new Before Alone told After (Err f) → DoesToTables store old new Before Alone told After r
-  handed old new r e f is same comes = subst (DoesToTables store old new Before Alone told After) (sym (is ∙ ap (λ e. Err e) same)) comes
+  pub handed : (old new : Held S) (r : Result T TableFault) (e f : TableFault) → r ≡ Err e → e ≡ f → DoesToTables store old new Before Readable Alone told After (Err f) → DoesToTables store old new Before Readable Alone told After r
+  handed old new r e f is same comes = subst (DoesToTables store old new Before Readable Alone told After) (sym (is ∙ ap (λ e. Err e) same)) comes
 
   -- a change that was made or not
   module _ (old new : Held S) where
     pub changed : (it : T) → KeepsOpen store old new {T = Unit {0}} {E = TableFault} (Ok tt)
         → (HasCleanDisk (state store new) → HasSchema (state store old).now → HasSchema (state store new).now × Alone (state store old).now (state store new).now
         × ((of : R) → Before of (state store old).now → (it ≡ told of) × After of (state store new).now))
-        → DoesToTables store old new Before Alone told After (Ok it)
+        → DoesToTables store old new Before Readable Alone told After (Ok it)
     changed it going made = record {
       connection = record { keeps = going.keeps; opened = λ clean _. (going.opened clean).1 };
       schema = λ clean has. (made clean has).0;
@@ -234,8 +236,8 @@ module _ {R T : Type 0} (Before : R → Database → Type 0) (Alone : Database �
     }
 
     pub not_changed : (e : TableFault) → KeepsConnection (state store old) (state store new) → (HasCleanDisk (state store new) → UnchangedIfOpen (state store old) (state store new))
-        → (HasCleanDisk (state store new) → HasSchema (state store old).now → e ≡ fault.Damaged → (of : R) → Before of (state store old).now → ⊥)
-        → DoesToTables store old new Before Alone told After (Err e)
+        → (HasCleanDisk (state store new) → HasSchema (state store old).now → e ≡ fault.Damaged → Readable (state store old).now → ⊥)
+        → DoesToTables store old new Before Readable Alone told After (Err e)
     not_changed e goes undone damaged = record {
       connection = record { keeps = goes; opened = λ clean. tt };
       schema = λ clean has. tt;
@@ -247,10 +249,10 @@ module _ {R T : Type 0} (Before : R → Database → Type 0) (Alone : Database �
     }
 
 -- the same told of other things, each of which is one of these
-module _ {R R_so T : Type 0} {Before : R → Database → Type 0} {Before_so : R_so → Database → Type 0} {Alone : Database → Database → Type 0} (told : R → T) (told_so : R_so → T) (After : R → Database → Type 0) (After_so : R_so → Database → Type 0) {S : Type 0} (store : Ghosts S) (old new : Held S) (result : Result T TableFault) where
+module _ {R R_so T : Type 0} {Before : R → Database → Type 0} {Before_so : R_so → Database → Type 0} {Readable : Database → Type 0} {Alone : Database → Database → Type 0} (told : R → T) (told_so : R_so → T) (After : R → Database → Type 0) (After_so : R_so → Database → Type 0) {S : Type 0} (store : Ghosts S) (old new : Held S) (result : Result T TableFault) where
   pub serves_as : (HasCleanDisk (state store new) → HasSchema (state store old).now → (of_so : R_so) → Before_so of_so (state store old).now
       → (of : R) × Before of (state store old).now × (told of ≡ told_so of_so) × (After of (state store new).now → After_so of_so (state store new).now))
-      → DoesToTables store old new Before Alone told After result → DoesToTables store old new Before_so Alone told_so After_so result
+      → DoesToTables store old new Before Readable Alone told After result → DoesToTables store old new Before_so Readable Alone told_so After_so result
   serves_as alike serves = record {
     connection = record { keeps = serves.connection.keeps; opened = serves.connection.opened };
     schema = serves.schema;
@@ -258,16 +260,16 @@ module _ {R R_so T : Type 0} {Before : R → Database → Type 0} {Before_so : R
     left = λ clean has. on_ok_with result (λ kept of_so held. let one = alike clean has of_so held in one.3 (kept one.0 one.1)) (serves.left clean has);
     alone = serves.alone;
     undone = serves.undone;
-    damaged = λ clean has e of_so held. let one = alike clean has of_so held in serves.damaged clean has e one.0 one.1;
+    damaged = serves.damaged;
   }
 
 -- an answer is handed on as a part of another
-module _ {R T U : Type 0} (Before : R → Database → Type 0) (Alone : Database → Database → Type 0) (told : R → T) (After : R → Database → Type 0) (wrap : T → U) {S : Type 0} (store : Ghosts S) (old new : Held S) where
+module _ {R T U : Type 0} (Before : R → Database → Type 0) (Readable : Database → Type 0) (Alone : Database → Database → Type 0) (told : R → T) (After : R → Database → Type 0) (wrap : T → U) {S : Type 0} (store : Ghosts S) (old new : Held S) where
   abbrev wrapped : Result T TableFault → Result U TableFault
   wrapped (Ok it) = Ok (wrap it)
   wrapped (Err e) = Err e
 
-  wraps : (r : Result T TableFault) → DoesToTables store old new Before Alone told After r → DoesToTables store old new Before Alone (λ of. wrap (told of)) After (wrapped r)
+  wraps : (r : Result T TableFault) → DoesToTables store old new Before Readable Alone told After r → DoesToTables store old new Before Readable Alone (λ of. wrap (told of)) After (wrapped r)
   wraps (Ok it) comes = record {
     connection = record { keeps = comes.connection.keeps; opened = comes.connection.opened };
     schema = comes.schema;
@@ -287,8 +289,8 @@ module _ {R T U : Type 0} (Before : R → Database → Type 0) (Alone : Database
     damaged = λ clean has is. comes.damaged clean has (ap (λ e. Err e) (same_fault is));
   }
 
-  pub wraps_ok : (r : Result T TableFault) (it : T) → r ≡ Ok it → DoesToTables store old new Before Alone told After r → DoesToTables store old new Before Alone (λ of. wrap (told of)) After (Ok (wrap it))
-  wraps_ok r it is comes = subst (λ r. DoesToTables store old new Before Alone (λ of. wrap (told of)) After (wrapped r)) is (wraps r comes)
+  pub wraps_ok : (r : Result T TableFault) (it : T) → r ≡ Ok it → DoesToTables store old new Before Readable Alone told After r → DoesToTables store old new Before Readable Alone (λ of. wrap (told of)) After (Ok (wrap it))
+  wraps_ok r it is comes = subst (λ r. DoesToTables store old new Before Readable Alone (λ of. wrap (told of)) After (wrapped r)) is (wraps r comes)
 
-  pub wraps_err : (r : Result T TableFault) (other : Result U TableFault) (e f : TableFault) → r ≡ Err f → other ≡ Err e → e ≡ f → DoesToTables store old new Before Alone told After r → DoesToTables store old new Before Alone (λ of. wrap (told of)) After other
-  wraps_err r other e f is hands same comes = subst (DoesToTables store old new Before Alone (λ of. wrap (told of)) After) (sym (hands ∙ ap (λ e. Err e) same)) (subst (λ r. DoesToTables store old new Before Alone (λ of. wrap (told of)) After (wrapped r)) is (wraps r comes))
+  pub wraps_err : (r : Result T TableFault) (other : Result U TableFault) (e f : TableFault) → r ≡ Err f → other ≡ Err e → e ≡ f → DoesToTables store old new Before Readable Alone told After r → DoesToTables store old new Before Readable Alone (λ of. wrap (told of)) After other
+  wraps_err r other e f is hands same comes = subst (DoesToTables store old new Before Readable Alone (λ of. wrap (told of)) After) (sym (hands ∙ ap (λ e. Err e) same)) (subst (λ r. DoesToTables store old new Before Readable Alone (λ of. wrap (told of)) After (wrapped r)) is (wraps r comes))

@@ -1,5 +1,5 @@
 -- What one event does to the tables of all accounts (all this project's own).
-use Rattle.std.specs.Prelude.{◌≡◌, ◌↔◌, ◌<◌, ℕ, List, IsTrue, IfOk, IsErrOf, OnErr, OnOk, Option, Result, Err}
+use Rattle.std.specs.Prelude.{◌≡◌, ◌↔◌, ◌<◌, ℕ, List, IsTrue, IfOk, IsErrOf, MatchResult, OnErr, OnOk, Option, Result, Err}
 use Rattle.sqlite.specs.Effect.{Database}
 use Rattle.sqlite.specs.State.{State, HasCleanDisk}
 use Rattle.room_core.specs.DeviceEvents.{device_answered}
@@ -11,7 +11,7 @@ use Rattle.room_rules.specs.Devices.{Devices}
 use Rattle.room_rules.specs.Limits.{last_moment}
 use Rattle.room_state.specs.Rooms.{RoomValue}
 use Rattle.room_statements.specs.Alone.{OnlyAccount, OnlyDevices}
-use Rattle.room_store.specs.Damage.{IsDamaged}
+use Rattle.room_store.specs.Reading.{IsReadable}
 use Rattle.room_store.specs.Events.{IsShort}
 use Rattle.room_store.specs.declared.fault.StoreFault.{StoreFault}
 use Rattle.room_store.specs.declared.fault.StoreFault.TheVariants.{Damaged, Moment}
@@ -56,10 +56,11 @@ pub record Applies
   -- after a fault nothing has changed
   pub unchanged : HasCleanDisk new → HasSchema old.now
       → OnErr told (IsTrue new.is_open → new.now ≡ old.now)
-  pub damaged : HasCleanDisk new → HasSchema old.now → told ≡ Err Damaged → IsDamaged e old.now
+  pub damaged : HasCleanDisk new → HasSchema old.now → told ≡ Err Damaged
+      → IsReadable now e old.now → ⊥
   pub moment : IsErrOf told Moment ↔ (last_moment < now)
-  -- whatever the tables are
-  pub short : IsShort e → IfOk told (λ reply. reply ≡ Short)
+  -- whatever the tables are, and the connection
+  pub short : IsShort e → MatchResult told (λ reply. reply ≡ Short) (λ fault. fault ≡ Moment)
   -- any other is answered only where the connection was open
   pub asked : (IsShort e → ⊥) → HasCleanDisk new → OnOk told (IsTrue old.is_open)
   pub connection : KeepsConnection old new

@@ -1,5 +1,5 @@
 pub mod Faults
-pub mod Damage
+pub mod Reading
 pub mod Applied
 pub mod Serving
 pub mod ProofKnown

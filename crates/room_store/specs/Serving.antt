@@ -20,6 +20,7 @@ use Rattle.room_tables.specs.Keyed.{HasSchema}
 use Rattle.room_tables.specs.declared.fault.TableFault.{TableFault}
 use Rattle.room_tables.specs.declared.fault.TableFault.TheVariants.{Damaged}
 use Rattle.room_statements.specs.Alone.{OnlyAccount, OnlyDevices}
+use Rattle.room_store.specs.Reading.{IsReadable}
 
 -- the rows of the account are those of the room, and the devices' those of the map
 pub record RowsHold (name : List ℕ) (of : RoomValue × Devices) (db : Database) : Type 0 where
@@ -53,10 +54,11 @@ module _ {S : Type 0} (store : Ghosts S) (old new : Held S) where
         OnErr result (UnchangedIfOpen (state store old) (state store new)))
 
   -- Of rows that are held this is answered and that is left; besides, only these change; after a
-  -- fault nothing has changed, and damage is told of no sound rows.
+  -- fault nothing has changed, and damage is told only where what was read can be of no sound rows.
   pub record DoesToTables
-      {R T : Type 0} (Before : R → Database → Type 0) (Alone : Database → Database → Type 0)
-      (told : R → T) (After : R → Database → Type 0) (result : Result T TableFault) : Type 0 where
+      {R T : Type 0} (Before : R → Database → Type 0) (Readable : Database → Type 0)
+      (Alone : Database → Database → Type 0) (told : R → T) (After : R → Database → Type 0)
+      (result : Result T TableFault) : Type 0 where
     pub connection : StaysOpen result
     pub schema : IfOurTables store old new (λ db. OnOk result (HasSchema (state store new).now))
     pub answer : IfOurTables store old new (λ db.
@@ -66,56 +68,59 @@ module _ {S : Type 0} (store : Ghosts S) (old new : Held S) where
     pub alone : IfOurTables store old new (λ db. OnOk result (Alone db (state store new).now))
     pub undone : IfOurTables store old new (λ db.
         OnErr result (UnchangedIfOpen (state store old) (state store new)))
-    pub damaged : IfOurTables store old new
-        (λ db. result ≡ Err Damaged → (of : R) → Before of db → ⊥)
+    pub damaged : IfOurTables store old new (λ db. result ≡ Err Damaged → Readable db → ⊥)
 
   -- of an account that is open: no other account's rows change, and no device's
   abbrev pub DoesAsRoom :
-      {T : Type 0} (name : List ℕ) (told : RoomValue → Devices → T)
+      {T : Type 0} (name : List ℕ) (Readable : Database → Type 0) (told : RoomValue → Devices → T)
       (left : RoomValue → Devices → RoomValue) (result : Result T TableFault) →
       Type 0
-  DoesAsRoom name told left result =
-      DoesToTables (RowsHold name) (OnlyAccount name) (λ of. told of.0 of.1)
+  DoesAsRoom name Readable told left result =
+      DoesToTables (RowsHold name) Readable (OnlyAccount name) (λ of. told of.0 of.1)
       (λ of db. HoldsRoom db name (left of.0 of.1)) result
 
   -- by the step that an event makes
   abbrev pub DoesStep :
-      (name : List ℕ) (step : RoomValue → Devices → Step) (result : Result Reply TableFault) →
+      (name : List ℕ) (Readable : Database → Type 0) (step : RoomValue → Devices → Step)
+      (result : Result Reply TableFault) →
       Type 0
-  DoesStep name step result =
-      DoesAsRoom name (λ room devices. (step room devices).reply)
+  DoesStep name Readable step result =
+      DoesAsRoom name Readable (λ room devices. (step room devices).reply)
       (λ room devices. (step room devices).room) result
 
   -- and by the response to a request
   abbrev pub DoesResponse :
-      (name : List ℕ) (response : RoomValue → Devices → Response)
+      (name : List ℕ) (Readable : Database → Type 0) (response : RoomValue → Devices → Response)
       (result : Result (List ℕ) TableFault) →
       Type 0
-  DoesResponse name response result =
-      DoesAsRoom name (λ room devices. (response room devices).text)
+  DoesResponse name Readable response result =
+      DoesAsRoom name Readable (λ room devices. (response room devices).text)
       (λ room devices. (response room devices).room) result
 
   -- of one that may not be
   abbrev pub DoesAnswer :
-      (name : List ℕ) (answered : Option RoomValue → Devices → Answer)
-      (result : Result Reply TableFault) →
+      (name : List ℕ) (Readable : Database → Type 0)
+      (answered : Option RoomValue → Devices → Answer) (result : Result Reply TableFault) →
       Type 0
-  DoesAnswer name answered result =
-      DoesToTables (MayBeHeld name) (OnlyAccount name) (λ of. (answered of.0 of.1).reply)
+  DoesAnswer name Readable answered result =
+      DoesToTables (MayBeHeld name) Readable (OnlyAccount name) (λ of. (answered of.0 of.1).reply)
       (λ of db. Holds db name (answered of.0 of.1).room) result
 
   -- and of a device: no account's rows change
   abbrev pub DoesAsDevices :
-      (answered : Devices → DeviceAnswer) (result : Result Reply TableFault) →
+      (Readable : Database → Type 0) (answered : Devices → DeviceAnswer)
+      (result : Result Reply TableFault) →
       Type 0
-  DoesAsDevices answered result =
-      DoesToTables (λ devices db. HoldsDevices db devices) OnlyDevices
+  DoesAsDevices Readable answered result =
+      DoesToTables (λ devices db. HoldsDevices db devices) Readable OnlyDevices
       (λ devices. (answered devices).reply)
       (λ devices db. HoldsDevices db (answered devices).devices) result
 
   -- by whose it is
   abbrev pub DoesEvent : (now : ℕ) (e : PlainEvent) (result : Result Reply TableFault) → Type 0
   DoesEvent now (OfAccount account it) result =
-      DoesAnswer account (λ room devices. answered room devices now (OfAccount account it)) result
+      DoesAnswer account (IsReadable now (OfAccount account it))
+      (λ room devices. answered room devices now (OfAccount account it)) result
   DoesEvent now (OfDevice device it) result =
-      DoesAsDevices (λ devices. device_answered devices (OfDevice device it)) result
+      DoesAsDevices (IsReadable now (OfDevice device it))
+      (λ devices. device_answered devices (OfDevice device it)) result

@@ -4,6 +4,7 @@ ghost use Rattle.std.specs.Prelude.{◌≡◌, false};
 ghost use Rattle.room_store.specs.Words.{WasOpen};
 ghost use Rattle.room_core.specs.DeviceEvents.{rated_answer, turned_answer};
 ghost use Rattle.room_rules.specs.Limits.{IsRate};
+ghost use Rattle.room_store.specs.Reading.{DeviceIsReadable};
 ghost use Rattle.room_store.specs.Serving.{DoesAsDevices};
 
 use crate::told::{refusing, telling};
@@ -21,7 +22,7 @@ pub fn turn<S: Alter>(
     on: bool,
 ) -> Result<Reply, TableFault>
     requires mode { connection.old.in_transaction ≡ false }
-    ensures served { DoesAsDevices S.Store connection.old connection.new
+    ensures served { DoesAsDevices S.Store connection.old connection.new (DeviceIsReadable name)
         (λ devices. turned_answer devices name on) result }
     ensures asks { WasOpen S.Store connection.old connection.new result }
 {
@@ -40,7 +41,7 @@ pub fn rate<S: Alter>(
 ) -> Result<Reply, TableFault>
     requires mode { connection.old.in_transaction ≡ false }
     requires units { IsRate units }
-    ensures served { DoesAsDevices S.Store connection.old connection.new
+    ensures served { DoesAsDevices S.Store connection.old connection.new (DeviceIsReadable name)
         (λ devices. rated_answer devices name units) result }
     ensures asks { WasOpen S.Store connection.old connection.new result }
 {

@@ -1,12 +1,13 @@
 //! Any event, over the shared tables.
 
-ghost use Rattle.std.specs.Prelude.{◌≡◌, ◌≤◌, false, IfOk, IsTrue};
+ghost use Rattle.std.specs.Prelude.{◌≡◌, ◌≤◌, false, Ok, IsTrue};
 ghost use Rattle.room_store.specs.Words.{DoesAnswer, DoesStep, WasOpen, answered, last_moment};
 ghost use Rattle.room_core.specs.Events.{plain_event};
 ghost use Rattle.room_core.specs.Fits.{fits};
 ghost use Rattle.room_core.specs.Machine.{answered_open};
 ghost use Rattle.room_core.specs.declared.event.Reply.TheVariants as reply_is;
 ghost use Rattle.room_store.specs.Events.{IsLine, IsShort};
+ghost use Rattle.room_store.specs.Reading.{IsReadableOf, IsReadableOpen};
 ghost use Rattle.room_store.specs.Serving.{DoesEvent};
 
 use crate::devices::{rate, turn};
@@ -34,8 +35,7 @@ pub fn answer_event<S: Alter>(
     requires moment { now ≤ last_moment }
     ensures served { DoesEvent S.Store connection.old connection.new now
         (plain_event e.entry.now) result }
-    ensures short { IsShort (plain_event e.entry.now) →
-        IfOk result (λ told. told ≡ reply_is.Short) }
+    ensures short { IsShort (plain_event e.entry.now) → result ≡ Ok reply_is.Short }
     ensures asks { (IsShort (plain_event e.entry.now) → ⊥) →
         WasOpen S.Store connection.old connection.new result }
 {
@@ -64,6 +64,7 @@ fn answer_line<S: Alter>(
     requires line { IsLine (plain_event e.now) }
     requires moment { now ≤ last_moment }
     ensures served { DoesAnswer S.Store connection.old connection.new account
+        (IsReadableOf account now (plain_event e.entry.now))
         (λ room devices. answered room devices now (plain_event e.entry.now)) result }
     ensures asks { WasOpen S.Store connection.old connection.new result }
 {
@@ -86,6 +87,7 @@ fn answer_open<S: Alter>(
     requires line { IsLine (plain_event e.now) }
     requires moment { now ≤ last_moment }
     ensures served { DoesStep S.Store connection.old connection.new account
+        (IsReadableOpen account now (plain_event e.entry.now))
         (λ room devices. answered_open room devices now (plain_event e.entry.now)) result }
 {
     match *e {

@@ -4,6 +4,7 @@ ghost use Rattle.std.specs.Prelude.{◌≡◌, false};
 ghost use Rattle.room_store.specs.Words.{DoesStep};
 ghost use Rattle.room_core.specs.Grants.{granted};
 ghost use Rattle.room_state.specs.RoomRules.{IsGrant};
+ghost use Rattle.room_store.specs.Reading.{GrantIsReadable};
 
 use crate::told::{refusing, telling};
 use room_core::{Name, Reply, Success, check_grant};
@@ -24,7 +25,7 @@ pub fn grant<S: Alter>(
     requires mode { connection.old.in_transaction ≡ false }
     requires grant { IsGrant month pages }
     ensures served { DoesStep S.Store connection.old connection.new account
-        (λ room devices. granted room month pages) result }
+        (GrantIsReadable account month) (λ room devices. granted room month pages) result }
 {
     let held = find_grant(connection, account, month)?;
     if let Err(word) = check_grant(held, pages) {

@@ -1,8 +1,9 @@
 //! The requests about one job.
 
-ghost use Rattle.std.specs.Prelude.{◌≡◌, ◌≤◌, false, IfOk};
+ghost use Rattle.std.specs.Prelude.{◌≡◌, ◌≤◌, ⊤, false, IfOk};
 ghost use Rattle.room_store.specs.Words.{DoesAsRoom, DoesResponse, HasAccountRow, HasJobRow, IfOurTables, IsAccount, IsAsk, IsStanding, Keeps, StaysOpen, last_moment, plain_ask};
 ghost use Rattle.room_core.specs.JobRequests.{acted, cancel_of, job_shown, hold_of, release_of};
+ghost use Rattle.room_store.specs.Reading.{JobIsReadable, QuotaIsReadable};
 
 use crate::lookup::look_up;
 use crate::quota::keep_to_quota;
@@ -33,6 +34,7 @@ pub fn describe<S: Alter>(
     ensures served { IfOurTables S.Store connection.old connection.new
         (HasAccountRow account row) →
         DoesAsRoom S.Store connection.old connection.new account
+        (JobIsReadable account ask.entry.now.job)
         (λ room devices. (job_shown room account now (plain_ask ask.entry.now)).text)
         (λ room devices. room) result }
 {
@@ -55,6 +57,7 @@ pub fn cancel<S: Alter>(
     requires ask { IsAsk (plain_ask ask.now) }
     requires moment { now ≤ last_moment }
     ensures served { DoesResponse S.Store connection.old connection.new account
+        (JobIsReadable account ask.entry.now.job)
         (λ room devices. acted room (plain_ask ask.entry.now)
         (cancel_of room now (plain_ask ask.entry.now))) result }
 {
@@ -75,6 +78,7 @@ pub fn hold<S: Alter>(
     requires mode { connection.old.in_transaction ≡ false }
     requires ask { IsAsk (plain_ask ask.now) }
     ensures served { DoesResponse S.Store connection.old connection.new account
+        (JobIsReadable account ask.entry.now.job)
         (λ room devices. acted room (plain_ask ask.entry.now)
         (hold_of room (plain_ask ask.entry.now))) result }
 {
@@ -97,6 +101,7 @@ pub fn release<S: Alter>(
     requires ask { IsAsk (plain_ask ask.now) }
     requires moment { now ≤ last_moment }
     ensures served { DoesResponse S.Store connection.old connection.new account
+        (λ db. JobIsReadable account ask.entry.now.job db × QuotaIsReadable account now db)
         (λ room devices. acted room (plain_ask ask.entry.now)
         (release_of room now (plain_ask ask.entry.now))) result }
 {
@@ -126,7 +131,7 @@ fn act<S: Alter>(
     requires kept { IfOk decided (Keeps job.now.standing) }
     ensures connection { StaysOpen S.Store connection.old connection.new result }
     ensures served { IfOurTables S.Store connection.old connection.new (HasJobRow account job.now) →
-        DoesResponse S.Store connection.old connection.new account
+        DoesResponse S.Store connection.old connection.new account (λ db. ⊤)
         (λ room devices. acted room (plain_ask ask.entry.now) decided) result }
 {
     let standing = match decided {

@@ -12,7 +12,8 @@
 //! store.close().close()?;
 //! ```
 //!
-//! A fault of `apply` has changed nothing, and the next event can follow.
+//! An event that fails has changed nothing, as far as the connection is still open; the next may
+//! be tried.
 #![tactic(auto)]
 
 mod devices;
@@ -20,6 +21,7 @@ mod events;
 mod fault;
 mod granting;
 mod job_requests;
+mod law;
 mod listing;
 mod lookup;
 mod making;
@@ -35,5 +37,6 @@ mod told;
 
 pub use events::answer_event;
 pub use fault::StoreFault;
+pub use law::sound_rows_are_readable;
 pub use room_tables::OpenFault;
 pub use store::{Refused, Store};

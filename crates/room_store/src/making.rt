@@ -4,6 +4,7 @@ ghost use Rattle.std.specs.Prelude.{◌≡◌, ◌≤◌, ℕ, false};
 ghost use Rattle.room_store.specs.Words.{DoesResponse, HasAccountRow, IfOurTables, IsAccount, IsAsk, StaysOpen, last_moment, plain_ask};
 ghost use Rattle.room_statements.specs.NewDocuments.{first_of};
 ghost use Rattle.room_core.specs.NewJobs.{made, new_document};
+ghost use Rattle.room_store.specs.Reading.{NextPlaceIsFree, QueueIsReadable};
 
 use crate::told::{refused_as, shown_as};
 use ipp_coding::List;
@@ -30,6 +31,7 @@ pub fn make<S: Alter>(
     ensures served { IfOurTables S.Store connection.old connection.new
         (HasAccountRow account row) →
         DoesResponse S.Store connection.old connection.new account
+        (λ db. QueueIsReadable account db × NextPlaceIsFree account (plain_ask ask.entry.now) db)
         (λ room devices. made room account now (plain_ask ask.entry.now)) result }
 {
     let tally = tally_unfinished(connection, account)?;

@@ -3,6 +3,7 @@
 ghost use Rattle.std.specs.Prelude.{◌≡◌, ◌≤◌, false};
 ghost use Rattle.room_store.specs.Words.{DoesAnswer, WasOpen, answered, last_moment};
 ghost use Rattle.room_core.specs.Events.{OfAccount, Open};
+ghost use Rattle.room_store.specs.Reading.{IsReadable};
 
 use crate::told::{refusing, telling};
 use room_core::{Name, Reply, Success, Word};
@@ -21,6 +22,7 @@ pub fn open<S: Alter>(
     requires mode { connection.old.in_transaction ≡ false }
     requires moment { now ≤ last_moment }
     ensures served { DoesAnswer S.Store connection.old connection.new account
+        (IsReadable now (OfAccount account Open))
         (λ room devices. answered room devices now (OfAccount account Open)) result }
     ensures asks { WasOpen S.Store connection.old connection.new result }
 {

@@ -4,6 +4,7 @@ ghost use Rattle.std.specs.Prelude.{◌≤◌};
 ghost use Rattle.room_store.specs.Words.{DoesAsRoom, HasAccountRow, IfOurTables, IsAccount, IsAsk, StaysOpen, last_moment, plain_ask};
 ghost use Rattle.room_core.specs.NewJobs.{validated};
 ghost use Rattle.room_core.specs.Printers.{printer_shown};
+ghost use Rattle.room_store.specs.Reading.{DevicesAreReadable, QueueIsReadable};
 
 use crate::told::{done_as, printer_as, refused_as};
 use ipp_coding::List;
@@ -25,7 +26,7 @@ pub fn validate<S: Alter>(
     ensures connection { StaysOpen S.Store connection.old connection.new result }
     ensures served { IfOurTables S.Store connection.old connection.new
         (HasAccountRow account row) →
-        DoesAsRoom S.Store connection.old connection.new account
+        DoesAsRoom S.Store connection.old connection.new account (QueueIsReadable account)
         (λ room devices. (validated room (plain_ask ask.entry.now)).text)
         (λ room devices. room) result }
 {
@@ -52,6 +53,7 @@ pub fn show<S: Alter>(
     ensures served { IfOurTables S.Store connection.old connection.new
         (HasAccountRow account row) →
         DoesAsRoom S.Store connection.old connection.new account
+        (λ db. QueueIsReadable account db × DevicesAreReadable db)
         (λ room devices. (printer_shown room devices account now (plain_ask ask.entry.now)).text)
         (λ room devices. room) result }
 {

@@ -1,12 +1,13 @@
 //! IPP requests to the queue of an account.
 
-ghost use Rattle.std.specs.Prelude.{◌≡◌, ◌≤◌, ◌<◌, false, length, IfOk};
+ghost use Rattle.std.specs.Prelude.{◌≡◌, ◌≤◌, ◌<◌, false, length, Ok};
 ghost use Rattle.room_store.specs.Words.{DoesAnswer, DoesResponse, HasAccountRow, IfOurTables, IsAccount, IsAsk, StaysOpen, WasOpen, answered, last_moment, plain_ask};
 ghost use Rattle.ipp_coding.specs.Limits.{header_length};
 ghost use Rattle.room_asks.specs.Asks.{ask_of};
 ghost use Rattle.room_core.specs.Events.{OfAccount, Ipp};
 ghost use Rattle.room_core.specs.Machine.{responded, responded_to};
 ghost use Rattle.room_core.specs.declared.event.Reply.TheVariants as reply;
+ghost use Rattle.room_store.specs.Reading.{IsReadable, IsReadableFor, RequestIsReadable};
 
 use crate::job_requests::{cancel, describe, hold, release};
 use crate::listing::list;
@@ -32,8 +33,9 @@ pub fn answer_request<S: Alter>(
     requires mode { connection.old.in_transaction ≡ false }
     requires moment { now ≤ last_moment }
     ensures served { DoesAnswer S.Store connection.old connection.new account
+        (IsReadable now (OfAccount account (Ipp body.now)))
         (λ room devices. answered room devices now (OfAccount account (Ipp body.now))) result }
-    ensures short { length body.now < header_length → IfOk result (λ told. told ≡ reply.Short) }
+    ensures short { length body.now < header_length → result ≡ Ok reply.Short }
     ensures asks { (length body.now < header_length → ⊥) →
         WasOpen S.Store connection.old connection.new result }
 {
@@ -65,6 +67,7 @@ fn response<S: Alter>(
     ensures served { IfOurTables S.Store connection.old connection.new
         (HasAccountRow account row) →
         DoesResponse S.Store connection.old connection.new account
+        (RequestIsReadable account now body.now)
         (λ room devices. responded_to room devices account now header
         (ask_of account body.now)) result }
 {
@@ -97,6 +100,7 @@ fn respond<S: Alter>(
     ensures served { IfOurTables S.Store connection.old connection.new
         (HasAccountRow account row) →
         DoesResponse S.Store connection.old connection.new account
+        (λ db. IsReadableFor account now (plain_ask ask.entry.now) db ask.entry.now.operation)
         (λ room devices. responded room devices account now (plain_ask ask.entry.now)
         ask.entry.now.operation) result }
 {

@@ -3,6 +3,8 @@
 ghost use Rattle.std.specs.Prelude.{◌≡◌, ◌≤◌, false, IfOk};
 ghost use Rattle.room_store.specs.Words.{DoesResponse, HasAccountRow, HasJobRow, IfOurTables, IsAccount, IsAsk, IsNumbered, IsStanding, StaysOpen, last_moment, plain_ask};
 ghost use Rattle.room_statements.specs.NewDocuments.{first_of};
+ghost use Rattle.room_statements.specs.Rows.{IsFree};
+ghost use Rattle.room_store.specs.Reading.{DocumentPlaceIsFree, JobIsReadable};
 ghost use Rattle.room_core.specs.JobRequests.{document_taken, has_data, sent, sent_document};
 ghost use Rattle.room_core.specs.Requests.{refusing_ask_or};
 ghost use Rattle.room_rules.specs.Acts.{SendDocument};
@@ -41,6 +43,8 @@ pub fn send<S: Alter>(
     ensures served { IfOurTables S.Store connection.old connection.new
         (HasAccountRow account row) →
         DoesResponse S.Store connection.old connection.new account
+        (λ db. JobIsReadable account ask.entry.now.job db
+        × DocumentPlaceIsFree account (plain_ask ask.entry.now) db)
         (λ room devices. sent room account now (plain_ask ask.entry.now)) result }
 {
     let Some(job) = look_up(connection, account, ask.job)? else {
@@ -50,7 +54,8 @@ pub fn send<S: Alter>(
     take(alloc, connection, account, row, now, ask, job, decided)
 }
 
-/// What Send-Document makes of a job: `add_document`, and what it keeps of the job.
+/// What Send-Document makes of a job's standing: `add_document`. An unfinished job stays unfinished,
+/// with one document more where there is data.
 fn added(standing: Standing, ask: &Ask<'_>) -> Result<Standing, Refusal>
     requires { IsStanding standing }
     ensures moved { let it = plain_ask ask.entry.now in
@@ -61,7 +66,9 @@ fn added(standing: Standing, ask: &Ask<'_>) -> Result<Standing, Refusal>
     add_document(standing, ask.last, has_data(ask))
 }
 
-/// Gives the job its next standing, with its next document if there is one.
+/// Answers a refusal as it was decided, and changes nothing. Otherwise gives the job its next
+/// standing, with the request's data as its next document if there is any, and answers with the
+/// job. `Damaged` tells that the document's place is taken.
 fn take<S: Alter>(
     alloc: Global,
     connection: &mut Connection<S>,
@@ -85,6 +92,7 @@ fn take<S: Alter>(
     ensures served { IfOurTables S.Store connection.old connection.new
         (λ db. HasJobRow account job db × HasAccountRow account row db) →
         DoesResponse S.Store connection.old connection.new account
+        (IsFree account (sent_document (plain_ask ask.entry.now) job))
         (λ room devices. refusing_ask_or room (plain_ask ask.entry.now) decided
         (document_taken room account now (plain_ask ask.entry.now) job)) result }
 {

@@ -1,6 +1,6 @@
 //! What a station is answered.
 
-ghost use Rattle.std.specs.Prelude.{◌≡◌, ◌≤◌, false, map, IfErr, IfOk, Err};
+ghost use Rattle.std.specs.Prelude.{◌≡◌, ◌≤◌, ⊤, false, map, IfErr, IfOk, Err};
 ghost use Rattle.room_store.specs.Words.{DoesStep, HasJobRow, IfOurTables, IsStanding, Keeps, LooksUp, StaysOpen, last_moment};
 ghost use Rattle.std.specs.FinMap.{get};
 ghost use Rattle.room_replies.specs.Parts.{part_of};
@@ -12,6 +12,7 @@ ghost use Rattle.room_rules.specs.StateLaws.{kept_to_quota};
 ghost use Rattle.room_state.specs.Sums.{left_in};
 ghost use Rattle.room_tables.specs.Devices.{HoldsDevices};
 ghost use Rattle.room_store.specs.ProofKnown.{ready_rate};
+ghost use Rattle.room_store.specs.Reading.{DeviceIsReadable, DocumentsAreReadable, JobIsReadable, QuotaIsReadable, StationIsReadable};
 
 use crate::lookup::look_up;
 use crate::quota::left_now;
@@ -43,6 +44,8 @@ pub fn release_at<S: Alter>(
     requires moment { now ≤ last_moment }
     requires impressions { impressions ≤ most_impressions }
     ensures served { DoesStep S.Store connection.old connection.new account
+        (λ db. StationIsReadable device db × JobIsReadable account number db
+        × QuotaIsReadable account now db)
         (λ room devices. release_told room now number
         (station_release room (station devices device now) number password.now impressions))
         result }
@@ -70,6 +73,8 @@ pub fn start<S: Alter>(
     requires mode { connection.old.in_transaction ≡ false }
     requires moment { now ≤ last_moment }
     ensures served { DoesStep S.Store connection.old connection.new account
+        (λ db. StationIsReadable device db × JobIsReadable account number db
+        × DocumentsAreReadable account number db)
         (λ room devices. start_told room number
         (station_start room (station devices device now) number)) result }
 {
@@ -100,6 +105,8 @@ pub fn settle<S: Alter>(
     requires moment { now ≤ last_moment }
     requires impressions { impressions ≤ most_impressions }
     ensures served { DoesStep S.Store connection.old connection.new account
+        (λ db. DeviceIsReadable device db × JobIsReadable account number db
+        × QuotaIsReadable account now db)
         (λ room devices. settling_told room now number
         (station_settle room (station devices device now) number impressions failed)) result }
 {
@@ -124,8 +131,7 @@ fn ready_rate<S: Alter>(
         IfOk result (λ ready. ready ≡ ready_rate (get devices device))) }
     ensures rate { IfOk result (λ ready. IfOk ready IsRate) }
     ensures damaged { IfOurTables S.Store connection.old connection.new
-        (λ db. result ≡ Err TableFault.Damaged → (devices : Devices) →
-        HoldsDevices db devices → ⊥) }
+        (λ db. result ≡ Err TableFault.Damaged → StationIsReadable device db → ⊥) }
     ensures looks { LooksUp S.Store connection.old connection.new result }
 {
     let on = match known_device(find_device(connection, device)?) {
@@ -158,6 +164,7 @@ fn reserve<S: Alter>(
     ensures connection { StaysOpen S.Store connection.old connection.new result }
     ensures served { IfOurTables S.Store connection.old connection.new (HasJobRow account job.now) →
         DoesStep S.Store connection.old connection.new account
+        (QuotaIsReadable account now)
         (λ room devices. release_told room now job.now.job
         (by_word (kept_to_quota job.now.standing.state (left_in room now) asked))) result }
 {
@@ -203,6 +210,7 @@ fn charge<S: Alter>(
     ensures connection { StaysOpen S.Store connection.old connection.new result }
     ensures served { IfOurTables S.Store connection.old connection.new (HasJobRow account job.now) →
         DoesStep S.Store connection.old connection.new account
+        (QuotaIsReadable account now)
         (λ room devices. settling_told room now job.now.job decided) result }
 {
     let settled = match decided {
@@ -232,6 +240,7 @@ fn hand_over<S: Alter>(
     ensures connection { StaysOpen S.Store connection.old connection.new result }
     ensures served { IfOurTables S.Store connection.old connection.new (HasJobRow account job.now) →
         DoesStep S.Store connection.old connection.new account
+        (DocumentsAreReadable account job.now.job)
         (λ room devices. start_told room job.now.job decided) result }
 {
     let standing = match decided {
@@ -271,7 +280,7 @@ fn tell<S: Alter>(
     requires kept { Keeps job.now.standing standing.now }
     ensures connection { StaysOpen S.Store connection.old connection.new result }
     ensures served { IfOurTables S.Store connection.old connection.new (HasJobRow account job.now) →
-        DoesStep S.Store connection.old connection.new account
+        DoesStep S.Store connection.old connection.new account (λ db. ⊤)
         (λ room devices. telling (with_moved room job.now.job standing.now) told) result }
 {
     let reply = telling(alloc, told)?;

@@ -1,6 +1,6 @@
 //! The store: the shared tables of all accounts.
 
-ghost use Rattle.std.specs.Prelude.{◌≡◌, ◌⊎◌, ◌↔◌, ◌<◌, ℕ, false, List, Option, Err, IfOk, IfErr, OnOk, OnErr, IsErrAnd, IsErrOf, IsTrue, MatchResult};
+ghost use Rattle.std.specs.Prelude.{◌≡◌, ◌≢◌, ◌⊎◌, ◌↔◌, ◌<◌, ℕ, false, List, Option, Err, IfOk, IfErr, OnOk, OnErr, IsErrAnd, IsErrOf, IsTrue, MatchResult};
 ghost use Rattle.room_store.specs.Words.{IfOurTables, RoomValue, last_moment};
 ghost use Rattle.sqlite.specs.Held.{state};
 ghost use Rattle.sqlite.specs.State.{HasCleanDisk};
@@ -9,20 +9,20 @@ ghost use Rattle.room_core.specs.Fits.{fits};
 ghost use Rattle.room_core.specs.declared.event.Reply.TheVariants as reply_is;
 ghost use Rattle.room_store.specs.Applied.{IsAnswered};
 ghost use Rattle.room_store.specs.Events.{IsShort};
-ghost use Rattle.room_store.specs.Damage.{IsDamaged};
-ghost use Rattle.room_tables.specs.Tables.{no_schema};
-ghost use Rattle.room_tables.specs.Making.{IsNew, IsOpened, IsOpenFault};
-ghost use Rattle.room_tables.specs.Calls.{KeepsConnection, UnchangedIfHonest, IsUnchanged, IfDiskHonest};
+ghost use Rattle.room_store.specs.Reading.{IsReadable};
+ghost use Rattle.room_tables.specs.Tables.{no_schema, first_schema};
+ghost use Rattle.room_tables.specs.Making.{IsNew, IsOpenFault, OpensTables};
+ghost use Rattle.room_tables.specs.Calls.{KeepsConnection, UnchangedIfHonest, IfDiskHonest};
 ghost use Rattle.room_tables.specs.Keyed.{AreNumbered, HasSchema};
 ghost use Rattle.room_tables.specs.Accounts.{AgreeOnRows, Holds};
 ghost use Rattle.room_rules.specs.Devices.{Devices};
-ghost use Rattle.room_tables.specs.Devices.{HoldsDevices};
+ghost use Rattle.room_tables.specs.Devices.{AgreeOnDevices, HoldsDevices};
 ghost use Rattle.room_tables.specs.Migrating.{HoldsFirstDevices, IsMigrated, IsMigrateFault};
 
 use crate::answer_event;
 use crate::fault::StoreFault;
 use room_core::{Event, LAST_MOMENT, Reply};
-use room_tables::{OpenFault, check, is_blank, make_tables, migrate_tables};
+use room_tables::{OpenFault, is_blank, make_tables, migrate_tables, open_tables};
 use sqlite::{Alter, Connection, Error};
 use std::alloc::Global;
 use std::marker::Model;
@@ -86,15 +86,20 @@ impl<S: Alter> Store<S> {
         }
     }
 
-    /// Opens a database of version 2 as it is. The version is read first, wherever the first table
-    /// is that of the version: `WrongVersion` tells one that is not 2, whatever other tables there
-    /// are, and `NotOurs` that none can be read, or that it is 2 over other tables. `Storage` tells
-    /// also that the connection is in a transaction.
+    /// Opens a database of version 2 as it is. One that has its tables and not its index on jobs is
+    /// given the index, in one transaction, and keeps every row. The version is read first,
+    /// wherever the first table is that of the version: `WrongVersion` tells one that is not 2,
+    /// whatever other tables there are, and `NotOurs` that none can be read, or that it is 2 over
+    /// other tables. `Storage` tells also that the connection is in a transaction.
     pub fn open(mut connection: Connection<S>) -> Result<Store<S>, Refused<S>>
         ensures opened { IfOk result (λ store. IfDiskHonest S.Store connection store
-            (λ db. IsOpened db × IsUnchanged (state S.Store connection) (state S.Store store))) }
+            (λ _. OpensTables (state S.Store connection) (state S.Store store))) }
         ensures has_schema { IfOk result (λ store. IfDiskHonest S.Store connection store
             (λ db. AreNumbered db.schema.tables db → HasSchema (state S.Store store).now)) }
+        ensures rows { IfOk result (λ store. IfDiskHonest S.Store connection store
+            (λ db. (name : List ℕ) → AgreeOnRows name db (state S.Store store).now)) }
+        ensures devices { IfOk result (λ store. IfDiskHonest S.Store connection store
+            (λ db. AgreeOnDevices db (state S.Store store).now)) }
         ensures fault { IfErr result (λ refused.
             IfDiskHonest S.Store connection refused.connection
             (λ db. IsOpenFault db refused.fault)) }
@@ -111,21 +116,21 @@ impl<S: Alter> Store<S> {
                 fault: OpenFault::Storage,
             });
         }
-        match check(&mut connection) {
+        match open_tables(&mut connection) {
             Ok(()) => Ok(Store { connection }),
             Err(fault) => Err(Refused { connection, fault }),
         }
     }
 
     /// Makes version 2 of a database of version 1: each device has rate 1, and each account keeps
-    /// its rows. Version 2 is opened as it is. The version is read first, as `open` does:
+    /// its rows. Version 2 is opened as by `open`. The version is read first, as `open` does:
     /// `WrongVersion` tells one that is neither 1 nor 2, `NotOurs` that none can be read, or that
     /// it is over other tables than its own. `Storage` tells also that a database of version 1 has
     /// the tables of version 2, among them the table `rates` that would be made, or that the
     /// connection is in a transaction.
     pub fn migrate(mut connection: Connection<S>) -> Result<Store<S>, Refused<S>>
         ensures migrated { IfOk result (λ store. IfDiskHonest S.Store connection store (λ db.
-            (IsOpened db × IsUnchanged (state S.Store connection) (state S.Store store))
+            OpensTables (state S.Store connection) (state S.Store store)
             ⊎ IsMigrated db (state S.Store store).now)) }
         ensures has_schema { IfOk result (λ store. IfDiskHonest S.Store connection store
             (λ db. AreNumbered db.schema.tables db → HasSchema (state S.Store store).now)) }
@@ -137,6 +142,8 @@ impl<S: Alter> Store<S> {
         ensures devices { IfOk result (λ store. IfDiskHonest S.Store connection store (λ db.
             (devices : Devices) → HoldsFirstDevices db devices
             → HoldsDevices (state S.Store store).now devices)) }
+        ensures same_devices { IfOk result (λ store. IfDiskHonest S.Store connection store
+            (λ db. db.schema ≢ first_schema → AgreeOnDevices db (state S.Store store).now)) }
         ensures fault { IfErr result (λ refused.
             IfDiskHonest S.Store connection refused.connection
             (λ db. IsMigrateFault db refused.fault)) }
@@ -172,10 +179,11 @@ impl<S: Alter> Store<S> {
         ensures unchanged { IfOurTables S.Store self.old self.new (λ db. OnErr result
             (IsTrue (state S.Store self.new).is_open → (state S.Store self.new).now ≡ db)) }
         ensures damaged { IfOurTables S.Store self.old self.new
-            (λ db. result ≡ Err StoreFault.Damaged → IsDamaged (plain_event e.entry.now) db) }
+            (λ db. result ≡ Err StoreFault.Damaged
+            → IsReadable now (plain_event e.entry.now) db → ⊥) }
         ensures moment { IsErrOf result StoreFault.Moment ↔ (last_moment < now) }
-        ensures short { IsShort (plain_event e.entry.now) →
-            IfOk result (λ reply. reply ≡ reply_is.Short) }
+        ensures short { IsShort (plain_event e.entry.now) → MatchResult result
+            (λ reply. reply ≡ reply_is.Short) (λ fault. fault ≡ StoreFault.Moment) }
         ensures asked { (IsShort (plain_event e.entry.now) → ⊥)
             → HasCleanDisk (state S.Store self.new)
             → OnOk result (IsTrue (state S.Store self.old).is_open) }

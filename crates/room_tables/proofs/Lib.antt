@@ -8,6 +8,7 @@ pub mod Statements
 pub mod Transactions
 pub mod Created
 pub mod IndexLemmas
+pub mod Indexed
 pub mod Reading
 pub mod Columns
 pub mod VersionLemmas

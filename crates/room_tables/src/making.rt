@@ -3,8 +3,8 @@
 ghost use Rattle.std.specs.Prelude.{◌≡◌, false};
 ghost use Rattle.room_tables.specs.Tables.{no_schema, first_schema, rated_schema, room_schema};
 ghost use Rattle.room_tables.specs.Calls.{AllOrNothing, MakesIfHonest, WritesInTransaction};
-ghost use Rattle.room_tables.specs.Making.{with_meta, with_account, with_job, with_documents, with_grants, IsBlank, IsNew};
-ghost use Rattle.room_tables.specs.Migrating.{AddsIndex, AddsRates};
+ghost use Rattle.room_tables.specs.Making.{with_meta, with_account, with_job, with_documents, with_grants, AddsIndex, IsBlank, IsNew};
+ghost use Rattle.room_tables.specs.Migrating.{AddsRates};
 
 use crate::writing::write;
 use sqlite::{Alter, Connection, Error, Transaction};
@@ -136,7 +136,7 @@ fn make_rates<S: Alter>(transaction: &mut Transaction<'_, S>) -> Result<(), Erro
     )
 }
 
-fn make_job_ended<S: Alter>(transaction: &mut Transaction<'_, S>) -> Result<(), Error>
+pub(crate) fn make_job_ended<S: Alter>(transaction: &mut Transaction<'_, S>) -> Result<(), Error>
     ensures adds { MakesIfHonest S.Store transaction.old.conn.now transaction.new.conn.now result
         (λ before after. before.schema ≡ rated_schema → AddsIndex before after) }
     ensures inside { WritesInTransaction S.Store transaction.old.conn transaction.new.conn result }

@@ -1,32 +1,34 @@
 //! A database of version 1 becomes one of version 2.
 
-ghost use Rattle.std.specs.Prelude.{◌≡◌, ◌⊎◌, [], false, pos, OnOk, IfErr};
+ghost use Rattle.std.specs.Prelude.{◌≡◌, ◌⊎◌, [], false, OnOk, IfErr};
 ghost use Rattle.sqlite.specs.State.{HasCleanDisk};
 ghost use Rattle.sqlite.specs.Held.{state};
 ghost use Rattle.room_tables.specs.Tables.{room_schema, rates, first_version};
-ghost use Rattle.room_tables.specs.Calls.{IsUnchanged, AllOrNothing, MakesIfHonest, IfDiskHonest, WritesInTransaction};
-ghost use Rattle.room_tables.specs.Making.{HasVersion, IsOpened};
+ghost use Rattle.room_tables.specs.Calls.{AllOrNothing, MakesIfHonest, IfDiskHonest, WritesInTransaction};
+ghost use Rattle.room_tables.specs.Making.{HasVersion, OpensTables};
 ghost use Rattle.room_tables.specs.Migrating.{IsFirstVersion, IsMigrated, IsMigrateFault, RatesDevices, NotesVersionTwo};
 
 use crate::fault::OpenFault;
 use crate::making::extend_tables;
-use crate::version::is_older;
+use crate::opening::add_index;
+use crate::version::{Lack, lack_of};
 use crate::writing::write;
 use sqlite::{Alter, Connection, Error, Transaction};
 
-/// Makes version 2 of version 1, and leaves version 2 as it is.
+/// Makes version 2 of version 1, and opens version 2.
 pub fn migrate_tables<S: Alter>(connection: &mut Connection<S>) -> Result<(), OpenFault>
     requires mode { connection.old.in_transaction ≡ false }
     ensures migrated { HasCleanDisk (state S.Store connection.new)
-        → OnOk result ((IsOpened (state S.Store connection.old).now
-        × IsUnchanged (state S.Store connection.old) (state S.Store connection.new))
+        → OnOk result (OpensTables (state S.Store connection.old) (state S.Store connection.new)
         ⊎ IsMigrated (state S.Store connection.old).now (state S.Store connection.new).now) }
     ensures fault { IfDiskHonest S.Store connection.old connection.new
         (λ db. IfErr result (IsMigrateFault db)) }
     ensures whole { AllOrNothing S.Store connection.old connection.new result }
 {
-    if is_older(connection)? {
-        add_rates(connection)?;
+    match lack_of(connection)? {
+        Lack::Nothing => {}
+        Lack::Index => add_index(connection)?,
+        Lack::Version => add_rates(connection)?,
     }
     Ok(())
 }

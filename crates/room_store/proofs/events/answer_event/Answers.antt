@@ -1,8 +1,29 @@
-use Rattle.std.proofs.Common.{sym, ap, subst}
-use Rattle.room_core.specs.Events.{plain_event}
+use Rattle.std.proofs.Common.{◌≡◌, ℕ, List, Result, sym, ap, subst}
+use Rattle.sqlite_trees.specs.declared.store.Store.{Ghosts}
+use Rattle.sqlite.specs.Held.{Held}
+use Rattle.room_core.specs.Events.{AccountEvent, PlainEvent, OfAccount, plain_event}
 use Rattle.room_core.specs.Machine.{answered}
+use Rattle.room_core.specs.declared.event.Reply.{Reply}
+use Rattle.room_tables.specs.declared.fault.TableFault.{TableFault}
+use Rattle.room_store.specs.Events.{IsShort}
+use Rattle.room_store.specs.Reading.{IsReadableOf}
 use Rattle.room_store.specs.Serving.{DoesAnswer, DoesEvent}
 use Rattle.room_store.proofs.events.answer_event.Goals as goal
+
+-- what a line of an account does, its event does
+of_account : {S : Type 0} (store : Ghosts S) (old new : Held S) (now : ℕ) {account : List ℕ} {it : AccountEvent} {e : PlainEvent} (told : Result Reply TableFault) →
+    e ≡ OfAccount account it → (IsShort (OfAccount account it) → ⊥) → DoesAnswer store old new account (IsReadableOf account now e) (λ room devices. answered room devices now e) told → DoesEvent store old new now e told
+of_account store old new now {account} told is not_short =
+    subst (λ e. DoesAnswer store old new account (IsReadableOf account now e) (λ room devices. answered room devices now e) told → DoesEvent store old new now e told) (sym is)
+    (λ served. record {
+      connection = served.connection;
+      schema = served.schema;
+      answer = served.answer;
+      left = served.left;
+      alone = served.alone;
+      undone = served.undone;
+      damaged = λ clean has e readable. served.damaged clean has e (readable not_short);
+    })
 
 pub returns-in-Ipp-clause-served : goal.returns-in-Ipp-clause-served
 returns-in-Ipp-clause-served g c =
@@ -18,28 +39,16 @@ returns-in-Rate-clause-served g c =
 
 pub returns-in-Release-clause-served : goal.returns-in-Release-clause-served
 returns-in-Release-clause-served g c =
-    let new = c.answer_line.new.connection in
-    let told = c.answer_line.result in
-    subst (λ e. DoesAnswer g.S.Store c.args.connection.now new c.in-Release.account (λ room devices. answered room devices c.args.now e) told → DoesEvent g.S.Store c.args.connection.now new c.args.now e told)
-    (sym (ap plain_event c.in-Release.is)) (λ served. served) c.answer_line.ensures.served
+    of_account g.S.Store c.args.connection.now c.answer_line.new.connection c.args.now c.answer_line.result (ap plain_event c.in-Release.is) (λ short. short) c.answer_line.ensures.served
 
 pub returns-in-Start-clause-served : goal.returns-in-Start-clause-served
 returns-in-Start-clause-served g c =
-    let new = c.answer_line-in-Start.new.connection in
-    let told = c.answer_line-in-Start.result in
-    subst (λ e. DoesAnswer g.S.Store c.args.connection.now new c.in-Start.account (λ room devices. answered room devices c.args.now e) told → DoesEvent g.S.Store c.args.connection.now new c.args.now e told)
-    (sym (ap plain_event c.in-Start.is)) (λ served. served) c.answer_line-in-Start.ensures.served
+    of_account g.S.Store c.args.connection.now c.answer_line-in-Start.new.connection c.args.now c.answer_line-in-Start.result (ap plain_event c.in-Start.is) (λ short. short) c.answer_line-in-Start.ensures.served
 
 pub returns-in-Settle-clause-served : goal.returns-in-Settle-clause-served
 returns-in-Settle-clause-served g c =
-    let new = c.answer_line-in-Settle.new.connection in
-    let told = c.answer_line-in-Settle.result in
-    subst (λ e. DoesAnswer g.S.Store c.args.connection.now new c.in-Settle.account (λ room devices. answered room devices c.args.now e) told → DoesEvent g.S.Store c.args.connection.now new c.args.now e told)
-    (sym (ap plain_event c.in-Settle.is)) (λ served. served) c.answer_line-in-Settle.ensures.served
+    of_account g.S.Store c.args.connection.now c.answer_line-in-Settle.new.connection c.args.now c.answer_line-in-Settle.result (ap plain_event c.in-Settle.is) (λ short. short) c.answer_line-in-Settle.ensures.served
 
 pub returns-in-Grant-clause-served : goal.returns-in-Grant-clause-served
 returns-in-Grant-clause-served g c =
-    let new = c.answer_line-in-Grant.new.connection in
-    let told = c.answer_line-in-Grant.result in
-    subst (λ e. DoesAnswer g.S.Store c.args.connection.now new c.in-Grant.account (λ room devices. answered room devices c.args.now e) told → DoesEvent g.S.Store c.args.connection.now new c.args.now e told)
-    (sym (ap plain_event c.in-Grant.is)) (λ served. served) c.answer_line-in-Grant.ensures.served
+    of_account g.S.Store c.args.connection.now c.answer_line-in-Grant.new.connection c.args.now c.answer_line-in-Grant.result (ap plain_event c.in-Grant.is) (λ short. short) c.answer_line-in-Grant.ensures.served

@@ -1,6 +1,5 @@
-use Rattle.std.proofs.Common.{Some, ap, Err}
+use Rattle.std.proofs.Common.{ap, Err}
 use Rattle.std.proofs.lemmas.Result.{err_from_is_err_and}
-use Rattle.room_statements.proofs.GrantLemmas.{grant_read}
 use Rattle.room_store.proofs.ServingLemmas.{read_failed_as}
 use Rattle.room_store.proofs.granting.grant.Goals as goal
 
@@ -8,6 +7,6 @@ pub returns-in_err-held : goal.returns-in_err-held
 returns-in_err-held g c =
     let told = err_from_is_err_and c.from_residual.result c.from_residual.ensures.1 in
     record {
-      served = read_failed_as _ _ _ _ g.S.Store _ _ c.from_residual.result told.0 _ told.1 told.2 c.in_err-held.ensures.reads
-          (λ clean has is of held. c.in_err-held.ensures.damaged clean has (ap (λ e. Err e) is) (grant_read _ c.args.account c.args.month (Some of.0, held.room)));
+      served = read_failed_as _ _ _ _ _ g.S.Store _ _ c.from_residual.result told.0 _ told.1 told.2 c.in_err-held.ensures.reads
+          (λ clean has is readable. c.in_err-held.ensures.damaged clean has (ap (λ e. Err e) is) readable);
     }

@@ -38,7 +38,7 @@ returns g c =
           let there : get of.0.jobs ask.job ≡ Some job = sym (looked.found mid_clean has of.0 held.room) ∙ c.in-Some.is in
           let kept = c.in_ok-decided.ensures.kept last_clean (subst HasSchema (sym same) has) of.0 (subst (λ (db : Database). HoldsRoom db name of.0) (sym same) held.room) in
           ap (λ (d : Result Standing Refusal). acted of.0 ask d) (release_of_found of.0 ask c.args.now job there _ (search rules) c.released-asked.result decided c.released-asked.ensures.moved kept))
-          (serves_after_so _ _ _ _ g.S.Store old last passed new c.act.result (HasJobRow name job) c.act.ensures.connection
+          (serves_after_so _ _ _ _ _ g.S.Store old last passed new c.act.result (HasJobRow name job) (λ clean has readable. tt) c.act.ensures.connection
           (λ clean _ has. there_still name job (state g.S.Store old).now (state g.S.Store last).now (passed.same clean has).0
           (subst (λ (o : Option Job). IfSome o (λ job. HasJobRow name job (state g.S.Store old).now)) c.in-Some.is (looked.is_there (omega (arith, c.in_ok-decided.ensures.looks.connection.keeps.clean, clean)) has)))
           c.act.ensures.served);

@@ -1,24 +1,26 @@
-use Rattle.std.proofs.Common.{Some, Err, sym, ap, subst, ◌∙◌}
+use Rattle.std.proofs.Common.{◌≡◌, pos, Option, None, Err, sym, ap, subst, ◌∙◌}
 use Rattle.std.proofs.lemmas.Result.{err_from_is_err_and}
+use Rattle.sqlite.specs.Effect.{Database}
 use Rattle.sqlite.specs.Held.{state}
 use Rattle.room_asks.specs.Asks.{plain_ask}
 use Rattle.room_statements.specs.NewDocuments.{first_of}
 use Rattle.room_core.specs.NewJobs.{new_document}
+use Rattle.room_rules.specs.declared.job.Document.{Document}
 use Rattle.room_rules.specs.declared.job.Job.{Job}
-use Rattle.room_statements.proofs.QueuedWalk.{queued_read}
-use Rattle.room_tables.specs.Accounts.{HoldsRoom}
+use Rattle.room_statements.specs.Rows.{IsFree}
+use Rattle.room_tables.specs.Accounts.{job_at, HoldsRoom}
 use Rattle.room_tables.specs.Keyed.{HasSchema}
 use Rattle.room_replies.specs.Places.{plain_place}
 use Rattle.room_store.specs.ProofKnown.{HasAccountRow}
-use Rattle.room_store.proofs.Made.{account_in_room, free_so, grown, told}
+use Rattle.room_store.proofs.Made.{account_in_room, grown, told}
 use Rattle.room_store.proofs.ServingLemmas.{changed_after, handed, not_changed_after, read_failed_as, read_passed}
 use Rattle.room_store.proofs.making.make.Goals as goal
 
 pub returns-in_err-tally-clause-served : goal.returns-in_err-tally-clause-served
 returns-in_err-tally-clause-served g c is_open =
     let told = err_from_is_err_and c.from_residual.result c.from_residual.ensures.1 in
-    read_failed_as _ _ _ _ g.S.Store _ _ c.from_residual.result told.0 _ told.1 told.2 c.in_err-tally.ensures.reads
-    (λ clean has is of held. c.in_err-tally.ensures.damaged clean has (ap (λ e. Err e) is) (queued_read _ has c.args.account (Some of.0, held.room)))
+    read_failed_as _ _ _ _ _ g.S.Store _ _ c.from_residual.result told.0 _ told.1 told.2 c.in_err-tally.ensures.reads
+    (λ clean has is readable. c.in_err-tally.ensures.damaged clean has (ap (λ e. Err e) is) readable.0)
 
 pub returns-in_err-make_job-clause-served : goal.returns-in_err-make_job-clause-served
 returns-in_err-make_job-clause-served g c opened =
@@ -32,12 +34,13 @@ returns-in_err-make_job-clause-served g c opened =
     let passed = read_passed g.S.Store old mid _ c.in_ok-tally.ensures.reads in
     let fault = err_from_is_err_and c.from_residual-in_err-make_job.result c.from_residual-in_err-make_job.ensures.1 in
     let made = c.in_err-make_job.ensures in
-    handed _ _ _ _ g.S.Store old new c.from_residual-in_err-make_job.result fault.0 _ fault.1 fault.2
-    (not_changed_after _ _ _ _ g.S.Store old mid passed new c.in_err-make_job.field-0.0 made.whole.keeps made.whole.undone
-    (λ was clean has same is of held.
-    let own = account_in_room _ c.args.account c.args.row (opened clean has) of.0 held.room in
-    let free = free_so (state g.S.Store mid).now c.args.account c.args.row of.0 own (subst (λ db. HoldsRoom db c.args.account of.0) (sym same) held.room) ask c.args.now job (first_of job.job c.first_document.result) is_job is_first in
-    made.damaged clean (subst HasSchema (sym same) has) (ap (λ e. Err e) is) free.0 free.1))
+    handed _ _ _ _ _ g.S.Store old new c.from_residual-in_err-make_job.result fault.0 _ fault.1 fault.2
+    (not_changed_after _ _ _ _ _ g.S.Store old mid passed new c.in_err-make_job.field-0.0 made.whole.keeps made.whole.undone
+    (λ was clean has same is readable.
+    let free = readable.1 c.args.row (opened clean has) in
+    made.damaged clean (subst HasSchema (sym same) has) (ap (λ e. Err e) is)
+    (subst (λ (db : Database). job_at db c.args.account (pos job.job) ≡ None) (sym same) (subst (λ (j : Job). job_at (state g.S.Store old).now c.args.account (pos j.job) ≡ None) (sym is_job) free.0))
+    (subst (λ (db : Database). IsFree c.args.account (first_of job.job c.first_document.result) db) (sym same) (subst (λ (d : Option Document). IsFree c.args.account d (state g.S.Store old).now) (sym is_first) free.1))))
 
 pub returns-clause-served : goal.returns-clause-served
 returns-clause-served g c opened =
@@ -54,7 +57,7 @@ returns-clause-served g c opened =
     let passed = read_passed g.S.Store old mid _ c.in_ok-tally.ensures.reads in
     let made = c.in_ok-make_job.ensures in
     let takes = sym c.check_accepting.ensures ∙ c.in_default.is in
-    changed_after _ _ _ _ g.S.Store old mid passed new c.in_ok-text.text (record { keeps = made.whole.keeps; opened = made.whole.opened })
+    changed_after _ _ _ _ _ g.S.Store old mid passed new c.in_ok-text.text (record { keeps = made.whole.keeps; opened = made.whole.opened })
     (λ was clean has same.
     let has_mid = subst HasSchema (sym same) has in
     let after = made.room clean has_mid in (

@@ -1,11 +1,10 @@
 use Rattle.std.proofs.Common.{Err, ap}
 use Rattle.std.proofs.lemmas.Result.{err_from_is_err_and}
-use Rattle.room_statements.proofs.SoundReads.{sound_rows_are_read}
 use Rattle.room_store.proofs.ServingLemmas.{read_failed_as}
 use Rattle.room_store.proofs.opening.open.Goals as goal
 
 pub returns-in_err-find_account-clause-served : goal.returns-in_err-find_account-clause-served
 returns-in_err-find_account-clause-served g c =
     let told = err_from_is_err_and c.from_residual.result c.from_residual.ensures.1 in
-    read_failed_as _ _ _ _ g.S.Store _ _ c.from_residual.result told.0 _ told.1 told.2 c.in_err-find_account.ensures.reads
-    (λ clean has is of held. c.in_err-find_account.ensures.damaged clean has (ap (λ e. Err e) is) (sound_rows_are_read.accounts _ c.args.account has (of.0, held.room)).account)
+    read_failed_as _ _ _ _ _ g.S.Store _ _ c.from_residual.result told.0 _ told.1 told.2 c.in_err-find_account.ensures.reads
+    (λ clean has is readable. c.in_err-find_account.ensures.damaged clean has (ap (λ e. Err e) is) (readable (λ short. short)).account)

@@ -1,4 +1,4 @@
-use Rattle.std.proofs.Common.{[], ◌∷◌, Some, Err, sym, ap, subst, arith}
+use Rattle.std.proofs.Common.{[], ◌∷◌, Err, sym, ap, subst, arith}
 use Rattle.std.proofs.lemmas.Result.{err_from_is_err_and}
 use Rattle.sqlite.specs.Effect.{Database}
 use Rattle.sqlite.specs.State.{HasCleanDisk}
@@ -10,9 +10,8 @@ use Rattle.room_tables.specs.Devices.{HoldsDevices}
 use Rattle.room_tables.specs.Keyed.{HasSchema}
 use Rattle.room_replies.specs.Places.{plain_place}
 use Rattle.room_replies.specs.PrinterAttributes.{printer_group}
+use Rattle.room_store.specs.Reading.{DevicesAreReadable}
 use Rattle.room_store.proofs.Made.{account_in_room}
-use Rattle.room_statements.proofs.QueuedWalk.{queued_read}
-use Rattle.room_statements.proofs.SoundReads.{sound_rows_are_read}
 use Rattle.room_store.proofs.Shown.{shown_so}
 use Rattle.room_store.proofs.ServingLemmas.{passed_then, read_failed_as, read_passed, says, serves_after}
 use Rattle.room_store.proofs.queue.show.Goals as goal
@@ -20,16 +19,16 @@ use Rattle.room_store.proofs.queue.show.Goals as goal
 pub returns-in_err-tally-clause-served : goal.returns-in_err-tally-clause-served
 returns-in_err-tally-clause-served g c is_open =
     let told = err_from_is_err_and c.from_residual.result c.from_residual.ensures.1 in
-    read_failed_as _ _ _ _ g.S.Store _ _ c.from_residual.result told.0 _ told.1 told.2 c.in_err-tally.ensures.reads
-    (λ clean has is of held. c.in_err-tally.ensures.damaged clean has (ap (λ e. Err e) is) (queued_read _ has c.args.account (Some of.0, held.room)))
+    read_failed_as _ _ _ _ _ g.S.Store _ _ c.from_residual.result told.0 _ told.1 told.2 c.in_err-tally.ensures.reads
+    (λ clean has is readable. c.in_err-tally.ensures.damaged clean has (ap (λ e. Err e) is) readable.0)
 
 pub returns-in_err-on-clause-served : goal.returns-in_err-on-clause-served
 returns-in_err-on-clause-served g c is_open =
     let told = err_from_is_err_and c.from_residual-in_err-on.result c.from_residual-in_err-on.ensures.1 in
     let passed = read_passed g.S.Store c.args.connection.now c.tally_unfinished.new.connection _ c.in_ok-tally.ensures.reads in
-    serves_after _ _ _ _ g.S.Store _ _ passed _ c.from_residual-in_err-on.result
-    (read_failed_as _ _ _ _ g.S.Store _ _ c.from_residual-in_err-on.result told.0 _ told.1 told.2 c.in_err-on.ensures.reads
-    (λ clean has is of held. c.in_err-on.ensures.damaged clean has (ap (λ e. Err e) is) (sound_rows_are_read.of_devices _ has (of.1, held.devices)).all))
+    serves_after _ _ _ _ _ g.S.Store _ _ passed {Rest = DevicesAreReadable} _ c.from_residual-in_err-on.result (λ clean has readable. readable.1)
+    (read_failed_as _ _ _ _ _ g.S.Store _ _ c.from_residual-in_err-on.result told.0 _ told.1 told.2 c.in_err-on.ensures.reads
+    (λ clean has is readable. c.in_err-on.ensures.damaged clean has (ap (λ e. Err e) is) readable))
 
 pub returns-clause-served : goal.returns-clause-served
 returns-clause-served g c opened =
@@ -39,7 +38,7 @@ returns-clause-served g c opened =
     let new = c.is_device_on.new.connection in
     let counted = read_passed g.S.Store old mid _ c.in_ok-tally.ensures.reads in
     let passed = passed_then (state g.S.Store old) (state g.S.Store mid) (state g.S.Store new) counted (read_passed g.S.Store mid new _ c.in_ok-on.ensures.reads) in
-    says _ _ _ _ g.S.Store old new passed (same_rows c.args.account)
+    says _ _ _ _ _ g.S.Store old new passed (same_rows c.args.account)
     (done_text ask.header ask.unsupported (printer_group (plain_place c.asked_at-at.result) c.printer_now-printer.result ask.wanted ∷ [])) c.printer_as.result c.printer_as.ensures.text c.printer_as.ensures.memory
     (λ clean has of held.
     let was : HasCleanDisk (state g.S.Store mid) = omega (arith, c.in_ok-on.ensures.reads.keeps.clean, clean) in

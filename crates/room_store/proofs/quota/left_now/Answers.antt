@@ -1,4 +1,4 @@
-use Rattle.std.proofs.Common.{◌≡◌, Some, Err, pos, ap, sym, subst, ◌∙◌, arith, rules}
+use Rattle.std.proofs.Common.{◌≡◌, Err, pos, ap, sym, subst, ◌∙◌, arith, rules}
 use Rattle.std.proofs.lemmas.Result.{err_from_is_err_and}
 use Rattle.sqlite.specs.Effect.{Database}
 use Rattle.sqlite.specs.State.{HasCleanDisk}
@@ -7,25 +7,25 @@ use Rattle.room_rules.specs.Months.{month_at}
 use Rattle.room_rules.specs.Quota.{left_of}
 use Rattle.room_state.specs.declared.tally.Tally.{Tally}
 use Rattle.room_state.specs.Sums.{granted_to, left_in}
-use Rattle.room_statements.proofs.SoundReads.{sound_rows_are_read}
+use Rattle.room_statements.specs.SoundRows.{grant_rows, CanBeAdded}
 use Rattle.room_tables.specs.Accounts.{HoldsRoom}
 use Rattle.room_tables.specs.Keyed.{HasSchema}
 use Rattle.room_store.proofs.ServingLemmas.{fault_of, read_passed}
 use Rattle.room_store.proofs.quota.left_now.Goals as goal
 
 pub returns-in_err-tally-clause-damaged : goal.returns-in_err-tally-clause-damaged
-returns-in_err-tally-clause-damaged g c clean has is room held =
+returns-in_err-tally-clause-damaged g c clean has is readable =
     let told = err_from_is_err_and c.from_residual.result c.from_residual.ensures.1 in
-    c.in_err-tally.ensures.damaged clean has (ap (λ e. Err e) (fault_of c.from_residual.result told.0 _ _ told.1 told.2 is)) (sound_rows_are_read.accounts _ c.args.account has (Some room, held)).counted
+    c.in_err-tally.ensures.damaged clean has (ap (λ e. Err e) (fault_of c.from_residual.result told.0 _ _ told.1 told.2 is)) readable.jobs
 
 pub returns-in_err-granted-clause-damaged : goal.returns-in_err-granted-clause-damaged
-returns-in_err-granted-clause-damaged g c clean has is room held =
+returns-in_err-granted-clause-damaged g c clean has is readable =
     let old = c.args.connection.now in
     let mid = c.tally_jobs.new.connection in
     let told = err_from_is_err_and c.from_residual-in_err-granted.result c.from_residual-in_err-granted.ensures.1 in
     let was : HasCleanDisk (state g.S.Store mid) = omega (arith, c.in_err-granted.ensures.reads.keeps.clean, clean) in
     let same = ((read_passed g.S.Store old mid _ c.in_ok-tally.ensures.reads).same was has).0 in
-    c.in_err-granted.ensures.damaged clean (subst HasSchema (sym same) has) (ap (λ e. Err e) (fault_of c.from_residual-in_err-granted.result told.0 _ _ told.1 told.2 is)) room (subst (λ (db : Database). HoldsRoom db c.args.account room) (sym same) held)
+    c.in_err-granted.ensures.damaged clean (subst HasSchema (sym same) has) (ap (λ e. Err e) (fault_of c.from_residual-in_err-granted.result told.0 _ _ told.1 told.2 is)) (subst (λ (db : Database). CanBeAdded c.args.account (month_at c.args.now) (grant_rows db c.args.account)) (sym same) readable.grants)
 
 pub returns-clause-left : goal.returns-clause-left
 returns-clause-left g c clean has room held =

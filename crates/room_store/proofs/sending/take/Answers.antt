@@ -16,24 +16,20 @@ use Rattle.room_replies.specs.Places.{plain_place}
 use Rattle.room_store.specs.ProofKnown.{TakesDocument}
 use Rattle.room_store.proofs.Found.{job_in_room}
 use Rattle.room_store.proofs.Made.{account_in_room}
-use Rattle.room_store.proofs.Sent.{next_place_is_free, taken, told}
+use Rattle.room_store.proofs.Sent.{taken, told}
 use Rattle.room_store.proofs.ServingLemmas.{changed, handed, not_changed}
 use Rattle.room_store.proofs.sending.take.Goals as goal
 
 pub returns-in_err-restand_job-clause-served : goal.returns-in_err-restand_job-clause-served
 returns-in_err-restand_job-clause-served g c known =
-    let ask = plain_ask c.args.ask.now in
     let old = c.args.connection.now in
     let new = c.restand_job.new.connection in
     let job = c.args.job in
-    let takes : TakesDocument (has_data ask) job.standing c.in-Ok.standing = subst (λ (d : Result Standing Refusal). IfOk d (TakesDocument (has_data ask) job.standing)) c.in-Ok.is c.requires.takes in
     let fault = err_from_is_err_and c.from_residual-in_err-restand_job.result c.from_residual-in_err-restand_job.ensures.1 in
     let made = c.in_err-restand_job.ensures in
-    handed _ _ _ _ g.S.Store old new c.from_residual-in_err-restand_job.result fault.0 _ fault.1 fault.2
-    (not_changed _ _ _ _ g.S.Store old new c.in_err-restand_job.field-0.0 made.whole.keeps made.whole.undone
-    (λ clean has is of held.
-    let there : get of.0.jobs ask.job ≡ Some job = ap (get of.0.jobs) (sym c.requires.number) ∙ job_in_room _ c.args.account job (known clean has).0 c.requires.numbered.in_range.standing of.0 held.room in
-    made.damaged clean has (ap (λ e. Err e) is) (subst (λ d. IsFree c.args.account d (state g.S.Store old).now) (sym (c.next_document-document.ensures job refl)) (next_place_is_free of.0 ask job there c.in-Ok.standing takes _ c.args.account held.room))))
+    handed _ _ _ _ _ g.S.Store old new c.from_residual-in_err-restand_job.result fault.0 _ fault.1 fault.2
+    (not_changed _ _ _ _ _ g.S.Store old new c.in_err-restand_job.field-0.0 made.whole.keeps made.whole.undone
+    (λ clean has is readable. made.damaged clean has (ap (λ e. Err e) is) (subst (λ d. IsFree c.args.account d (state g.S.Store old).now) (sym (c.next_document-document.ensures job refl)) readable)))
 
 pub returns-clause-served : goal.returns-clause-served
 returns-clause-served g c known =
@@ -46,7 +42,7 @@ returns-clause-served g c known =
     let takes : TakesDocument (has_data ask) job.standing standing = subst (λ (d : Result Standing Refusal). IfOk d (TakesDocument (has_data ask) job.standing)) c.in-Ok.is c.requires.takes in
     let in_range : IsStanding standing = subst (λ (d : Result Standing Refusal). IfOk d IsStanding) c.in-Ok.is c.requires.in_range in
     let made = c.in_ok-restand_job.ensures in
-    changed _ _ _ _ g.S.Store old new c.in_ok-text.text (record { keeps = made.whole.keeps; opened = made.whole.opened })
+    changed _ _ _ _ _ g.S.Store old new c.in_ok-text.text (record { keeps = made.whole.keeps; opened = made.whole.opened })
     (λ clean has.
     let after = made.room clean has in (
       after.0,

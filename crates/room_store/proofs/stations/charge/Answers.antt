@@ -29,4 +29,4 @@ returns-clause-served g c known =
     let same_after : to_z w64 (of_z w64 c.left_after.result) ≡ c.left_after.result = search rules in
     let there = job_in_room _ name job (known clean has) c.requires.before of.0 held.room in
     settled_so of.0 c.args.now job there c.in-Ok.settled _ _ (same ∙ c.in_ok-left.ensures.left was has of.0 held.room) (same_after ∙ c.left_after.ensures) c.args.decided c.in-Ok.is)
-    (serves_after_so _ _ _ _ g.S.Store old mid passed new c.tell.result (HasJobRow name job) c.tell.ensures.connection (λ clean new_clean has. subst (HasJobRow name job) (sym (passed.same clean has).0) (known new_clean has)) c.tell.ensures.served)
+    (serves_after_so _ _ _ _ _ g.S.Store old mid passed new c.tell.result (HasJobRow name job) (λ clean has readable. tt) c.tell.ensures.connection (λ clean new_clean has. subst (HasJobRow name job) (sym (passed.same clean has).0) (known new_clean has)) c.tell.ensures.served)

@@ -46,7 +46,7 @@ returns g c =
           let there : get of.0.jobs c.args.number ≡ Some job = sym (looked.found last_clean (subst HasSchema (sym same) has) of.0 (subst (λ (db : Database). HoldsRoom db name of.0) (sym same) held.room)) ∙ c.in-Some.is in
           ap (λ (n : ℕ). release_told of.0 c.args.now n (by_word (kept_to_quota job.standing.state (left_in of.0 c.args.now) c.released_at-asked.result))) numbered.0
           ∙ ap (release_told of.0 c.args.now c.args.number) (release_found of.0 (station of.1 c.args.device c.args.now) c.args.number c.args.password.now c.args.impressions c.in-Ok.rate job (sym (c.in_ok-rate.ensures.ready mid_clean has of.1 held.devices) ∙ c.in-Ok.is) there c.released_at-asked.result c.released_at-asked.ensures.moved))
-          (serves_after_so _ _ _ _ g.S.Store old last passed new c.reserve.result (HasJobRow name job) c.reserve.ensures.connection
+          (serves_after_so _ _ _ _ _ g.S.Store old last passed new c.reserve.result (HasJobRow name job) (λ clean has readable. readable.2) c.reserve.ensures.connection
           (λ clean _ has.
           let mid_clean : HasCleanDisk (state g.S.Store mid) = omega (arith, looked.looks.connection.keeps.clean, clean) in
           let has_mid = subst HasSchema (sym (first.same mid_clean has).0) has in

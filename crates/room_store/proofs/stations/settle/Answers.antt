@@ -7,7 +7,6 @@ use Rattle.sqlite.specs.Held.{state}
 use Rattle.room_core.specs.Stations.{station, station_settle, settling_told}
 use Rattle.room_rules.specs.declared.job.Job.{Job}
 use Rattle.room_statements.specs.Queues.{IsNumbered}
-use Rattle.room_statements.proofs.SoundReads.{sound_rows_are_read}
 use Rattle.room_tables.specs.Accounts.{HoldsRoom}
 use Rattle.room_tables.specs.Keyed.{HasSchema}
 use Rattle.room_store.specs.ProofKnown.{HasJobRow}
@@ -46,7 +45,7 @@ returns g c =
           let there : get of.0.jobs c.args.number ≡ Some job = sym (looked.found last_clean (subst HasSchema (sym same) has) of.0 (subst (λ (db : Database). HoldsRoom db name of.0) (sym same) held.room)) ∙ c.in-Some.is in
           ap (λ (n : ℕ). settling_told of.0 c.args.now n c.settled-decided.result) numbered.0
           ∙ ap (settling_told of.0 c.args.now c.args.number) (settle_found of.0 (station of.1 c.args.device c.args.now) c.args.number c.args.impressions c.args.failed _ held.devices c.in_ok-find_device.field-0 (c.in_ok-find_device.ensures.found mid_clean has) c.in_default.field-0 (sym c.known_device.ensures ∙ c.in_default.is) job there c.settled-decided.result c.settled-decided.ensures.moved))
-          (serves_after_so _ _ _ _ g.S.Store old last passed new c.charge.result (HasJobRow name job) c.charge.ensures.connection
+          (serves_after_so _ _ _ _ _ g.S.Store old last passed new c.charge.result (HasJobRow name job) (λ clean has readable. readable.2) c.charge.ensures.connection
           (λ clean _ has.
           let mid_clean : HasCleanDisk (state g.S.Store mid) = omega (arith, looked.looks.connection.keeps.clean, clean) in
           let has_mid = subst HasSchema (sym (first.same mid_clean has).0) has in
@@ -59,6 +58,6 @@ pub returns-in_err-find_device : goal.returns-in_err-find_device
 returns-in_err-find_device g c =
     let told = err_from_is_err_and c.from_residual.result c.from_residual.ensures.1 in
     record {
-      served = read_failed_as _ _ _ _ g.S.Store _ _ c.from_residual.result told.0 _ told.1 told.2 c.in_err-find_device.ensures.reads
-          (λ clean has is of held. c.in_err-find_device.ensures.damaged clean has (ap (λ e. Err e) is) ((sound_rows_are_read.of_devices _ has (of.1, held.devices)).devices c.args.device));
+      served = read_failed_as _ _ _ _ _ g.S.Store _ _ c.from_residual.result told.0 _ told.1 told.2 c.in_err-find_device.ensures.reads
+          (λ clean has is readable. c.in_err-find_device.ensures.damaged clean has (ap (λ e. Err e) is) readable.0);
     }

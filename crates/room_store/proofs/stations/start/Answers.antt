@@ -9,6 +9,7 @@ use Rattle.room_statements.specs.Queues.{IsNumbered}
 use Rattle.room_tables.specs.Accounts.{HoldsRoom}
 use Rattle.room_tables.specs.Keyed.{HasSchema}
 use Rattle.room_store.specs.ProofKnown.{HasJobRow}
+use Rattle.room_store.specs.Reading.{DocumentsAreReadable}
 use Rattle.room_store.proofs.Found.{there_still}
 use Rattle.room_store.proofs.ServingLemmas.{look_passed, passed_then, serves_after_so}
 use Rattle.room_store.proofs.Stationed.{start_found, start_refused}
@@ -44,7 +45,7 @@ returns g c =
           let there : get of.0.jobs c.args.number ≡ Some job = sym (looked.found last_clean (subst HasSchema (sym same) has) of.0 (subst (λ (db : Database). HoldsRoom db name of.0) (sym same) held.room)) ∙ c.in-Some.is in
           ap (λ (n : ℕ). start_told of.0 n c.started-decided.result) numbered.0
           ∙ ap (start_told of.0 c.args.number) (start_found of.0 (station of.1 c.args.device c.args.now) c.args.number c.in-Ok.rate job (sym (c.in_ok-rate.ensures.ready mid_clean has of.1 held.devices) ∙ c.in-Ok.is) there c.started-decided.result c.started-decided.ensures.moved))
-          (serves_after_so _ _ _ _ g.S.Store old last passed new c.hand_over.result (HasJobRow name job) c.hand_over.ensures.connection
+          (serves_after_so _ _ _ _ _ g.S.Store old last passed new c.hand_over.result (HasJobRow name job) (λ clean has readable. subst (λ (n : ℕ). DocumentsAreReadable name n (state g.S.Store old).now) (sym numbered.0) readable.2) c.hand_over.ensures.connection
           (λ clean _ has.
           let mid_clean : HasCleanDisk (state g.S.Store mid) = omega (arith, looked.looks.connection.keeps.clean, clean) in
           let has_mid = subst HasSchema (sym (first.same mid_clean has).0) has in

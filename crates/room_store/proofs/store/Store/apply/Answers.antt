@@ -1,10 +1,9 @@
-use Rattle.std.proofs.Common.{◌≡◌, Result, Err, OnErr, IsTrue, refl, sym, ap, subst, ◌∙◌, rules}
+use Rattle.std.proofs.Common.{◌≡◌, Result, Err, OnErr, IsTrue, sym, ap, subst, ◌∙◌, rules}
 use Rattle.std.proofs.lemmas.Result.{err_from_is_err_and}
 use Rattle.sqlite.specs.Held.{Held, state}
 use Rattle.room_core.specs.Events.{plain_event}
 use Rattle.room_core.specs.declared.event.Reply.{Reply}
 use Rattle.room_tables.proofs.KeyedRows.{same_fault}
-use Rattle.room_store.specs.Serving.{DoesEvent}
 use Rattle.room_store.specs.declared.fault.StoreFault.{StoreFault}
 use Rattle.room_store.proofs.Applied.{answered, damaged, damaged_as, going, seen_as, undone}
 use Rattle.room_store.proofs.store.Store.apply.Goals as goal
