@@ -1,8 +1,11 @@
 -- A list of events over one store, one after another.
-use Rattle.std.proofs.Common.{◌≡◌, ℕ, ◌+◌, Bool, true, false, cond, bytes_eq, List, [], ◌∷◌, ◌++◌, Result, Ok, Err, IsTrue, length, refl, sym, ap, subst, ◌∙◌, inl, inr, arith}
+use Rattle.std.proofs.Common.{◌≡◌, ℕ, ◌+◌, Bool, true, false, cond, bytes_eq, List, [], ◌∷◌, ◌++◌, Result, Ok, Err, IsTrue, length, filter, refl, sym, ap, subst, ◌∙◌, inl, inr, arith}
 use Rattle.std.proofs.lemmas.Bool.{cases_Bool}
 use Rattle.std.proofs.lemmas.List.{append-nil, length-append}
+use Rattle.std.proofs.lemmas.List.Elements.{filter-append}
+use Rattle.sqlite_trees.specs.declared.store.Store.{Ghosts}
 use Rattle.sqlite.specs.Effect.{Database}
+use Rattle.sqlite.specs.Held.{Held, state}
 use Rattle.sqlite.specs.State.{State, HasCleanDisk}
 use Rattle.std.proofs.lemmas.Slice.Eq.{bytes_eq-Decides}
 use Rattle.room_core.specs.Events.{PlainEvent, AccountEvent, Timed, OfAccount, OfDevice}
@@ -12,17 +15,18 @@ use Rattle.room_store.specs.Applied.{AnswersAccount, Applies}
 use Rattle.room_store.specs.declared.fault.StoreFault.{StoreFault}
 use Rattle.room_tables.proofs.AgreedRows.{still_holds}
 use Rattle.room_tables.proofs.Going.{goes_on}
-use Rattle.room_tables.specs.Accounts.{Holds}
+use Rattle.room_tables.specs.Accounts.{AgreeOnRows, Holds}
 use Rattle.room_tables.specs.Calls.{KeepsConnection}
-use Rattle.room_tables.specs.Devices.{HoldsDevices}
+use Rattle.room_tables.specs.Devices.{AgreeOnDevices, HoldsDevices}
 use Rattle.room_tables.specs.Keyed.{HasSchema}
+use Rattle.room_tables.specs.Tables.{meta}
 use Rattle.room_serve.specs.declared.outcome.Outcome.{Outcome}
 use Rattle.room_serve.specs.Own.{is_of, is_of_device, of_devices, own}
 use Rattle.room_serve.specs.Alone.{Alone, DevicesAlone, alone, answer_on, change_on, devices_alone}
 use Rattle.room_serve.specs.Outcomes.{answered_of, outcome_of, replies_to}
-use Rattle.room_serve.specs.Runs.{AreAlone, IsAlone, RunsAlone, RunsDevices}
+use Rattle.room_serve.specs.Runs.{AreAlone, AreApplied, IsAlone, LeavesTheRest, RunsAlone, RunsDevices}
 use Rattle.room_serve.proofs.Agreed.{still_devices}
-use Rattle.room_serve.proofs.Grown.{alone_more, devices_more, replies_more}
+use Rattle.room_serve.proofs.Grown.{alone_more, answered_more, devices_more, replies_more}
 use Rattle.room_serve.proofs.Short.{short_or_not, short_reply}
 
 -- ---- one event, as the store answers it
@@ -120,6 +124,70 @@ next_devices now (OfAccount account it) old new (Ok reply) applied clean had mac
   devices = λ shown. let was = applied.connection.back clean shown in still_devices old.now new.now (applied.answered clean (had was)).answers.alone.devices machine.devices (has was);
 }
 
+-- ---- what it leaves as it was
+
+same_rows : (name : List ℕ) (a b : Database) → b ≡ a → AgreeOnRows name a b
+same_rows name a b same = subst (AgreeOnRows name a) (sym same) (record { same_account = refl; same_jobs = λ number. refl; same_documents = λ job number. refl; same_grants = λ month. refl })
+
+same_devices : (a b : Database) → b ≡ a → AgreeOnDevices a b
+same_devices a b same = subst (AgreeOnDevices a) (sym same) (record { same_devices = λ name. refl; same_rates = λ name. refl })
+
+next_rest : (now : ℕ) (e : PlainEvent) (old new : State) (r : Result Reply StoreFault) → Applies now e old new r → HasCleanDisk new → (IsTrue old.is_open → HasSchema old.now) → IsTrue new.is_open
+    → LeavesTheRest ((now, e) ∷ []) (outcome_of r ∷ []) old.now new.is_open new.now
+next_rest now e old new (Err fault) applied clean had shown =
+    let same = applied.unchanged clean (had (applied.connection.back clean shown)) shown in
+    record { accounts = λ name none. same_rows name old.now new.now same; devices = λ none. same_devices old.now new.now same; version = ap (λ (db : Database). db.trees meta.tree) same }
+next_rest now (OfDevice device it) old new (Ok reply) applied clean had shown =
+    let alone = (applied.answered clean (had (applied.connection.back clean shown))).answers.alone in
+    record { accounts = λ name none. alone.accounts name; devices = λ none. absurd (let no : ⊥ = cc in no); version = alone.version }
+next_rest now (OfAccount account it) old new (Ok reply) applied clean had shown =
+    let alone = (applied.answered clean (had (applied.connection.back clean shown))).answers.alone in
+    record {
+      accounts = λ name none. elim (cases_Bool (bytes_eq account name)) [
+        | inl its ↦ let some : (now, OfAccount account it) ∷ [] ≡ [] = sym (ap (λ b. cond b ((now, OfAccount account it) ∷ []) []) its) ∙ none in absurd (let no : ⊥ = cc in no)
+        | inr isnt ↦ alone.others name (λ same. let is = (bytes_eq-Decides account name).1 (sym same) in cc)
+      ];
+      devices = λ none. alone.devices;
+      version = alone.version;
+    }
+
+agree_on : (name : List ℕ) (a b c : Database) → AgreeOnRows name a b → AgreeOnRows name b c → AgreeOnRows name a c
+agree_on name a b c one two = record {
+  same_account = two.same_account ∙ one.same_account;
+  same_jobs = λ number. two.same_jobs number ∙ one.same_jobs number;
+  same_documents = λ job number. two.same_documents job number ∙ one.same_documents job number;
+  same_grants = λ month. two.same_grants month ∙ one.same_grants month;
+}
+
+rest_both : (events : List Timed) (outcomes : List Outcome) (e : Timed) (o : Outcome) (old mid new : Database) (mid_open is_open : Bool) → length outcomes ≡ length events
+    → LeavesTheRest events outcomes old mid_open mid → LeavesTheRest (e ∷ []) (o ∷ []) mid is_open new → LeavesTheRest (events ++ e ∷ []) (outcomes ++ o ∷ []) old is_open new
+rest_both events outcomes e o old mid new mid_open is_open same before next = record {
+  accounts = λ name none. let parts = none_of_both _ _ (parted (λ (x : Timed). is_of name x.1) none) in agree_on name old mid new (before.accounts name parts.0) (next.accounts name parts.1);
+  devices = λ none.
+      let parts = none_of_both _ _ (parted (λ (x : Timed). is_of_device x.1) none) in
+      let first = before.devices parts.0 in
+      let second = next.devices parts.1 in
+      record { same_devices = λ name. second.same_devices name ∙ first.same_devices name; same_rates = λ name. second.same_rates name ∙ first.same_rates name };
+  version = next.version ∙ before.version;
+}
+  where
+    none_of_both : (xs ys : List Timed) → xs ++ ys ≡ [] → (xs ≡ []) × (ys ≡ [])
+    none_of_both [] ys none = (refl, none)
+    none_of_both (x ∷ xs) ys none = let no : ⊥ = cc in absurd no
+
+    parted : (p : Timed → Bool) → filter p (answered_of (events ++ e ∷ []) (outcomes ++ o ∷ [])) ≡ [] → filter p (answered_of events outcomes) ++ filter p (answered_of (e ∷ []) (o ∷ [])) ≡ []
+    parted p none = sym (ap (filter p) (answered_more events outcomes e o same) ∙ filter-append p (answered_of events outcomes) (answered_of (e ∷ []) (o ∷ []))) ∙ none
+
+-- ---- event by event
+
+pub applied_more : {S : Type 0} (store : Ghosts S) (events : List Timed) (outcomes : List Outcome) (e : Timed) (old mid new : Held S) (r : Result Reply StoreFault) → AreApplied store events outcomes old mid
+    → Applies e.0 e.1 (state store mid) (state store new) r → AreApplied store (events ++ e ∷ []) (outcomes ++ outcome_of r ∷ []) old new
+applied_more store [] [] e old mid new (Ok reply) before applied = (new, subst (λ held. Applies e.0 e.1 (state store held) (state store new) (Ok reply)) before applied, refl)
+applied_more store [] [] e old mid new (Err fault) before applied = (new, subst (λ held. Applies e.0 e.1 (state store held) (state store new) (Err fault)) before applied, refl)
+applied_more store [] (o ∷ outcomes) e old mid new r before applied = absurd before
+applied_more store (x ∷ events) [] e old mid new r before applied = absurd before
+applied_more store (x ∷ events) (o ∷ outcomes) e old mid new r (next, first, rest) applied = (next, first, applied_more store events outcomes e next mid new r rest applied)
+
 -- ---- some events, and one more
 
 grow : {X Y : Type 0} (xs : List X) (ys : List Y) (x : X) (y : Y) → length xs ≡ length ys → length (xs ++ x ∷ []) ≡ length (ys ++ y ∷ [])
@@ -131,6 +199,7 @@ pub record SoFar (events : List Timed) (outcomes : List Outcome) (old new : Stat
   pub schema : HasCleanDisk new → HasSchema old.now → IsTrue new.is_open → HasSchema new.now
   pub alone : HasCleanDisk new → HasSchema old.now → RunsAlone events outcomes old.now new.is_open new.now
   pub devices : HasCleanDisk new → HasSchema old.now → RunsDevices events outcomes old.now new.is_open new.now
+  pub rest : HasCleanDisk new → HasSchema old.now → IsTrue new.is_open → LeavesTheRest events outcomes old.now new.is_open new.now
 
 pub begins : (s : State) → SoFar [] [] s s
 begins s = record {
@@ -139,6 +208,7 @@ begins s = record {
   schema = λ _ has _. has;
   alone = λ _ _ name room devices holds has. record { replies = refl; rows = λ _. holds; devices = λ _. has };
   devices = λ _ _ devices has. record { replies = refl; devices = λ _. has };
+  rest = λ _ _ _. record { accounts = λ name none. same_rows name s.now s.now refl; devices = λ none. same_devices s.now s.now refl; version = refl };
 }
 
 pub one_more : (events : List Timed) (outcomes : List Outcome) (e : Timed) (old mid new : State) (r : Result Reply StoreFault) → SoFar events outcomes old mid → Applies e.0 e.1 mid new r → SoFar (events ++ e ∷ []) (outcomes ++ outcome_of r ∷ []) old new
@@ -166,4 +236,6 @@ one_more events outcomes e old mid new r so_far applied =
             replies = replies_more is_of_device events outcomes e o so_far.each ∙ ap (λ told. told ++ replies_to is_of_device (e ∷ []) (o ∷ [])) before.replies ∙ next.replies;
             devices = next.devices;
           });
+      rest = λ is has shown. rest_both events outcomes e o old.now mid.now new.now mid.is_open new.is_open so_far.each
+          (so_far.rest (clean is) has (applied.connection.back is shown)) (next_rest e.0 e.1 mid new r applied is (so_far.schema (clean is) has) shown);
     }

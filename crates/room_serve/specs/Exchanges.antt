@@ -8,7 +8,7 @@ use Rattle.ipp_coding.specs.Reading.{header_in}
 use Rattle.room_core.specs.Events.{OfAccount, Ipp}
 use Rattle.room_core.specs.declared.event.Reply.{Reply}
 use Rattle.room_core.specs.declared.event.Reply.TheVariants as reply_is
-use Rattle.room_http.specs.Exchange.{AppendsFront, Takes, TakesHead}
+use Rattle.room_http.specs.Exchange.{AppendsFront, AppendsInterim, Takes, TakesHead}
 use Rattle.room_http.specs.Http.{Http, Nothing, Refused, Carried}
 use Rattle.room_http.specs.Texts.{answer_text, interim_text, refusal_text}
 use Rattle.room_http.specs.declared.fault.WireFault.{WireFault}
@@ -90,9 +90,10 @@ module _ {S : Type 0} (store : Ghosts S) (now : ℕ) (before after : List ℕ �
         (text_told body order.closes told)
         → IsBroken
 
-  -- nothing of the message was applied, and nothing or the 100 text was written
+  -- nothing of the message was applied, and nothing was written but the 100 text where its head
+  -- asks for it
   abbrev pub AppliesNothing : Type 0
-  AppliesNothing = ((interim : Bool) × Appends given given2 (interim_text interim)) × (new ≡ old)
+  AppliesNothing = AppendsInterim before after given given2 × (new ≡ old)
 
   abbrev pub Breaks : WireFault → Type 0
   Breaks Read = AppliesNothing

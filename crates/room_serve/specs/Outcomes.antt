@@ -12,6 +12,11 @@ abbrev pub outcome_of : Result Reply StoreFault → Outcome
 outcome_of (Ok reply) = Answered reply
 outcome_of (Err fault) = Failed fault
 
+-- what the event came to, of which this is the outcome
+abbrev pub result_of : Outcome → Result Reply StoreFault
+result_of (Answered reply) = Ok reply
+result_of (Failed fault) = Err fault
+
 abbrev pub reply_of : Outcome → Option Reply
 reply_of (Answered reply) = Some reply
 reply_of (Failed fault) = None

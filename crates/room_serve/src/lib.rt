@@ -6,7 +6,7 @@
 //! for outcome in run_events(alloc, &mut store, &events)? {
 //!     match outcome {
 //!         Outcome::Answered(reply) => ..,
-//!         Outcome::Failed(fault) => ..,    // it has changed nothing, and the next was answered
+//!         Outcome::Failed(fault) => ..,    // nothing was answered, and the next was tried
 //!     }
 //! }
 //!

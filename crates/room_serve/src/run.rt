@@ -6,7 +6,7 @@ ghost use Rattle.room_core.specs.Events.{plain_event, plain_timed};
 ghost use Rattle.room_core.specs.Fits.{fits};
 ghost use Rattle.room_tables.specs.Calls.{KeepsConnection, IfOurTables};
 ghost use Rattle.room_tables.specs.Keyed.{HasSchema};
-ghost use Rattle.room_serve.specs.Runs.{RunsAlone, RunsDevices};
+ghost use Rattle.room_serve.specs.Runs.{AreApplied, LeavesTheRest, RunsAlone, RunsDevices};
 
 use crate::fault::RunFault;
 use crate::outcome::Outcome;
@@ -18,13 +18,16 @@ use std::alloc::Global;
 /// Answers the events in order, each at its moment in seconds from 1970, and tells what each came
 /// to. An event that fails changes nothing, and those after it are answered all the same.
 ///
-/// `Memory` where there is no room for all outcomes, which is asked for before the first event.
+/// `Memory` where there is no memory for all outcomes, which is asked for before the first event;
+/// nothing is changed then. A moment past 2099 fails its event alone.
 pub fn run_events<S: Alter>(
     alloc: Global,
     store: &mut Store<S>,
     events: &[(u64, Event<'_>)],
 ) -> Result<Vec<Outcome>, RunFault>
     requires fit { All (λ e. IsTrue (fits (plain_event e.1))) events.now }
+    ensures applied { IfOk result (λ outcomes. AreApplied S.Store (map plain_timed events.now)
+        outcomes.items store.old store.new) }
     ensures each { IfOk result (λ outcomes. length outcomes.items ≡ length events.now) }
     ensures alone { IfOurTables S.Store store.old store.new (λ db. IfOk result (λ outcomes.
         RunsAlone (map plain_timed events.now) outcomes.items db (state S.Store store.new).is_open
@@ -32,6 +35,9 @@ pub fn run_events<S: Alter>(
     ensures devices { IfOurTables S.Store store.old store.new (λ db. IfOk result (λ outcomes.
         RunsDevices (map plain_timed events.now) outcomes.items db
         (state S.Store store.new).is_open (state S.Store store.new).now)) }
+    ensures rest { IfOurTables S.Store store.old store.new (λ db. IfOk result (λ outcomes.
+        IsTrue (state S.Store store.new).is_open → LeavesTheRest (map plain_timed events.now)
+        outcomes.items db (state S.Store store.new).is_open (state S.Store store.new).now)) }
     ensures schema { IfOurTables S.Store store.old store.new (λ db.
         IsTrue (state S.Store store.new).is_open → HasSchema (state S.Store store.new).now) }
     ensures unchanged { OnErr result (store.new ≡ store.old) }

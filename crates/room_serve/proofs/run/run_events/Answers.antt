@@ -2,10 +2,10 @@ use Rattle.std.proofs.Common.{◌≡◌, ◌+◌, [], ◌∷◌, ◌++◌, map, 
 use Rattle.std.proofs.lemmas.List.{map-append, take_more}
 use Rattle.std.proofs.lemmas.List.Elements.{All-get_or}
 use Rattle.sqlite.specs.Held.{state}
-use Rattle.room_core.specs.Events.{Timed, plain_event, plain_timed}
+use Rattle.room_core.specs.Events.{plain_event, plain_timed}
 use Rattle.room_core.specs.Fits.{fits}
 use Rattle.room_store.specs.Applied.{Applies}
-use Rattle.room_serve.proofs.RunLemmas.{one_more}
+use Rattle.room_serve.proofs.RunLemmas.{applied_more, one_more}
 use Rattle.room_serve.proofs.run.run_events.Goals as goal
 
 pub apply-answer-requires : goal.apply-answer-requires
@@ -36,5 +36,6 @@ loop-now-preserved g c =
     let mapped = ap (map plain_timed) grown ∙ map-append plain_timed front (item ∷ []) in
     record {
       run = rw (mapped, c.keep.ensures.kept, c.from.ensures) next;
+      applied = rw (mapped, c.keep.ensures.kept, c.from.ensures) (applied_more g.S.Store (map plain_timed front) c.loop-now.outcomes.items e c.args.store.now c.loop-now.store c.apply-answer.new.self c.apply-answer.result c.loop-now.invariant.applied applied);
       fits = omega (arith, c.loop-now.invariant.fits, c.keep.ensures.capacity);
     }
