@@ -1,5 +1,5 @@
 -- What comes to a journal, one after another.
-use Rattle.std.proofs.Common.{◌≡◌, ℕ, List, [], ◌∷◌, ◌++◌, Result, Ok, Err, refl, subst, sym, ap, ◌∙◌, append_assoc, append-nil}
+use Rattle.std.proofs.Common.{◌≡◌, ℕ, List, [], ◌∷◌, ◌++◌, Result, Ok, Err, refl, subst, sym, ap, ◌∙◌, append_assoc, append-nil, inl, inr}
 use Rattle.sqlite.specs.Held.{Held}
 use Rattle.sqlite_trees.specs.declared.store.Store.{Ghosts}
 use Rattle.room_core.specs.declared.event.Reply.{Reply}
@@ -11,6 +11,10 @@ use Rattle.http_server.specs.Exchange.{Call, Chain}
 use Rattle.http_server.specs.declared.response.Response.{Response}
 use Rattle.room_http.specs.declared.refusal.Refusal.{Refusal}
 use Rattle.room_served.specs.Answers.{Answers, Gives}
+use Rattle.room_served.specs.Lines.{Asks}
+use Rattle.room_served.specs.LinePeers as line_peers
+use Rattle.room_served.specs.LinePeers.{LineCall}
+use Rattle.room_served.specs.declared.line_connection.Side.{Side}
 use Rattle.room_served.specs.Requests.{asked}
 use Rattle.room_served.specs.Journals.{AppliesEntry, Continues, Leads, Told, journal, store_of}
 
@@ -47,3 +51,19 @@ module _ {S : Type 0} (store : Ghosts S) where
   pub chain : (calls : List Call) (old new : Served S) → Chain (Answers store) old calls new → Continues store old new
   chain [] old new is = subst (λ (served : Served S). Continues store old served) (sym is) (stays old)
   chain (call ∷ calls) old new is = then old is.0 new (gives (asked call.0) old call.0 call.1 is.0 is.1) (chain calls is.0 new is.2)
+
+  -- ---- lines
+
+  asks : (side : Side) (came : List ℕ) (old : Served S) (text : List ℕ) (new : Served S) → Asks store side came old text new → Continues store old new
+  asks side came old text new is = one_more is.entry is.told old new is.journal is.applies
+
+  pub line_chain : (side : Side) (calls : List LineCall) (old new : Served S) → line_peers.Chain store side old calls new → Continues store old new
+  line_chain side [] old new is = subst (λ (served : Served S). Continues store old served) (sym is) (stays old)
+  line_chain side (call ∷ calls) old new is =
+      let first : Continues store old is.0 =
+      elim is.1 [
+        | inl asked ↦ asks side call.0 old call.1 is.0 asked
+        | inr bad ↦ subst (λ (served : Served S). Continues store old served) (sym bad.1) (stays old)
+      ]
+      in
+      then old is.0 new first (line_chain side calls is.0 new is.2)

@@ -2,3 +2,5 @@ pub mod Journaling
 pub mod Running
 pub mod LineEnds
 pub mod LineCalls
+pub mod HttpMoves
+pub mod Ends

@@ -1,25 +1,59 @@
 -- How a connection of lines goes on, one step after another.
-use Rattle.std.proofs.Common.{◌≡◌, ℕ, ◌+◌, Option, List, [], ◌∷◌, ◌++◌, take, drop, refl, sym, ap, ◌∙◌, subst, inl, inr, codes, append_assoc, append-nil}
+use Rattle.std.proofs.Common.{◌≡◌, ◌≢◌, ℕ, ◌+◌, Option, Some, List, [], ◌∷◌, ◌++◌, take, drop, refl, sym, ap, ◌∙◌, subst, inl, inr, codes, append_assoc, append-nil}
 use Rattle.std.proofs.lemmas.Grind.{flat_map-append}
 use Rattle.std.proofs.lemmas.List.{take-append-drop}
+use Rattle.std.proofs.KnownBytes.{Appends-nil, Consumes-nil}
+use Rattle.std.specs.Io.KnownBytes.{Keeps}
 use Rattle.sqlite_trees.specs.declared.store.Store.{Ghosts}
-use Rattle.room_served.specs.Lines.{IsWaiting, Leaves, TakesLine, input_of, output_of, side_of}
+use Rattle.room_served.proofs.Ends.{carry_then, no_bytes, none_read, none_written}
+use Rattle.room_served.specs.Lines.{AnswersLine, Comes, IsWaiting, Leaves, LosesAnswer, TakesLine, input_of, output_of, side_of}
 use Rattle.room_served.specs.declared.line_connection.LineConnection.{LineConnection}
 use Rattle.room_served.specs.declared.line_connection.Side.{Side}
 use Rattle.room_served.specs.declared.served.Served.{Served}
-use Rattle.room_served.specs.LinePeers.{Chain, TakesTurn, LineCall, taken, bytes_told}
-use Rattle.room_served.specs.ProofLineSteps.{IsEnded, ReceivesBytes, RefusesRest, SendsBytes}
+use Rattle.room_served.specs.LinePeers.{Chain, TakesLines, LineCall, taken, bytes_told}
+use Rattle.room_served.specs.Streams.{Ends}
+use Rattle.room_served.specs.ProofLineSteps.{IsEnded, ReceivesBytes, RefusesRest, SendsBytes, TakesStep}
+use Rattle.room_served.specs.declared.step.Next.{Next}
+use Rattle.room_served.specs.declared.step.Next.TheVariants.{Close}
 
 -- what is cut off in front joins, and so does what comes after
 joins : (a b c p q s t : List ℕ) → a ++ p ≡ s ++ b → b ++ q ≡ t ++ c → a ++ (p ++ q) ≡ (s ++ t) ++ c
 joins a b c p q s t first later =
     sym (append_assoc a p q) ∙ ap (λ x. x ++ q) first ∙ append_assoc s b q ∙ ap (λ x. s ++ x) later ∙ sym (append_assoc s t c)
 
-pub gone : (given given2 : Option (List ℕ)) (before after : LineConnection) (n : ℕ) → Leaves given given2 before after n → input_of after ≡ input_of before → side_of after ≡ side_of before → SendsBytes before after
+pub gone : (given given2 : Option (List ℕ)) (before after : LineConnection) (n : ℕ) → Leaves given given2 before after n → input_of after ≡ input_of before → side_of after ≡ side_of before → SendsBytes given given2 before after
 gone given given2 before after n is input side = record {
   went = take n (output_of before);
+  writes = is.0;
   input = input;
   output = sym (take-append-drop n (output_of before)) ∙ ap (λ x. take n (output_of before) ++ x) (sym is.1);
+  side = side;
+}
+
+pub none_gone : (given given2 : Option (List ℕ)) (before after : LineConnection) → Keeps given given2 → after ≡ before → SendsBytes given given2 before after
+none_gone given given2 before after left is = record {
+  went = [];
+  writes = none_written given given2 left;
+  input = ap input_of is;
+  output = ap output_of (sym is);
+  side = ap side_of is;
+}
+
+pub come : (left left2 : Option (List ℕ)) (before after : LineConnection) (n : ℕ) → Comes left left2 before after n → output_of after ≡ output_of before → side_of after ≡ side_of before → ReceivesBytes left left2 before after
+come left left2 before after n is output side = record {
+  came = is.0;
+  reads = is.2;
+  input = is.3;
+  output = output;
+  side = side;
+}
+
+pub none_come : (left left2 : Option (List ℕ)) (before after : LineConnection) → Keeps left left2 → input_of after ≡ input_of before → output_of after ≡ output_of before → side_of after ≡ side_of before → ReceivesBytes left left2 before after
+none_come left left2 before after kept input output side = record {
+  came = [];
+  reads = none_read left left2 kept;
+  input = input ∙ sym (append-nil (input_of before));
+  output = output;
   side = side;
 }
 
@@ -28,8 +62,9 @@ module _ {S : Type 0} (store : Ghosts S) where
   chain_then side [] more old mid new is later = subst (λ (served : Served S). Chain store side served more new) is later
   chain_then side (call ∷ first) more old mid new is later = (is.0, is.1, chain_then side first more is.0 mid new is.2 later)
 
-  pub stays : (before : LineConnection) (old : Served S) → TakesTurn store before before old old
-  stays before old = record {
+  pub stays : (ends : Ends) (before : LineConnection) (old : Served S) → TakesLines store ends ends before before (output_of before) old old
+  stays ends before old = record {
+    carry = no_bytes ends;
     came = [];
     calls = [];
     went = [];
@@ -39,70 +74,131 @@ module _ {S : Type 0} (store : Ghosts S) where
     side = refl;
   }
 
-  pub then : (a b c : LineConnection) (old mid new : Served S) → TakesTurn store a b old mid → TakesTurn store b c mid new → TakesTurn store a c old new
-  then a b c old mid new first later = record {
+  then : (e f h : Ends) (a b c : LineConnection) (waits : List ℕ) (old mid new : Served S) → TakesLines store e f a b (output_of b) old mid → TakesLines store f h b c waits mid new → TakesLines store e h a c waits old new
+  then e f h a b c waits old mid new first later = record {
+    carry = carry_then e f h first.came later.came first.went later.went first.carry later.carry;
     came = first.came ++ later.came;
     calls = first.calls ++ later.calls;
     went = first.went ++ later.went;
     input = joins (input_of a) (input_of b) (input_of c) first.came later.came (taken first.calls) (taken later.calls) first.input later.input ∙ ap (λ x. x ++ input_of c) (sym (flat_map-append (λ (call : LineCall). call.0) first.calls later.calls));
-    output = ap (λ x. output_of a ++ x) (flat_map-append (λ (call : LineCall). call.1) first.calls later.calls) ∙ joins (output_of a) (output_of b) (output_of c) (bytes_told first.calls) (bytes_told later.calls) first.went later.went first.output later.output;
+    output = ap (λ x. output_of a ++ x) (flat_map-append (λ (call : LineCall). call.1) first.calls later.calls) ∙ joins (output_of a) (output_of b) waits (bytes_told first.calls) (bytes_told later.calls) first.went later.went first.output later.output;
     chain = chain_then (side_of a) first.calls later.calls old mid new first.chain (subst (λ (side : Side). Chain store side mid later.calls new) first.side later.chain);
     side = later.side ∙ first.side;
   }
 
-  pub took : (before after : LineConnection) (old new : Served S) → TakesLine store before after old new → side_of after ≡ side_of before → TakesTurn store before after old new
-  took before after old new is side = record {
+  -- one line was taken, and this is to be told of it
+  line_taken : (ends : Ends) (before after : LineConnection) (old : Served S) (text : List ℕ) (new : Served S) → TakesLine store before after old text new → side_of after ≡ side_of before → TakesLines store ends ends before after (output_of before ++ text) old new
+  line_taken ends before after old text new is side = record {
+    carry = no_bytes ends;
     came = [];
-    calls = (take (is.end + 1) (input_of before), is.text) ∷ [];
+    calls = (take (is.end + 1) (input_of before), text) ∷ [];
     went = [];
     input = append-nil (input_of before) ∙ sym (take-append-drop (is.end + 1) (input_of before)) ∙ ap (λ x. x ++ drop (is.end + 1) (input_of before)) (sym (append-nil (take (is.end + 1) (input_of before)))) ∙ ap (λ x. (take (is.end + 1) (input_of before) ++ []) ++ x) (sym is.rest);
-    output = ap (λ x. output_of before ++ x) (append-nil is.text) ∙ sym is.output;
+    output = ap (λ x. output_of before ++ x) (append-nil text);
     chain = (new, is.gives, refl);
     side = side;
   }
 
-  pub received : (before after : LineConnection) (old : Served S) → ReceivesBytes before after → TakesTurn store before after old old
-  received before after old is = record {
-    came = is.came;
-    calls = [];
-    went = [];
-    input = sym is.input;
-    output = append-nil (output_of before) ∙ sym is.output;
-    chain = refl;
-    side = is.side;
-  }
-
-  pub sent : (before after : LineConnection) (old : Served S) → SendsBytes before after → TakesTurn store before after old old
-  sent before after old is = record {
+  -- nothing came, went or was taken
+  unmoved : (ends : Ends) (before after : LineConnection) (old : Served S) → input_of after ≡ input_of before → side_of after ≡ side_of before → TakesLines store ends ends before after (output_of before) old old
+  unmoved ends before after old input side = record {
+    carry = no_bytes ends;
     came = [];
     calls = [];
-    went = is.went;
-    input = append-nil (input_of before) ∙ sym is.input;
-    output = append-nil (output_of before) ∙ is.output;
-    chain = refl;
-    side = is.side;
-  }
-
-  pub refused : (before after : LineConnection) (old : Served S) → RefusesRest before after → TakesTurn store before after old old
-  refused before after old is = record {
-    came = [];
-    calls = (input_of before, codes "bad-line\n") ∷ [];
     went = [];
-    input = append-nil (input_of before) ∙ sym (append-nil (input_of before)) ∙ sym (append-nil (input_of before ++ [])) ∙ ap (λ x. (input_of before ++ []) ++ x) (sym is.input);
-    output = ap (λ x. output_of before ++ x) (append-nil (codes "bad-line\n")) ∙ sym is.output;
-    chain = (old, inr (refl, refl), refl);
-    side = is.side;
+    input = append-nil (input_of before) ∙ sym input;
+    output = append-nil (output_of before);
+    chain = refl;
+    side = side;
   }
 
-  same : (before after : LineConnection) (old : Served S) → after ≡ before → TakesTurn store before after old old
-  same before after old is = subst (λ (x : LineConnection). TakesTurn store before x old old) (sym is) (stays before old)
+  -- ---- steps
 
-  pub waited : (before after : LineConnection) (old new : Served S) → IsWaiting before after old new → TakesTurn store before after old new
-  waited before after old new is = subst (λ (served : Served S). TakesTurn store before after old served) (sym is.served) (same before after old is.connection)
+  pub stood : (ends : Ends) (next : Option Next) (before : LineConnection) (old : Served S) → TakesStep store ends ends next before before old old
+  stood ends next before old = (output_of before, stays ends before old, λ goes. refl)
 
-  pub ended : (before after : LineConnection) (old : Served S) → IsEnded before after → TakesTurn store before after old old
-  ended before after old is =
+  -- a step that loses nothing, and one more
+  pub on : (e f h : Ends) (next : Option Next) (a b c : LineConnection) (old mid new : Served S) → TakesLines store e f a b (output_of b) old mid → TakesStep store f h next b c mid new → TakesStep store e h next a c old new
+  on e f h next a b c old mid new first later = (later.0, then e f h a b c later.0 old mid new first later.1, later.2)
+
+  -- what is kept where a step did not end the connection
+  pub kept : (e f : Ends) (next : Option Next) (before after : LineConnection) (old new : Served S) → next ≢ Some Close → TakesStep store e f next before after old new → TakesLines store e f before after (output_of after) old new
+  kept e f next before after old new goes is = subst (λ (waits : List ℕ). TakesLines store e f before after waits old new) (is.2 goes) is.1
+
+  pub took : (ends : Ends) (next : Option Next) (before after : LineConnection) (old new : Served S) → AnswersLine store before after old new → side_of after ≡ side_of before → TakesStep store ends ends next before after old new
+  took ends next before after old new is side = (output_of before ++ is.0, line_taken ends before after old is.0 new is.1 side, λ goes. sym is.2)
+
+  pub lost : (ends : Ends) (next : Option Next) (before after : LineConnection) (old new : Served S) → LosesAnswer store before after old new → side_of after ≡ side_of before → next ≡ Some Close → TakesStep store ends ends next before after old new
+  lost ends next before after old new is side over =
       elim is [
-        | inl kept ↦ same before after old kept
-        | inr refuses ↦ refused before after old refuses
+        | inl left ↦ (output_of before, subst (λ (served : Served S). TakesLines store ends ends before after (output_of before) old served) (sym left.1) (unmoved ends before after old left.0 side), λ goes. absurd (goes over))
+        | inr line ↦ (output_of before ++ line.0, line_taken ends before after old line.0 new line.1 side, λ goes. absurd (goes over))
+      ]
+
+  pub received : (left left2 given : Option (List ℕ)) (next : Option Next) (before after : LineConnection) (old : Served S) → ReceivesBytes left left2 before after → TakesStep store (left, given) (left2, given) next before after old old
+  received left left2 given next before after old is = (
+    output_of before,
+    record {
+      came = is.came;
+      calls = [];
+      went = [];
+      carry = (is.reads, Appends-nil given);
+      input = sym is.input;
+      output = append-nil (output_of before);
+      chain = refl;
+      side = is.side;
+    },
+    λ goes. sym is.output,
+  )
+
+  pub sent : (left given given2 : Option (List ℕ)) (next : Option Next) (before after : LineConnection) (old : Served S) → SendsBytes given given2 before after → TakesStep store (left, given) (left, given2) next before after old old
+  sent left given given2 next before after old is = (
+    output_of after,
+    record {
+      came = [];
+      calls = [];
+      went = is.went;
+      carry = (Consumes-nil left, is.writes);
+      input = append-nil (input_of before) ∙ sym is.input;
+      output = append-nil (output_of before) ∙ is.output;
+      chain = refl;
+      side = is.side;
+    },
+    λ goes. refl,
+  )
+
+  refused : (ends : Ends) (next : Option Next) (before after : LineConnection) (old : Served S) → RefusesRest next before after → TakesStep store ends ends next before after old old
+  refused ends next before after old is = (
+    output_of before ++ codes "bad-line\n",
+    record {
+      came = [];
+      calls = (input_of before, codes "bad-line\n") ∷ [];
+      went = [];
+      carry = no_bytes ends;
+      input = append-nil (input_of before) ∙ sym (append-nil (input_of before)) ∙ sym (append-nil (input_of before ++ [])) ∙ ap (λ x. (input_of before ++ []) ++ x) (sym is.input);
+      output = ap (λ x. output_of before ++ x) (append-nil (codes "bad-line\n"));
+      chain = (old, inr (refl, refl), refl);
+      side = is.side;
+    },
+    λ goes. sym (is.output goes),
+  )
+
+  same : (ends : Ends) (next : Option Next) (before after : LineConnection) (old : Served S) → after ≡ before → TakesStep store ends ends next before after old old
+  same ends next before after old is = subst (λ (x : LineConnection). TakesStep store ends ends next before x old old) (sym is) (stood ends next before old)
+
+  -- no line is whole: all is as it was
+  waited : (ends : Ends) (before after : LineConnection) (old new : Served S) → IsWaiting before after old new → TakesLines store ends ends before after (output_of after) old new
+  waited ends before after old new is = rw (is.served, is.connection) (stays ends before old)
+
+  pub waits : (ends : Ends) (next : Option Next) (before after : LineConnection) (old new : Served S) → IsWaiting before after old new → TakesStep store ends ends next before after old new
+  waits ends next before after old new is = (output_of after, waited ends before after old new is, λ goes. refl)
+
+  pub waited_then : (e f : Ends) (next : Option Next) (a b c : LineConnection) (old mid new : Served S) → IsWaiting a b old mid → TakesStep store e f next b c mid new → TakesStep store e f next a c old new
+  waited_then e f next a b c old mid new is later = on e e f next a b c old mid new (waited e a b old mid is) later
+
+  pub ended : (ends : Ends) (next : Option Next) (before after : LineConnection) (old : Served S) → IsEnded next before after → TakesStep store ends ends next before after old old
+  ended ends next before after old is =
+      elim is [
+        | inl kept ↦ same ends next before after old kept
+        | inr refuses ↦ refused ends next before after old refuses
       ]

@@ -24,6 +24,7 @@ module _ {S : Type 0} (store : Ghosts S) where
   runs more old new leads = let so_far = leads_on more [] [] old old new (begins (state store old)) leads in record {
     alone = so_far.alone;
     devices = so_far.devices;
+    rest = so_far.rest;
     schema = so_far.schema;
     connection = so_far.connection;
   }

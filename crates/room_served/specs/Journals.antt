@@ -10,7 +10,7 @@ use Rattle.room_store.specs.declared.fault.StoreFault.{StoreFault}
 use Rattle.room_tables.specs.Calls.{KeepsConnection, IfOurTables}
 use Rattle.room_tables.specs.Keyed.{HasSchema}
 use Rattle.room_serve.specs.Outcomes.{outcome_of}
-use Rattle.room_serve.specs.Runs.{RunsAlone, RunsDevices}
+use Rattle.room_serve.specs.Runs.{LeavesTheRest, RunsAlone, RunsDevices}
 use Rattle.room_serve.specs.declared.outcome.Outcome.{Outcome}
 use Rattle.room_served.specs.Entries.{event_of_entry, moment_at, timed}
 use Rattle.room_served.specs.declared.entry.Entry.{Entry}
@@ -63,6 +63,9 @@ module _ {S : Type 0} (store : Ghosts S) where
         db (state store new).is_open (state store new).now)
     pub devices : IfOurTables store old new (λ db. RunsDevices (events_of more) (outcomes_of more)
         db (state store new).is_open (state store new).now)
+    pub rest : IfOurTables store old new (λ db. IsTrue (state store new).is_open →
+        LeavesTheRest (events_of more) (outcomes_of more) db (state store new).is_open
+        (state store new).now)
     pub schema : IfOurTables store old new
         (λ db. IsTrue (state store new).is_open → HasSchema (state store new).now)
     pub connection : KeepsConnection (state store old) (state store new)

@@ -5,6 +5,8 @@ pub mod Answers
 pub mod LineTexts
 pub mod Lines
 pub mod Patience
+pub mod Streams
 pub mod HttpPeers
 pub mod LinePeers
+pub mod ProofHttpSteps
 pub mod ProofLineSteps

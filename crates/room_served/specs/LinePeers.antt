@@ -1,5 +1,5 @@
 -- What a connection of lines has taken and told (all this project's own).
-use Rattle.std.specs.Prelude.{◌≡◌, ◌≢◌, ◌⊎◌, ℕ, List, [], ◌∷◌, ◌++◌, None}
+use Rattle.std.specs.Prelude.{◌≡◌, ◌≢◌, ◌⊎◌, ℕ, Bool, List, [], ◌∷◌, ◌++◌, None, IsTrue}
 use Rattle.std.specs.List.{flat_map}
 use Rattle.sqlite_trees.specs.declared.store.Store.{Ghosts}
 use Rattle.room_served.specs.Lines.{Asks, IsBad, input_of, line_end, output_of, side_of}
@@ -10,12 +10,17 @@ use Rattle.room_served.specs.declared.line_peer.LinePeer.{LinePeer}
 use Rattle.room_served.specs.declared.patience.Patience.{Patience}
 use Rattle.room_served.specs.declared.step.Next.{Next}
 use Rattle.room_served.specs.declared.step.Next.TheVariants.{Close}
+use Rattle.room_served.specs.Streams.{Carry, Ends}
 
 abbrev pub lines_of : LinePeer → LineConnection
 lines_of peer = peer.connection
 
 abbrev pub patience_of : LinePeer → Patience
 patience_of peer = peer.progress.patience
+
+-- all was said, and what still comes is dropped
+abbrev pub has_parted : LinePeer → Bool
+has_parted peer = peer.progress.parts
 
 -- a line as it came, with what ended it, and what was told
 abbrev pub LineCall : Type 0
@@ -37,21 +42,30 @@ module _ {S : Type 0} (store : Ghosts S) (side : Side) where
       × Chain next calls new
 
 module _ {S : Type 0} (store : Ghosts S) where
-  -- Bytes came, and the lines in them were taken in order; what was told of each waits after the
-  -- others, and goes in order.
-  pub record TakesTurn (before after : LineConnection) (old new : Served S) : Type 0 where
+  -- Bytes came, and the lines in them were taken in order; what was told of each goes after the
+  -- others, in order, as far as it does not wait.
+  pub record TakesLines (ends ends2 : Ends) (before after : LineConnection) (waits : List ℕ)
+      (old new : Served S) : Type 0 where
     pub came : List ℕ
     pub calls : List LineCall
     pub went : List ℕ
+    pub carry : Carry ends ends2 came went
     pub input : input_of before ++ came ≡ taken calls ++ input_of after
-    pub output : output_of before ++ bytes_told calls ≡ went ++ output_of after
+    pub output : output_of before ++ bytes_told calls ≡ went ++ waits
     pub chain : Chain store (side_of before) old calls new
     pub side : side_of after ≡ side_of before
 
-  -- a connection that is over may have lost an answer
-  abbrev pub TurnGoesOn : (next : Next) (before after : LinePeer) (old new : Served S) → Type 0
-  TurnGoesOn next before after old new =
-      next ≢ Close → TakesTurn (lines_of before) (lines_of after) old new
+  -- what still comes where all was said is dropped
+  abbrev pub DropsBytes : (ends ends2 : Ends) (before after : LinePeer) (old new : Served S) → Type 0
+  DropsBytes ends ends2 before after old new = (came : List ℕ) × IsTrue (has_parted before)
+      × Carry ends ends2 came [] × (lines_of after ≡ lines_of before) × (new ≡ old)
+
+  -- what a turn comes to; a connection that is over may lose what waits to go, and nothing else
+  abbrev pub TakesTurn : (ends ends2 : Ends) (next : Next) (before after : LinePeer)
+      (old new : Served S) → Type 0
+  TakesTurn ends ends2 next before after old new = DropsBytes ends ends2 before after old new
+      ⊎ ((waits : List ℕ) × TakesLines ends ends2 (lines_of before) (lines_of after) waits old new
+      × (next ≢ Close → waits ≡ output_of (lines_of after)))
 
 -- each line that came was taken, unless what was told before waits to go
 abbrev pub HasTaken : LineConnection → Type 0

@@ -83,15 +83,24 @@ module _ {S : Type 0} (store : Ghosts S) where
   abbrev pub IsBad : Served S → List ℕ → Served S → Type 0
   IsBad old text new = (text ≡ bad_line_text) × (new ≡ old)
 
-  -- the first line that came is taken, and its answer waits after the others
-  pub record TakesLine (before after : LineConnection) (old new : Served S) : Type 0 where
+  -- the first line that came is taken, and this is told of it
+  pub record TakesLine (before after : LineConnection) (old : Served S) (text : List ℕ)
+      (new : Served S) : Type 0 where
     pub end : ℕ
     pub first : line_end (input_of before) ≡ Some end
     pub rest : input_of after ≡ drop (end + 1) (input_of before)
-    pub text : List ℕ
-    pub output : output_of after ≡ output_of before ++ text
     pub gives : Asks (side_of before) (take (end + 1) (input_of before)) old text new
         ⊎ IsBad old text new
+
+  -- the first line that came is taken, and its answer waits after the others
+  abbrev pub AnswersLine : (before after : LineConnection) (old new : Served S) → Type 0
+  AnswersLine before after old new = (text : List ℕ) × TakesLine before after old text new
+      × (output_of after ≡ output_of before ++ text)
+
+  -- there was no memory for the line, which is left as it came, or for its answer, which is lost
+  abbrev pub LosesAnswer : (before after : LineConnection) (old new : Served S) → Type 0
+  LosesAnswer before after old new = ((input_of after ≡ input_of before) × (new ≡ old))
+      ⊎ ((text : List ℕ) × TakesLine before after old text new)
 
 -- no line is whole yet, and nothing has changed
 pub record IsWaiting {S : Type 0} (before after : LineConnection) (old new : Served S)

@@ -39,7 +39,8 @@ impl Drop for HttpPeer {
 }
 
 impl HttpPeer {
-    ghost use Rattle.room_served.specs.HttpPeers.{IsAtRest, IsStill, KeepsLimits, MakesCalls, calls_of, connection_of, patience_of};
+    ghost use Rattle.room_served.specs.HttpPeers.{GoesOn, IsAtRest, IsLater, IsStill, KeepsLimits, MakesCalls, calls_of, connection_of, patience_of};
+    ghost use Rattle.room_served.specs.ProofHttpSteps.{ReadsBytes, WritesBytes};
 
     /// A peer that came just now. It takes no memory.
     pub fn new(alloc: Global, keys: RandomState, ticks: u64) -> HttpPeer
@@ -58,25 +59,28 @@ impl HttpPeer {
     /// Reads, answers and writes as far as it goes now, but a few steps at most. Each request is
     /// one call: it is applied, once, or refused. A peer is left to wait only where each request
     /// that came has its call.
-    pub fn drive<S: Alter, T: Read + Write>(
+    pub fn drive<S: Alter, R: Read, W: Write>(
         &mut self,
-        stream: &mut T,
+        reader: &mut R,
+        writer: &mut W,
         served: &mut Served<S>,
         turn: Turn,
     ) -> Next
         ensures calls { MakesCalls S.Store self.old self.new served.old served.new }
+        ensures later { IsLater (R.remaining reader.old, W.contents writer.old)
+            (R.remaining reader.new, W.contents writer.new) self.old self.new }
         ensures continues { Continues S.Store served.old served.new }
         ensures rests { result ≡ Next.Wait → IsAtRest self.new }
         ensures holds { result ≡ Next.Hold → IsFalse turn.has_room }
         ensures limits { KeepsLimits self.old self.new }
     {
         if self.progress.parts {
-            return drain(stream);
+            return drain(reader);
         }
         self.progress.has_all = false;
         for _ in 0..STEPS {
             answer_requests(&mut self.connection, served);
-            if let Some(next) = self.step(stream, turn) {
+            if let Some(next) = self.step(reader, writer, turn) {
                 return next;
             }
         }
@@ -84,8 +88,16 @@ impl HttpPeer {
     }
 
     /// One read or one write. Answers what to wait for, where it can't go on.
-    fn step<T: Read + Write>(&mut self, stream: &mut T, turn: Turn) -> Option<Next>
+    fn step<R: Read, W: Write>(
+        &mut self,
+        reader: &mut R,
+        writer: &mut W,
+        turn: Turn,
+    ) -> Option<Next>
         ensures calls { calls_of self.new ≡ calls_of self.old }
+        ensures later { GoesOn (R.remaining reader.old, W.contents writer.old)
+            (R.remaining reader.new, W.contents writer.new)
+            (history (connection_of self.old)) (history (connection_of self.new)) }
         ensures waits { result ≡ Some Next.Wait → IsStill self.old self.new }
         ensures holds { result ≡ Some Next.Hold → IsFalse turn.has_room }
         ensures limits { KeepsLimits self.old self.new }
@@ -94,7 +106,7 @@ impl HttpPeer {
             return Some(self.finish(turn.ticks));
         }
         if self.connection.wants_write() {
-            return self.send(stream, turn.ticks);
+            return self.send(writer, turn.ticks);
         }
         if self.load.is_large() && !turn.has_room {
             return Some(self.progress.hold(turn.ticks));
@@ -103,11 +115,13 @@ impl HttpPeer {
             return Some(Next::Wait);
         }
         self.progress.patience.let_on(turn.ticks);
-        self.receive(stream, turn)
+        self.receive(reader, turn)
     }
 
-    fn send<T: Write>(&mut self, stream: &mut T, ticks: u64) -> Option<Next>
+    fn send<W: Write>(&mut self, writer: &mut W, ticks: u64) -> Option<Next>
         ensures calls { calls_of self.new ≡ calls_of self.old }
+        ensures sends { WritesBytes (W.contents writer.old) (W.contents writer.new)
+            (history (connection_of self.old)) (history (connection_of self.new)) }
         ensures waits { result ≡ Some Next.Wait → IsStill self.old self.new }
         ensures moves { result ≢ Some Next.Hold }
         ensures limits { KeepsLimits self.old self.new }
@@ -115,7 +129,7 @@ impl HttpPeer {
         self.load.answered();
         // The body of what was begun is to come.
         let invites = self.connection.output().starts_with(INVITATION);
-        match self.connection.write_to(stream) {
+        match self.connection.write_to(writer) {
             Ok(0) => Some(Next::Close),
             Ok(count) => {
                 self.progress.patience.moved(count, ticks);
@@ -128,13 +142,15 @@ impl HttpPeer {
         }
     }
 
-    fn receive<T: Read>(&mut self, stream: &mut T, turn: Turn) -> Option<Next>
+    fn receive<R: Read>(&mut self, reader: &mut R, turn: Turn) -> Option<Next>
         ensures calls { calls_of self.new ≡ calls_of self.old }
+        ensures receives { ReadsBytes (R.remaining reader.old) (R.remaining reader.new)
+            (history (connection_of self.old)) (history (connection_of self.new)) }
         ensures waits { result ≡ Some Next.Wait → IsStill self.old self.new }
         ensures moves { result ≢ Some Next.Hold }
         ensures limits { KeepsLimits self.old self.new }
     {
-        match self.connection.read_from(stream) {
+        match self.connection.read_from(reader) {
             Ok(count) => {
                 self.load.came(count);
                 self.progress.received(count, turn);

@@ -1,8 +1,9 @@
 //! A connection of lines: what came and is no whole line yet, and answers that wait to go.
 ghost use Rattle.std.specs.Prelude.{◌≡◌, ◌<◌, ◌≤◌, ◌+◌, ◌++◌, [], length, nat_lt, false, true, IfOk, IfSome, OnErr, OnOk, Ok};
+ghost use Rattle.std.specs.Io.KnownBytes.{Keeps};
 ghost use Rattle.room_served.specs.LineTexts.{bad_line_text};
 ghost use Rattle.room_served.specs.Journals.{Continues};
-ghost use Rattle.room_served.specs.Lines.{Comes, IsEntryOf, IsWaiting, Leaves, TakesLine, begins_start, grammar_of, input_of, line_end, output_of, side_of, longest_line};
+ghost use Rattle.room_served.specs.Lines.{AnswersLine, Comes, IsEntryOf, IsWaiting, Leaves, LosesAnswer, begins_start, grammar_of, input_of, line_end, output_of, side_of, longest_line};
 
 use crate::entry::Entry;
 use crate::line_text::{put_bad, put_told};
@@ -83,6 +84,7 @@ impl LineConnection {
         ensures came { IfOk result
             (Comes (R.remaining reader.old) (R.remaining reader.new) self.old self.new) }
         ensures nothing { OnErr result (input_of self.new ≡ input_of self.old) }
+        ensures left { OnErr result (Keeps (R.remaining reader.old) (R.remaining reader.new)) }
         ensures output { output_of self.new ≡ output_of self.old }
         ensures side { side_of self.new ≡ side_of self.old }
     {
@@ -92,12 +94,14 @@ impl LineConnection {
 
     /// Answers the line at the front of what came, at the moment of what is served: what it asks
     /// for is applied, once, or it is a bad line, which changes nothing. `Ok(false)` where no line
-    /// is whole yet. Where memory for an answer was refused, the connection has to be closed; the
-    /// line may have been applied.
+    /// is whole yet. Where memory was refused, the connection has to be closed; the line is left, or
+    /// it was taken and its answer is lost.
     pub fn answer<S: Alter>(&mut self, served: &mut Served<S>) -> Result<bool, AllocError>
         ensures taken { result ≡ Ok true
-            → TakesLine S.Store self.old self.new served.old served.new }
+            → AnswersLine S.Store self.old self.new served.old served.new }
         ensures none { result ≡ Ok false → IsWaiting self.old self.new served.old served.new }
+        ensures lost { OnErr result
+            (LosesAnswer S.Store self.old self.new served.old served.new) }
         ensures continues { Continues S.Store served.old served.new }
         ensures side { side_of self.new ≡ side_of self.old }
     {
@@ -165,6 +169,7 @@ impl LineConnection {
         ensures went { IfOk result
             (Leaves (W.contents writer.old) (W.contents writer.new) self.old self.new) }
         ensures nothing { OnErr result (self.new ≡ self.old) }
+        ensures left { OnErr result (Keeps (W.contents writer.old) (W.contents writer.new)) }
         ensures input { input_of self.new ≡ input_of self.old }
         ensures side { side_of self.new ≡ side_of self.old }
     {

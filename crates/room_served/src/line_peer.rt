@@ -22,8 +22,8 @@ pub struct LinePeer {
 }
 
 impl LinePeer {
-    ghost use Rattle.room_served.specs.LinePeers.{HasTaken, TurnGoesOn, lines_of, patience_of};
-    ghost use Rattle.room_served.specs.ProofLineSteps.{IsEnded, ReceivesBytes, SendsBytes, StepGoesOn};
+    ghost use Rattle.room_served.specs.LinePeers.{HasTaken, TakesTurn, lines_of, patience_of};
+    ghost use Rattle.room_served.specs.ProofLineSteps.{IsEnded, ReceivesBytes, SendsBytes, TakesStep};
 
     /// A peer that came just now. It takes no memory.
     pub fn new(alloc: Global, side: Side, ticks: u64) -> LinePeer
@@ -39,25 +39,28 @@ impl LinePeer {
     }
 
     /// Reads, answers and writes as far as it goes now, but a few steps at most: what came is taken
-    /// line by line, each is applied, once, or is a bad one, and what is told goes in order. A
-    /// connection that is over may have lost an answer.
-    pub fn drive<S: Alter, T: Read + Write>(
+    /// line by line, each is applied, once, or is a bad one, and what is told goes in order. Only
+    /// what waits to go may be lost with a connection that is over.
+    pub fn drive<S: Alter, R: Read, W: Write>(
         &mut self,
-        stream: &mut T,
+        reader: &mut R,
+        writer: &mut W,
         served: &mut Served<S>,
         turn: Turn,
     ) -> Next
-        ensures goes_on { TurnGoesOn S.Store result self.old self.new served.old served.new }
+        ensures takes { TakesTurn S.Store (R.remaining reader.old, W.contents writer.old)
+            (R.remaining reader.new, W.contents writer.new) result self.old self.new
+            served.old served.new }
         ensures continues { Continues S.Store served.old served.new }
         ensures rests { result ≡ Next.Wait → HasTaken (lines_of self.new) }
         ensures holds { result ≡ Next.Hold → IsFalse turn.has_room }
     {
         if self.progress.parts {
-            return drain(stream);
+            return drain(reader);
         }
         self.progress.has_all = false;
         for _ in 0..STEPS {
-            if let Some(next) = self.step(stream, served, turn) {
+            if let Some(next) = self.step(reader, writer, served, turn) {
                 return next;
             }
         }
@@ -66,19 +69,22 @@ impl LinePeer {
 
     /// One read, one line or one write: a line is answered once the answers before it have gone.
     /// Answers what to wait for, where it can't go on.
-    fn step<S: Alter, T: Read + Write>(
+    fn step<S: Alter, R: Read, W: Write>(
         &mut self,
-        stream: &mut T,
+        reader: &mut R,
+        writer: &mut W,
         served: &mut Served<S>,
         turn: Turn,
     ) -> Option<Next>
-        ensures goes_on { StepGoesOn S.Store result self.old self.new served.old served.new }
+        ensures takes { TakesStep S.Store (R.remaining reader.old, W.contents writer.old)
+            (R.remaining reader.new, W.contents writer.new) result
+            (lines_of self.old) (lines_of self.new) served.old served.new }
         ensures continues { Continues S.Store served.old served.new }
         ensures rests { result ≡ Some Next.Wait → HasTaken (lines_of self.new) }
         ensures holds { result ≡ Some Next.Hold → IsFalse turn.has_room }
     {
         if self.connection.wants_write() {
-            return self.send(stream, turn.ticks);
+            return self.send(writer, turn.ticks);
         }
         if !turn.has_room && self.connection.begins_start() {
             return Some(self.progress.hold(turn.ticks));
@@ -88,17 +94,18 @@ impl LinePeer {
             Ok(true) => None,
             Ok(false) if self.has_ended || self.connection.is_too_long() => self.end(turn.ticks),
             Ok(false) if self.progress.has_all => Some(Next::Wait),
-            Ok(false) => self.receive(stream, turn),
+            Ok(false) => self.receive(reader, turn),
             Err(_) => Some(Next::Close),
         }
     }
 
-    fn send<T: Write>(&mut self, stream: &mut T, ticks: u64) -> Option<Next>
-        ensures sends { SendsBytes (lines_of self.old) (lines_of self.new) }
+    fn send<W: Write>(&mut self, writer: &mut W, ticks: u64) -> Option<Next>
+        ensures sends { SendsBytes (W.contents writer.old) (W.contents writer.new)
+            (lines_of self.old) (lines_of self.new) }
         ensures waits { result ≡ Some Next.Wait → lines_of self.new ≡ lines_of self.old }
         ensures moves { result ≢ Some Next.Hold }
     {
-        match self.connection.write_to(stream) {
+        match self.connection.write_to(writer) {
             Ok(0) => Some(Next::Close),
             Ok(count) => {
                 self.progress.patience.moved(count, ticks);
@@ -111,13 +118,14 @@ impl LinePeer {
         }
     }
 
-    fn receive<T: Read>(&mut self, stream: &mut T, turn: Turn) -> Option<Next>
-        ensures receives { ReceivesBytes (lines_of self.old) (lines_of self.new) }
+    fn receive<R: Read>(&mut self, reader: &mut R, turn: Turn) -> Option<Next>
+        ensures receives { ReceivesBytes (R.remaining reader.old) (R.remaining reader.new)
+            (lines_of self.old) (lines_of self.new) }
         ensures waits { result ≡ Some Next.Wait
             → input_of (lines_of self.new) ≡ input_of (lines_of self.old) }
         ensures moves { result ≢ Some Next.Hold }
     {
-        match self.connection.read_from(stream) {
+        match self.connection.read_from(reader) {
             Ok(0) => {
                 self.has_ended = true;
                 None
@@ -132,7 +140,7 @@ impl LinePeer {
 
     /// No more is read: what is left and is no line is answered as a bad one.
     fn end(&mut self, ticks: u64) -> Option<Next>
-        ensures ended { result ≢ Some Next.Close → IsEnded (lines_of self.old) (lines_of self.new) }
+        ensures ended { IsEnded result (lines_of self.old) (lines_of self.new) }
         ensures waits { result ≢ Some Next.Wait }
         ensures moves { result ≢ Some Next.Hold }
     {

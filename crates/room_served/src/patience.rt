@@ -38,6 +38,7 @@ pub enum Doing {
 /// share.
 #[derive(Clone, Copy, Debug, PartialEq, Eq)]
 pub struct Patience {
+    // When that began, or its last whole piece had moved.
     since: u64,
     doing: Doing,
 }
@@ -134,7 +135,8 @@ impl Patience {
         ticks.saturating_sub(self.since) > most
     }
 
-    /// Whether it may be let go for want of memory.
+    /// Whether more than a quarter of a second has passed since it came to what it is at, or since
+    /// its last whole piece.
     pub fn is_slow(&self, ticks: u64) -> bool
         ensures { result ≡ is_slow self.now ticks }
     {
@@ -142,6 +144,7 @@ impl Patience {
     }
 }
 
+/// So many bytes of a piece have moved. A whole piece begins the next one, at `ticks`.
 fn moving(since: u64, moved: u64, ticks: u64) -> Patience
     ensures { result ≡ moving since moved ticks }
 {

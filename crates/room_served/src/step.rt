@@ -1,5 +1,6 @@
 //! What a turn of a connection is told, and its outcome.
-ghost use Rattle.std.specs.Prelude.{◌≢◌, Some};
+ghost use Rattle.std.specs.Prelude.{ℕ, ◌≢◌, List, Some};
+ghost use Rattle.std.specs.Io.KnownBytes.{Consumes};
 
 use std::io;
 use std::io::{ErrorKind, Read};
@@ -62,13 +63,14 @@ pub(crate) fn after(error: &io::Error) -> Option<Next>
 
 /// Reads and drops what still comes. Were a connection closed over bytes that nobody read, the
 /// system would take back the last answer.
-pub(crate) fn drain<T: Read>(stream: &mut T) -> Next
+pub(crate) fn drain<R: Read>(reader: &mut R) -> Next
+    ensures drops { (came : List ℕ) × Consumes (R.remaining reader.old) (R.remaining reader.new) came }
     ensures waits { result ≢ Next.Wait }
     ensures holds { result ≢ Next.Hold }
 {
     let mut dropped = [0; DROPPED];
     for _ in 0..STEPS {
-        match stream.read(&mut dropped) {
+        match reader.read(&mut dropped) {
             Ok(0) => return Next::Close,
             Ok(_) => {}
             Err(error) => match error.kind() {

@@ -1,3 +1,4 @@
+pub mod Guests
 pub mod Halls
 pub mod Paces
 pub mod Stocks

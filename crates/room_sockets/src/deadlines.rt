@@ -1,4 +1,5 @@
 //! Whom a hall drops since it took too long.
+ghost use Rattle.room_sockets.specs.Halls.{OnlyLeave, guests_of};
 
 use crate::doors::MOST_GUESTS;
 use crate::hall::Hall;
@@ -9,15 +10,23 @@ pub(crate) const TICK: u64 = 250;
 impl Hall {
     /// From time to time drops who took too long, where others wait for room who rests on it, and
     /// where too much is held who hardly reads what it asked for.
-    pub(crate) fn drop_late(&mut self, ticks: u64) {
+    pub(crate) fn drop_late(&mut self, ticks: u64)
+        ensures { OnlyLeave (guests_of self.old) (guests_of self.new) }
+    {
         if ticks.saturating_sub(self.dropped_late_at) < TICK {
             return;
         }
         self.dropped_late_at = ticks;
         for key in 0..MOST_GUESTS {
-            if self.has_to_go(key, ticks) {
-                self.close(key);
-            }
+            self.drop_if_late(key, ticks);
+        }
+    }
+
+    fn drop_if_late(&mut self, key: usize, ticks: u64)
+        ensures { OnlyLeave (guests_of self.old) (guests_of self.new) }
+    {
+        if self.has_to_go(key, ticks) {
+            self.close(key);
         }
     }
 

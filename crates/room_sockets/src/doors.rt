@@ -1,5 +1,8 @@
 //! The doors of a hall, and who comes in by them.
 
+ghost use Rattle.std.specs.Prelude.{◌≡◌};
+ghost use Rattle.room_sockets.specs.Halls.{OnlyEnter, guests_of};
+
 use crate::door::Door;
 use crate::guest::{Guest, Peer};
 use crate::hall::{Hall, token_of};
@@ -39,7 +42,7 @@ pub(crate) enum Kind {
 }
 
 impl Kind {
-    ghost use Rattle.room_sockets.specs.Halls.{CameBy};
+    ghost use Rattle.room_sockets.specs.Guests.{CameBy};
 
     fn most(self) -> usize {
         match self {
@@ -88,21 +91,27 @@ impl Entrance {
 
 impl Hall {
     /// Somebody may wait at the door.
-    pub(crate) fn note_waiting(&mut self, place: usize) {
+    pub(crate) fn note_waiting(&mut self, place: usize)
+        ensures { guests_of self.new ≡ guests_of self.old }
+    {
         if let Some(entrance) = self.entrances.get_mut(place) {
             entrance.waits = true;
         }
     }
 
     /// Lets in who waits at the doors.
-    pub(crate) fn admit_all(&mut self, ticks: u64) {
+    pub(crate) fn admit_all(&mut self, ticks: u64)
+        ensures { OnlyEnter (guests_of self.old) (guests_of self.new) }
+    {
         for place in 0..self.entrances.len() {
             self.admit(place, ticks);
         }
     }
 
     /// Lets in who waits at a door, while it has room.
-    fn admit(&mut self, place: usize, ticks: u64) {
+    fn admit(&mut self, place: usize, ticks: u64)
+        ensures { OnlyEnter (guests_of self.old) (guests_of self.new) }
+    {
         for _ in 0..MOST_GUESTS {
             let Some(entrance) = self.entrances.get_mut(place) else {
                 return;
@@ -125,7 +134,9 @@ impl Hall {
     }
 
     /// Takes a peer in, or drops it where the system or the memory has no room.
-    fn take_in(&mut self, stream: Stream, kind: Kind, place: usize, ticks: u64) {
+    fn take_in(&mut self, stream: Stream, kind: Kind, place: usize, ticks: u64)
+        ensures { OnlyEnter (guests_of self.old) (guests_of self.new) }
+    {
         let peer = kind.peer(self.alloc, self.keys, ticks);
         let mut guest = Guest::new(stream, peer, place);
         let key = self.guests.vacant_key();

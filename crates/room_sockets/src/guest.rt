@@ -1,18 +1,45 @@
 //! A peer that came in: its socket, and what it speaks.
 
+ghost use Rattle.std.specs.Prelude.{◌≡◌, ◌++◌, ◌∷◌, [], IsFalse};
 ghost use Rattle.room_served.specs.Journals.{Continues};
+ghost use Rattle.room_sockets.specs.Guests.{IsAtRest, TakesTurn, of_socket, peer_of, turns_of};
 
 use crate::stream::Stream;
+use http_server::Log;
 use mio::{Interest, Registry, Token};
 use room_served::{HttpPeer, LARGE, LinePeer, Next, Patience, Served, Turn};
 use sqlite::Alter;
 use std::io;
+use std::io::{Read, Write};
 
 /// What a peer speaks.
 #[derive(Drop)]
 pub(crate) enum Peer {
     Http(HttpPeer),
     Lines(LinePeer),
+}
+
+impl Peer {
+    /// Reads, answers and writes as far as it goes now, but a few steps at most.
+    fn drive<S: Alter, R: Read, W: Write>(
+        &mut self,
+        reader: &mut R,
+        writer: &mut W,
+        served: &mut Served<S>,
+        turn: Turn,
+    ) -> Next
+        ensures takes { TakesTurn S.Store (R.remaining reader.old, W.contents writer.old)
+            (R.remaining reader.new, W.contents writer.new) result self.old self.new
+            served.old served.new }
+        ensures continues { Continues S.Store served.old served.new }
+        ensures rests { result ≡ Next.Wait → IsAtRest self.new }
+        ensures holds { result ≡ Next.Hold → IsFalse turn.has_room }
+    {
+        match self {
+            Peer::Http(peer) => peer.drive(reader, writer, served, turn),
+            Peer::Lines(peer) => peer.drive(reader, writer, served, turn),
+        }
+    }
 }
 
 /// A peer that came in by a door.
@@ -22,25 +49,40 @@ pub(crate) struct Guest {
     peer: Peer,
     /// The place among the doors of that by which it came in.
     door: usize,
+    /// Its turns so far, each with what came of it. They take no memory: only proofs read them.
+    turns: Log<Turn, Next>,
 }
 
 impl Guest {
-    pub(crate) fn new(stream: Stream, peer: Peer, door: usize) -> Guest {
-        Guest { stream, peer, door }
+    pub(crate) fn new(stream: Stream, peer: Peer, door: usize) -> Guest
+        ensures peer { peer_of result ≡ peer }
+        ensures turns { turns_of result ≡ [] }
+    {
+        Guest {
+            stream,
+            peer,
+            door,
+            turns: Log::new(),
+        }
     }
 
     pub(crate) fn door(&self) -> usize {
         self.door
     }
 
-    /// Reads, answers and writes as far as it goes now, but a few steps at most.
+    /// Has a turn: what came by its socket is taken, and what it is told goes by it.
     pub(crate) fn drive<S: Alter>(&mut self, served: &mut Served<S>, turn: Turn) -> Next
-        ensures { Continues S.Store served.old served.new }
+        ensures takes { TakesTurn S.Store of_socket of_socket result
+            (peer_of self.old) (peer_of self.new) served.old served.new }
+        ensures continues { Continues S.Store served.old served.new }
+        ensures rests { result ≡ Next.Wait → IsAtRest (peer_of self.new) }
+        ensures holds { result ≡ Next.Hold → IsFalse turn.has_room }
+        ensures turns { turns_of self.new ≡ turns_of self.old ++ (turn, result) ∷ [] }
     {
-        match &mut self.peer {
-            Peer::Http(peer) => peer.drive(&mut self.stream, served, turn),
-            Peer::Lines(peer) => peer.drive(&mut self.stream, served, turn),
-        }
+        let stream = &self.stream;
+        let next = self.peer.drive(&mut &*stream, &mut &*stream, served, turn);
+        self.turns = self.turns.and(&turn, &next);
+        next
     }
 
     /// Tells the peer that nothing more comes.
@@ -48,12 +90,16 @@ impl Guest {
         self.stream.end()
     }
 
-    pub(crate) fn register(&mut self, registry: &Registry, token: Token) -> io::Result<()> {
+    pub(crate) fn register(&mut self, registry: &Registry, token: Token) -> io::Result<()>
+        ensures { self.new ≡ self.old }
+    {
         registry.register(&mut self.stream, token, both())
     }
 
     /// Has the system tell again what is ready.
-    pub(crate) fn rearm(&mut self, registry: &Registry, token: Token) -> io::Result<()> {
+    pub(crate) fn rearm(&mut self, registry: &Registry, token: Token) -> io::Result<()>
+        ensures { self.new ≡ self.old }
+    {
         registry.reregister(&mut self.stream, token, both())
     }
 
@@ -90,8 +136,8 @@ impl Guest {
         self.patience().is_over(ticks)
     }
 
-    /// Whether a large answer waits to go. Of a start's documents it is not asked, since they are
-    /// sent once.
+    /// Whether a large answer waits to go that can be asked for again. None is on a connection of
+    /// lines: a start's documents are sent once.
     pub(crate) fn has_large_answer(&self) -> bool {
         match &self.peer {
             Peer::Http(peer) => peer.has_large_answer(),
@@ -99,7 +145,8 @@ impl Guest {
         }
     }
 
-    /// Whether it hardly reads a large answer.
+    /// Whether a large answer waits, and no whole piece of it, or of its request, has moved for a
+    /// quarter of a second. It may be let go where too much is held.
     pub(crate) fn reads_slowly(&self, ticks: u64) -> bool {
         self.has_large_answer() && self.patience().is_slow(ticks)
     }

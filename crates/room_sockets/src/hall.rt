@@ -1,8 +1,9 @@
 //! The peers of all doors, and the loop that waits for them.
 
-ghost use Rattle.std.specs.Prelude.{◌≡◌, IfOk};
+ghost use Rattle.std.specs.Prelude.{◌≡◌, ◌≢◌, IfOk, None, IsFalse, IsTrue};
+ghost use Rattle.slab.specs.Slab.{SameValues, get};
 ghost use Rattle.room_served.specs.Journals.{Continues};
-ghost use Rattle.room_sockets.specs.Halls.{AreOthersKept, IsEmpty, guests_of};
+ghost use Rattle.room_sockets.specs.Halls.{AreOthersKept, GoesOn, IsEmpty, MayLeave, OnlyLeave, Serves, StaysAfter, guests_of};
 
 use crate::clock::{moment, ticks};
 use crate::deadlines::TICK;
@@ -80,7 +81,9 @@ impl Hall {
 
     /// Serves whoever comes, until the system has no more to tell.
     pub fn run<S: Alter>(&mut self, clock: &impl Clock, served: &mut Served<S>) -> io::Result<()>
-        ensures { Continues S.Store served.old served.new }
+        ensures goes_on { GoesOn S.Store (guests_of self.old) (guests_of self.new)
+            served.old served.new }
+        ensures continues { Continues S.Store served.old served.new }
     {
         for _ in 0..u64::MAX {
             self.turn(clock, served)?;
@@ -90,7 +93,9 @@ impl Hall {
 
     /// Waits until something comes, or a deadline may have passed, and serves those who can go on.
     pub fn turn<S: Alter>(&mut self, clock: &impl Clock, served: &mut Served<S>) -> io::Result<()>
-        ensures { Continues S.Store served.old served.new }
+        ensures goes_on { GoesOn S.Store (guests_of self.old) (guests_of self.new)
+            served.old served.new }
+        ensures continues { Continues S.Store served.old served.new }
     {
         let timeout = self.timeout();
         self.poll.poll(&mut self.events, timeout)?;
@@ -120,7 +125,7 @@ impl Hall {
 
     /// Serves each of whom the system told.
     fn serve_all<S: Alter>(&mut self, clock: &impl Clock, served: &mut Served<S>)
-        ensures { Continues S.Store served.old served.new }
+        ensures { GoesOn S.Store (guests_of self.old) (guests_of self.new) served.old served.new }
     {
         for place in 0..self.events.iter().len() {
             let Some(told) = told_at(&self.events, place) else {
@@ -131,7 +136,7 @@ impl Hall {
     }
 
     fn serve_event<S: Alter>(&mut self, clock: &impl Clock, told: Told, served: &mut Served<S>)
-        ensures { Continues S.Store served.old served.new }
+        ensures { GoesOn S.Store (guests_of self.old) (guests_of self.new) served.old served.new }
     {
         match told.token.0.checked_sub(FIRST_GUEST) {
             Some(key) => {
@@ -151,8 +156,9 @@ impl Hall {
         served: &mut Served<S>,
         is_last: bool,
     )
-        ensures continues { Continues S.Store served.old served.new }
-        ensures others { AreOthersKept key self.old self.new }
+        ensures serves { Serves S.Store (get (guests_of self.old) key) (get (guests_of self.new) key)
+            served.old served.new }
+        ensures others { AreOthersKept key (guests_of self.old) (guests_of self.new) }
     {
         let (Some(moment), Ok(ticks)) = (moment(clock), self.ticks(clock)) else {
             self.close(key);
@@ -174,10 +180,24 @@ impl Hall {
         self.after_turn(key, next);
     }
 
+    /// What a turn came to: the peer stays, or is let go.
     fn after_turn(&mut self, key: usize, next: Next)
-        ensures { AreOthersKept key self.old self.new }
+        ensures stays { StaysAfter next
+            (get (guests_of self.old) key) (get (guests_of self.new) key) }
+        ensures others { AreOthersKept key (guests_of self.old) (guests_of self.new) }
     {
-        let keeps = match next {
+        if !self.keeps(key, next) {
+            self.close(key);
+        }
+    }
+
+    /// Whether the peer stays after a turn.
+    fn keeps(&mut self, key: usize, next: Next) -> bool
+        ensures same { SameValues (guests_of self.old) (guests_of self.new) }
+        ensures goes { IsFalse result → MayLeave next }
+        ensures stays { IsTrue result → next ≢ Next.Close }
+    {
+        match next {
             Next::Wait | Next::Parted => true,
             Next::Again => self.rearm(key),
             Next::Hold => {
@@ -186,15 +206,12 @@ impl Hall {
             }
             Next::Part => self.end(key) && self.rearm(key),
             Next::Close => false,
-        };
-        if !keeps {
-            self.close(key);
         }
     }
 
     /// Has the system tell again what is ready, and answers whether it will.
     pub(crate) fn rearm(&mut self, key: usize) -> bool
-        ensures { AreOthersKept key self.old self.new }
+        ensures { SameValues (guests_of self.old) (guests_of self.new) }
     {
         match self.guests.get_mut(key) {
             Some(guest) => guest.rearm(self.poll.registry(), token_of(key)).is_ok(),
@@ -210,7 +227,8 @@ impl Hall {
     }
 
     pub(crate) fn close(&mut self, key: usize)
-        ensures { AreOthersKept key self.old self.new }
+        ensures gone { get (guests_of self.new) key ≡ None }
+        ensures others { AreOthersKept key (guests_of self.old) (guests_of self.new) }
     {
         if let Some(guest) = self.guests.try_remove(key) {
             self.stock.left(key, guest.held());

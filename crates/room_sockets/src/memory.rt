@@ -1,7 +1,7 @@
 //! What a hall does where its peers hold much: it frees some, and has those go on whom it
 //! held back.
 
-ghost use Rattle.room_served.specs.Journals.{Continues};
+ghost use Rattle.room_sockets.specs.Halls.{GoesOn, OnlyLeave, guests_of};
 
 use crate::doors::MOST_GUESTS;
 use crate::hall::Hall;
@@ -13,7 +13,7 @@ impl Hall {
     /// Where too much is held, has each large answer go on, and drops who hardly reads it, so that
     /// one turn of the loop gives out few more.
     pub(crate) fn free_memory<S: Alter>(&mut self, clock: &impl Clock, served: &mut Served<S>)
-        ensures { Continues S.Store served.old served.new }
+        ensures { GoesOn S.Store (guests_of self.old) (guests_of self.new) served.old served.new }
     {
         if !self.stock.is_over() {
             return;
@@ -25,7 +25,7 @@ impl Hall {
 
     /// Has the peer's large answer go on, if it has one, and drops it where it hardly reads it.
     fn free_memory_of<S: Alter>(&mut self, clock: &impl Clock, key: usize, served: &mut Served<S>)
-        ensures { Continues S.Store served.old served.new }
+        ensures { GoesOn S.Store (guests_of self.old) (guests_of self.new) served.old served.new }
     {
         if !self.has_large_answer(key) {
             return;
@@ -36,13 +36,11 @@ impl Hall {
 
     /// Where room has come, those who are held back go on: all of them, or the one that holds
     /// least.
-    pub(crate) fn resume_held_back(&mut self) {
+    pub(crate) fn resume_held_back(&mut self)
+        ensures { OnlyLeave (guests_of self.old) (guests_of self.new) }
+    {
         if self.stock.lets_all_on() {
-            for key in 0..MOST_GUESTS {
-                if self.is_held_back(key) {
-                    self.resume(key);
-                }
-            }
+            self.resume_all_held_back();
         } else if self.stock.lets_one_on() {
             let least = self.least_held_back();
             self.stock.favour(least);
@@ -52,7 +50,25 @@ impl Hall {
         }
     }
 
-    fn resume(&mut self, key: usize) {
+    fn resume_all_held_back(&mut self)
+        ensures { OnlyLeave (guests_of self.old) (guests_of self.new) }
+    {
+        for key in 0..MOST_GUESTS {
+            self.resume_if_held_back(key);
+        }
+    }
+
+    fn resume_if_held_back(&mut self, key: usize)
+        ensures { OnlyLeave (guests_of self.old) (guests_of self.new) }
+    {
+        if self.is_held_back(key) {
+            self.resume(key);
+        }
+    }
+
+    fn resume(&mut self, key: usize)
+        ensures { OnlyLeave (guests_of self.old) (guests_of self.new) }
+    {
         if !self.rearm(key) {
             self.close(key);
         }
@@ -76,7 +92,9 @@ impl Hall {
             .is_some_and(|guest| guest.has_large_answer())
     }
 
-    fn drop_slow(&mut self, clock: &impl Clock, key: usize) {
+    fn drop_slow(&mut self, clock: &impl Clock, key: usize)
+        ensures { OnlyLeave (guests_of self.old) (guests_of self.new) }
+    {
         let is_slow = match self.ticks(clock) {
             Ok(ticks) => self
                 .guests

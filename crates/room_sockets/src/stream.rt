@@ -1,4 +1,5 @@
 //! A peer's socket, of TCP or in the file system.
+ghost use Rattle.std.specs.Io.{ReadsAtMost, WritesAtMost};
 
 use mio::event::Source;
 use mio::net::{TcpStream, UnixStream};
@@ -25,25 +26,37 @@ impl Stream {
             Stream::Unix(stream) => stream.shutdown(Shutdown::Write),
         }
     }
-}
 
-impl Read for Stream {
-    fn read(&mut self, buffer: &mut [u8]) -> io::Result<usize> {
+    fn read_once(&self, buffer: &mut [u8]) -> io::Result<usize>
+        ensures { ReadsAtMost result buffer.new }
+    {
         let most = buffer.len().min(MOST_READ);
         let front = &mut buffer[..most];
         match self {
-            Stream::Tcp(stream) => stream.read(front),
-            Stream::Unix(stream) => stream.read(front),
+            Stream::Tcp(stream) => read_of(stream, front),
+            Stream::Unix(stream) => read_of(stream, front),
+        }
+    }
+
+    fn write_once(&self, piece: &[u8]) -> io::Result<usize>
+        ensures { WritesAtMost result piece.now }
+    {
+        match self {
+            Stream::Tcp(stream) => write_to(stream, piece),
+            Stream::Unix(stream) => write_to(stream, piece),
         }
     }
 }
 
-impl Write for Stream {
+impl Read for &Stream {
+    fn read(&mut self, buffer: &mut [u8]) -> io::Result<usize> {
+        self.read_once(buffer)
+    }
+}
+
+impl Write for &Stream {
     fn write(&mut self, piece: &[u8]) -> io::Result<usize> {
-        match self {
-            Stream::Tcp(stream) => stream.write(piece),
-            Stream::Unix(stream) => stream.write(piece),
-        }
+        self.write_once(piece)
     }
 
     fn flush(&mut self) -> io::Result<()> {
@@ -51,7 +64,23 @@ impl Write for Stream {
     }
 }
 
+fn read_of<R: Read + Drop>(mut reader: R, buffer: &mut [u8]) -> io::Result<usize>
+    ensures { ReadsAtMost result buffer.new }
+{
+    reader.read(buffer)
+}
+
+fn write_to<W: Write + Drop>(mut writer: W, piece: &[u8]) -> io::Result<usize>
+    ensures { WritesAtMost result piece.now }
+{
+    writer.write(piece)
+}
+
 impl Source for Stream {
+    ghost use Rattle.std.specs.Prelude.{◌≡◌};
+
+    ghost keeps = { λ before after. after ≡ before };
+
     fn register(
         &mut self,
         registry: &Registry,

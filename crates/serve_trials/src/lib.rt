@@ -1,6 +1,6 @@
 //! Trials of what one process serves, over memory: requests of HTTP and lines, whole, in pieces and
-//! in turns; of the client of lines; and of the program over readers and writers that fail. Each
-//! says whether what is found is what is due.
+//! in turns, and over sockets of this machine; of the client of lines; and of the program over
+//! readers and writers that fail. Each says whether what is found is what is due.
 #![tactic(auto)]
 
 mod answers;
@@ -10,6 +10,7 @@ mod ends;
 mod fault;
 mod limits;
 mod lines;
+mod loopback;
 mod refusals;
 mod report;
 mod requests;
@@ -39,6 +40,7 @@ pub fn hold<W: Write>(rt: &HostRuntime, output: &mut W) -> bool {
     limits::hold(rt, &mut report);
     lines::hold(rt, &mut report);
     turns::hold(rt, &mut report);
+    loopback::hold(rt, &mut report);
     sends::hold(rt, &mut report);
     answers::hold(rt, &mut report);
     ends::hold(rt, &mut report);

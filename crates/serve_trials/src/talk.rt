@@ -1,35 +1,22 @@
-//! A peer of rooms, over a stream that makes it wait.
+//! A peer of rooms, over a reader that makes it wait.
 
 use crate::due::{due, due_bytes};
 use crate::fault::Fault;
 use crate::rooms::open_rooms;
 use room_served::{HttpPeer, LinePeer, Next, Patience, Served, Side, Turn};
 use sqlite::MemStore;
-use std::alloc::Global;
 use std::hash::RandomState;
 use std::io;
-use std::io::{ErrorKind, Read, Write};
+use std::io::{ErrorKind, Read};
 
 /// More turns than any peer here needs.
 const MANY: u32 = 100_000;
 
-/// A stream in memory. What came is there at once, and after it a read has to wait, or finds the
-/// end; a write takes all.
+/// What a peer sends: what came is there at once, and after it a read has to wait, or finds the end.
 #[derive(Drop)]
 struct Tape<'a> {
     comes: &'a [u8],
     ends: bool,
-    went: Vec<u8>,
-}
-
-impl<'a> Tape<'a> {
-    fn new(alloc: Global, comes: &'a [u8]) -> Tape<'a> {
-        Tape {
-            comes,
-            ends: false,
-            went: Vec::new(alloc),
-        }
-    }
 }
 
 impl Read for Tape<'_> {
@@ -42,17 +29,6 @@ impl Read for Tape<'_> {
         buffer[..count].copy_from_slice(piece);
         self.comes = left;
         Ok(count)
-    }
-}
-
-impl Write for Tape<'_> {
-    fn write(&mut self, piece: &[u8]) -> io::Result<usize> {
-        self.went.extend_from_slice(piece)?;
-        Ok(piece.len())
-    }
-
-    fn flush(&mut self) -> io::Result<()> {
-        Ok(())
     }
 }
 
@@ -69,6 +45,7 @@ pub struct Talk<'a> {
     rooms: Served<MemStore>,
     peer: Peer,
     tape: Tape<'a>,
+    went: Vec<u8>,
 }
 
 impl<'a> Talk<'a> {
@@ -78,7 +55,8 @@ impl<'a> Talk<'a> {
         Ok(Talk {
             rooms: open_rooms(rt)?,
             peer: Peer::Http(HttpPeer::new(rt.alloc(), keys, 0)),
-            tape: Tape::new(rt.alloc(), comes),
+            tape: Tape { comes, ends: false },
+            went: Vec::new(rt.alloc()),
         })
     }
 
@@ -87,14 +65,15 @@ impl<'a> Talk<'a> {
         Ok(Talk {
             rooms: open_rooms(rt)?,
             peer: Peer::Lines(LinePeer::new(rt.alloc(), Side::Station, 0)),
-            tape: Tape::new(rt.alloc(), comes),
+            tape: Tape { comes, ends: false },
+            went: Vec::new(rt.alloc()),
         })
     }
 
     /// The peer sends this, after what it sent. What went before is forgotten.
     pub fn send(&mut self, comes: &'a [u8]) {
         self.tape.comes = comes;
-        self.tape.went.clear();
+        self.went.clear();
     }
 
     /// The peer ends after what it sends.
@@ -104,8 +83,8 @@ impl<'a> Talk<'a> {
 
     pub fn turn(&mut self, turn: Turn) -> Next {
         match &mut self.peer {
-            Peer::Http(peer) => peer.drive(&mut self.tape, &mut self.rooms, turn),
-            Peer::Lines(peer) => peer.drive(&mut self.tape, &mut self.rooms, turn),
+            Peer::Http(peer) => peer.drive(&mut self.tape, &mut self.went, &mut self.rooms, turn),
+            Peer::Lines(peer) => peer.drive(&mut self.tape, &mut self.went, &mut self.rooms, turn),
         }
     }
 
@@ -135,7 +114,7 @@ impl<'a> Talk<'a> {
 
     /// What went to the peer since it sent something.
     pub fn went(&self) -> &[u8] {
-        self.tape.went.as_slice()
+        self.went.as_slice()
     }
 
     pub fn patience(&self) -> Patience {

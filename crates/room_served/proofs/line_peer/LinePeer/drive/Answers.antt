@@ -1,23 +1,29 @@
+use Rattle.std.proofs.Common.{inl, inr, refl}
+use Rattle.std.proofs.KnownBytes.{Appends-nil}
 use Rattle.std.proofs.lemmas.Option.{same_Some}
-use Rattle.room_served.proofs.LineCalls.{stays, then}
+use Rattle.room_served.proofs.LineCalls.{kept, on, stays}
 use Rattle.room_served.proofs.Journaling as journaling
 use Rattle.room_served.proofs.line_peer.LinePeer.drive.Goals as goal
 
-pub returns-then-self-clause-goes_on : goal.returns-then-self-clause-goes_on
-returns-then-self-clause-goes_on g c = λ goes. stays g.S.Store _ _
+pub returns-then-self-clause-takes : goal.returns-then-self-clause-takes
+returns-then-self-clause-takes g c = inl (c.drain.ensures.drops.0, c.if-self.true, (c.drain.ensures.drops.1, Appends-nil _), refl, refl)
 
 pub loop-init : goal.loop-init
-loop-init g c = record { goes_on = stays g.S.Store _ _; continues = journaling.stays g.S.Store _ }
+loop-init g c = record { takes = stays g.S.Store _ _ _; continues = journaling.stays g.S.Store _ }
 
-pub returns-in-Some-clause-goes_on : goal.returns-in-Some-clause-goes_on
-returns-in-Some-clause-goes_on g c = λ goes.
-    then g.S.Store _ _ _ _ _ _ c.loop.invariant.goes_on (c.in-Some.ensures.goes_on (λ is. goes (same_Some _ _ is)))
+pub returns-in-Some-clause-takes : goal.returns-in-Some-clause-takes
+returns-in-Some-clause-takes g c =
+    let is = on g.S.Store _ _ _ _ _ _ _ _ _ _ c.loop.invariant.takes c.in-Some.ensures.takes in
+    inr (is.0, is.1, λ goes. is.2 (λ same. goes (same_Some _ _ same)))
 
 pub returns-in-Some-clause-continues : goal.returns-in-Some-clause-continues
 returns-in-Some-clause-continues g c = journaling.then g.S.Store _ _ _ c.loop.invariant.continues c.in-Some.ensures.continues
 
 pub loop-preserved : goal.loop-preserved
 loop-preserved g c = record {
-  goes_on = then g.S.Store _ _ _ _ _ _ c.loop.invariant.goes_on (c.step.ensures.goes_on (λ is. c.in_default.not-Some _ is));
+  takes = kept g.S.Store _ _ _ _ _ _ _ (λ is. c.in_default.not-Some _ is) (on g.S.Store _ _ _ _ _ _ _ _ _ _ c.loop.invariant.takes c.step.ensures.takes);
   continues = journaling.then g.S.Store _ _ _ c.loop.invariant.continues c.step.ensures.continues;
 }
+
+pub returns-clause-takes : goal.returns-clause-takes
+returns-clause-takes g c = inr (_, c.loop.invariant.takes, λ goes. refl)

@@ -1,0 +1,2 @@
+pub mod HallSteps
+pub mod Drives

@@ -1,0 +1,73 @@
+-- A turn of a peer that came in by a door (all this project's own).
+use Rattle.std.specs.Prelude.{◌≡◌, List, [], ◌∷◌, ◌++◌, None, IsFalse}
+use Rattle.http_server.specs.Connection.{history}
+use Rattle.http_server.specs.History.{new_history}
+use Rattle.sqlite_trees.specs.declared.store.Store.{Ghosts}
+use Rattle.room_served.specs.HttpPeers as http
+use Rattle.room_served.specs.LinePeers as lines
+use Rattle.room_served.specs.Streams.{Ends}
+use Rattle.room_served.specs.Lines.{input_of, output_of, side_of}
+use Rattle.room_served.specs.declared.line_connection.Side.{Side}
+use Rattle.room_served.specs.declared.line_connection.Side.TheVariants as side_is
+use Rattle.room_served.specs.declared.line_peer.LinePeer.{LinePeer}
+use Rattle.room_served.specs.declared.served.Served.{Served}
+use Rattle.room_served.specs.declared.step.Next.{Next}
+use Rattle.room_served.specs.declared.step.Next.TheVariants.{Hold, Wait}
+use Rattle.room_served.specs.declared.step.Turn.{Turn}
+use Rattle.room_sockets.specs.declared.doors.Kind.{Kind}
+use Rattle.room_sockets.specs.declared.doors.Kind.TheVariants.{Clients, Operators, Stations}
+use Rattle.room_sockets.specs.declared.guest.Guest.{Guest}
+use Rattle.room_sockets.specs.declared.guest.Peer.{Peer}
+use Rattle.room_sockets.specs.declared.guest.Peer.TheVariants.{Http, Lines}
+
+abbrev pub peer_of : Guest → Peer
+peer_of guest = guest.peer
+
+-- its turns so far, each with what came of it
+abbrev pub turns_of : Guest → List (Turn × Next)
+turns_of guest = guest.turns.items
+
+-- no line came yet, and it is the one side's
+pub record IsNewOf (whose : Side) (peer : LinePeer) : Type 0 where
+  pub side : side_of (lines.lines_of peer) ≡ whose
+  pub input : input_of (lines.lines_of peer) ≡ []
+  pub output : output_of (lines.lines_of peer) ≡ []
+
+-- who came in by a door speaks what that door is for, and nothing came of it yet
+abbrev pub CameBy : Kind → Peer → Type 0
+CameBy Clients (Http peer) = history (http.connection_of peer) ≡ new_history
+CameBy Stations (Lines peer) = IsNewOf side_is.Station peer
+CameBy Operators (Lines peer) = IsNewOf side_is.Operator peer
+CameBy _ _ = ⊥
+
+-- it came in by a door, and had no turn yet
+abbrev pub IsNew : Guest → Type 0
+IsNew guest = (kind : Kind) × CameBy kind (peer_of guest) × (turns_of guest ≡ [])
+
+-- each whole request that came has its call, or no line is whole where nothing waits to go
+abbrev pub IsAtRest : Peer → Type 0
+IsAtRest (Http peer) = http.IsAtRest peer
+IsAtRest (Lines peer) = lines.HasTaken (lines.lines_of peer)
+
+-- of a socket it is not known what reads will give, nor what was written to it
+abbrev pub of_socket : Ends
+of_socket = (None, None)
+
+module _ {S : Type 0} (store : Ghosts S) where
+  -- what came on this connection is taken, by what is spoken on it, and nothing else becomes of the
+  -- rooms: each request is a call of the service, and each line is applied, or a bad one
+  abbrev pub TakesTurn : (ends ends2 : Ends) (next : Next) (before after : Peer)
+      (old new : Served S) → Type 0
+  TakesTurn ends ends2 next (Http before) (Http after) old new =
+      http.MakesCalls store before after old new × http.IsLater ends ends2 before after
+  TakesTurn ends ends2 next (Lines before) (Lines after) old new =
+      lines.TakesTurn store ends ends2 next before after old new
+  TakesTurn _ _ _ _ _ _ _ = ⊥
+
+  -- a guest had this turn, and this came of it
+  pub record HasTurn (turn : Turn) (next : Next) (before after : Guest) (old new : Served S)
+      : Type 0 where
+    pub takes : TakesTurn of_socket of_socket next (peer_of before) (peer_of after) old new
+    pub rests : next ≡ Wait → IsAtRest (peer_of after)
+    pub holds : next ≡ Hold → IsFalse turn.has_room
+    pub turns : turns_of after ≡ turns_of before ++ (turn, next) ∷ []

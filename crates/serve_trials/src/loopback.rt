@@ -1,0 +1,227 @@
+//! The loop over all sockets: three doors on free ports of this machine, and visitors who come in
+//! by them. All of it is one thread: between any two turns of the hall each visitor goes on.
+
+use crate::due::{due_bytes, holds, of_case};
+use crate::fault::Fault;
+use crate::lines::PRINT;
+use crate::report::Report;
+use crate::rooms::rooms;
+use room_served::Served;
+use room_sockets::{Door, Doors, Hall};
+use sqlite::MemStore;
+use std::hash::RandomState;
+use std::io;
+use std::io::{ErrorKind, Read, Write};
+use std::net::{Ipv4Addr, Shutdown, SocketAddr, TcpStream};
+
+/// More turns than these visitors need. One lasts a quarter of a second at most, since somebody is
+/// always there.
+const TURNS: u32 = 200;
+
+/// How many bytes a visitor sends at once, so that their requests come in turns.
+const PIECE: usize = 60;
+
+const OPERATOR: &[u8] =
+    b"open alice\nopen bob\ndevice d1 on\nrate d1 2\ngrant alice 2000-01 100\nopen alice\n";
+
+const OPERATOR_TOLD: &[u8] = b"ok\nok\nok\nok\nok\nexists\n";
+
+/// The answer to `PRINT`, with its head.
+const PRINTED: &[u8] =
+    b"HTTP/1.1 200 OK\r\ncontent-type: application/ipp\r\ncontent-length: 197\r\n\r\n\
+    \x01\x01\x00\x00\x00\x00\x00\x02\x01\
+    \x47\x00\x12attributes-charset\x00\x05utf-8\
+    \x48\x00\x1battributes-natural-language\x00\x02en\x02\
+    \x45\x00\x07job-uri\x00\x21ipp://localhost/ipp/print/alice/1\
+    \x21\x00\x06job-id\x00\x04\x00\x00\x00\x01\
+    \x23\x00\x09job-state\x00\x04\x00\x00\x00\x04\
+    \x44\x00\x11job-state-reasons\x00\x18job-hold-until-specified\x03";
+
+/// Print-Job for the queue of bob: 122 bytes.
+const PRINT_OF_BOB: &[u8] =
+    b"POST /ipp/print/bob HTTP/1.1\r\nHost: localhost\r\nContent-Type: application/ipp\r\nContent-Length: 122\r\n\r\n\
+    \x01\x01\x00\x02\x00\x00\x00\x03\x01\
+    \x47\x00\x12attributes-charset\x00\x05utf-8\
+    \x48\x00\x1battributes-natural-language\x00\x02en\
+    \x45\x00\x0bprinter-uri\x00\x1dipp://localhost/ipp/print/bob\x03World";
+
+const PRINTED_OF_BOB: &[u8] =
+    b"HTTP/1.1 200 OK\r\ncontent-type: application/ipp\r\ncontent-length: 195\r\n\r\n\
+    \x01\x01\x00\x00\x00\x00\x00\x03\x01\
+    \x47\x00\x12attributes-charset\x00\x05utf-8\
+    \x48\x00\x1battributes-natural-language\x00\x02en\x02\
+    \x45\x00\x07job-uri\x00\x1fipp://localhost/ipp/print/bob/1\
+    \x21\x00\x06job-id\x00\x04\x00\x00\x00\x01\
+    \x23\x00\x09job-state\x00\x04\x00\x00\x00\x04\
+    \x44\x00\x11job-state-reasons\x00\x18job-hold-until-specified\x03";
+
+const STATION: &[u8] =
+    b"release d1 alice 1 - 12\nstart d1 alice 1\nopen carol\nsettle d1 alice 1 5 done\n";
+
+const STATION_TOLD: &[u8] =
+    b"ok reserved 24 left 76\ndocuments 1\ndocument 1 1 application/octet-stream 5\nHello\nbad-line\n\
+    ok charged 10 left 90\n";
+
+pub fn hold<W: Write>(rt: &HostRuntime, report: &mut Report<'_, W>) {
+    report.tell("visitors over sockets", visitors_over_sockets(rt));
+}
+
+/// The ports of the three doors.
+#[derive(Clone, Copy)]
+struct Ports {
+    http: u16,
+    stations: u16,
+    operators: u16,
+}
+
+/// Somebody who came in by a door: what is still to be sent, what is due, and what was told.
+#[derive(Drop)]
+struct Visitor<'a> {
+    stream: TcpStream,
+    sends: &'a [u8],
+    due: &'a [u8],
+    told: Vec<u8>,
+    has_ended: bool,
+}
+
+impl<'a> Visitor<'a> {
+    fn enter(
+        rt: &HostRuntime,
+        port: u16,
+        sends: &'a [u8],
+        due: &'a [u8],
+    ) -> Result<Visitor<'a>, Fault> {
+        let stream = TcpStream::connect(rt, SocketAddr::from((Ipv4Addr::LOCALHOST, port)))?;
+        stream.set_nonblocking(true)?;
+        Ok(Visitor {
+            stream,
+            sends,
+            due,
+            told: Vec::new(rt.alloc()),
+            has_ended: false,
+        })
+    }
+
+    /// Sends a piece, and hears what was told meanwhile.
+    fn go_on(&mut self) -> io::Result<()> {
+        let piece = &self.sends[..self.sends.len().min(PIECE)];
+        let count = unless_it_waits(self.stream.write(piece))?.unwrap_or(0);
+        self.sends = self.sends.get(count..).unwrap_or(b"");
+        self.hear()
+    }
+
+    fn hear(&mut self) -> io::Result<()> {
+        let mut bytes = [0; 1_024];
+        if let Some(count) = unless_it_waits(self.stream.read(&mut bytes))? {
+            self.has_ended = count == 0;
+            self.told
+                .extend_from_slice(bytes.get(..count).unwrap_or(b""))?;
+        }
+        Ok(())
+    }
+
+    /// Whether it was told as much as is due.
+    fn is_told(&self) -> bool {
+        self.told.len() >= self.due.len()
+    }
+
+    fn is_told_what_is_due(&self, rt: &HostRuntime) -> Result<(), Fault> {
+        of_case(rt, self.due, due_bytes(rt, self.told.as_slice(), self.due))
+    }
+}
+
+/// What a read or a write gave or took, or `None` where it would have to wait.
+fn unless_it_waits(count: io::Result<usize>) -> io::Result<Option<usize>> {
+    match count {
+        Ok(count) => Ok(Some(count)),
+        Err(error) if error.kind() == ErrorKind::WouldBlock => Ok(None),
+        Err(error) => Err(error),
+    }
+}
+
+/// An operator opens accounts; two people print at once, each request cut into pieces; a station
+/// hands one job out. Each is told its own, and whoever ends is let go.
+fn visitors_over_sockets(rt: &HostRuntime) -> Result<(), Fault> {
+    let doors = Doors {
+        http: Door::at_port(rt, 0)?,
+        stations: Door::at_port(rt, 0)?,
+        operators: Door::at_port(rt, 0)?,
+    };
+    let ports = ports_of(&doors)?;
+    let mut rooms = rooms(rt)?;
+    let mut hall = Hall::open(rt, doors, RandomState::new(rt)?)?;
+    visit(rt, &mut hall, &mut rooms, ports)
+}
+
+fn ports_of(doors: &Doors) -> Result<Ports, Fault> {
+    Ok(Ports {
+        http: doors.http.port().ok_or(Fault::Io)?,
+        stations: doors.stations.port().ok_or(Fault::Io)?,
+        operators: doors.operators.port().ok_or(Fault::Io)?,
+    })
+}
+
+fn visit(
+    rt: &HostRuntime,
+    hall: &mut Hall,
+    rooms: &mut Served<MemStore>,
+    ports: Ports,
+) -> Result<(), Fault> {
+    let mut visitors = Vec::new(rt.alloc());
+    visitors.push(Visitor::enter(rt, ports.operators, OPERATOR, OPERATOR_TOLD)?)?;
+    until_told(rt, hall, rooms, &mut visitors)?;
+    visitors.push(Visitor::enter(rt, ports.http, PRINT, PRINTED)?)?;
+    visitors.push(Visitor::enter(rt, ports.http, PRINT_OF_BOB, PRINTED_OF_BOB)?)?;
+    until_told(rt, hall, rooms, &mut visitors)?;
+    visitors.push(Visitor::enter(rt, ports.stations, STATION, STATION_TOLD)?)?;
+    until_told(rt, hall, rooms, &mut visitors)?;
+    until_let_go(rt, hall, rooms, &mut visitors)
+}
+
+/// Turns until all were told what is due.
+fn until_told(
+    rt: &HostRuntime,
+    hall: &mut Hall,
+    rooms: &mut Served<MemStore>,
+    visitors: &mut [Visitor<'_>],
+) -> Result<(), Fault> {
+    for _ in 0..TURNS {
+        for visitor in visitors.iter_mut() {
+            visitor.go_on()?;
+        }
+        if visitors.iter().all(|visitor| visitor.is_told()) {
+            break;
+        }
+        hall.turn(rt, rooms)?;
+    }
+    for visitor in visitors.iter() {
+        visitor.is_told_what_is_due(rt)?;
+    }
+    Ok(())
+}
+
+/// All but the operator end; turns until they hear the end too.
+fn until_let_go(
+    rt: &HostRuntime,
+    hall: &mut Hall,
+    rooms: &mut Served<MemStore>,
+    visitors: &mut [Visitor<'_>],
+) -> Result<(), Fault> {
+    for visitor in visitors.iter().skip(1) {
+        visitor.stream.shutdown(Shutdown::Write)?;
+    }
+    for _ in 0..TURNS {
+        for visitor in visitors.iter_mut() {
+            visitor.hear()?;
+        }
+        if visitors.iter().skip(1).all(|visitor| visitor.has_ended) {
+            break;
+        }
+        hall.turn(rt, rooms)?;
+    }
+    for visitor in visitors.iter() {
+        visitor.is_told_what_is_due(rt)?;
+    }
+    let left = visitors.iter().filter(|visitor| !visitor.has_ended).count();
+    holds(rt, left == 1, "all but the operator are let go")
+}
