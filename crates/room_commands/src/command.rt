@@ -76,10 +76,11 @@ pub enum Command<'a> {
     Send(Sending<'a>),
 }
 
-// Why words that the parser let through are no command line all the same.
+// Why words are no command line, where the parser does not find it.
 #[derive(Clone, Copy)]
 enum Unfit {
     Missing,
+    Text,
     Units,
     Port,
     Count,
@@ -94,6 +95,7 @@ impl Unfit {
     fn usage(self) -> Option<&'static str> {
         match self {
             Unfit::Missing => Some("a word is missing"),
+            Unfit::Text => Some("a word is not UTF-8"),
             Unfit::Units => Some("UNITS is a number from 1 to 100"),
             Unfit::Port => Some("PORT is a number from 1 to 65535"),
             Unfit::Count => Some("COUNT is a number from 0 to 1000000"),
@@ -115,6 +117,14 @@ impl Unfit {
             Ok(error) => Fault::Usage(error),
             Err(error) => Fault::from(error),
         }
+    }
+}
+
+/// Why words of which one is not UTF-8 are no command line.
+pub(crate) fn not_text(alloc: Global) -> Fault {
+    match program(alloc) {
+        Ok(mut program) => Unfit::Text.fault(&mut program),
+        Err(error) => Fault::from(error),
     }
 }
 

@@ -3,6 +3,7 @@
 #![tactic(auto)]
 
 mod address;
+mod arguments;
 mod command;
 mod database;
 mod fault;
@@ -19,6 +20,7 @@ mod tables;
 mod words;
 
 pub use address::Address;
+pub use arguments::words_of;
 pub use command::MEMORY;
 pub use database::{InFile, InMemory, run_on};
 pub use fault::Fault;

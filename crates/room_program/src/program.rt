@@ -3,9 +3,8 @@
 use crate::listening::listen;
 use crate::sending::send;
 use crate::serving::serve;
-use room_commands::{Fault, Listening, Sending, Serving, run_on};
+use room_commands::{Fault, Listening, Sending, Serving, run_on, words_of};
 use room_sockets::moment;
-use std::env;
 use std::io::{BufWriter, Write};
 
 /// Does what the words after the program's name ask for, over the standard streams, and answers the
@@ -24,8 +23,8 @@ pub fn start(rt: &HostRuntime) -> u8 {
 // The exit status of a run, or why it could not begin.
 fn begin(rt: &HostRuntime) -> Result<u8, Fault> {
     let alloc = rt.alloc();
-    let arguments: Vec<String> = env::args(rt)?.skip(1).collect(alloc)?;
-    let words: Vec<&str> = arguments.iter().map(|word| word.as_str()).collect(alloc)?;
+    let given = words_of(rt)?;
+    let words: Vec<&str> = given.iter().map(|word| word.as_str()).collect(alloc)?;
     let mut output = BufWriter::new(alloc, rt.stdout())?;
     run(rt, words.as_slice(), &mut output)
 }

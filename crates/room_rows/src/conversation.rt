@@ -29,14 +29,16 @@ struct Asked {
 pub struct Conversation {
     asked: Vec<Asked>,
     printed: String,
+    /// Whether the lines of a message that come next go on what is printed.
     is_answer: bool,
     is_reopened: bool,
 }
 
 impl Conversation {
-    /// That of the lines. One that begins with `> ` begins a line of a script, or a step of its
-    /// own, and `> N times ` so many of them; one with `< ` begins a line of the output. The lines
-    /// under each spell the message that goes on it. `opened` stands for `OPENED`; `reopened` says
+    /// That of the lines. One that begins with `> ` begins a line of a script, at `MOMENT` if it
+    /// names none, or a step of its own, and `> N times ` so many of them; one with `< ` begins a
+    /// line of the output. The lines under each spell the message that goes on it; such a line
+    /// before any is `Message`. `opened` stands for `OPENED`; `reopened` says
     /// that the conversation is also one with a file that is closed and opened again between any
     /// two lines; an empty line, and one that begins with `-- `, say nothing.
     pub fn read(alloc: Global, lines: &str) -> Result<Conversation, RowFault> {
@@ -52,6 +54,7 @@ impl Conversation {
         Ok(talk)
     }
 
+    /// Adds one line, as `read` says. After a fault part of it may be added.
     fn add(&mut self, alloc: Global, line: &str) -> Result<(), RowFault> {
         match line {
             "opened" => {

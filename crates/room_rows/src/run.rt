@@ -37,7 +37,7 @@ enum Told {
 /// A run, and how it should end.
 #[derive(Drop)]
 pub struct Run {
-    words: String,
+    words: Vec<u8>,
     clock: Option<u64>,
     input: Vec<u8>,
     printed: Printed,
@@ -65,9 +65,8 @@ impl Run {
 
     /// That of the words, which are parted by a space.
     fn new(alloc: Global, words: &str) -> Result<Run, RowFault> {
-        let words = unescaped(alloc, words)?;
         Ok(Run {
-            words: String::from_utf8(words).map_err(|_| RowFault::Text)?,
+            words: unescaped(alloc, words)?,
             clock: Some(MOMENT),
             input: Vec::new(alloc),
             printed: Printed::Whole(Vec::new(alloc)),
@@ -152,11 +151,11 @@ impl Run {
     }
 
     /// Its words, those after the program's name.
-    pub fn words(&self, alloc: Global) -> Result<Vec<&str>, AllocError> {
+    pub fn words(&self, alloc: Global) -> Result<Vec<&[u8]>, AllocError> {
         if self.words.is_empty() {
             return Ok(Vec::new(alloc));
         }
-        self.words.split(' ').collect(alloc)
+        self.words.split(|byte| *byte == b' ').collect(alloc)
     }
 
     /// The clock's moment, if it has one.
@@ -182,7 +181,7 @@ impl Run {
         if status == self.status && self.prints(output.as_str()) && self.tells(errors.as_str()) {
             return Ok(None);
         }
-        let words = self.words.as_str();
+        let words = String::from_utf8_lossy(alloc, self.words.as_slice())?;
         Ok(Some(format!(in alloc;
             "{words}: status {status}\n  printed {output}\n  told {errors}"
         )?))

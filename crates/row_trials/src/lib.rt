@@ -5,6 +5,7 @@
 mod answers;
 mod exchanges;
 mod failing;
+mod given;
 mod program;
 mod room_file;
 mod rows;

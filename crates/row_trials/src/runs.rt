@@ -1,7 +1,8 @@
 //! Rows of runs, held against the program.
 
+use crate::given::Given;
 use crate::room_file::RoomFile;
-use room_commands::run_on;
+use room_commands::{Fault as ProgramFault, run_on, words_of};
 use room_rows::{Run, RunStep, run_steps};
 use sqlite::{Alter, Connection};
 use table_trials::FileTables;
@@ -44,15 +45,39 @@ where
 }
 
 fn run_differs(rt: &HostRuntime, run: &Run) -> Result<Option<String>, Fault> {
-    let words = run.words(rt.alloc())?;
-    let (mut output, mut errors) = (Vec::new(rt.alloc()), Vec::new(rt.alloc()));
-    let status = run_on(
+    let alloc = rt.alloc();
+    let words = run.words(alloc)?;
+    let given = Given {
+        alloc,
+        words: words.as_slice(),
+    };
+    let (mut output, mut errors) = (Vec::new(alloc), Vec::new(alloc));
+    let status = match status_of(rt, run, &given, &mut output, &mut errors) {
+        Ok(status) => status,
+        Err(fault) => {
+            fault.report(&mut errors)?;
+            fault.status()
+        }
+    };
+    Ok(run.differs(alloc, status, output.as_slice(), errors.as_slice())?)
+}
+
+/// The exit status, or why the run could not begin, as `start` of the program tells it.
+fn status_of(
+    rt: &HostRuntime,
+    run: &Run,
+    given: &Given<'_>,
+    output: &mut Vec<u8>,
+    errors: &mut Vec<u8>,
+) -> Result<u8, ProgramFault> {
+    let words = words_of(given)?;
+    let words: Vec<&str> = words.iter().map(|word| word.as_str()).collect(given.alloc)?;
+    Ok(run_on(
         rt,
         words.as_slice(),
         run.clock(),
         run.input(),
-        &mut output,
-        &mut errors,
-    );
-    Ok(run.differs(rt.alloc(), status, output.as_slice(), errors.as_slice())?)
+        output,
+        errors,
+    ))
 }
