@@ -18,12 +18,12 @@ use Rattle.sqlite_rules.specs.Lists.{Has}
 use Rattle.sqlite.specs.Effect.{Database}
 use Rattle.sqlite.specs.Given.{HasBegun}
 use Rattle.sqlite.specs.Held.{Held, state}
-use Rattle.sqlite.specs.State.{State, Shown, Begins, Fails, IsUnchanged, FailsToQuery, QueriesRow}
+use Rattle.sqlite.specs.State.{State, HasCleanDisk, Survives, CommitsShowing, Shown, Begins, Fails, IsUnchanged, FailsToQuery, QueriesRow}
 use Rattle.sqlite.proofs.Callers.{begins_as}
 use Rattle.room_tables.specs.Queries.{HasNoSums, Means, TakesParams, of_table, shown_of, IsShownBy}
-use Rattle.room_tables.specs.Calls.{IsUnchanged as HasSameTables, UnchangedIfOpen}
+use Rattle.room_tables.specs.Calls.{IsUnchanged as HasSameTables, LeavesNoMore, UnchangedIfOpen}
 use Rattle.room_statements.specs.ProofWalks.{GathersAll, GathersShown, RefusesShown, WalksShown, WalksOver}
-use Rattle.room_tables.proofs.Queries.{answer_is, answered, fails}
+use Rattle.room_tables.proofs.Queries.{answer_is, answered, fails, leaves_no_more}
 use Rattle.room_tables.proofs.Reading.{BothOpen, shown_open, open_back}
 
 -- ---- steps
@@ -81,6 +81,10 @@ module _ (old : State) (text : List ℕ) (query : Query) (names : List (List ℕ
       let start = (begins_as text params now now old.now.schema (same_schema now same) _ means.is means.is_plain means.lists_nothing given h).1 in
       (start.0, subst (λ (db : Database). IsShownBy query db.trees params (given ++ start.0)) same.0.now_is (start.1 Null))
 
+  -- a crash finds nothing of it
+  pub crash_after : (new : State) → Survives old new (CommitsShowing text params old) → HasCleanDisk new → LeavesNoMore old new
+  crash_after new = leaves_no_more old new old.now.schema refl text query names parameters means params
+
 -- ---- what a failure counts as
 
 never_for : (code : ErrorCode) → statement_fault (SqliteFailure code) ≡ Damaged → ⊥
@@ -122,11 +126,11 @@ never_damaged (errors.InvalidColumnType a b) h = let e = h in cc
 never_damaged (errors.IntegralValueOutOfRange a) h = let e = h in cc
 never_damaged (errors.Utf8Error a) h = let e = h in cc
 
-module _ {G : Type 0} (step : G → Row → G → Type 0) (refuses : G → Row → Type 0) (old new : State) (IsShown : List Row → Type 0) (first last : G) where
+module _ {G : Type 0} (step : G → Row → G → Type 0) (refuses : G → Row → Type 0) (old new : State) (crash : LeavesNoMore old new) (IsShown : List Row → Type 0) (first last : G) where
   pub walk_failed : (fault : TableFault) (result : Result (Unit {0}) TableFault) → result ≡ Err fault → (fault ≡ Damaged → RefusesShown step refuses IsShown first) → UnchangedIfOpen old new
       → WalksShown step refuses old new IsShown first last result
   walk_failed fault result is damaged stays =
-      subst (WalksShown step refuses old new IsShown first last) (sym is) (record { all = tt; damaged = λ e. damaged (same_fault e); same = tt; stays = stays })
+      subst (WalksShown step refuses old new IsShown first last) (sym is) (record { all = tt; damaged = λ e. damaged (same_fault e); same = tt; stays = stays; crash = crash })
 
   pub statement_failed : (error : Error) (fault : TableFault) (result : Result (Unit {0}) TableFault) → result ≡ Err fault → fault ≡ statement_fault error → UnchangedIfOpen old new
       → WalksShown step refuses old new IsShown first last result
@@ -134,12 +138,13 @@ module _ {G : Type 0} (step : G → Row → G → Type 0) (refuses : G → Row �
 
   pub walk_done : (result : Result (Unit {0}) TableFault) → result ≡ Ok tt → GathersShown step refuses IsShown first last → IsUnchanged old new → WalksShown step refuses old new IsShown first last result
   walk_done result is all same =
-      subst (WalksShown step refuses old new IsShown first last) (sym is) (record { all = all; damaged = λ e. absurd (let no = e in cc); same = unchanged_same old new same; stays = unchanged_stays old new same })
+      subst (WalksShown step refuses old new IsShown first last) (sym is) (record { all = all; damaged = λ e. absurd (let no = e in cc); same = unchanged_same old new same; stays = unchanged_stays old new same; crash = crash })
 
-  -- what is shown is told in other words
+-- what is shown is told in other words
+module _ {G : Type 0} (step : G → Row → G → Type 0) (refuses : G → Row → Type 0) (old new : State) (IsShown : List Row → Type 0) (first last : G) where
   pub told_as : (IsTold : List Row → Type 0) → ((rows : List Row) → IsShown rows → IsTold rows) → (result : Result (Unit {0}) TableFault) → WalksShown step refuses old new IsShown first last result
       → WalksShown step refuses old new IsTold first last result
-  told_as IsTold tells (Ok done) it = record { all = (it.all.0, tells it.all.0 it.all.1, it.all.2); damaged = λ e. absurd (let no = e in cc); same = it.same; stays = it.stays }
+  told_as IsTold tells (Ok done) it = record { all = (it.all.0, tells it.all.0 it.all.1, it.all.2); damaged = λ e. absurd (let no = e in cc); same = it.same; stays = it.stays; crash = it.crash }
   told_as IsTold tells (Err fault) it = record {
     all = tt;
     damaged = λ e.
@@ -147,6 +152,7 @@ module _ {G : Type 0} (step : G → Row → G → Type 0) (refuses : G → Row �
         record { given = one.given; row = one.row; more = one.more; so_far = one.so_far; are_shown = tells ((one.given ++ one.row ∷ []) ++ one.more) one.are_shown; gathered = one.gathered; refused = one.refused };
     same = tt;
     stays = it.stays;
+    crash = it.crash;
   }
 
 -- the row that was refused is one of those that are shown

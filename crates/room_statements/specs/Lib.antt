@@ -6,6 +6,7 @@ pub mod Queues
 pub mod SoundRows
 pub mod Updates
 pub mod Alone
+pub mod Changed
 pub mod Rows
 pub mod NewDocuments
 pub mod Words

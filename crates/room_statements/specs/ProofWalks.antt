@@ -9,7 +9,7 @@ use Rattle.sqlite.specs.State.{State}
 use Rattle.sqlite.specs.Held.{Held, state}
 use Rattle.room_tables.specs.declared.fault.TableFault.{TableFault}
 use Rattle.room_tables.specs.declared.fault.TableFault.TheVariants.{Damaged}
-use Rattle.room_tables.specs.Calls.{IsUnchanged, UnchangedIfOpen, IfOurTables}
+use Rattle.room_tables.specs.Calls.{IsUnchanged, LeavesNoMore, UnchangedIfOpen, IfOurTables}
 use Rattle.room_tables.specs.Queries.{HasNoSums, Means, TakesParams, IsShownBy}
 
 -- row by row, each step from what the one before left
@@ -45,6 +45,7 @@ module _ {G : Type 0} (step : G → Row → G → Type 0) (refuses : G → Row �
     pub damaged : result ≡ Err Damaged → RefusesShown IsShown first
     pub same : OnOk result (IsUnchanged old new)
     pub stays : UnchangedIfOpen old new
+    pub crash : LeavesNoMore old new
 
   -- whatever query the text means, this is what the walk comes to
   abbrev pub Walks : (old new : State) (text : List ℕ) (params : Row) (first last : G)

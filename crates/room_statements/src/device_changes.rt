@@ -1,15 +1,12 @@
 //! A device is turned on or off, or gets another rate.
 
-ghost use Rattle.std.specs.Prelude.{◌≡◌, false, true, not, IsTrue};
-ghost use Rattle.room_statements.specs.Words.{AllOrNothing, Changes, SetsRow, WritesInTransaction};
-ghost use Rattle.std.specs.FinMap.{contains_key};
-ghost use Rattle.room_rules.specs.Devices.{Devices, turned, rated};
+ghost use Rattle.std.specs.Prelude.{◌≡◌, false, IsTrue};
+ghost use Rattle.room_statements.specs.Words.{AllOrNothing, Changes, LeavesWhole, SetsRow, WritesInTransaction};
 ghost use Rattle.room_rules.specs.Limits.{IsRate};
 ghost use Rattle.room_rules.specs.Names.{is_name};
 ghost use Rattle.room_tables.specs.Cells.{units_cells};
-ghost use Rattle.room_tables.specs.Devices.{HoldsDevices};
 ghost use Rattle.room_tables.specs.Tables.{rates as rates_table};
-ghost use Rattle.room_statements.specs.Alone.{OnlyDevices};
+ghost use Rattle.room_statements.specs.Changed.{RatesDevice, SwitchesDevice};
 ghost use Rattle.room_statements.specs.Rows.{TurnsDevice};
 
 use crate::{set_device, set_rate};
@@ -24,10 +21,9 @@ pub fn turn_device<S: Alter>(
     is_new: bool,
 ) -> Result<(), Error>
     requires { connection.old.in_transaction ≡ false }
-    ensures devices { Changes S.Store connection.old connection.new result
-        (λ before after. (devices : Devices) → HoldsDevices before devices →
-        is_new ≡ not (contains_key devices name) → HoldsDevices after (turned devices name on)) }
-    ensures alone { Changes S.Store connection.old connection.new result OnlyDevices }
+    ensures turns { Changes S.Store connection.old connection.new result
+        (SwitchesDevice name on is_new) }
+    ensures crash { LeavesWhole S.Store connection.old connection.new (SwitchesDevice name on is_new) }
     ensures whole { AllOrNothing S.Store connection.old connection.new result }
 {
     put_device(connection, name, on, is_new)
@@ -42,6 +38,7 @@ fn put_device<S: Alter>(
     requires { connection.old.in_transaction ≡ false }
     ensures turns { Changes S.Store connection.old connection.new result
         (TurnsDevice name on is_new) }
+    ensures crash { LeavesWhole S.Store connection.old connection.new (TurnsDevice name on is_new) }
     ensures name { IsTrue (is_name name) }
     ensures whole { AllOrNothing S.Store connection.old connection.new result }
 {
@@ -76,10 +73,8 @@ pub fn rate_device<S: Alter>(
 ) -> Result<(), Error>
     requires mode { connection.old.in_transaction ≡ false }
     requires units { IsRate units }
-    ensures devices { Changes S.Store connection.old connection.new result
-        (λ before after. (devices : Devices) → HoldsDevices before devices →
-        contains_key devices name ≡ true → HoldsDevices after (rated devices name units)) }
-    ensures alone { Changes S.Store connection.old connection.new result OnlyDevices }
+    ensures rates { Changes S.Store connection.old connection.new result (RatesDevice name units) }
+    ensures crash { LeavesWhole S.Store connection.old connection.new (RatesDevice name units) }
     ensures whole { AllOrNothing S.Store connection.old connection.new result }
 {
     put_rate(connection, name, units)
@@ -88,6 +83,8 @@ pub fn rate_device<S: Alter>(
 fn put_rate<S: Alter>(connection: &mut Connection<S>, name: Name, units: u32) -> Result<(), Error>
     requires { connection.old.in_transaction ≡ false }
     ensures sets { Changes S.Store connection.old connection.new result
+        (SetsRow rates_table (units_cells name units)) }
+    ensures crash { LeavesWhole S.Store connection.old connection.new
         (SetsRow rates_table (units_cells name units)) }
     ensures name { IsTrue (is_name name) }
     ensures whole { AllOrNothing S.Store connection.old connection.new result }

@@ -1,12 +1,10 @@
 //! Pages are granted.
 
 ghost use Rattle.std.specs.Prelude.{◌≡◌, false};
-ghost use Rattle.room_statements.specs.Words.{AllOrNothing, Changes, HoldsRoom, RoomValue, SetsRow};
-ghost use Rattle.room_state.specs.Changes.{with_grant};
-ghost use Rattle.room_state.specs.Conditions.{CanAddGrant};
+ghost use Rattle.room_statements.specs.Words.{AllOrNothing, Changes, LeavesWhole, SetsRow};
 ghost use Rattle.room_tables.specs.Cells.{grant_cells};
 ghost use Rattle.room_tables.specs.Tables.{grants as grants_table};
-ghost use Rattle.room_statements.specs.Alone.{OnlyAccount};
+ghost use Rattle.room_statements.specs.Changed.{GrantsPages};
 
 use crate::set_grant;
 use room_rules::Name;
@@ -20,10 +18,9 @@ pub fn add_grant<S: Alter>(
     pages: u32,
 ) -> Result<(), Error>
     requires { connection.old.in_transaction ≡ false }
-    ensures room { Changes S.Store connection.old connection.new result
-        (λ before after. (room : RoomValue) → HoldsRoom before account room →
-        CanAddGrant room month pages → HoldsRoom after account (with_grant room month pages)) }
-    ensures alone { Changes S.Store connection.old connection.new result (OnlyAccount account) }
+    ensures grants { Changes S.Store connection.old connection.new result
+        (GrantsPages account month pages) }
+    ensures crash { LeavesWhole S.Store connection.old connection.new (GrantsPages account month pages) }
     ensures whole { AllOrNothing S.Store connection.old connection.new result }
 {
     put_grant(connection, account, month, pages)
@@ -37,6 +34,8 @@ fn put_grant<S: Alter>(
 ) -> Result<(), Error>
     requires { connection.old.in_transaction ≡ false }
     ensures sets { Changes S.Store connection.old connection.new result
+        (SetsRow grants_table (grant_cells account month pages)) }
+    ensures crash { LeavesWhole S.Store connection.old connection.new
         (SetsRow grants_table (grant_cells account month pages)) }
     ensures whole { AllOrNothing S.Store connection.old connection.new result }
 {

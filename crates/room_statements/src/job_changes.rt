@@ -1,16 +1,11 @@
 //! A job is made, its standing changes, or it ends.
 
 ghost use Rattle.std.specs.Prelude.{◌≡◌, ◌<◌, ◌+◌, false, pos, None, Some, Err};
-ghost use Rattle.room_statements.specs.Words.{AllOrNothing, Changes, HoldsRoom, IfOurTables, RoomValue, WritesInTransaction};
-ghost use Rattle.room_rules.specs.declared.account.Account.{Account as AccountValue};
-ghost use Rattle.room_rules.specs.declared.job.Job.{Job as JobValue};
+ghost use Rattle.room_statements.specs.Words.{AllOrNothing, Changes, IfOurTables, LeavesWhole, WritesInTransaction};
 ghost use Rattle.room_rules.specs.Limits.{last_next_job};
 ghost use Rattle.room_rules.specs.Standings.{IsStanding};
-ghost use Rattle.room_state.specs.Changes.{with_ended, with_new_job, with_standing};
-ghost use Rattle.room_state.specs.Conditions.{CanAddJob, CanFinish, CanRestand};
-ghost use Rattle.room_tables.specs.Accounts.{account_at, job_at};
-ghost use Rattle.room_tables.specs.Cells.{account_cells, job_cells};
-ghost use Rattle.room_statements.specs.Alone.{OnlyAccount};
+ghost use Rattle.room_tables.specs.Accounts.{job_at};
+ghost use Rattle.room_statements.specs.Changed.{FinishesJob, MakesJob, RestandsJob};
 ghost use Rattle.room_statements.specs.NewDocuments.{document_of, first_of};
 ghost use Rattle.room_statements.specs.Rows.{AddsJob, EndsJob, IsFree, Restands};
 ghost use Rattle.room_statements.specs.Updates.{SetsNextJob};
@@ -31,14 +26,10 @@ pub fn make_job<S: Alter>(
     requires mode { connection.old.in_transaction ≡ false }
     requires standing { IsStanding job.now.standing }
     requires number { job.now.job < last_next_job }
-    ensures room { Changes S.Store connection.old connection.new result
-        (λ before after. (room : RoomValue) → HoldsRoom before account room →
-        CanAddJob room job.now (first_of job.now.job document.entry) →
-        HoldsRoom after account (with_new_job room job.now (first_of job.now.job document.entry))) }
-    ensures alone { Changes S.Store connection.old connection.new result
-        (λ before after. (row : AccountValue) →
-        account_at before account ≡ Some (account_cells account row) →
-        OnlyAccount account before after) }
+    ensures makes { Changes S.Store connection.old connection.new result
+        (MakesJob account job.now (first_of job.now.job document.entry)) }
+    ensures crash { LeavesWhole S.Store connection.old connection.new
+        (MakesJob account job.now (first_of job.now.job document.entry)) }
     ensures damaged { IfOurTables S.Store connection.old connection.new
         (λ db. result ≡ Err TableFault.Damaged → job_at db account (pos job.now.job) ≡ None →
         IsFree account (first_of job.now.job document.entry) db → ⊥) }
@@ -57,6 +48,8 @@ fn put_job<S: Alter>(
     requires standing { IsStanding job.now.standing }
     requires number { job.now.job < last_next_job }
     ensures adds { Changes S.Store connection.old connection.new result
+        (AddsJob account job.now (first_of job.now.job document.entry)) }
+    ensures crash { LeavesWhole S.Store connection.old connection.new
         (AddsJob account job.now (first_of job.now.job document.entry)) }
     ensures damaged { IfOurTables S.Store connection.old connection.new
         (λ db. result ≡ Err TableFault.Damaged → job_at db account (pos job.now.job) ≡ None →
@@ -159,15 +152,10 @@ pub fn restand_job<S: Alter>(
 ) -> Result<(), TableFault>
     requires mode { connection.old.in_transaction ≡ false }
     requires standing { IsStanding standing.now }
-    ensures room { Changes S.Store connection.old connection.new result
-        (λ before after. (room : RoomValue) → HoldsRoom before account room →
-        CanRestand room number standing.now (first_of number document.entry) →
-        HoldsRoom after account
-        (with_standing room number standing.now (first_of number document.entry))) }
-    ensures alone { Changes S.Store connection.old connection.new result
-        (λ before after. (job : JobValue) →
-        job_at before account (pos number) ≡ Some (job_cells account job) →
-        OnlyAccount account before after) }
+    ensures restands { Changes S.Store connection.old connection.new result
+        (RestandsJob account number standing.now (first_of number document.entry)) }
+    ensures crash { LeavesWhole S.Store connection.old connection.new
+        (RestandsJob account number standing.now (first_of number document.entry)) }
     ensures damaged { IfOurTables S.Store connection.old connection.new
         (λ db. result ≡ Err TableFault.Damaged →
         IsFree account (first_of number document.entry) db → ⊥) }
@@ -186,6 +174,8 @@ fn put_standing<S: Alter>(
     requires mode { connection.old.in_transaction ≡ false }
     requires standing { IsStanding standing.now }
     ensures restands { Changes S.Store connection.old connection.new result
+        (Restands account number standing.now (first_of number document.entry)) }
+    ensures crash { LeavesWhole S.Store connection.old connection.new
         (Restands account number standing.now (first_of number document.entry)) }
     ensures damaged { IfOurTables S.Store connection.old connection.new
         (λ db. result ≡ Err TableFault.Damaged →
@@ -268,14 +258,10 @@ pub fn end_job<S: Alter>(
 ) -> Result<(), Error>
     requires mode { connection.old.in_transaction ≡ false }
     requires standing { IsStanding standing.now }
-    ensures room { Changes S.Store connection.old connection.new result
-        (λ before after. (room : RoomValue) → HoldsRoom before account room →
-        CanFinish room number standing.now →
-        HoldsRoom after account (with_ended room number standing.now)) }
-    ensures alone { Changes S.Store connection.old connection.new result
-        (λ before after. (job : JobValue) →
-        job_at before account (pos number) ≡ Some (job_cells account job) →
-        OnlyAccount account before after) }
+    ensures ends { Changes S.Store connection.old connection.new result
+        (FinishesJob account number standing.now) }
+    ensures crash { LeavesWhole S.Store connection.old connection.new
+        (FinishesJob account number standing.now) }
     ensures whole { AllOrNothing S.Store connection.old connection.new result }
 {
     put_ended(connection, account, number, standing)
@@ -290,6 +276,8 @@ fn put_ended<S: Alter>(
     requires mode { connection.old.in_transaction ≡ false }
     requires standing { IsStanding standing.now }
     ensures ends { Changes S.Store connection.old connection.new result
+        (EndsJob account number standing.now) }
+    ensures crash { LeavesWhole S.Store connection.old connection.new
         (EndsJob account number standing.now) }
     ensures whole { AllOrNothing S.Store connection.old connection.new result }
 {

@@ -1,13 +1,11 @@
 //! An account is opened.
 
 ghost use Rattle.std.specs.Prelude.{◌≡◌, ◌≤◌, false};
-ghost use Rattle.room_statements.specs.Words.{AllOrNothing, Changes, HoldsRoom, SetsRow};
+ghost use Rattle.room_statements.specs.Words.{AllOrNothing, Changes, LeavesWhole, SetsRow};
 ghost use Rattle.room_rules.specs.Limits.{last_moment};
-ghost use Rattle.room_state.specs.Rooms.{empty_room};
-ghost use Rattle.room_tables.specs.Accounts.{HoldsNothing};
 ghost use Rattle.room_tables.specs.Cells.{account_cells};
 ghost use Rattle.room_tables.specs.Tables.{account as account_table};
-ghost use Rattle.room_statements.specs.Alone.{OnlyAccount};
+ghost use Rattle.room_statements.specs.Changed.{OpensAccount};
 
 use crate::set_account;
 use room_rules::{Account, Name};
@@ -21,9 +19,8 @@ pub fn open_account<S: Alter>(
 ) -> Result<(), Error>
     requires mode { connection.old.in_transaction ≡ false }
     requires moment { now ≤ last_moment }
-    ensures room { Changes S.Store connection.old connection.new result
-        (λ before after. HoldsNothing before account → HoldsRoom after account (empty_room now)) }
-    ensures alone { Changes S.Store connection.old connection.new result (OnlyAccount account) }
+    ensures opens { Changes S.Store connection.old connection.new result (OpensAccount account now) }
+    ensures crash { LeavesWhole S.Store connection.old connection.new (OpensAccount account now) }
     ensures whole { AllOrNothing S.Store connection.old connection.new result }
 {
     put_account(connection, account, now)
@@ -37,6 +34,8 @@ fn put_account<S: Alter>(
     requires mode { connection.old.in_transaction ≡ false }
     requires moment { now ≤ last_moment }
     ensures sets { Changes S.Store connection.old connection.new result
+        (SetsRow account_table (account_cells account (record { opened = now; next_job = 1 }))) }
+    ensures crash { LeavesWhole S.Store connection.old connection.new
         (SetsRow account_table (account_cells account (record { opened = now; next_job = 1 }))) }
     ensures whole { AllOrNothing S.Store connection.old connection.new result }
 {

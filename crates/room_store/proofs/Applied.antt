@@ -1,10 +1,12 @@
 -- What an event does to the tables, whether it is of an account or of a device.
-use Rattle.std.proofs.Common.{◌≡◌, ℕ, Result, Ok, Err, OnErr, refl, subst}
+use Rattle.std.proofs.Common.{◌≡◌, ◌⊎◌, ℕ, Result, Ok, Err, OnErr, refl, subst, inl, inr}
 use Rattle.sqlite_trees.specs.declared.store.Store.{Ghosts}
+use Rattle.sqlite_trees.specs.Tree.{Trees}
+use Rattle.sqlite.specs.Effect.{Database}
 use Rattle.sqlite.specs.Held.{Held, state}
 use Rattle.room_core.specs.Events.{PlainEvent, OfAccount, OfDevice}
 use Rattle.room_core.specs.declared.event.Reply.{Reply}
-use Rattle.room_store.specs.Applied.{IsAnswered}
+use Rattle.room_store.specs.Applied.{IsAnswered, IsDone}
 use Rattle.room_store.specs.Reading.{IsReadable}
 use Rattle.room_store.specs.Faults.{store_fault}
 use Rattle.room_store.specs.Serving.{StaysOpen, DoesEvent}
@@ -39,18 +41,24 @@ module _ {S : Type 0} (store : Ghosts S) (now : ℕ) where
 
     pub answered : (e : PlainEvent) (told : Reply) → DoesEvent store old new now e (Ok told) → IfOurTables store old new (λ db. IsAnswered now e db (state store new).now told)
     answered (OfAccount name it) told serves clean has = record {
-      answers = record {
-        reply = λ room devices held holds. serves.answer clean has (room, devices) (record { room = held; devices = holds });
-        rows = λ room devices held holds. serves.left clean has (room, devices) (record { room = held; devices = holds });
-        alone = serves.alone clean has;
+      is_told = λ room devices held holds. serves.answer clean has (room, devices) (record { room = held; devices = holds });
+      is_done = record {
+        changes = record { rows = λ room devices held holds. serves.left clean has (room, devices) (record { room = held; devices = holds }); alone = serves.alone clean has };
+        schema = serves.schema clean has;
       };
-      schema = serves.schema clean has;
     }
     answered (OfDevice name it) told serves clean has = record {
-      answers = record {
-        reply = λ devices holds. serves.answer clean has devices holds;
-        rows = λ devices holds. serves.left clean has devices holds;
-        alone = serves.alone clean has;
-      };
-      schema = serves.schema clean has;
+      is_told = serves.answer clean has;
+      is_done = record { changes = record { rows = serves.left clean has; alone = serves.alone clean has }; schema = serves.schema clean has };
     }
+
+    pub left : (e : PlainEvent) (r : Result Reply TableFault) → DoesEvent store old new now e r
+        → IfOurTables store old new (λ db. (found : Trees) → (state store new).may_leave found → (state store old).may_leave found ⊎ ((after : Database) × (after.trees ≡ found) × IsDone now e db after))
+    left (OfAccount name it) r serves clean has found may = elim (serves.crash clean has found may) [
+      | inl before ↦ inl before
+      | inr whole ↦ inr (whole.0, whole.1, record { changes = record { rows = λ room devices held holds. whole.3.1 (room, devices) (record { room = held; devices = holds }); alone = whole.3.0 }; schema = whole.2 })
+    ]
+    left (OfDevice name it) r serves clean has found may = elim (serves.crash clean has found may) [
+      | inl before ↦ inl before
+      | inr whole ↦ inr (whole.0, whole.1, record { changes = record { rows = whole.3.1; alone = whole.3.0 }; schema = whole.2 })
+    ]

@@ -1,5 +1,5 @@
 -- An event of an account that is open, and of one that is not, is one of an account that may be.
-use Rattle.std.proofs.Common.{◌≡◌, ℕ, ◌<◌, Bool, true, false, nat_lt, if◌then◌else◌, List, length, Option, Some, None, Result, IfErr, IfOk, IsSome, refl, sym, ap, subst, ◌∙◌, arith}
+use Rattle.std.proofs.Common.{◌≡◌, ℕ, ◌<◌, Bool, true, false, nat_lt, if◌then◌else◌, List, length, Option, Some, None, is_some, option_map, Result, IfErr, IfOk, IsSome, refl, sym, ap, subst, ◌∙◌, arith}
 use Rattle.sqlite_trees.specs.declared.store.Store.{Ghosts}
 use Rattle.sqlite.specs.Effect.{Database}
 use Rattle.sqlite.specs.State.{HasCleanDisk}
@@ -10,7 +10,7 @@ use Rattle.ipp_coding.specs.Limits.{header_length}
 use Rattle.ipp_coding.specs.declared.message.Header.{Header}
 use Rattle.ipp_coding.specs.Reading.{header_at, header_in}
 use Rattle.room_asks.specs.Asks.{ask_of}
-use Rattle.room_core.specs.Machine.{Answer, answered_unopened, requested, responded_to}
+use Rattle.room_core.specs.Machine.{Answer, answered, answered_unopened, requested, responded_to}
 use Rattle.room_core.specs.Steps.{Step}
 use Rattle.room_core.specs.Events.{PlainEvent, OfAccount, OfDevice, Open, Ipp, Release, Start, Settle, Grant}
 use Rattle.room_core.specs.declared.event.Reply.{Reply}
@@ -24,7 +24,11 @@ use Rattle.room_tables.specs.Calls.{IfOurTables}
 use Rattle.room_tables.specs.Keyed.{HasSchema}
 use Rattle.room_tables.specs.declared.fault.TableFault.{TableFault}
 use Rattle.room_tables.specs.declared.fault.TableFault.TheVariants as fault
+use Rattle.room_replies.specs.Lines.{success_text}
 use Rattle.room_replies.specs.Words.{word_text}
+use Rattle.room_replies.specs.declared.station_line.Success.TheVariants as success
+use Rattle.room_statements.specs.Changed.{OpensAccount}
+use Rattle.room_tables.specs.Cells.{account_cells}
 use Rattle.room_store.specs.Events.{IsLine}
 use Rattle.room_statements.proofs.LeftAlone.{same_rows}
 use Rattle.room_store.specs.ProofKnown.{HasAccountRow}
@@ -37,10 +41,10 @@ module _ {S : Type 0} (store : Ghosts S) (name : List ℕ) (answered : Option Ro
       (told : RoomValue → Devices → Reply) (left : RoomValue → Devices → RoomValue)
       (is : (room : RoomValue) (devices : Devices) → (told room devices ≡ (answered (Some room) devices).reply) × (Some (left room devices) ≡ (answered (Some room) devices).room)) where
     is_that : HasAccountRow name account (state store old).now → (of : Option RoomValue × Devices) → MayBeHeld name of (state store old).now
-        → (one : RoomValue × Devices) × RowsHold name one (state store old).now × (told one.0 one.1 ≡ (answered of.0 of.1).reply) × (HoldsRoom (state store new).now name (left one.0 one.1) → Holds (state store new).now name (answered of.0 of.1).room)
+        → (one : RoomValue × Devices) × RowsHold name one (state store old).now × (told one.0 one.1 ≡ (answered of.0 of.1).reply) × ((after : Database) → HoldsRoom after name (left one.0 one.1) → Holds after name (answered of.0 of.1).room)
     is_that found (None, devices) held = let same = sym held.room.no_account ∙ found in let no : ⊥ = cc in absurd no
     is_that found (Some room, devices) held =
-        ((room, devices), record { room = held.room; devices = held.devices }, (is room devices).0, λ holds. subst (Holds (state store new).now name) (is room devices).1 holds)
+        ((room, devices), record { room = held.room; devices = held.devices }, (is room devices).0, λ after holds. subst (Holds after name) (is room devices).1 holds)
 
     pub opened_answers : {Readable Rest : Database → Type 0} (result : Result Reply TableFault) → (HasAccountRow name account (state store old).now → Readable (state store old).now → Rest (state store old).now)
         → StaysOpen store mid new result → (IfOurTables store mid new (HasAccountRow name account) → DoesAsRoom store mid new name Rest told left result) → DoesAnswer store old new name Readable answered result
@@ -94,3 +98,14 @@ module _ (room : RoomValue) (devices : Devices) (now : ℕ) (name body : List �
   requested_so header =
       elim (nat_lt (length body) 8) as (λ b. (if b then None else Some (header_in body)) ≡ Some header → ◌≡◌ {A = Step} (step_of header) (if b then record { reply = reply.Short; room = room } else step_of (header_in body)))
       [ true ↦ λ is. let no : ⊥ = cc in absurd no | false ↦ λ is. let same : header_in body ≡ header = cc in ap step_of (sym same) ]
+
+-- ---- an account that is opened now
+
+pub was_not_open : (name : List ℕ) (found : Option Account) → is_some found ≡ false → option_map (account_cells name) found ≡ None
+was_not_open name None is = refl
+was_not_open name (Some account) is = let no : ⊥ = cc in absurd no
+
+pub opens_now : (name : List ℕ) (now : ℕ) (before after : Database) → account_at before name ≡ None → OpensAccount name now before after → (of : Option RoomValue × Devices) → MayBeHeld name of before
+    → (reply.Line (success_text success.Ok) ≡ (answered of.0 of.1 now (OfAccount name Open)).reply) × Holds after name (answered of.0 of.1 now (OfAccount name Open)).room
+opens_now name now before after none opens (None, devices) held = (refl, opens.room held.room)
+opens_now name now before after none opens (Some room, devices) held = let is = sym none ∙ held.room.rows.account_row in let no : ⊥ = cc in absurd no

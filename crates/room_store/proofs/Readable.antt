@@ -11,7 +11,6 @@ use Rattle.room_asks.specs.declared.operation.Operation.TheVariants.{PrintJob, V
 use Rattle.room_core.specs.Events.{AccountEvent, OfAccount, OfDevice, Open, Ipp, Release, Start, Settle, Grant}
 use Rattle.room_core.specs.JobRequests.{sent_document}
 use Rattle.room_core.specs.NewJobs.{new_document}
-use Rattle.room_rules.specs.Devices.{Devices}
 use Rattle.room_rules.specs.declared.device.Device.{Device}
 use Rattle.room_state.specs.Rooms.{RoomValue}
 use Rattle.room_statements.proofs.SoundReads.{sound_rows_are_read}

@@ -14,7 +14,7 @@ use Rattle.room_core.specs.declared.event.Reply.{Reply}
 use Rattle.room_rules.specs.Devices.{Devices}
 use Rattle.room_state.specs.Rooms.{RoomValue}
 use Rattle.room_tables.specs.Accounts.{Holds, HoldsRoom}
-use Rattle.room_tables.specs.Calls.{KeepsConnection, IsUnchanged, IfOurTables, UnchangedIfOpen}
+use Rattle.room_tables.specs.Calls.{KeepsConnection, IsUnchanged, IfOurTables, LeavesNoMore, LeavesWhole, UnchangedIfOpen}
 use Rattle.room_tables.specs.Devices.{HoldsDevices}
 use Rattle.room_tables.specs.Keyed.{HasSchema}
 use Rattle.room_tables.specs.declared.fault.TableFault.{TableFault}
@@ -32,6 +32,13 @@ pub record MayBeHeld
     (name : List ℕ) (of : Option RoomValue × Devices) (db : Database) : Type 0 where
   pub room : Holds db name of.0
   pub devices : HoldsDevices db of.1
+
+-- what becomes of rows: only these change, and those that are held become so
+abbrev pub ChangesRows : {R : Type 0} (Before : R → Database → Type 0)
+    (Alone : Database → Database → Type 0) (After : R → Database → Type 0)
+    (before after : Database) → Type 0
+ChangesRows {R} Before Alone After before after =
+    Alone before after × ((of : R) → Before of before → After of after)
 
 module _ {S : Type 0} (store : Ghosts S) (old new : Held S) where
   -- what a connection keeps, whether it was asked or not; one that is open stays so where there is
@@ -52,9 +59,11 @@ module _ {S : Type 0} (store : Ghosts S) (old new : Held S) where
         OnOk result (IsUnchanged (state store old) (state store new)))
     pub undone : IfOurTables store old new (λ db.
         OnErr result (UnchangedIfOpen (state store old) (state store new)))
+    pub crash : IfOurTables store old new (λ db. LeavesNoMore (state store old) (state store new))
 
   -- Of rows that are held this is answered and that is left; besides, only these change; after a
   -- fault nothing has changed, and damage is told only where what was read can be of no sound rows.
+  -- After a crash it is there whole, or not at all.
   pub record DoesToTables
       {R T : Type 0} (Before : R → Database → Type 0) (Readable : Database → Type 0)
       (Alone : Database → Database → Type 0) (told : R → T) (After : R → Database → Type 0)
@@ -69,6 +78,7 @@ module _ {S : Type 0} (store : Ghosts S) (old new : Held S) where
     pub undone : IfOurTables store old new (λ db.
         OnErr result (UnchangedIfOpen (state store old) (state store new)))
     pub damaged : IfOurTables store old new (λ db. result ≡ Err Damaged → Readable db → ⊥)
+    pub crash : LeavesWhole store old new (ChangesRows Before Alone After)
 
   -- of an account that is open: no other account's rows change, and no device's
   abbrev pub DoesAsRoom :

@@ -1,10 +1,9 @@
 //! A job's standing changes.
 
 ghost use Rattle.std.specs.Prelude.{◌≡◌, false, Err};
-ghost use Rattle.room_store.specs.Words.{HasJobRow, HoldsRoom, IfOurTables, IsStanding, Keeps, RoomValue};
-ghost use Rattle.room_core.specs.Steps.{with_moved};
-ghost use Rattle.room_tables.specs.Calls.{Changes, AllOrNothing};
-ghost use Rattle.room_statements.specs.Alone.{OnlyAccount};
+ghost use Rattle.room_store.specs.Words.{IfOurTables, IsStanding, Keeps};
+ghost use Rattle.room_store.specs.ProofKnown.{StandsJob};
+ghost use Rattle.room_tables.specs.Calls.{AllOrNothing, Changes, LeavesWhole};
 
 use room_core::{Job, Name, Standing};
 use room_statements::{end_job, restand_job};
@@ -22,12 +21,10 @@ pub(crate) fn stand<S: Alter>(
     requires before { IsStanding job.now.standing }
     requires in_range { IsStanding standing.now }
     requires kept { Keeps job.now.standing standing.now }
-    ensures room { Changes S.Store connection.old connection.new result
-        (λ before after. HasJobRow account job.now before → (room : RoomValue) →
-        HoldsRoom before account room →
-        HoldsRoom after account (with_moved room job.now.job standing.now)) }
-    ensures alone { Changes S.Store connection.old connection.new result
-        (λ before after. HasJobRow account job.now before → OnlyAccount account before after) }
+    ensures stands { Changes S.Store connection.old connection.new result
+        (StandsJob account job.now standing.now) }
+    ensures crash { LeavesWhole S.Store connection.old connection.new
+        (StandsJob account job.now standing.now) }
     ensures undamaged { IfOurTables S.Store connection.old connection.new
         (λ db. result ≡ Err TableFault.Damaged → ⊥) }
     ensures whole { AllOrNothing S.Store connection.old connection.new result }

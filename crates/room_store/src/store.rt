@@ -2,12 +2,14 @@
 
 ghost use Rattle.std.specs.Prelude.{◌≡◌, ◌≢◌, ◌⊎◌, ◌↔◌, ◌<◌, ℕ, false, List, Option, Err, IfOk, IfErr, OnOk, OnErr, IsErrAnd, IsErrOf, IsTrue, MatchResult};
 ghost use Rattle.room_store.specs.Words.{IfOurTables, RoomValue, last_moment};
+ghost use Rattle.sqlite_trees.specs.Tree.{Trees};
+ghost use Rattle.sqlite.specs.Effect.{Database};
 ghost use Rattle.sqlite.specs.Held.{state};
 ghost use Rattle.sqlite.specs.State.{HasCleanDisk};
 ghost use Rattle.room_core.specs.Events.{plain_event};
 ghost use Rattle.room_core.specs.Fits.{fits};
 ghost use Rattle.room_core.specs.declared.event.Reply.TheVariants as reply_is;
-ghost use Rattle.room_store.specs.Applied.{IsAnswered};
+ghost use Rattle.room_store.specs.Applied.{IsAnswered, IsDone};
 ghost use Rattle.room_store.specs.Events.{IsShort};
 ghost use Rattle.room_store.specs.Reading.{IsReadable};
 ghost use Rattle.room_tables.specs.Tables.{no_schema, first_schema};
@@ -176,6 +178,10 @@ impl<S: Alter> Store<S> {
         requires { IsTrue (fits (plain_event e.now)) }
         ensures answered { IfOurTables S.Store self.old self.new (λ db. IfOk result
             (IsAnswered now (plain_event e.entry.now) db (state S.Store self.new).now)) }
+        ensures crash { IfOurTables S.Store self.old self.new (λ db. (found : Trees)
+            → (state S.Store self.new).may_leave found → (state S.Store self.old).may_leave found
+            ⊎ ((after : Database) × (after.trees ≡ found)
+            × IsDone now (plain_event e.entry.now) db after)) }
         ensures unchanged { IfOurTables S.Store self.old self.new (λ db. OnErr result
             (IsTrue (state S.Store self.new).is_open → (state S.Store self.new).now ≡ db)) }
         ensures damaged { IfOurTables S.Store self.old self.new

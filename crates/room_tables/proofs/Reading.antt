@@ -113,7 +113,7 @@ module _ (table : Table) (listed : Has room_schema.tables table) (guarded : IsGu
       ∙ option_map_twice (drop 1) shown (find (has_key table key) (db.trees table.tree))
 
   pub gets : (old new : State) → HasSchema old.now → (result : Result (Option Row) Error) → FindsRow old new table.tree tests shows params result → Gets old new (row_at table key old.now) shown result
-  gets old new has (Ok o) h = record { found = row_found old.now has o h.found; same = (h.same.0.now_is, h.same.0.committed_is); stays = λ _ _. (h.same.0.now_is, h.same.0.committed_is) }
+  gets old new has (Ok o) h = record { found = row_found old.now has o h.found; same = (h.same.0.now_is, h.same.0.committed_is); stays = λ _ _. (h.same.0.now_is, h.same.0.committed_is); crash = h.crash }
   gets old new has (Err error) h = record {
     found = tt;
     same = tt;
@@ -121,4 +121,5 @@ module _ (table : Table) (listed : Has room_schema.tables table) (guarded : IsGu
       | inl fails ↦ let undone = fails.3.undone is_open in (undone.0 ∙ sym settled, undone.1)
       | inr stopped ↦ (stopped.2.0.now_is, stopped.2.0.committed_is)
     ];
+    crash = h.crash;
   }

@@ -3,6 +3,7 @@ use Rattle.std.specs.Prelude.{◌≡◌, ◌⊎◌, ℕ, ◌≤◌, false, IsTru
 use Rattle.std.specs.Borrow.{MutBor}
 use Rattle.sqlite_disk.specs.Disk.{MoreFaults}
 use Rattle.sqlite_value.specs.Order.{Row}
+use Rattle.sqlite_trees.specs.Tree.{Trees}
 use Rattle.sqlite_trees.specs.View.{doubt}
 use Rattle.sqlite_trees.specs.declared.store.Store.{Ghosts}
 use Rattle.sqlite.specs.Effect.{Database}
@@ -36,12 +37,17 @@ UnchangedIfOpen old new = IsTrue new.is_open → old.now ≡ old.committed
 abbrev pub IsUnchanged : (old new : State) → Type 0
 IsUnchanged old new = (new.now ≡ old.now) × (new.committed ≡ old.committed)
 
+-- an open after a crash finds nothing that it could not have found before
+abbrev pub LeavesNoMore : (old new : State) → Type 0
+LeavesNoMore old new = (found : Trees) → new.may_leave found → old.may_leave found
+
 -- a read by a key: what is shown of the row that is there, and nothing is changed
 pub record Gets (old new : State) (there : Option Row) (shown : Row → Row)
     (result : Result (Option Row) Error) : Type 0 where
   pub found : IfOk result (λ o. o ≡ option_map shown there)
   pub same : OnOk result (IsUnchanged old new)
   pub stays : UnchangedIfOpen old new
+  pub crash : LeavesNoMore old new
 
 -- a write: the statement has run, whatever it counted
 abbrev pub HasRun : (text : List ℕ) (params : Row) (old new : State) → Type 0
@@ -86,6 +92,8 @@ module _ {S : Type 0} (store : Ghosts S) (old new : Held S) where
           (λ db. Known db → OnOk result (IsUnchanged (state store old) (state store new)))
       pub stays : IfDiskHonest
           (λ db. Known db → UnchangedIfOpen (state store old) (state store new))
+      pub crash : IfDiskHonest
+          (λ db. Known db → LeavesNoMore (state store old) (state store new))
 
     -- of the store's tables
     abbrev pub ReadsStore : Result T E → Type 0
@@ -114,6 +122,12 @@ module _ {S : Type 0} (store : Ghosts S) (old new : Held S) where
           → OnOk result (IsTrue (state store old).is_open × IsTrue (state store new).is_open)
       pub undone : HasCleanDisk (state store new)
           → OnErr result (UnchangedIfOpen (state store old) (state store new))
+
+  -- an open after a crash finds what it could have found before, or the whole change
+  abbrev pub LeavesWhole : (Database → Database → Type 0) → Type 0
+  LeavesWhole changed = IfOurTables (λ db. (found : Trees) → (state store new).may_leave found
+      → (state store old).may_leave found
+      ⊎ ((after : Database) × (after.trees ≡ found) × HasSchema after × changed db after))
 
 -- a write inside a transaction, which it leaves under way where it answers; it commits nothing
 pub record WritesInTransaction {S T E : Type 0} (store : Ghosts S) (old new : MutBor (Held S))

@@ -23,6 +23,7 @@ of_account store old new now {account} told is not_short =
       alone = served.alone;
       undone = served.undone;
       damaged = λ clean has e readable. served.damaged clean has e (readable not_short);
+      crash = served.crash;
     })
 
 pub returns-in-Ipp-clause-served : goal.returns-in-Ipp-clause-served

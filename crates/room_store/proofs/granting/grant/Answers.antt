@@ -1,7 +1,29 @@
-use Rattle.std.proofs.Common.{ap, Err}
+use Rattle.std.proofs.Common.{ℕ, List, Result, Err, sym, ap, subst, ◌∙◌, arith}
 use Rattle.std.proofs.lemmas.Result.{err_from_is_err_and}
-use Rattle.room_store.proofs.ServingLemmas.{read_failed_as}
+use Rattle.sqlite.specs.Effect.{Database}
+use Rattle.sqlite.specs.Held.{state}
+use Rattle.sqlite.specs.State.{HasCleanDisk}
+use Rattle.room_core.specs.Grants.{granted}
+use Rattle.room_core.specs.Steps.{Step, refusing_or, telling}
+use Rattle.room_replies.specs.Grants.{grant_refusal}
+use Rattle.room_replies.specs.declared.station_line.Success.TheVariants as success
+use Rattle.room_rules.specs.declared.refusal.Word.{Word}
+use Rattle.room_state.specs.Changes.{with_grant}
+use Rattle.room_statements.specs.Alone.{OnlyAccount}
+use Rattle.room_statements.specs.Changed.{GrantsPages}
+use Rattle.room_statements.proofs.Inside.{leaves_as}
+use Rattle.room_statements.proofs.WalkLemmas.{never_damaged}
+use Rattle.room_tables.specs.Accounts.{HoldsRoom}
+use Rattle.room_tables.specs.Keyed.{HasSchema}
+use Rattle.room_store.specs.Serving.{ChangesRows, RowsHold}
+use Rattle.room_store.proofs.FoundGrants.{found_grant, is_new_grant}
+use Rattle.room_store.proofs.ServingLemmas.{changed_after, handed, not_changed_after, read_failed_as, read_passed}
+use Rattle.room_store.proofs.StepLemmas.{refuses_as}
 use Rattle.room_store.proofs.granting.grant.Goals as goal
+
+-- what it makes of the tables, as an event has it
+abbrev DoesGrant : List ℕ → (month pages : ℕ) → Database → Database → Type 0
+DoesGrant name month pages = ChangesRows (RowsHold name) (OnlyAccount name) (λ of db. HoldsRoom db name (granted of.0 month pages).room)
 
 pub returns-in_err-held : goal.returns-in_err-held
 returns-in_err-held g c =
@@ -9,4 +31,85 @@ returns-in_err-held g c =
     record {
       served = read_failed_as _ _ _ _ _ g.S.Store _ _ c.from_residual.result told.0 _ told.1 told.2 c.in_err-held.ensures.reads
           (λ clean has is readable. c.in_err-held.ensures.damaged clean has (ap (λ e. Err e) is) readable);
+    }
+
+pub returns-in-Err : goal.returns-in-Err
+returns-in-Err g c =
+    let old = c.args.connection.now in
+    let mid = c.find_grant.new.connection in
+    let name = c.args.account in
+    record {
+      served = refuses_as g.S.Store old mid name (read_passed g.S.Store old mid _ c.in_ok-held.ensures.reads) (λ room devices. granted room c.args.month c.args.pages) c.in-Err.word c.refusing.result c.refusing.ensures.line c.refusing.ensures.memory
+          (λ clean has of held.
+          let found = found_grant _ name c.args.month c.in_ok-held.held (c.in_ok-held.ensures.found clean has) of.0 held.room in
+          ap (λ (d : Result (Unit {0}) Word). refusing_or of.0 d (λ _. telling (with_grant of.0 c.args.month c.args.pages) success.Ok))
+          (ap (λ o. grant_refusal o c.args.pages) (sym found) ∙ sym c.check_grant.ensures ∙ c.in-Err.is));
+    }
+
+pub returns-in_err-add_grant : goal.returns-in_err-add_grant
+returns-in_err-add_grant g c =
+    let old = c.args.connection.now in
+    let mid = c.find_grant.new.connection in
+    let new = c.add_grant.new.connection in
+    let name = c.args.account in
+    let month = c.args.month in
+    let pages = c.args.pages in
+    let held_pages = c.in_ok-held.held in
+    let accepts = sym c.check_grant.ensures ∙ c.in_default.is in
+    let passed = read_passed g.S.Store old mid _ c.in_ok-held.ensures.reads in
+    let fault = err_from_is_err_and c.from_residual-in_err-add_grant.result c.from_residual-in_err-add_grant.ensures.1 in
+    let made = c.in_err-add_grant.ensures in
+    record {
+      served = handed _ _ _ _ _ g.S.Store old new c.from_residual-in_err-add_grant.result fault.0 _ fault.1 fault.2
+          (not_changed_after _ _ _ _ _ g.S.Store old mid passed new _ made.whole.keeps made.whole.undone
+          (λ was clean has same is readable. never_damaged c.in_err-add_grant.field-0.0 is)
+          (λ has. leaves_as g.S.Store mid new (GrantsPages name month pages) (DoesGrant name month pages)
+          (λ clean has_mid after it.
+          let was : HasCleanDisk (state g.S.Store mid) = omega (arith, made.whole.keeps.clean, clean) in
+          let same = (passed.same was has).0 in (
+            it.alone,
+            λ of held.
+                let found = found_grant _ name month held_pages (c.in_ok-held.ensures.found was has) of.0 (subst (λ db. HoldsRoom db name of.0) same held.room) in
+                let new_grant = is_new_grant of.0 month pages held_pages found accepts in
+                subst (λ (s : Step). HoldsRoom after name s.room) (sym new_grant.1) (it.room of.0 held.room (record { is_new = new_grant.0; in_range = c.requires.grant })),
+          ))
+          made.crash));
+    }
+
+pub returns : goal.returns
+returns g c =
+    let old = c.args.connection.now in
+    let mid = c.find_grant.new.connection in
+    let new = c.add_grant.new.connection in
+    let name = c.args.account in
+    let month = c.args.month in
+    let pages = c.args.pages in
+    let held_pages = c.in_ok-held.held in
+    let accepts = sym c.check_grant.ensures ∙ c.in_default.is in
+    let passed = read_passed g.S.Store old mid _ c.in_ok-held.ensures.reads in
+    let made = c.in_ok-add_grant.ensures in
+    record {
+      served = changed_after _ _ _ _ _ g.S.Store old mid passed new c.in_ok-reply.reply (record { keeps = made.whole.keeps; opened = made.whole.opened })
+          (λ was clean has same.
+          let after = made.grants clean (subst HasSchema (sym same) has) in (
+            after.0,
+            after.1.alone,
+            λ of held.
+                let found = found_grant _ name month held_pages (c.in_ok-held.ensures.found was has) of.0 held.room in
+                let new_grant = is_new_grant of.0 month pages held_pages found accepts in (
+                  c.in_ok-reply.ensures.line ∙ ap (λ (s : Step). s.reply) (sym new_grant.1),
+                  subst (λ (s : Step). HoldsRoom (state g.S.Store new).now name s.room) (sym new_grant.1) (after.1.room of.0 (subst (λ db. HoldsRoom db name of.0) (sym same) held.room) (record { is_new = new_grant.0; in_range = c.requires.grant })),
+                ),
+          ))
+          (λ has. leaves_as g.S.Store mid new (GrantsPages name month pages) (DoesGrant name month pages)
+          (λ clean has_mid after it.
+          let was : HasCleanDisk (state g.S.Store mid) = omega (arith, made.whole.keeps.clean, clean) in
+          let same = (passed.same was has).0 in (
+            it.alone,
+            λ of held.
+                let found = found_grant _ name month held_pages (c.in_ok-held.ensures.found was has) of.0 (subst (λ db. HoldsRoom db name of.0) same held.room) in
+                let new_grant = is_new_grant of.0 month pages held_pages found accepts in
+                subst (λ (s : Step). HoldsRoom after name s.room) (sym new_grant.1) (it.room of.0 held.room (record { is_new = new_grant.0; in_range = c.requires.grant })),
+          ))
+          made.crash);
     }

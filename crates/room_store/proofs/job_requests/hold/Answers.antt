@@ -31,7 +31,7 @@ returns g c =
           let was_clean : HasCleanDisk (state g.S.Store mid) = omega (arith, c.act.ensures.connection.keeps.clean, clean) in
           let there : get of.0.jobs ask.job ≡ Some c.in-Some.job = sym (looked.found was_clean has of.0 held.room) ∙ c.in-Some.is in
           let same = hold_of_found of.0 ask c.in-Some.job there decided c.held-decided.ensures.moved in
-          (of, held, ap (λ (d : Result Standing Refusal). (acted of.0 ask d).text) same, λ then. subst (λ (d : Result Standing Refusal). HoldsRoom (state g.S.Store new).now name (acted of.0 ask d).room) same then))
+          (of, held, ap (λ (d : Result Standing Refusal). (acted of.0 ask d).text) same, λ after then. subst (λ (d : Result Standing Refusal). HoldsRoom after name (acted of.0 ask d).room) same then))
           (serves_after_so _ _ _ _ _ g.S.Store old mid passed new c.act.result (HasJobRow name c.in-Some.job) (λ clean has readable. tt) c.act.ensures.connection
           (λ clean _ has. there_still name c.in-Some.job (state g.S.Store old).now (state g.S.Store mid).now (passed.same clean has).0
           (subst (λ (o : Option Job). IfSome o (λ job. HasJobRow name job (state g.S.Store old).now)) c.in-Some.is (looked.is_there clean has)))

@@ -1,16 +1,18 @@
-use Rattle.std.proofs.Common.{◌≡◌, to_z, of_z, w64, sym, subst, ◌∙◌, arith, rules}
+use Rattle.std.proofs.Common.{◌≡◌, Result, ap, to_z, of_z, w64, sym, subst, ◌∙◌, arith, rules}
 use Rattle.sqlite.specs.State.{HasCleanDisk}
 use Rattle.sqlite.specs.Held.{state}
 use Rattle.room_core.specs.Stations.{by_word, release_told}
 use Rattle.room_core.specs.Steps.{telling, with_moved}
 use Rattle.room_rules.specs.StateLaws.{kept_to_quota}
+use Rattle.room_rules.specs.declared.job.Standing.{Standing}
+use Rattle.room_rules.specs.declared.refusal.Refusal.{Refusal}
 use Rattle.room_state.specs.Sums.{left_in}
 use Rattle.room_replies.specs.declared.station_line.Success.TheVariants.{Released}
 use Rattle.room_store.specs.ProofKnown.{HasJobRow}
 use Rattle.room_store.proofs.Found.{job_in_room}
 use Rattle.room_store.proofs.ServingLemmas.{goes_after, look_passed, serves_after_so}
 use Rattle.room_store.proofs.Stationed.{released_so}
-use Rattle.room_store.proofs.StepLemmas.{steps_as}
+use Rattle.room_store.proofs.StepLemmas.{refuses_as, steps_as}
 use Rattle.room_store.proofs.stations.reserve.Goals as goal
 
 pub returns-clause-connection : goal.returns-clause-connection
@@ -32,3 +34,15 @@ returns-clause-served g c known =
     let there = job_in_room _ name job (known clean has) c.requires.before of.0 held.room in
     released_so of.0 c.args.now job there c.in-Ok.released _ _ (same ∙ c.in_ok-left.ensures.left was has of.0 held.room) (same_after ∙ c.left_after.ensures) c.args.asked c.in-Ok.is c.in_default.field-0 (sym c.kept_to.ensures ∙ c.in_default.is))
     (serves_after_so _ _ _ _ _ g.S.Store old mid passed new c.tell.result (HasJobRow name job) (λ clean has readable. tt) c.tell.ensures.connection (λ clean new_clean has. subst (HasJobRow name job) (sym (passed.same clean has).0) (known new_clean has)) c.tell.ensures.served)
+
+pub returns-in-Err-kept_to-clause-served : goal.returns-in-Err-kept_to-clause-served
+returns-in-Err-kept_to-clause-served g c known =
+    let old = c.args.connection.now in
+    let mid = c.left_now.new.connection in
+    let job = c.args.job.now in
+    refuses_as g.S.Store old mid c.args.account (look_passed g.S.Store old mid _ c.in_ok-left.ensures.looks) (λ room devices. release_told room c.args.now job.job (by_word (kept_to_quota job.standing.state (left_in room c.args.now) c.args.asked))) c.in-Err-kept_to.refusal.word c.refusing-in-Err-kept_to.result c.refusing-in-Err-kept_to.ensures.line c.refusing-in-Err-kept_to.ensures.memory
+    (λ clean has of held.
+    let same : to_z w64 (of_z w64 c.in_ok-left.left) ≡ c.in_ok-left.left = search rules in
+    let left = same ∙ c.in_ok-left.ensures.left clean has of.0 held.room in
+    ap (λ (d : Result Standing Refusal). release_told of.0 c.args.now job.job (by_word d))
+    (ap (λ l. kept_to_quota job.standing.state l c.args.asked) (sym left) ∙ ap (kept_to_quota job.standing.state (to_z w64 (of_z w64 c.in_ok-left.left))) c.in-Ok.is ∙ sym c.kept_to.ensures ∙ c.in-Err-kept_to.is))

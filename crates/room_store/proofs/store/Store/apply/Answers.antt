@@ -5,7 +5,7 @@ use Rattle.room_core.specs.Events.{plain_event}
 use Rattle.room_core.specs.declared.event.Reply.{Reply}
 use Rattle.room_tables.proofs.KeyedRows.{same_fault}
 use Rattle.room_store.specs.declared.fault.StoreFault.{StoreFault}
-use Rattle.room_store.proofs.Applied.{answered, damaged, damaged_as, going, seen_as, undone}
+use Rattle.room_store.proofs.Applied.{answered, damaged, damaged_as, going, left, seen_as, undone}
 use Rattle.room_store.proofs.store.Store.apply.Goals as goal
 
 pub invariant_of-self : goal.invariant_of-self
@@ -52,3 +52,11 @@ pub returns-clause-opened : goal.returns-clause-opened
 returns-clause-opened g c =
     let serves = seen_as g.S.Store c.args.now _ _ _ c.self.view_is (plain_event c.args.e.now) _ c.in_ok-answer_event.ensures.served in
     (going g.S.Store c.args.now c.args.self.now c.answer_event.new.connection (plain_event c.args.e.now) _ serves).opened
+
+pub returns-in_err-answer_event-clause-crash : goal.returns-in_err-answer_event-clause-crash
+returns-in_err-answer_event-clause-crash g c =
+    left g.S.Store c.args.now c.args.self.now c.answer_event.new.connection (plain_event c.args.e.now) _ (seen_as g.S.Store c.args.now _ _ _ c.self.view_is (plain_event c.args.e.now) _ c.in_err-answer_event.ensures.served)
+
+pub returns-clause-crash : goal.returns-clause-crash
+returns-clause-crash g c =
+    left g.S.Store c.args.now c.args.self.now c.answer_event.new.connection (plain_event c.args.e.now) _ (seen_as g.S.Store c.args.now _ _ _ c.self.view_is (plain_event c.args.e.now) _ c.in_ok-answer_event.ensures.served)

@@ -1,0 +1,11 @@
+use Rattle.std.proofs.Common.{◌≡◌, subst, rules}
+use Rattle.room_statements.specs.Rows.{TurnsDevice}
+use Rattle.room_tables.specs.Calls.{LeavesWhole}
+use Rattle.room_statements.proofs.Inside.{leaves_whole}
+use Rattle.room_statements.proofs.device_changes.put_device.Goals as goal
+
+pub returns-clause-crash : goal.returns-clause-crash
+returns-clause-crash g c =
+    let same : c.commit.new.self.0 ≡ c.connection-2-1.given.0 = search rules in
+    subst (λ h. LeavesWhole g.S.Store c.args.connection.now h (TurnsDevice c.args.name c.args.on c.args.is_new)) same
+    (leaves_whole g.S.Store c.args.connection.now c.transaction-transaction.result.conn.now c.turn.new.transaction.conn.now c.commit.new.self.0 (TurnsDevice c.args.name c.args.on c.args.is_new) c.transaction-transaction.ensures.begun c.in_ok-turn.ensures.inside.survives c.commit.ensures.survives c.in_ok-turn.ensures.turns)
