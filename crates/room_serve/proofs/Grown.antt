@@ -8,7 +8,7 @@ use Rattle.room_serve.specs.Own.{of_devices, own}
 use Rattle.room_serve.specs.Alone.{Alone, DevicesAlone, answer_on, answer_next, change_on, change_next}
 use Rattle.room_serve.specs.Outcomes.{answered_of, replies_to}
 
-shorter : {X Y : Type 0} (x : X) (xs : List X) (y : Y) (ys : List Y) → length (x ∷ xs) ≡ length (y ∷ ys) → length xs ≡ length ys
+pub shorter : {X Y : Type 0} (x : X) (xs : List X) (y : Y) (ys : List Y) → length (x ∷ xs) ≡ length (y ∷ ys) → length xs ≡ length ys
 shorter x xs y ys same = omega (arith, same)
 
 -- ---- what is picked of it
@@ -37,7 +37,7 @@ replies_more kind (x ∷ events) (Failed fault ∷ outcomes) e o same = replies_
 
 -- ---- what the machines make of it
 
-answer_both : (so_far : Alone) (events more : List Timed) → answer_on so_far (events ++ more) ≡ answer_on (answer_on so_far events) more
+pub answer_both : (so_far : Alone) (events more : List Timed) → answer_on so_far (events ++ more) ≡ answer_on (answer_on so_far events) more
 answer_both so_far [] more = refl
 answer_both so_far (e ∷ events) more = answer_both (answer_next so_far e) events more
 

@@ -4,3 +4,4 @@ pub mod RunLemmas
 pub mod Agreed
 pub mod Applying
 pub mod Exchanging
+pub mod LifeLemmas

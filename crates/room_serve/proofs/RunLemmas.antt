@@ -1,5 +1,5 @@
 -- A list of events over one store, one after another.
-use Rattle.std.proofs.Common.{◌≡◌, ℕ, ◌+◌, Bool, true, false, cond, bytes_eq, List, [], ◌∷◌, ◌++◌, Result, Ok, Err, IsTrue, length, filter, refl, sym, ap, subst, ◌∙◌, inl, inr, arith}
+use Rattle.std.proofs.Common.{◌≡◌, ℕ, ◌+◌, Bool, true, false, cond, bytes_eq, List, [], ◌∷◌, ◌++◌, Option, Result, Ok, Err, IsTrue, length, filter, refl, sym, ap, subst, ◌∙◌, inl, inr, arith}
 use Rattle.std.proofs.lemmas.Bool.{cases_Bool}
 use Rattle.std.proofs.lemmas.List.{append-nil, length-append}
 use Rattle.std.proofs.lemmas.List.Elements.{filter-append}
@@ -11,7 +11,9 @@ use Rattle.std.proofs.lemmas.Slice.Eq.{bytes_eq-Decides}
 use Rattle.room_core.specs.Events.{PlainEvent, AccountEvent, Timed, OfAccount, OfDevice}
 use Rattle.room_core.specs.Machine.{answered}
 use Rattle.room_core.specs.declared.event.Reply.{Reply}
-use Rattle.room_store.specs.Applied.{AnswersAccount, Applies}
+use Rattle.room_store.specs.Applied.{Applies, IsAnswered}
+use Rattle.room_rules.specs.Devices.{Devices}
+use Rattle.room_state.specs.Rooms.{RoomValue}
 use Rattle.room_store.specs.declared.fault.StoreFault.{StoreFault}
 use Rattle.room_tables.proofs.AgreedRows.{still_holds}
 use Rattle.room_tables.proofs.Going.{goes_on}
@@ -56,6 +58,10 @@ told machine now e = record {
   devices = machine.devices;
 }
 
+-- what the account of this name is told and has of an event
+abbrev AnswersTo : ℕ → PlainEvent → Database → Database → Reply → List ℕ → Type 0
+AnswersTo now e old new reply name = (room : Option RoomValue) (devices : Devices) → Holds old name room → HoldsDevices old devices → (reply ≡ (answered room devices now e).reply) × Holds new name (answered room devices now e).room
+
 its_own : (name : List ℕ) (now : ℕ) (account : List ℕ) (it : AccountEvent) → bytes_eq account name ≡ true → own name ((now, OfAccount account it) ∷ []) ≡ (now, OfAccount account it) ∷ []
 its_own name now account it its = rw its refl
 
@@ -63,7 +69,7 @@ anothers : (name : List ℕ) (now : ℕ) (account : List ℕ) (it : AccountEvent
 anothers name now account it isnt = rw isnt refl
 
 next_schema : (now : ℕ) (e : PlainEvent) (old new : State) (r : Result Reply StoreFault) → Applies now e old new r → HasCleanDisk new → (IsTrue old.is_open → HasSchema old.now) → IsTrue new.is_open → HasSchema new.now
-next_schema now e old new (Ok reply) applied clean had is = (applied.answered clean (had (applied.connection.back clean is))).schema
+next_schema now e old new (Ok reply) applied clean had is = (applied.answered clean (had (applied.connection.back clean is))).is_done.schema
 next_schema now e old new (Err fault) applied clean had is =
     let was = had (applied.connection.back clean is) in
     subst HasSchema (sym (applied.unchanged clean was is)) was
@@ -78,33 +84,34 @@ next_alone name now e old new (Err fault) applied clean had machine holds has = 
 }
 next_alone name now (OfDevice device it) old new (Ok reply) applied clean had machine holds has = record {
   replies = append-nil machine.replies;
-  rows = λ shown. let was = applied.connection.back clean shown in still_holds name old.now new.now ((applied.answered clean (had was)).answers.alone.accounts name) machine.room (holds was);
-  devices = λ shown. let was = applied.connection.back clean shown in (applied.answered clean (had was)).answers.rows machine.devices (has was);
+  rows = λ shown. let was = applied.connection.back clean shown in still_holds name old.now new.now ((applied.answered clean (had was)).is_done.changes.alone.accounts name) machine.room (holds was);
+  devices = λ shown. let was = applied.connection.back clean shown in (applied.answered clean (had was)).is_done.changes.rows machine.devices (has was);
 }
 next_alone name now (OfAccount account it) old new (Ok reply) applied clean had machine holds has =
     let e = OfAccount account it in
-    let answers : IsTrue old.is_open → AnswersAccount now e old.now new.now reply account = λ was. (applied.answered clean (had was)).answers in
+    let answers : IsTrue old.is_open → IsAnswered now e old.now new.now reply = λ was. applied.answered clean (had was) in
     elim (cases_Bool (bytes_eq account name)) [
       | inl its ↦
-          let own_answers : IsTrue old.is_open → AnswersAccount now e old.now new.now reply name = λ was. subst (λ (n : List ℕ). AnswersAccount now e old.now new.now reply n) ((bytes_eq-Decides account name).0 its) (answers was) in
+          let own_answers : IsTrue old.is_open → AnswersTo now e old.now new.now reply name = λ was. subst (λ (n : List ℕ). AnswersTo now e old.now new.now reply n) ((bytes_eq-Decides account name).0 its)
+          (λ room devices held holds. ((answers was).is_told room devices held holds, (answers was).is_done.changes.rows room devices held holds)) in
           as_told new.is_open new.now name _ (machine.replies ++ reply ∷ []) _ (told machine now e)
           (ap (λ b. machine.replies ++ cond b (reply ∷ []) []) its)
           (ap (answer_on machine) (its_own name now account it its))
           (record {
             replies = ap (λ (said : Reply). machine.replies ++ said ∷ []) (elim (short_or_not account it) [
               | inl short ↦ applied.short short ∙ sym (short_reply machine.room machine.devices now account it short)
-              | inr long ↦ let was = applied.asked long clean in (own_answers was).reply machine.room machine.devices (holds was) (has was)
+              | inr long ↦ let was = applied.asked long clean in (own_answers was machine.room machine.devices (holds was) (has was)).0
             ]);
-            rows = λ shown. let was = applied.connection.back clean shown in (own_answers was).rows machine.room machine.devices (holds was) (has was);
-            devices = λ shown. let was = applied.connection.back clean shown in still_devices old.now new.now (answers was).alone.devices machine.devices (has was);
+            rows = λ shown. let was = applied.connection.back clean shown in (own_answers was machine.room machine.devices (holds was) (has was)).1;
+            devices = λ shown. let was = applied.connection.back clean shown in still_devices old.now new.now (answers was).is_done.changes.alone.devices machine.devices (has was);
           })
       | inr isnt ↦ as_told new.is_open new.now name _ machine.replies _ machine
           (ap (λ b. machine.replies ++ cond b (reply ∷ []) []) isnt ∙ append-nil machine.replies)
           (ap (answer_on machine) (anothers name now account it isnt))
           (record {
             replies = refl;
-            rows = λ shown. let was = applied.connection.back clean shown in still_holds name old.now new.now ((answers was).alone.others name (λ same. let is = (bytes_eq-Decides account name).1 (sym same) in cc)) machine.room (holds was);
-            devices = λ shown. let was = applied.connection.back clean shown in still_devices old.now new.now (answers was).alone.devices machine.devices (has was);
+            rows = λ shown. let was = applied.connection.back clean shown in still_holds name old.now new.now ((answers was).is_done.changes.alone.others name (λ same. let is = (bytes_eq-Decides account name).1 (sym same) in cc)) machine.room (holds was);
+            devices = λ shown. let was = applied.connection.back clean shown in still_devices old.now new.now (answers was).is_done.changes.alone.devices machine.devices (has was);
           })
     ]
 
@@ -116,12 +123,12 @@ next_devices now e old new (Err fault) applied clean had machine has = record {
   devices = λ is. let was = applied.connection.back clean is in subst (λ (db : Database). HoldsDevices db machine.devices) (sym (applied.unchanged clean (had was) is)) (has was);
 }
 next_devices now (OfDevice device it) old new (Ok reply) applied clean had machine has = record {
-  replies = ap (λ (said : Reply). machine.replies ++ said ∷ []) (let was = applied.asked (λ short. short) clean in (applied.answered clean (had was)).answers.reply machine.devices (has was));
-  devices = λ shown. let was = applied.connection.back clean shown in (applied.answered clean (had was)).answers.rows machine.devices (has was);
+  replies = ap (λ (said : Reply). machine.replies ++ said ∷ []) (let was = applied.asked (λ short. short) clean in (applied.answered clean (had was)).is_told machine.devices (has was));
+  devices = λ shown. let was = applied.connection.back clean shown in (applied.answered clean (had was)).is_done.changes.rows machine.devices (has was);
 }
 next_devices now (OfAccount account it) old new (Ok reply) applied clean had machine has = record {
   replies = append-nil machine.replies;
-  devices = λ shown. let was = applied.connection.back clean shown in still_devices old.now new.now (applied.answered clean (had was)).answers.alone.devices machine.devices (has was);
+  devices = λ shown. let was = applied.connection.back clean shown in still_devices old.now new.now (applied.answered clean (had was)).is_done.changes.alone.devices machine.devices (has was);
 }
 
 -- ---- what it leaves as it was
@@ -138,10 +145,10 @@ next_rest now e old new (Err fault) applied clean had shown =
     let same = applied.unchanged clean (had (applied.connection.back clean shown)) shown in
     record { accounts = λ name none. same_rows name old.now new.now same; devices = λ none. same_devices old.now new.now same; version = ap (λ (db : Database). db.trees meta.tree) same }
 next_rest now (OfDevice device it) old new (Ok reply) applied clean had shown =
-    let alone = (applied.answered clean (had (applied.connection.back clean shown))).answers.alone in
+    let alone = (applied.answered clean (had (applied.connection.back clean shown))).is_done.changes.alone in
     record { accounts = λ name none. alone.accounts name; devices = λ none. absurd (let no : ⊥ = cc in no); version = alone.version }
 next_rest now (OfAccount account it) old new (Ok reply) applied clean had shown =
-    let alone = (applied.answered clean (had (applied.connection.back clean shown))).answers.alone in
+    let alone = (applied.answered clean (had (applied.connection.back clean shown))).is_done.changes.alone in
     record {
       accounts = λ name none. elim (cases_Bool (bytes_eq account name)) [
         | inl its ↦ let some : (now, OfAccount account it) ∷ [] ≡ [] = sym (ap (λ b. cond b ((now, OfAccount account it) ∷ []) []) its) ∙ none in absurd (let no : ⊥ = cc in no)

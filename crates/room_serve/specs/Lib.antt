@@ -6,3 +6,4 @@ pub mod Agreement
 pub mod Isolation
 pub mod Wires
 pub mod Exchanges
+pub mod Lives

@@ -24,7 +24,7 @@ mod wire;
 
 pub use exchange::serve_one;
 pub use fault::RunFault;
-pub use laws::{agreement, isolation};
+pub use laws::{agreement, isolation, lives_are_histories, lives_keep_the_laws, runs_join};
 pub use outcome::Outcome;
 pub use room_http::WireFault;
 pub use run::run_events;

@@ -10,7 +10,7 @@ use room_store::StoreFault;
 #[derive(Debug, Drop)]
 pub enum Outcome {
     Answered(Reply),
-    /// It could not be answered, and changed nothing.
+    /// It could not be answered, and has changed nothing, as far as the connection is still open.
     Failed(StoreFault),
 }
 

@@ -16,7 +16,8 @@ use sqlite::Alter;
 use std::alloc::Global;
 
 /// Answers the events in order, each at its moment in seconds from 1970, and tells what each came
-/// to. An event that fails changes nothing, and those after it are answered all the same.
+/// to. An event that fails has changed nothing, as far as the connection is still open; those after
+/// it are tried all the same.
 ///
 /// `Memory` where there is no memory for all outcomes, which is asked for before the first event;
 /// nothing is changed then. A moment past 2099 fails its event alone.

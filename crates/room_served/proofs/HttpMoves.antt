@@ -3,7 +3,7 @@ use Rattle.std.proofs.Common.{◌≡◌, ℕ, Option, List, [], ◌++◌, take, 
 use Rattle.std.proofs.KnownBytes.{Appends-nil, Consumes-nil}
 use Rattle.std.specs.Io.KnownBytes.{Appends, Consumes, Keeps}
 use Rattle.http_server.specs.History.{History, IsQuiet, after_read, after_sent}
-use Rattle.room_served.proofs.Ends.{carry_then, no_bytes, none_read, none_written}
+use Rattle.room_served.proofs.Ends.{carry_then, no_bytes, none_read}
 use Rattle.room_served.specs.HttpPeers.{GoesOn}
 use Rattle.room_served.specs.ProofHttpSteps.{ReadsBytes, WritesBytes}
 use Rattle.room_served.specs.Streams.{Ends}
@@ -24,14 +24,6 @@ came left left2 before after more reads is = record {
   reads = reads;
   received = ap (λ (h : History). h.received) is;
   sent = ap (λ (h : History). h.sent) is;
-}
-
-pub none_went : (given given2 : Option (List ℕ)) (before after : History) → Keeps given given2 → after ≡ before → WritesBytes given given2 before after
-none_went given given2 before after kept is = record {
-  went = [];
-  writes = none_written given given2 kept;
-  received = ap (λ (h : History). h.received) is;
-  sent = ap (λ (h : History). h.sent) is ∙ sym (append-nil before.sent);
 }
 
 pub went : (given given2 : Option (List ℕ)) (before after : History) (count : ℕ) → after ≡ after_sent before count → Appends given given2 (take count before.pending) → WritesBytes given given2 before after

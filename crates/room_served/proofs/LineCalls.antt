@@ -3,9 +3,8 @@ use Rattle.std.proofs.Common.{◌≡◌, ◌≢◌, ℕ, ◌+◌, Option, Some, 
 use Rattle.std.proofs.lemmas.Grind.{flat_map-append}
 use Rattle.std.proofs.lemmas.List.{take-append-drop}
 use Rattle.std.proofs.KnownBytes.{Appends-nil, Consumes-nil}
-use Rattle.std.specs.Io.KnownBytes.{Keeps}
 use Rattle.sqlite_trees.specs.declared.store.Store.{Ghosts}
-use Rattle.room_served.proofs.Ends.{carry_then, no_bytes, none_read, none_written}
+use Rattle.room_served.proofs.Ends.{carry_then, no_bytes}
 use Rattle.room_served.specs.Lines.{AnswersLine, Comes, IsWaiting, Leaves, LosesAnswer, TakesLine, input_of, output_of, side_of}
 use Rattle.room_served.specs.declared.line_connection.LineConnection.{LineConnection}
 use Rattle.room_served.specs.declared.line_connection.Side.{Side}
@@ -30,29 +29,11 @@ gone given given2 before after n is input side = record {
   side = side;
 }
 
-pub none_gone : (given given2 : Option (List ℕ)) (before after : LineConnection) → Keeps given given2 → after ≡ before → SendsBytes given given2 before after
-none_gone given given2 before after left is = record {
-  went = [];
-  writes = none_written given given2 left;
-  input = ap input_of is;
-  output = ap output_of (sym is);
-  side = ap side_of is;
-}
-
 pub come : (left left2 : Option (List ℕ)) (before after : LineConnection) (n : ℕ) → Comes left left2 before after n → output_of after ≡ output_of before → side_of after ≡ side_of before → ReceivesBytes left left2 before after
 come left left2 before after n is output side = record {
   came = is.0;
   reads = is.2;
   input = is.3;
-  output = output;
-  side = side;
-}
-
-pub none_come : (left left2 : Option (List ℕ)) (before after : LineConnection) → Keeps left left2 → input_of after ≡ input_of before → output_of after ≡ output_of before → side_of after ≡ side_of before → ReceivesBytes left left2 before after
-none_come left left2 before after kept input output side = record {
-  came = [];
-  reads = none_read left left2 kept;
-  input = input ∙ sym (append-nil (input_of before));
   output = output;
   side = side;
 }

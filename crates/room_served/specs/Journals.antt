@@ -1,14 +1,20 @@
 -- What was applied to the tables, one after another, and what that makes of them (all this
 -- project's own).
-use Rattle.std.specs.Prelude.{◌≡◌, ℕ, List, [], ◌∷◌, ◌++◌, map, IsTrue, Result}
+use Rattle.std.specs.Prelude.{◌≡◌, ℕ, List, [], ◌∷◌, ◌++◌, map, IsTrue, None, Result}
 use Rattle.sqlite.specs.Held.{Held, state}
 use Rattle.sqlite_trees.specs.declared.store.Store.{Ghosts}
 use Rattle.room_core.specs.Events.{Timed}
 use Rattle.room_core.specs.declared.event.Reply.{Reply}
+use Rattle.room_laws.specs.Histories.{Step}
+use Rattle.room_laws.specs.Laws.{KeepTheLaws}
+use Rattle.room_rules.specs.Devices.{Devices}
 use Rattle.room_store.specs.Applied.{Applies}
 use Rattle.room_store.specs.declared.fault.StoreFault.{StoreFault}
+use Rattle.room_tables.specs.Accounts.{Holds}
 use Rattle.room_tables.specs.Calls.{KeepsConnection, IfOurTables}
+use Rattle.room_tables.specs.Devices.{HoldsDevices}
 use Rattle.room_tables.specs.Keyed.{HasSchema}
+use Rattle.room_serve.specs.Lives.{HasLived}
 use Rattle.room_serve.specs.Outcomes.{outcome_of}
 use Rattle.room_serve.specs.Runs.{LeavesTheRest, RunsAlone, RunsDevices}
 use Rattle.room_serve.specs.declared.outcome.Outcome.{Outcome}
@@ -72,3 +78,11 @@ module _ {S : Type 0} (store : Ghosts S) where
 
   abbrev pub AlwaysRuns : Type 0
   AlwaysRuns = (more : List Told) (old new : Held S) → Leads old more new → IsRunOf more old new
+
+  -- an account that was opened by what was served keeps the laws of a print room from then on
+  abbrev pub AlwaysKeepTheLaws : Type 0
+  AlwaysKeepTheLaws = (more : List Told) (old new : Held S) → Leads old more new
+      → IfOurTables store old new (λ db. (name : List ℕ) (devices : Devices) → Holds db name None
+      → HoldsDevices db devices
+      → (steps : List Step) × HasLived name (events_of more) (outcomes_of more)
+      (state store new).is_open (state store new).now None steps × KeepTheLaws steps)

@@ -1,5 +1,5 @@
 //! What holds of all that was served.
-ghost use Rattle.room_served.specs.Journals.{AlwaysRuns};
+ghost use Rattle.room_served.specs.Journals.{AlwaysKeepTheLaws, AlwaysRuns};
 
 use sqlite::Alter;
 
@@ -9,4 +9,10 @@ use sqlite::Alter;
 /// among it, holds for everybody who is served.
 pub fn always_runs<S: Alter>()
     ensures { AlwaysRuns S.Store }
+{}
+
+/// Whoever was opened by a line that was served keeps the laws of `room_laws` from then on, whatever
+/// came on whichever other connection: what it was told are the answers of steps of which they hold.
+pub fn always_keep_the_laws<S: Alter>()
+    ensures { AlwaysKeepTheLaws S.Store }
 {}

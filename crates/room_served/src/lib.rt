@@ -23,7 +23,7 @@ mod turns;
 
 pub use entry::Entry;
 pub use http_peer::HttpPeer;
-pub use laws::always_runs;
+pub use laws::{always_keep_the_laws, always_runs};
 pub use limits::connection_config;
 pub use line_connection::{LineConnection, MOST_LINE, Side};
 pub use line_peer::LinePeer;

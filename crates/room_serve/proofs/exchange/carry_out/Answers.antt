@@ -7,6 +7,7 @@ use Rattle.room_serve.proofs.exchange.carry_out.Given as goal_given
 applied : (g : goal_given.Over) (c : goal.Joined-told g) → AppliesMessage g.S.Store c.args.now c.args.order.account c.args.body.now c.args.store.now c.apply-told.new.self c.apply-told.result
 applied g c = let says = c.apply-told.ensures in record {
   answered = says.answered;
+  crash = says.crash;
   unchanged = says.unchanged;
   damaged = says.damaged;
   moment = says.moment;

@@ -22,6 +22,7 @@ loop-now-preserved g c =
     let does = c.apply-answer.ensures in
     let applied : Applies e.0 e.1 mid new c.apply-answer.result = record {
       answered = does.answered;
+      crash = does.crash;
       unchanged = does.unchanged;
       damaged = does.damaged;
       moment = does.moment;

@@ -14,6 +14,7 @@ returns-clause-applies g c =
     let told = c.apply-told.result in
     let applied : Applies c.moment.result (plain_event c.event.result) old new told = record {
       answered = says.answered;
+      crash = says.crash;
       unchanged = says.unchanged;
       damaged = says.damaged;
       moment = says.moment;

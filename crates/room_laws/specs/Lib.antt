@@ -1,0 +1,14 @@
+pub mod Histories
+pub mod Told
+pub mod PrintedIsSent
+pub mod PrintedByLeave
+pub mod Releases
+pub mod Balance
+pub mod ChangesAsTold
+pub mod WithinGrants
+pub mod JobsStay
+pub mod Passwords
+pub mod RoomsStay
+pub mod AsksLieWithin
+pub mod GrantsOnce
+pub mod Laws

@@ -1,0 +1,44 @@
+-- Rooms stay rooms (all this project's own).
+use Rattle.std.specs.Prelude.{◌≡◌, ℕ, List, All, Option, Some, IfSome, IsTrue}
+use Rattle.std.specs.FinMap.{get}
+use Rattle.room_core.specs.Events.{PlainEvent, Timed, OfAccount, OfDevice}
+use Rattle.room_core.specs.Fits.{fits}
+use Rattle.room_core.specs.Rates.{AreRated}
+use Rattle.room_laws.specs.Histories.{Step, history}
+use Rattle.room_rules.specs.Devices.{Devices}
+use Rattle.room_rules.specs.Limits.{IsMoment}
+use Rattle.room_rules.specs.Names.{is_name}
+use Rattle.room_rules.specs.declared.device.Device.{Device}
+use Rattle.room_state.specs.RoomRules.{IsRoom}
+use Rattle.room_state.specs.Rooms.{RoomValue}
+
+-- each device is known by a name
+abbrev pub AreNamed : Devices → Type 0
+AreNamed devices =
+    (name : List ℕ) (device : Device) → get devices name ≡ Some device → IsTrue (is_name name)
+
+-- an event of a device tells the device's name
+abbrev pub IsNamed : PlainEvent → Type 0
+IsNamed (OfAccount account event) = Unit {0}
+IsNamed (OfDevice device event) = IsTrue (is_name device)
+
+-- an event within its limits
+pub record IsEvent (e : Timed) : Type 0 where
+  pub moment : IsMoment e.0
+  pub fit : IsTrue (fits e.1)
+  pub named : IsNamed e.1
+
+-- a step from a room to a room, among devices that have names and rates
+pub record KeepsRules (step : Step) : Type 0 where
+  pub before : IsRoom step.before
+  pub after : IsRoom step.after
+  pub named : AreNamed step.devices
+  pub rated : AreRated step.devices
+
+-- of events within their limits each step begins with a room and leaves one, where the account had
+-- one or none at first
+abbrev pub RoomsStay : Type 0
+RoomsStay =
+    (room : Option RoomValue) (devices : Devices) (events : List Timed)
+    → IfSome room IsRoom → AreNamed devices → AreRated devices → All IsEvent events
+    → All KeepsRules (history room devices events)

@@ -1,0 +1,194 @@
+-- An account's life is the history of its own events, and runs in a row are one.
+use Rattle.std.proofs.Common.{◌≡◌, ℕ, ◌+◌, Bool, true, false, ◌||◌, cond, bytes_eq, List, [], ◌∷◌, ◌++◌, map, length, Option, Some, None, IsSome, refl, sym, ap, subst, ◌∙◌}
+use Rattle.std.proofs.lemmas.List.{append-nil, append_assoc, length-append}
+use Rattle.std.proofs.lemmas.List.Elements.{filter-append}
+use Rattle.sqlite.specs.Effect.{Database}
+use Rattle.room_core.specs.DeviceEvents.{device_answered}
+use Rattle.room_core.specs.Events.{AccountEvent, PlainEvent, Timed, OfAccount, OfDevice}
+use Rattle.room_core.specs.Machine.{answered, answered_unopened}
+use Rattle.room_core.specs.declared.event.Reply.{Reply}
+use Rattle.room_laws.specs.Histories.{Step, history, left_by, step_of}
+use Rattle.room_rules.specs.Devices.{Devices}
+use Rattle.room_state.specs.Rooms.{RoomValue}
+use Rattle.room_tables.specs.Accounts.{Holds}
+use Rattle.room_tables.specs.Devices.{HoldsDevices}
+use Rattle.room_serve.specs.declared.outcome.Outcome.{Outcome}
+use Rattle.room_serve.specs.declared.outcome.Outcome.TheVariants.{Answered, Failed}
+use Rattle.room_serve.specs.Own.{is_of, own}
+use Rattle.room_serve.specs.Alone.{Alone, alone, answer_on}
+use Rattle.room_serve.specs.Outcomes.{answered_of, replies_to}
+use Rattle.room_serve.specs.Runs.{IsAlone, RunsAlone}
+use Rattle.room_serve.specs.Isolation.{IsRun}
+use Rattle.room_serve.specs.Lives.{HasLived, LivesKeepTheLaws, told_in, told_of}
+use Rattle.room_laws.proofs.KeptLaws.{laws_are_kept}
+use Rattle.room_serve.proofs.Grown.{answer_both, shorter}
+
+-- ---- what a machine had told before changes nothing of what it tells
+
+-- the machine that had told these before
+abbrev behind : List Reply → Alone → Alone
+behind said machine = record { replies = said ++ machine.replies; room = machine.room; devices = machine.devices }
+
+tells_behind : (said : List Reply) (room : Option RoomValue) (devices : Devices) (events : List Timed)
+    → answer_on (record { replies = said; room = room; devices = devices }) events ≡ behind said (alone room devices events)
+tells_behind said room devices [] = ap (λ (replies : List Reply). let machine : Alone = record { replies = replies; room = room; devices = devices } in machine) (sym (append-nil said))
+tells_behind said room devices ((now, OfDevice device it) ∷ events) = tells_behind said room (device_answered devices (OfDevice device it)).devices events
+tells_behind said room devices ((now, OfAccount account it) ∷ events) =
+    let answer = answered room devices now (OfAccount account it) in
+    let rest = alone answer.room devices events in
+    tells_behind (said ++ answer.reply ∷ []) answer.room devices events
+    ∙ ap (λ (replies : List Reply). let machine : Alone = record { replies = replies; room = rest.room; devices = rest.devices } in machine) (append_assoc said (answer.reply ∷ []) rest.replies)
+    ∙ ap (behind said) (sym (tells_behind (answer.reply ∷ []) answer.room devices events))
+
+-- it answers an event of an account, and goes on with the room that this leaves
+goes_on : (room : Option RoomValue) (devices : Devices) (now : ℕ) (account : List ℕ) (it : AccountEvent) (events : List Timed)
+    → alone room devices ((now, OfAccount account it) ∷ events)
+    ≡ behind ((answered room devices now (OfAccount account it)).reply ∷ []) (alone (answered room devices now (OfAccount account it)).room devices events)
+goes_on room devices now account it events =
+    let answer = answered room devices now (OfAccount account it) in tells_behind (answer.reply ∷ []) answer.room devices events
+
+-- ---- what was told
+
+-- the events of accounts, each with its reply
+abbrev with_replies : List Timed → List Reply → List (Timed × Reply)
+with_replies ((now, OfDevice device it) ∷ events) replies = with_replies events replies
+with_replies ((now, OfAccount account it) ∷ events) (reply ∷ replies) = ((now, OfAccount account it), reply) ∷ with_replies events replies
+with_replies _ _ = []
+
+told_with_replies : (name : List ℕ) (events : List Timed) (outcomes : List Outcome)
+    → told_of name events outcomes ≡ with_replies (own name (answered_of events outcomes)) (replies_to (is_of name) events outcomes)
+told_with_replies name [] outcomes = refl
+told_with_replies name (e ∷ events) [] = refl
+told_with_replies name (e ∷ events) (Failed fault ∷ outcomes) = told_with_replies name events outcomes
+told_with_replies name ((now, OfDevice device it) ∷ events) (Answered reply ∷ outcomes) = told_with_replies name events outcomes
+told_with_replies name ((now, OfAccount account it) ∷ events) (Answered reply ∷ outcomes) =
+    let e : Timed = (now, OfAccount account it) in
+    let rest = told_with_replies name events outcomes in
+    elim (bytes_eq account name) as (λ b. cond b ((e, reply) ∷ told_of name events outcomes) (told_of name events outcomes)
+    ≡ with_replies (cond (b || false) (e ∷ own name (answered_of events outcomes)) (own name (answered_of events outcomes))) (cond b (reply ∷ replies_to (is_of name) events outcomes) (replies_to (is_of name) events outcomes))) [
+      | true ↦ ap (λ l. (e, reply) ∷ l) rest
+      | false ↦ rest
+    ]
+
+-- what is told while the account is not open
+abbrev told_unopened : Option RoomValue → List Timed → List (Timed × Reply)
+told_unopened (Some room) events = []
+told_unopened None [] = []
+told_unopened None ((now, OfDevice device it) ∷ events) = told_unopened None events
+told_unopened None ((now, OfAccount account it) ∷ events) =
+    let answer = answered_unopened now (OfAccount account it) in
+    ((now, OfAccount account it), answer.reply) ∷ told_unopened answer.room events
+
+none_unopened : (room : Option RoomValue) (events : List Timed) → IsSome room → told_unopened room events ≡ []
+none_unopened (Some room) events is = refl
+none_unopened None events is = let no : ⊥ = cc in absurd no
+
+-- and after that what the history tells
+tells_history : (room : Option RoomValue) (devices : Devices) (events : List Timed)
+    → with_replies events (alone room devices events).replies ≡ told_unopened room events ++ map told_in (history room devices events)
+tells_history None devices [] = refl
+tells_history (Some room) devices [] = refl
+tells_history None devices ((now, OfDevice device it) ∷ events) = tells_history None (device_answered devices (OfDevice device it)).devices events
+tells_history (Some room) devices ((now, OfDevice device it) ∷ events) = tells_history (Some room) (device_answered devices (OfDevice device it)).devices events
+tells_history None devices ((now, OfAccount account it) ∷ events) =
+    let e : Timed = (now, OfAccount account it) in
+    let answer = answered_unopened now (OfAccount account it) in
+    ap (λ (machine : Alone). with_replies (e ∷ events) machine.replies) (goes_on None devices now account it events)
+    ∙ ap (λ l. (e, answer.reply) ∷ l) (tells_history answer.room devices events)
+tells_history (Some room) devices ((now, OfAccount account it) ∷ events) =
+    let e : Timed = (now, OfAccount account it) in
+    let step = step_of room devices now account it in
+    ap (λ (machine : Alone). with_replies (e ∷ events) machine.replies) (goes_on (Some room) devices now account it events)
+    ∙ ap (λ l. (e, step.reply) ∷ l) (tells_history (Some step.after) devices events)
+
+-- ---- what is left
+
+leaves : (room : RoomValue) (devices : Devices) (events : List Timed) → (alone (Some room) devices events).room ≡ Some (left_by room (history (Some room) devices events))
+leaves room devices [] = refl
+leaves room devices ((now, OfDevice device it) ∷ events) = leaves room (device_answered devices (OfDevice device it)).devices events
+leaves room devices ((now, OfAccount account it) ∷ events) =
+    ap (λ (machine : Alone). machine.room) (goes_on (Some room) devices now account it events) ∙ leaves (step_of room devices now account it).after devices events
+
+left_by_last : (room : RoomValue) (before : List Step) (step : Step) → left_by room (before ++ step ∷ []) ≡ step.after
+left_by_last room [] step = refl
+left_by_last room (first ∷ before) step = left_by_last first.after before step
+
+-- the room that the last step left
+leaves_last : (room : Option RoomValue) (devices : Devices) (events : List Timed) (before : List Step) (step : Step) → history room devices events ≡ before ++ step ∷ []
+    → (alone room devices events).room ≡ Some step.after
+leaves_last (Some room) devices events before step is = leaves room devices events ∙ ap Some (ap (left_by room) is ∙ left_by_last room before step)
+leaves_last None devices [] [] step is = let no : ⊥ = cc in absurd no
+leaves_last None devices [] (first ∷ before) step is = let no : ⊥ = cc in absurd no
+leaves_last None devices ((now, OfDevice device it) ∷ events) before step is = leaves_last None (device_answered devices (OfDevice device it)).devices events before step is
+leaves_last None devices ((now, OfAccount account it) ∷ events) before step is =
+    ap (λ (machine : Alone). machine.room) (goes_on None devices now account it events)
+    ∙ leaves_last (answered_unopened now (OfAccount account it)).room devices events before step is
+
+pub lives_are_histories : (events : List Timed) (outcomes : List Outcome) (old : Database) (is_open : Bool) (new : Database) → RunsAlone events outcomes old is_open new
+    → (name : List ℕ) (room : Option RoomValue) (devices : Devices) → Holds old name room → HoldsDevices old devices
+    → HasLived name events outcomes is_open new room (history room devices (own name (answered_of events outcomes)))
+lives_are_histories events outcomes old is_open new runs name room devices holds has =
+    let mine = runs name room devices holds has in
+    let its = own name (answered_of events outcomes) in
+    record {
+      earlier = told_unopened room its;
+      open_from_the_start = none_unopened room its;
+      told = told_with_replies name events outcomes ∙ ap (with_replies its) mine.replies ∙ tells_history room devices its;
+      rows = λ shown before step is. subst (λ (left : Option RoomValue). Holds new name left) (leaves_last room devices its before step is) (mine.rows shown);
+    }
+
+-- ---- two runs in a row
+
+answered_in_both : (first second : List Timed) (firsts seconds : List Outcome) → length firsts ≡ length first
+    → answered_of (first ++ second) (firsts ++ seconds) ≡ answered_of first firsts ++ answered_of second seconds
+answered_in_both [] second [] seconds same = refl
+answered_in_both [] second (o ∷ firsts) seconds same = let no : ⊥ = cc in absurd no
+answered_in_both (e ∷ first) second [] seconds same = let no : ⊥ = cc in absurd no
+answered_in_both (e ∷ first) second (Answered reply ∷ firsts) seconds same = ap (λ l. e ∷ l) (answered_in_both first second firsts seconds (shorter (Answered reply) firsts e first same))
+answered_in_both (e ∷ first) second (Failed fault ∷ firsts) seconds same = answered_in_both first second firsts seconds (shorter (Failed fault) firsts e first same)
+
+replies_in_both : (kind : PlainEvent → Bool) (first second : List Timed) (firsts seconds : List Outcome) → length firsts ≡ length first
+    → replies_to kind (first ++ second) (firsts ++ seconds) ≡ replies_to kind first firsts ++ replies_to kind second seconds
+replies_in_both kind [] second [] seconds same = refl
+replies_in_both kind [] second (o ∷ firsts) seconds same = let no : ⊥ = cc in absurd no
+replies_in_both kind (e ∷ first) second [] seconds same = let no : ⊥ = cc in absurd no
+replies_in_both kind (e ∷ first) second (Answered reply ∷ firsts) seconds same =
+    let rest = replies_in_both kind first second firsts seconds (shorter (Answered reply) firsts e first same) in
+    elim (kind e.1) as (λ b. cond b (reply ∷ replies_to kind (first ++ second) (firsts ++ seconds)) (replies_to kind (first ++ second) (firsts ++ seconds)) ≡ cond b (reply ∷ replies_to kind first firsts) (replies_to kind first firsts) ++ replies_to kind second seconds) [
+      | true ↦ ap (λ l. reply ∷ l) rest
+      | false ↦ rest
+    ]
+replies_in_both kind (e ∷ first) second (Failed fault ∷ firsts) seconds same = replies_in_both kind first second firsts seconds (shorter (Failed fault) firsts e first same)
+
+-- the machine goes on from where the first run left it
+joined : (name : List ℕ) (room : Option RoomValue) (devices : Devices) (first second : List Timed) (firsts seconds : List Outcome) → length firsts ≡ length first → (left : Alone) → alone room devices (own name (answered_of first firsts)) ≡ left
+    → alone room devices (own name (answered_of (first ++ second) (firsts ++ seconds))) ≡ behind left.replies (alone left.room left.devices (own name (answered_of second seconds)))
+joined name room devices first second firsts seconds same left is =
+    let later = own name (answered_of second seconds) in
+    ap (λ l. alone room devices (own name l)) (answered_in_both first second firsts seconds same)
+    ∙ ap (alone room devices) (filter-append _ (answered_of first firsts) (answered_of second seconds))
+    ∙ answer_both (record { replies = []; room = room; devices = devices }) (own name (answered_of first firsts)) later
+    ∙ ap (λ (machine : Alone). answer_on machine later) is
+    ∙ tells_behind left.replies left.room left.devices later
+
+pub runs_join : (first second : List Timed) (firsts seconds : List Outcome) (a b c : Database) (is_open : Bool) → IsRun first firsts a true b → IsRun second seconds b is_open c → IsRun (first ++ second) (firsts ++ seconds) a is_open c
+runs_join first second firsts seconds a b c is_open one other = record {
+  each = length-append firsts seconds ∙ ap (λ n. n + length seconds) one.each ∙ ap (λ n. length first + n) other.each ∙ sym (length-append first second);
+  alone = λ name room devices holds has.
+      let left = alone room devices (own name (answered_of first firsts)) in
+      let ones = one.alone name room devices holds has in
+      let others = other.alone name left.room left.devices (ones.rows refl) (ones.devices refl) in
+      let later = alone left.room left.devices (own name (answered_of second seconds)) in
+      subst (λ (machine : Alone). IsAlone (first ++ second) (firsts ++ seconds) a is_open c name machine) (sym (joined name room devices first second firsts seconds one.each left refl))
+      (record {
+        replies = replies_in_both (is_of name) first second firsts seconds one.each ∙ ap (λ told. told ++ replies_to (is_of name) second seconds) ones.replies ∙ ap (λ told. left.replies ++ told) others.replies;
+        rows = others.rows;
+        devices = others.devices;
+      });
+}
+
+-- it is a history, and histories keep the laws
+pub lives_keep_the_laws : LivesKeepTheLaws
+lives_keep_the_laws events outcomes old is_open new runs name devices holds has =
+    let own_events = own name (answered_of events outcomes) in
+    (history None devices own_events, lives_are_histories events outcomes old is_open new runs name None devices holds has, laws_are_kept devices own_events)
