@@ -19,6 +19,7 @@ pub mod Accounts
 pub mod AccountSteps
 pub mod AccountEvents
 pub mod Balanced
+pub mod AskedReserves
 pub mod ToldChanges
 pub mod Leaving
 pub mod Accepting

@@ -6,6 +6,7 @@ use Rattle.std.specs.List.{sum_by}
 use Rattle.std.specs.Option.{IsSomeAnd, option_map_or}
 use Rattle.std.specs.Ordering.{nat_cmp}
 use Rattle.std.proofs.lemmas.Bool.Decides.{nat_tests}
+use Rattle.room_asks.specs.Asks.{ask_of}
 use Rattle.room_core.specs.Events.{AccountEvent, Release, Settle, Grant}
 use Rattle.room_core.specs.NewJobs.{new_job}
 use Rattle.room_core.specs.declared.event.Reply.{Reply}
@@ -14,12 +15,13 @@ use Rattle.room_laws.proofs.AccountActs.{IsAccounted}
 use Rattle.room_laws.proofs.AccountEvents.{accounts_kept, act_moves, found_device, told_step}
 use Rattle.room_laws.proofs.AccountSteps.{Restands, charged_then, granted_then, moved, reserved_then, stood}
 use Rattle.room_laws.proofs.Accounts.{IsAccount, none_next, numbered_here, settlements}
+use Rattle.room_laws.proofs.AskedReserves.{ReservesAsAsked, act_so, by_none, by_some, document_so, done_so, made_so, nothing_more, read_so, restood_so, undone_so}
 use Rattle.room_laws.proofs.Changes.{Makes, refuses, reads, makes, takes, acts, releases, starts, settles, grants, makes_one}
 use Rattle.room_laws.proofs.HistoryLemmas.{before_each}
 use Rattle.room_laws.specs.Releases.{rate_of}
 use Rattle.room_laws.specs.ChangesAsTold.{AddsPages, ChangesAsTold, EachChangesAsTold, TellsCharged, TellsReserved, counted, need_on, reserved_of}
 use Rattle.room_laws.specs.Histories.{Step}
-use Rattle.room_laws.specs.Told.{is_documents, is_ok, is_successful}
+use Rattle.room_laws.specs.Told.{done_in, is_documents, is_ok, is_successful, request_of}
 use Rattle.room_replies.specs.Lines.{success_text}
 use Rattle.room_replies.specs.declared.station_line.Success.TheVariants as success
 use Rattle.room_rules.specs.Acts.{SendDocument, StationRelease, StationStart, StationSettle}
@@ -47,26 +49,29 @@ record AreGrantedAlike (room after : RoomValue) : Type 0 where
 same_sums : (room : RoomValue) → AreGrantedAlike room room
 same_sums room = record { granted = λ month. refl; charged = refl }
 
--- a step that was done, and was no line
+-- a step that was answered by no ok
 by_request : (past : List Step) (room : RoomValue) (devices : Devices) (now : ℕ) (account : List ℕ) (event : AccountEvent) (told : Reply) (after : RoomValue) → is_ok told ≡ false → AreGrantedAlike room after
+    → ReservesAsAsked (told_step room devices now account event told after) (done_in (told_step room devices now account event told after))
     → (is_successful told ≡ false → is_documents told ≡ false → after ≡ room) → ChangesAsTold past (told_step room devices now account event told after)
-by_request past room devices now account event told after line alike refused = record {
+by_request past room devices now account event told after line alike reserves refused = record {
   done = λ ok. let false_is_true : ⊥ = cc in absurd false_is_true;
-  others = λ _. (alike.granted, alike.charged);
+  others = λ _. record {
+    granted = alike.granted;
+    charged = alike.charged;
+    by_request = by_some (told_step room devices now account event told after) (done_in (told_step room devices now account event told after)) reserves;
+    by_no_request = by_none (told_step room devices now account event told after) (done_in (told_step room devices now account event told after)) reserves;
+  };
   refused = λ _ unsuccessful nothing. refused unsuccessful nothing;
 }
 
-charged_alike : (charged charged_after c cn : ℕ) → charged_after + c ≡ charged + cn → cn ≡ c → charged_after ≡ charged
-charged_alike charged charged_after c cn h same = omega arith
+stays_so : (before after own left : ℕ) → after + own ≡ before + left → left ≡ own → after ≡ before
+stays_so before after own left h same = omega arith
 
 restood_alike : (room after : RoomValue) (number : ℕ) (job : Job) (standing : Standing) → Restands room after number job standing → standing.charged ≡ job.standing.charged → AreGrantedAlike room after
 restood_alike room after number job standing restands same = record {
   granted = λ month. granted_then room after month restands.grants;
-  charged = charged_alike _ _ job.standing.charged standing.charged (charged_then room after number job standing restands) same;
+  charged = stays_so _ _ job.standing.charged standing.charged (charged_then room after number job standing restands) same;
 }
-
-nothing_more : (n own : ℕ) → own ≡ 0 → own + n ≡ n
-nothing_more n own none = omega arith
 
 new_alike : (room after : RoomValue) (job : Job) → get room.jobs room.next ≡ None → after.jobs ≡ insert room.jobs room.next job → after.grants ≡ room.grants → job.standing.charged ≡ 0 → AreGrantedAlike room after
 new_alike room after job none jobs same charges = record {
@@ -83,6 +88,9 @@ document_charges last some_data s n h = grind arith
 
 start_charges : (device : List ℕ) (rate now : ℕ) (s n : Standing) → move (StationStart device rate now) s ≡ Ok n → n.charged ≡ s.charged
 start_charges device rate now s n h = grind arith
+
+start_reserves : (device : List ℕ) (rate now : ℕ) (s n : Standing) → move (StationStart device rate now) s ≡ Ok n → n.reserved ≡ s.reserved
+start_reserves device rate now s n h = grind arith
 
 release_charges : (kept device given : List ℕ) (impressions rate : ℕ) (left : ℤ) (s n : Standing) → move (StationRelease kept device given impressions rate left) s ≡ Ok n → n.charged ≡ s.charged
 release_charges kept device given impressions rate left s n h = grind arith
@@ -140,7 +148,7 @@ by_release_line past room after devices now account device number password impre
           (release_needs job devices device password impressions ready (left_in room now) standing ready_is moves);
       granted = λ month. granted_then room after month restands.grants;
       reserved = takes_units _ _ job.standing.reserved standing.reserved (reserved_then room after number job standing restands) (own.held (release_of_held job.password device password impressions ready.rate (left_in room now) job.standing standing moves));
-      charged = charged_alike _ _ job.standing.charged standing.charged (charged_then room after number job standing restands) (release_charges job.password device password impressions ready.rate (left_in room now) job.standing standing moves);
+      charged = stays_so _ _ job.standing.charged standing.charged (charged_then room after number job standing restands) (release_charges job.password device password impressions ready.rate (left_in room now) job.standing standing moves);
     }
 
 by_settling_line : (past : List Step) (room after : RoomValue) (devices : Devices) (now : ℕ) (account device : List ℕ) (number impressions : ℕ) (failed : Bool) (job : Job) (standing : Standing) (told : Reply) → IsAccount past room
@@ -172,17 +180,30 @@ by_grant_line room devices now account month pages told none = record {
 
 each_tells : (past : List Step) (room : RoomValue) (devices : Devices) (now : ℕ) (account : List ℕ) (event : AccountEvent) (told : Reply) (after : RoomValue) → Makes room devices now account event told after → IsAccount past room
     → ChangesAsTold past (told_step room devices now account event told after)
-each_tells past room devices now account event told after (refuses _ _ undone line other) is = by_request past room devices now account event told after line (same_sums room) (λ _ _. refl)
-each_tells past room devices now account event told after (reads body ask text read only) is = by_request past room devices now account event told after refl (same_sums room) (λ _ _. refl)
+each_tells past room devices now account event told after (refuses _ _ undone line other) is =
+    by_request past room devices now account event told after line (same_sums room)
+    (undone_so (told_step room devices now account event told room) (is_successful told) (request_of account event) undone refl)
+    (λ _ _. refl)
+each_tells past room devices now account event told after (reads body ask text read only) is =
+    by_request past room devices now account event told after refl (same_sums room)
+    (read_so (told_step room devices now account event told room) (is_successful told) (ask_of account body) ask read refl only)
+    (λ _ _. refl)
 each_tells past room devices now account event told after (makes body ask text read new accepted done) is =
     by_request past room devices now account event told after refl (new_alike room after (new_job room.next ask now) (none_next past room.next room.jobs is.jobs) refl refl refl)
+    (done_so (told_step room devices now account event told after) (is_successful told) (ask_of account body) ask read done
+    (made_so (told_step room devices now account event told after) ask (new_job room.next ask now) new (none_next past room.next room.jobs is.jobs) refl refl))
     (λ undone. let false_is_true : ⊥ = cc in absurd false_is_true)
 each_tells past room devices now account event told after (takes body ask text job standing read sends here moves done) is =
     by_request past room devices now account event told after refl (restood_alike room after ask.job job standing (stood room ask.job job standing _ here) (document_charges _ _ job.standing standing moves))
+    (done_so (told_step room devices now account event told after) (is_successful told) (ask_of account body) ask read done
+    (restood_so (told_step room devices now account event told after) ask job standing (stood room ask.job job standing _ here) (document_so ask.operation _ _ job standing sends moves)))
     (λ undone. let false_is_true : ⊥ = cc in absurd false_is_true)
 each_tells past room devices now account event told after (acts body ask text job it standing read here asked moves done) is =
     by_request past room devices now account event told after refl
     (restood_alike room after ask.job job standing (moved room ask.job job standing here) (plain (act_moves _ _ room now job ask.operation it standing asked moves (its_own past room ask.job job is here)).charged))
+    (done_so (told_step room devices now account event told after) (is_successful told) (ask_of account body) ask read done
+    (restood_so (told_step room devices now account event told after) ask job standing (moved room ask.job job standing here)
+    (act_so room now job ask.operation it standing asked (its_own past room ask.job job is here).held moves)))
     (λ undone. let false_is_true : ⊥ = cc in absurd false_is_true)
   where
     plain : {n m : ℕ} → n ≡ m + 0 → n ≡ m
@@ -194,6 +215,7 @@ each_tells past room devices now account event told after (releases device numbe
 }
 each_tells past room devices now account event told after (starts device number ready job standing on here moves) is =
     by_request past room devices now account event told after refl (restood_alike room after number job standing (moved room number job standing here) (start_charges device ready.rate now job.standing standing moves))
+    (stays_so _ _ job.standing.reserved standing.reserved (reserved_then room after number job standing (moved room number job standing here)) (start_reserves device ready.rate now job.standing standing moves))
     (λ _ nothing. let true_is_false : ⊥ = cc in absurd true_is_false)
 each_tells past room devices now account event told after (settles device number impressions failed known job standing on here moves) is = record {
   done = λ _. (standing.charged, by_settling_line past room after devices now account device number impressions failed job standing told is (moved room number job standing here) moves refl);

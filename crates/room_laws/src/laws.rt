@@ -59,7 +59,8 @@ pub fn balances()
 {}
 
 /// Each answer tells what its event changes: a release what it reserves, a settlement what it
-/// charges, and both what is left then. A refusal changes nothing.
+/// charges, and both what is left then. A request changes only what is reserved for its own job, as
+/// its release, hold or cancel has it, and a refusal changes nothing.
 pub fn changes_as_told()
     ensures { EachChangesAsTold }
 {}
