@@ -16,7 +16,7 @@ use Rattle.room_laws.specs.PrintedIsSent.{Sent, sent_for}
 use Rattle.room_laws.specs.Told.{maker_of, makes_jobs}
 use Rattle.room_laws.proofs.Brought.{Brings, IsQuiet, as_sent, makes_it, makes_no_other, makes_none, quiet_maker, quiet_sent, sent_to_it, sent_to_no_other}
 use Rattle.room_laws.proofs.Changes.{act_asked}
-use Rattle.room_laws.proofs.KeptByMoves.{no_document_more, one_document_more, same_copies, same_documents, sends_document, was_unfinished}
+use Rattle.room_laws.proofs.Moved.{brings_document, no_document_more, one_document_more, same_copies, same_documents, was_unfinished}
 use Rattle.room_laws.proofs.PlacedDocuments.{Follows, none_after, none_placed, others_stay, placed, placed_with, same_placed}
 use Rattle.room_rules.specs.Acts.{Act}
 use Rattle.room_rules.specs.Acts as act
@@ -156,7 +156,7 @@ others_left past step documents number other quiet differs = record {
 }
 
 -- so an act on a job keeps what was sent for each
-pub moved_keeps : (past : List Step) (step : Step) (room : RoomValue) (number : ℕ) (job : Job) (standing : Standing) (it : Act) → IsQuiet step → get room.jobs number ≡ Some job → sends_document it ≡ false → move it job.standing ≡ Ok standing →
+pub moved_keeps : (past : List Step) (step : Step) (room : RoomValue) (number : ℕ) (job : Job) (standing : Standing) (it : Act) → IsQuiet step → get room.jobs number ≡ Some job → brings_document it ≡ false → move it job.standing ≡ Ok standing →
     HasWhatWasSent past room → HasWhatWasSent (past ++ step ∷ []) (with_moved room number standing)
 moved_keeps past step room number job standing it quiet there silent moved all =
     let copies = same_copies it job.standing standing moved in
@@ -174,7 +174,7 @@ moved_keeps past step room number job standing it quiet there silent moved all =
     ]) refl
 
 -- what a request asks to be done to a job sends no document
-pub silent_act : (room : RoomValue) (now : ℕ) (job : Job) (it : Act) (operation : Operation) → act_asked room now job operation ≡ Some it → sends_document it ≡ false
+pub silent_act : (room : RoomValue) (now : ℕ) (job : Job) (it : Act) (operation : Operation) → act_asked room now job operation ≡ Some it → brings_document it ≡ false
 silent_act room now job it operation asked = grind (arith, nat_tests)
 
 -- ---- a document comes

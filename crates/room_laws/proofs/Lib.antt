@@ -6,7 +6,6 @@ pub mod Alls
 pub mod Moved
 pub mod Afterwards
 pub mod PlacedDocuments
-pub mod KeptByMoves
 pub mod Brought
 pub mod AsSent
 pub mod Printed
@@ -34,7 +33,6 @@ pub mod Guesses
 pub mod PasswordsShowNowhere
 pub mod WrongPasswords
 pub mod MovedStandings
-pub mod ActsKeep
 pub mod StepsKeepRooms
 pub mod DevicesStay
 pub mod RoomsStay

@@ -15,7 +15,7 @@ use Rattle.room_laws.proofs.AsSent.{HasWhatWasSent, made_keeps, moved_keeps, ope
 use Rattle.room_laws.proofs.Brought.{acting_is_quiet, as_sent, brought_by_maker, brought_by_sender, done_request, quiet_refusal, quiet_request, quiet_undone, reading_is_quiet}
 use Rattle.room_laws.proofs.Changes.{Makes, refuses, reads, makes, takes, acts, releases, starts, settles, grants, makes_one}
 use Rattle.room_laws.proofs.HistoryLemmas.{IsKept, before_each}
-use Rattle.room_laws.proofs.KeptByMoves.{same_copies, was_unfinished}
+use Rattle.room_laws.proofs.Moved.{same_copies, was_unfinished}
 use Rattle.room_replies.specs.Lines.{success_text}
 use Rattle.room_replies.specs.Parts.{part_of}
 use Rattle.room_replies.specs.declared.part.Part.{Part}

@@ -35,7 +35,7 @@ use Rattle.room_state.specs.RoomRules.{IsGrant, IsRoom, unfinished_count}
 use Rattle.room_state.specs.Rooms.{RoomValue}
 use Rattle.room_state.specs.Sums.{left_in}
 use Rattle.room_state.proofs.KeptRooms.{add_grant_keeps, add_job_keeps, finish_keeps, restand_keeps}
-use Rattle.room_laws.proofs.ActsKeep.{brings_document, document_taken, moved_keeps}
+use Rattle.room_laws.proofs.Moved.{brings_document, document_taken, moved_keeps}
 use Rattle.room_laws.proofs.AsksWithin.{IsWithin, ask_within}
 use Rattle.room_laws.proofs.Changes.{Makes, act_asked, refuses, reads, makes, takes, acts, releases, starts, settles, grants}
 use Rattle.room_laws.proofs.MovedStandings.{IsActWithin, moved_stands}
