@@ -10,7 +10,7 @@ use Rattle.room_served.specs.declared.line_peer.LinePeer.{LinePeer}
 use Rattle.room_served.specs.declared.served.Served.{Served}
 use Rattle.room_served.specs.declared.step.Next.{Next}
 use Rattle.room_sockets.specs.Guests.{TakesTurn, of_socket}
-use Rattle.room_sockets.specs.Halls.{Does, DoesAll, Enter, GoesOn, Leave, Serve, Serves, Step}
+use Rattle.room_sockets.specs.Halls.{Does, DoesAll, Drop, Enter, GoesOn, Leave, Serve, Serves, Step}
 use Rattle.room_sockets.specs.declared.guest.Guest.{Guest}
 use Rattle.room_sockets.specs.declared.guest.Peer.{Peer}
 use Rattle.room_sockets.specs.declared.guest.Peer.TheVariants.{Http, Lines}
@@ -39,6 +39,7 @@ module _ {S : Type 0} (store : Ghosts S) where
 
   step_continues : (step : Step) (a b : Slab Guest) (old new : Served S) → Does store step a b old new → Continues store old new
   step_continues (Serve key) a b old new is = serves_continues _ _ old new is.0
+  step_continues (Drop key) a b old new is = subst (λ (served : Served S). Continues store old served) (sym is.2) (stays store old)
   step_continues Enter a b old new is = subst (λ (served : Served S). Continues store old served) (sym is.1) (stays store old)
   step_continues Leave a b old new is = subst (λ (served : Served S). Continues store old served) (sym is.1) (stays store old)
 

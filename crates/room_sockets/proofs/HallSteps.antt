@@ -1,16 +1,24 @@
 -- Who leaves and who comes in, and what goes on in a hall, one thing after another.
-use Rattle.std.proofs.Common.{◌≡◌, ◌≢◌, ℕ, List, [], ◌∷◌, ◌++◌, Option, None, Some, IsSomeAnd, Result, Ok, Err, IfOk, OnErr, refl, sym, ap, ◌∙◌, subst, inl, inr}
+use Rattle.std.proofs.Common.{◌≡◌, ◌≢◌, ◌-◌, ◌≤◌, ℕ, List, [], ◌∷◌, ◌++◌, map, Option, None, Some, IsSomeAnd, Result, Ok, Err, IfOk, OnErr, refl, sym, ap, ◌∙◌, subst, inl, inr, arith}
 use Rattle.std.proofs.lemmas.Bool.{cases_eq}
+use Rattle.std.proofs.lemmas.Bool.Decides.{nat_tests}
+use Rattle.std.proofs.lemmas.List.{map-append}
+use Rattle.std.proofs.lemmas.List.Elements.{All-append, All-nil, All-push, All-weaker, filter_map-append}
+use Rattle.std.specs.List.{All}
+use Rattle.std.specs.Option.{SomeIff}
+use Rattle.mio.specs.Event.{event_token}
+use Rattle.mio.specs.declared.event.event.Event.{Event}
 use Rattle.slab.specs.Slab.{Slab, SameValues, Updates, get}
 use Rattle.sqlite_trees.specs.declared.store.Store.{Ghosts}
 use Rattle.room_served.specs.declared.served.Served.{Served}
 use Rattle.room_served.specs.declared.step.Next.{Next}
 use Rattle.room_served.specs.declared.step.Next.TheVariants.{Close}
 use Rattle.room_sockets.specs.Guests.{CameBy, IsNew, peer_of, turns_of}
-use Rattle.room_sockets.specs.Halls.{AreOthersKept, Does, DoesAll, Enter, GoesOn, IsAtMoment, IsDriven, Leave, MayLeave, OnlyEnter, OnlyLeave, Serve, Serves, StaysAfter, Step}
+use Rattle.room_sockets.specs.Halls.{AreOthersKept, Does, DoesAll, Drop, Enter, GoesOn, IsAtMoment, IsDriven, IsServedFirst, IsSpared, Leave, MayGo, MayLeave, OnlyEnter, OnlyLeave, Serve, Serves, ServesThose, SparesAll, SparesAndServes, StaysAfter, Step, key_told, keys_told}
 use Rattle.room_sockets.specs.declared.doors.Kind.{Kind}
 use Rattle.room_sockets.specs.declared.guest.Guest.{Guest}
 use Rattle.room_sockets.specs.declared.guest.Peer.{Peer}
+use Rattle.room_sockets.specs.declared.hall.TheConstants.{FIRST_GUEST}
 
 -- ---- who leaves
 
@@ -35,6 +43,14 @@ leave_then a b c first later key =
         | inl was ↦ inl (kept ∙ was)
         | inr gone ↦ inr (kept ∙ gone)
       ]
+      | inr gone ↦ inr gone
+    ]
+
+-- who was the same before
+pub may_go_after : (was mid now : Option Guest) → mid ≡ was → MayGo mid now → MayGo was now
+may_go_after was mid now same may =
+    elim may [
+      | inl kept ↦ inl (kept ∙ same)
       | inr gone ↦ inr gone
     ]
 
@@ -75,11 +91,54 @@ pub inserted : {E : Type 0} → (old new : Slab Guest) (guest : Guest) (r : Resu
 inserted old new guest (Ok key) is vacant updates err = one_enters key old new guest vacant updates.changed is updates.others
 inserted old new guest (Err e) is vacant updates err = λ key. inl (ap (λ (guests : Slab Guest). get guests key) err)
 
+-- ---- who is served before anything else becomes of it
+
+first_then : (key : ℕ) (steps more : List Step) → IsServedFirst key steps → IsServedFirst key (steps ++ more)
+first_then key [] more is = absurd is
+first_then key (Serve other ∷ steps) more is =
+    elim is [
+      | inl here ↦ inl here
+      | inr later ↦ inr (first_then key steps more later)
+    ]
+first_then key (Drop other ∷ steps) more is = (is.0, first_then key steps more is.1)
+first_then key (Enter ∷ steps) more is = absurd is
+first_then key (Leave ∷ steps) more is = absurd is
+
+spared_then_first : (key : ℕ) (steps more : List Step) → IsSpared key steps → IsServedFirst key more → IsServedFirst key (steps ++ more)
+spared_then_first key [] more is first = first
+spared_then_first key (Serve other ∷ steps) more is first =
+    elim is [
+      | inl here ↦ inl here
+      | inr later ↦ inr (spared_then_first key steps more later first)
+    ]
+spared_then_first key (Drop other ∷ steps) more is first = (is.0, spared_then_first key steps more is.1 first)
+spared_then_first key (Enter ∷ steps) more is first = absurd is
+spared_then_first key (Leave ∷ steps) more is first = absurd is
+
+spared_then : (key : ℕ) (steps more : List Step) → IsSpared key steps → IsSpared key more → IsSpared key (steps ++ more)
+spared_then key [] more is later = later
+spared_then key (Serve other ∷ steps) more is later =
+    elim is [
+      | inl here ↦ inl here
+      | inr rest ↦ inr (spared_then key steps more rest later)
+    ]
+spared_then key (Drop other ∷ steps) more is later = (is.0, spared_then key steps more is.1 later)
+spared_then key (Enter ∷ steps) more is later = absurd is
+spared_then key (Leave ∷ steps) more is later = absurd is
+
+spared_by_turn : (key other : ℕ) → IsSpared other (Serve key ∷ Drop key ∷ [])
+spared_by_turn key other =
+    elim (cases_eq key other) [
+      | inl same ↦ inl same
+      | inr differs ↦ inr (differs, tt)
+    ]
+
 -- ---- one thing after another
 
 module _ {S : Type 0} (store : Ghosts S) where
   from_same_step : (step : Step) (a b c : Slab Guest) (before after : Served S) → SameValues a b → Does store step b c before after → Does store step a c before after
   from_same_step (Serve key) a b c before after same is = (subst (λ (was : Option Guest). Serves store was (get c key) before after) (same key) is.0, λ other differs. is.1 other differs ∙ same other)
+  from_same_step (Drop key) a b c before after same is = (may_go_after (get a key) (get b key) (get c key) (same key) is.0, λ other differs. is.1 other differs ∙ same other, is.2)
   from_same_step Enter a b c before after same is = (enter_then a b c (nobody_enters a b same) is.0, is.1)
   from_same_step Leave a b c before after same is = (leave_then a b c (nobody_leaves a b same) is.0, is.1)
 
@@ -111,14 +170,61 @@ module _ {S : Type 0} (store : Ghosts S) where
   pub then : (a b c : Slab Guest) (old mid new : Served S) → GoesOn store a b old mid → GoesOn store b c mid new → GoesOn store a c old new
   then a b c old mid new first later = (first.0 ++ later.0, all_then first.0 later.0 a b c old mid new first.1 later.1)
 
-  pub serves : (key : ℕ) (a b : Slab Guest) (old new : Served S) → Serves store (get a key) (get b key) old new → AreOthersKept key a b → GoesOn store a b old new
-  serves key a b old new is others = (Serve key ∷ [], (b, new, (is, others), (λ other. refl, refl)))
-
   pub leaves : (a b : Slab Guest) (served : Served S) → OnlyLeave a b → GoesOn store a b served served
   leaves a b served is = (Leave ∷ [], (b, served, (is, refl), (λ other. refl, refl)))
 
   pub enters : (a b : Slab Guest) (served : Served S) → OnlyEnter a b → GoesOn store a b served served
   enters a b served is = (Enter ∷ [], (b, served, (is, refl), (λ other. refl, refl)))
+
+  -- ---- of whom the system told
+
+  pub nothing : (a b : Slab Guest) (served : Served S) → SameValues a b → SparesAll store a b served served
+  nothing a b served is = ([], (is, refl), λ key. tt)
+
+  pub spares_then : (a b c : Slab Guest) (old mid new : Served S) → SparesAll store a b old mid → SparesAll store b c mid new → SparesAll store a c old new
+  spares_then a b c old mid new first later = (first.0 ++ later.0, all_then first.0 later.0 a b c old mid new first.1 later.1, λ key. spared_then key first.0 later.0 (first.2 key) (later.2 key))
+
+  -- who is served may be let go afterwards
+  pub serves_and_drops : (key : ℕ) (a b c : Slab Guest) (old new : Served S) → Serves store (get a key) (get b key) old new → AreOthersKept key a b → MayGo (get b key) (get c key) → AreOthersKept key b c → SparesAll store a c old new
+  serves_and_drops key a b c old new is others may rest = (Serve key ∷ Drop key ∷ [], (b, new, (is, others), (c, new, (may, rest, refl), (λ other. refl, refl))), λ other. spared_by_turn key other)
+
+  pub none_told : (keys : List ℕ) (a b : Slab Guest) (old new : Served S) → keys ≡ [] → SparesAll store a b old new → SparesAndServes store keys a b old new
+  none_told keys a b old new none is = subst (λ (told : List ℕ). SparesAndServes store told a b old new) (sym none) (is.0, is.1, is.2, All-nil (λ key. IsServedFirst key is.0))
+
+  pub one_told : (keys : List ℕ) (key : ℕ) (a b c : Slab Guest) (old mid new : Served S) → keys ≡ key ∷ [] → Serves store (get a key) (get b key) old mid → AreOthersKept key a b → SparesAll store b c mid new → SparesAndServes store keys a c old new
+  one_told keys key a b c old mid new one is others later =
+      let steps : List Step = Serve key ∷ later.0 in
+      subst (λ (told : List ℕ). SparesAndServes store told a c old new) (sym one) (steps, (b, mid, (is, others), later.1), (λ other. inr (later.2 other)), All-push (λ (it : ℕ). IsServedFirst it steps) [] key (All-nil (λ it. IsServedFirst it steps)) (inl refl))
+
+  pub told_then : (keys more : List ℕ) (a b c : Slab Guest) (old mid new : Served S) → SparesAndServes store keys a b old mid → SparesAndServes store more b c mid new → SparesAndServes store (keys ++ more) a c old new
+  told_then keys more a b c old mid new first later =
+      let steps : List Step = first.0 ++ later.0 in
+      let before : All (λ key. IsServedFirst key steps) keys = All-weaker (λ key. IsServedFirst key first.0) (λ key. IsServedFirst key steps) (λ key is. first_then key first.0 later.0 is) keys first.3 in
+      let after : All (λ key. IsServedFirst key steps) more = All-weaker (λ key. IsServedFirst key later.0) (λ key. IsServedFirst key steps) (λ key is. spared_then_first key first.0 later.0 (first.2 key) is) more later.3 in
+      (steps, all_then first.0 later.0 a b c old mid new first.1 later.1, (λ key. spared_then key first.0 later.0 (first.2 key) (later.2 key)), All-append (λ key. IsServedFirst key steps) keys more before after)
+
+  pub told_then_goes_on : (keys : List ℕ) (a b c : Slab Guest) (old mid new : Served S) → SparesAndServes store keys a b old mid → GoesOn store b c mid new → ServesThose store keys a c old new
+  told_then_goes_on keys a b c old mid new first later =
+      let steps : List Step = first.0 ++ later.0 in
+      (steps, all_then first.0 later.0 a b c old mid new first.1 later.1, All-weaker (λ key. IsServedFirst key first.0) (λ key. IsServedFirst key steps) (λ key is. first_then key first.0 later.0 is) keys first.3)
+
+  pub serves_none : (keys : List ℕ) (a b : Slab Guest) (old new : Served S) → keys ≡ [] → GoesOn store a b old new → ServesThose store keys a b old new
+  serves_none keys a b old new none is = subst (λ (told : List ℕ). ServesThose store told a b old new) (sym none) (is.0, is.1, All-nil (λ key. IsServedFirst key is.0))
+
+  pub goes_on : (keys : List ℕ) (a b : Slab Guest) (old new : Served S) → ServesThose store keys a b old new → GoesOn store a b old new
+  goes_on keys a b old new is = (is.0, is.1)
+
+-- an event names the peer of a key
+pub key_named : (event : Event) (name key : ℕ) → name ≡ (event_token event).0 → SomeIff (Some key) (FIRST_GUEST ≤ name) (name - FIRST_GUEST) → keys_told (event ∷ []) ≡ key ∷ []
+key_named event name key is some = grind (arith, nat_tests)
+
+-- an event names a door
+pub door_named : (event : Event) (name : ℕ) → name ≡ (event_token event).0 → ¬ (FIRST_GUEST ≤ name) → keys_told (event ∷ []) ≡ []
+door_named event name is none = grind (arith, nat_tests)
+
+-- one event more
+pub told_with_one : {X : Type 0} (event_of : X → Event) (xs : List X) (x : X) → keys_told (map event_of (xs ++ x ∷ [])) ≡ keys_told (map event_of xs) ++ keys_told (event_of x ∷ [])
+told_with_one event_of xs x = ap keys_told (map-append event_of xs (x ∷ [])) ∙ filter_map-append key_told (map event_of xs) (event_of x ∷ [])
 
 -- ---- what follows a turn
 

@@ -1,5 +1,9 @@
 -- What a clause reads of a hall, and what goes on in it (all this project's own).
-use Rattle.std.specs.Prelude.{◌≡◌, ◌≢◌, ◌⊎◌, ⊤, ℕ, List, [], ◌∷◌, Option, None, Some, IsSomeAnd}
+use Rattle.std.specs.Prelude.{◌≡◌, ◌≢◌, ◌-◌, ◌⊎◌, ⊤, ℕ, List, [], ◌∷◌, Option, None, Some, IsSomeAnd, if◌then◌else◌, nat_le}
+use Rattle.std.specs.List.{All, filter_map}
+use Rattle.mio.specs.Event.{event_token}
+use Rattle.mio.specs.Events.{items}
+use Rattle.mio.specs.declared.event.event.Event.{Event}
 use Rattle.slab.specs.Slab.{Slab, SameValues, get}
 use Rattle.sqlite_trees.specs.declared.store.Store.{Ghosts}
 use Rattle.room_served.specs.Journals.{journal, store_of}
@@ -10,10 +14,24 @@ use Rattle.room_served.specs.declared.step.Turn.{Turn}
 use Rattle.room_sockets.specs.Guests.{HasTurn, IsNew}
 use Rattle.room_sockets.specs.declared.guest.Guest.{Guest}
 use Rattle.room_sockets.specs.declared.hall.Hall.{Hall}
+use Rattle.room_sockets.specs.declared.hall.TheConstants.{FIRST_GUEST}
 
 -- the peers that are there, each with its socket and its connection, by their keys
 abbrev pub guests_of : Hall → Slab Guest
-guests_of hall = hall.guests
+guests_of hall = hall.peers.guests
+
+-- the key of the peer whom an event names, or none where it names a door
+abbrev pub key_told : Event → Option ℕ
+key_told event = let name = (event_token event).0 in
+    if nat_le FIRST_GUEST name then Some (name - FIRST_GUEST) else None
+
+-- the keys of the peers whom events name, in the order of the events
+abbrev pub keys_told : List Event → List ℕ
+keys_told events = filter_map key_told events
+
+-- the keys of the peers of whom the system told when it was asked last
+abbrev pub told_by : Hall → List ℕ
+told_by hall = keys_told (items hall.events)
 
 -- nobody is there
 abbrev pub IsEmpty : Hall → Type 0
@@ -23,9 +41,13 @@ IsEmpty hall = (key : ℕ) → get (guests_of hall) key ≡ None
 abbrev pub AreOthersKept : (key : ℕ) (old new : Slab Guest) → Type 0
 AreOthersKept key old new = (other : ℕ) → other ≢ key → get new other ≡ get old other
 
+-- a peer is as it was, or was let go
+abbrev pub MayGo : (was now : Option Guest) → Type 0
+MayGo was now = (now ≡ was) ⊎ (now ≡ None)
+
 -- every peer is as it was, or was let go
 abbrev pub OnlyLeave : (old new : Slab Guest) → Type 0
-OnlyLeave old new = (key : ℕ) → (get new key ≡ get old key) ⊎ (get new key ≡ None)
+OnlyLeave old new = (key : ℕ) → MayGo (get old key) (get new key)
 
 -- every peer is as it was, and where nobody was somebody may have come in
 abbrev pub OnlyEnter : (old new : Slab Guest) → Type 0
@@ -69,15 +91,34 @@ module _ {S : Type 0} (store : Ghosts S) where
 
 pub data Step : Type 0 where
   Serve : (key : ℕ) → Step
+  Drop : (key : ℕ) → Step
   Enter : Step
   Leave : Step
 
+-- the peer of the key is served before anything else becomes of it in these steps
+abbrev pub IsServedFirst : (key : ℕ) (steps : List Step) → Type 0
+IsServedFirst key [] = ⊥
+IsServedFirst key (Serve other ∷ steps) = (other ≡ key) ⊎ IsServedFirst key steps
+IsServedFirst key (Drop other ∷ steps) = (other ≢ key) × IsServedFirst key steps
+IsServedFirst key (Enter ∷ steps) = ⊥
+IsServedFirst key (Leave ∷ steps) = ⊥
+
+-- the same, or nothing becomes of it
+abbrev pub IsSpared : (key : ℕ) (steps : List Step) → Type 0
+IsSpared key [] = ⊤
+IsSpared key (Serve other ∷ steps) = (other ≡ key) ⊎ IsSpared key steps
+IsSpared key (Drop other ∷ steps) = (other ≢ key) × IsSpared key steps
+IsSpared key (Enter ∷ steps) = ⊥
+IsSpared key (Leave ∷ steps) = ⊥
+
 module _ {S : Type 0} (store : Ghosts S) where
-  -- who has a key is served, and all others stay; or some come in, or are let go, and nothing
-  -- becomes of what is served
+  -- who has a key is served, or may be let go, and all others stay; or some come in, or are let
+  -- go. Nothing becomes of what is served but where somebody is served.
   abbrev pub Does : (step : Step) (old new : Slab Guest) (before after : Served S) → Type 0
   Does (Serve key) old new before after =
       Serves store (get old key) (get new key) before after × AreOthersKept key old new
+  Does (Drop key) old new before after =
+      MayGo (get old key) (get new key) × AreOthersKept key old new × (after ≡ before)
   Does Enter old new before after = OnlyEnter old new × (after ≡ before)
   Does Leave old new before after = OnlyLeave old new × (after ≡ before)
 
@@ -90,3 +131,22 @@ module _ {S : Type 0} (store : Ghosts S) where
   -- all that became of the peers and of what is served is such steps
   abbrev pub GoesOn : (old new : Slab Guest) (before after : Served S) → Type 0
   GoesOn old new before after = (steps : List Step) × DoesAll steps old new before after
+
+  -- the same, and nobody is let go who was not served
+  abbrev pub SparesAll : (old new : Slab Guest) (before after : Served S) → Type 0
+  SparesAll old new before after = (steps : List Step)
+      × DoesAll steps old new before after × ((key : ℕ) → IsSpared key steps)
+
+  -- the same, and each peer of these keys is served
+  abbrev pub SparesAndServes : (keys : List ℕ) (old new : Slab Guest) (before after : Served S)
+      → Type 0
+  SparesAndServes keys old new before after = (steps : List Step)
+      × DoesAll steps old new before after × ((key : ℕ) → IsSpared key steps)
+      × All (λ key. IsServedFirst key steps) keys
+
+  -- all that became of the peers and of what is served is such steps, and each peer of these keys
+  -- is served before anything else becomes of it
+  abbrev pub ServesThose : (keys : List ℕ) (old new : Slab Guest) (before after : Served S)
+      → Type 0
+  ServesThose keys old new before after = (steps : List Step)
+      × DoesAll steps old new before after × All (λ key. IsServedFirst key steps) keys

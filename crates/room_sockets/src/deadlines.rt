@@ -1,17 +1,17 @@
 //! Whom a hall drops since it took too long.
-ghost use Rattle.room_sockets.specs.Halls.{OnlyLeave, guests_of};
+ghost use Rattle.room_sockets.specs.Halls.{OnlyLeave};
 
 use crate::doors::MOST_GUESTS;
-use crate::hall::Hall;
+use crate::hall::Peers;
 
 /// How often, in milliseconds, the deadlines are looked at, and a door where somebody may wait.
 pub(crate) const TICK: u64 = 250;
 
-impl Hall {
+impl Peers {
     /// From time to time drops who took too long, where others wait for room who rests on it, and
     /// where too much is held who hardly reads what it asked for.
     pub(crate) fn drop_late(&mut self, ticks: u64)
-        ensures { OnlyLeave (guests_of self.old) (guests_of self.new) }
+        ensures { OnlyLeave self.old.guests self.new.guests }
     {
         if ticks.saturating_sub(self.dropped_late_at) < TICK {
             return;
@@ -23,7 +23,7 @@ impl Hall {
     }
 
     fn drop_if_late(&mut self, key: usize, ticks: u64)
-        ensures { OnlyLeave (guests_of self.old) (guests_of self.new) }
+        ensures { OnlyLeave self.old.guests self.new.guests }
     {
         if self.has_to_go(key, ticks) {
             self.close(key);

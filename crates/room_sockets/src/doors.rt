@@ -1,11 +1,11 @@
 //! The doors of a hall, and who comes in by them.
 
 ghost use Rattle.std.specs.Prelude.{◌≡◌};
-ghost use Rattle.room_sockets.specs.Halls.{OnlyEnter, guests_of};
+ghost use Rattle.room_sockets.specs.Halls.{OnlyEnter};
 
 use crate::door::Door;
 use crate::guest::{Guest, Peer};
-use crate::hall::{Hall, token_of};
+use crate::hall::{Peers, token_of};
 use crate::stream::Stream;
 use room_served::{HttpPeer, LinePeer, Side};
 use std::alloc::Global;
@@ -89,10 +89,10 @@ impl Entrance {
     }
 }
 
-impl Hall {
+impl Peers {
     /// Somebody may wait at the door.
     pub(crate) fn note_waiting(&mut self, place: usize)
-        ensures { guests_of self.new ≡ guests_of self.old }
+        ensures { self.new.guests ≡ self.old.guests }
     {
         if let Some(entrance) = self.entrances.get_mut(place) {
             entrance.waits = true;
@@ -101,7 +101,7 @@ impl Hall {
 
     /// Lets in who waits at the doors.
     pub(crate) fn admit_all(&mut self, ticks: u64)
-        ensures { OnlyEnter (guests_of self.old) (guests_of self.new) }
+        ensures { OnlyEnter self.old.guests self.new.guests }
     {
         for place in 0..self.entrances.len() {
             self.admit(place, ticks);
@@ -110,7 +110,7 @@ impl Hall {
 
     /// Lets in who waits at a door, while it has room.
     fn admit(&mut self, place: usize, ticks: u64)
-        ensures { OnlyEnter (guests_of self.old) (guests_of self.new) }
+        ensures { OnlyEnter self.old.guests self.new.guests }
     {
         for _ in 0..MOST_GUESTS {
             let Some(entrance) = self.entrances.get_mut(place) else {
@@ -135,7 +135,7 @@ impl Hall {
 
     /// Takes a peer in, or drops it where the system or the memory has no room.
     fn take_in(&mut self, stream: Stream, kind: Kind, place: usize, ticks: u64)
-        ensures { OnlyEnter (guests_of self.old) (guests_of self.new) }
+        ensures { OnlyEnter self.old.guests self.new.guests }
     {
         let peer = kind.peer(self.alloc, self.keys, ticks);
         let mut guest = Guest::new(stream, peer, place);

@@ -1,9 +1,10 @@
 //! The peers of all doors, and the loop that waits for them.
 
-ghost use Rattle.std.specs.Prelude.{◌≡◌, ◌≢◌, IfOk, None, IsFalse, IsTrue};
+ghost use Rattle.std.specs.Prelude.{◌≡◌, ◌≢◌, [], ◌∷◌, IfOk, None, IsFalse, IsTrue};
+ghost use Rattle.mio.specs.Events.{items};
 ghost use Rattle.slab.specs.Slab.{SameValues, get};
 ghost use Rattle.room_served.specs.Journals.{Continues};
-ghost use Rattle.room_sockets.specs.Halls.{AreOthersKept, GoesOn, IsEmpty, MayLeave, OnlyLeave, Serves, StaysAfter, guests_of};
+ghost use Rattle.room_sockets.specs.Halls.{AreOthersKept, GoesOn, IsEmpty, MayLeave, OnlyLeave, Serves, ServesThose, SparesAndServes, StaysAfter, guests_of, keys_told, told_by};
 
 use crate::clock::{moment, ticks};
 use crate::deadlines::TICK;
@@ -11,6 +12,7 @@ use crate::doors::{Doors, Entrance, Kind, MOST_GUESTS};
 use crate::guest::Guest;
 use crate::pace::Pace;
 use crate::stock::Stock;
+use mio::event::Event;
 use mio::{Events, Interest, Poll, Token};
 use room_served::{Next, Served, Turn};
 use slab::Slab;
@@ -27,13 +29,19 @@ const MOST_EVENTS: usize = 256;
 /// The doors have the first names among the events, and their guests those from here on.
 const FIRST_GUEST: usize = 3;
 
-/// The peers of all doors, and what tells of them.
+/// The peers of all doors, and what the system told of them last.
 #[derive(Drop)]
 pub struct Hall {
+    peers: Peers,
+    events: Events,
+}
+
+/// The peers of all doors, and what it takes to serve them.
+#[derive(Drop)]
+pub(crate) struct Peers {
     pub(crate) alloc: Global,
     pub(crate) keys: RandomState,
     pub(crate) poll: Poll,
-    events: Events,
     pub(crate) entrances: Vec<Entrance>,
     pub(crate) guests: Slab<Guest>,
     pub(crate) stock: Stock,
@@ -66,17 +74,18 @@ impl Hall {
             poll.registry()
                 .register(&mut entrance.door, Token(place), Interest::READABLE)?;
         }
-        Ok(Hall {
+        let events = Events::with_capacity(alloc, MOST_EVENTS)?;
+        let peers = Peers {
             alloc,
             keys,
             poll,
-            events: Events::with_capacity(alloc, MOST_EVENTS)?,
             entrances,
             guests: Slab::with_capacity(alloc, MOST_GUESTS)?,
             stock: Stock::new(),
             pace: Pace::new(ticks(rt)?),
             dropped_late_at: 0,
-        })
+        };
+        Ok(Hall { peers, events })
     }
 
     /// Serves whoever comes, until the system has no more to tell.
@@ -96,20 +105,24 @@ impl Hall {
         ensures goes_on { GoesOn S.Store (guests_of self.old) (guests_of self.new)
             served.old served.new }
         ensures continues { Continues S.Store served.old served.new }
+        ensures serves { ServesThose S.Store (told_by self.new)
+            (guests_of self.old) (guests_of self.new) served.old served.new }
     {
-        let timeout = self.timeout();
-        self.poll.poll(&mut self.events, timeout)?;
-        self.serve_all(clock, served);
-        let ticks = self.ticks(clock)?;
-        self.admit_all(ticks);
-        self.resume_held_back();
-        self.drop_late(ticks);
+        let timeout = self.peers.timeout();
+        self.peers.poll.poll(&mut self.events, timeout)?;
+        self.peers.serve_all(&self.events, clock, served);
+        let ticks = self.peers.ticks(clock)?;
+        self.peers.admit_all(ticks);
+        self.peers.resume_held_back();
+        self.peers.drop_late(ticks);
         Ok(())
     }
+}
 
+impl Peers {
     /// The ticks that deadlines go by.
     pub(crate) fn ticks(&mut self, clock: &impl Clock) -> io::Result<u64>
-        ensures { guests_of self.new ≡ guests_of self.old }
+        ensures { self.new.guests ≡ self.old.guests }
     {
         Ok(self.pace.look(ticks(clock)?))
     }
@@ -124,26 +137,26 @@ impl Hall {
     }
 
     /// Serves each of whom the system told.
-    fn serve_all<S: Alter>(&mut self, clock: &impl Clock, served: &mut Served<S>)
-        ensures { GoesOn S.Store (guests_of self.old) (guests_of self.new) served.old served.new }
+    fn serve_all<S: Alter>(&mut self, events: &Events, clock: &impl Clock, served: &mut Served<S>)
+        ensures { SparesAndServes S.Store (keys_told (items events.now))
+            self.old.guests self.new.guests served.old served.new }
     {
-        for place in 0..self.events.iter().len() {
-            let Some(told) = told_at(&self.events, place) else {
-                break;
-            };
-            self.serve_event(clock, told, served);
+        for event in events {
+            self.serve_event(clock, event, served);
         }
     }
 
-    fn serve_event<S: Alter>(&mut self, clock: &impl Clock, told: Told, served: &mut Served<S>)
-        ensures { GoesOn S.Store (guests_of self.old) (guests_of self.new) served.old served.new }
+    fn serve_event<S: Alter>(&mut self, clock: &impl Clock, event: &Event, served: &mut Served<S>)
+        ensures { SparesAndServes S.Store (keys_told (event.now ∷ []))
+            self.old.guests self.new.guests served.old served.new }
     {
-        match told.token.0.checked_sub(FIRST_GUEST) {
+        let name = event.token().0;
+        match name.checked_sub(FIRST_GUEST) {
             Some(key) => {
-                self.serve(clock, key, served, told.is_last);
+                self.serve(clock, key, served, event.is_read_closed());
                 self.free_memory(clock, served);
             }
-            None => self.note_waiting(told.token.0),
+            None => self.note_waiting(name),
         }
     }
 
@@ -156,9 +169,9 @@ impl Hall {
         served: &mut Served<S>,
         is_last: bool,
     )
-        ensures serves { Serves S.Store (get (guests_of self.old) key) (get (guests_of self.new) key)
+        ensures serves { Serves S.Store (get self.old.guests key) (get self.new.guests key)
             served.old served.new }
-        ensures others { AreOthersKept key (guests_of self.old) (guests_of self.new) }
+        ensures others { AreOthersKept key self.old.guests self.new.guests }
     {
         let (Some(moment), Ok(ticks)) = (moment(clock), self.ticks(clock)) else {
             self.close(key);
@@ -183,8 +196,8 @@ impl Hall {
     /// What a turn came to: the peer stays, or is let go.
     fn after_turn(&mut self, key: usize, next: Next)
         ensures stays { StaysAfter next
-            (get (guests_of self.old) key) (get (guests_of self.new) key) }
-        ensures others { AreOthersKept key (guests_of self.old) (guests_of self.new) }
+            (get self.old.guests key) (get self.new.guests key) }
+        ensures others { AreOthersKept key self.old.guests self.new.guests }
     {
         if !self.keeps(key, next) {
             self.close(key);
@@ -193,7 +206,7 @@ impl Hall {
 
     /// Whether the peer stays after a turn.
     fn keeps(&mut self, key: usize, next: Next) -> bool
-        ensures same { SameValues (guests_of self.old) (guests_of self.new) }
+        ensures same { SameValues self.old.guests self.new.guests }
         ensures goes { IsFalse result → MayLeave next }
         ensures stays { IsTrue result → next ≢ Next.Close }
     {
@@ -211,7 +224,7 @@ impl Hall {
 
     /// Has the system tell again what is ready, and answers whether it will.
     pub(crate) fn rearm(&mut self, key: usize) -> bool
-        ensures { SameValues (guests_of self.old) (guests_of self.new) }
+        ensures { SameValues self.old.guests self.new.guests }
     {
         match self.guests.get_mut(key) {
             Some(guest) => guest.rearm(self.poll.registry(), token_of(key)).is_ok(),
@@ -227,8 +240,8 @@ impl Hall {
     }
 
     pub(crate) fn close(&mut self, key: usize)
-        ensures gone { get (guests_of self.new) key ≡ None }
-        ensures others { AreOthersKept key (guests_of self.old) (guests_of self.new) }
+        ensures gone { get self.new.guests key ≡ None }
+        ensures others { AreOthersKept key self.old.guests self.new.guests }
     {
         if let Some(guest) = self.guests.try_remove(key) {
             self.stock.left(key, guest.held());
@@ -241,18 +254,4 @@ impl Hall {
 
 pub(crate) fn token_of(key: usize) -> Token {
     Token(key.saturating_add(FIRST_GUEST))
-}
-
-/// What the system tells of a socket.
-#[derive(Clone, Copy)]
-struct Told {
-    token: Token,
-    is_last: bool,
-}
-
-fn told_at(events: &Events, place: usize) -> Option<Told> {
-    events.iter().nth(place).map(|event| Told {
-        token: event.token(),
-        is_last: event.is_read_closed(),
-    })
 }

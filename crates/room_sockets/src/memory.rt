@@ -1,19 +1,20 @@
 //! What a hall does where its peers hold much: it frees some, and has those go on whom it
 //! held back.
 
-ghost use Rattle.room_sockets.specs.Halls.{GoesOn, OnlyLeave, guests_of};
+ghost use Rattle.slab.specs.Slab.{get};
+ghost use Rattle.room_sockets.specs.Halls.{AreOthersKept, MayGo, OnlyLeave, SparesAll};
 
 use crate::doors::MOST_GUESTS;
-use crate::hall::Hall;
+use crate::hall::Peers;
 use room_served::Served;
 use sqlite::Alter;
 use std::time::Clock;
 
-impl Hall {
+impl Peers {
     /// Where too much is held, has each large answer go on, and drops who hardly reads it, so that
     /// one turn of the loop gives out few more.
     pub(crate) fn free_memory<S: Alter>(&mut self, clock: &impl Clock, served: &mut Served<S>)
-        ensures { GoesOn S.Store (guests_of self.old) (guests_of self.new) served.old served.new }
+        ensures { SparesAll S.Store self.old.guests self.new.guests served.old served.new }
     {
         if !self.stock.is_over() {
             return;
@@ -25,7 +26,7 @@ impl Hall {
 
     /// Has the peer's large answer go on, if it has one, and drops it where it hardly reads it.
     fn free_memory_of<S: Alter>(&mut self, clock: &impl Clock, key: usize, served: &mut Served<S>)
-        ensures { GoesOn S.Store (guests_of self.old) (guests_of self.new) served.old served.new }
+        ensures { SparesAll S.Store self.old.guests self.new.guests served.old served.new }
     {
         if !self.has_large_answer(key) {
             return;
@@ -37,7 +38,7 @@ impl Hall {
     /// Where room has come, those who are held back go on: all of them, or the one that holds
     /// least.
     pub(crate) fn resume_held_back(&mut self)
-        ensures { OnlyLeave (guests_of self.old) (guests_of self.new) }
+        ensures { OnlyLeave self.old.guests self.new.guests }
     {
         if self.stock.lets_all_on() {
             self.resume_all_held_back();
@@ -51,7 +52,7 @@ impl Hall {
     }
 
     fn resume_all_held_back(&mut self)
-        ensures { OnlyLeave (guests_of self.old) (guests_of self.new) }
+        ensures { OnlyLeave self.old.guests self.new.guests }
     {
         for key in 0..MOST_GUESTS {
             self.resume_if_held_back(key);
@@ -59,7 +60,7 @@ impl Hall {
     }
 
     fn resume_if_held_back(&mut self, key: usize)
-        ensures { OnlyLeave (guests_of self.old) (guests_of self.new) }
+        ensures { OnlyLeave self.old.guests self.new.guests }
     {
         if self.is_held_back(key) {
             self.resume(key);
@@ -67,7 +68,7 @@ impl Hall {
     }
 
     fn resume(&mut self, key: usize)
-        ensures { OnlyLeave (guests_of self.old) (guests_of self.new) }
+        ensures { OnlyLeave self.old.guests self.new.guests }
     {
         if !self.rearm(key) {
             self.close(key);
@@ -93,7 +94,8 @@ impl Hall {
     }
 
     fn drop_slow(&mut self, clock: &impl Clock, key: usize)
-        ensures { OnlyLeave (guests_of self.old) (guests_of self.new) }
+        ensures may_go { MayGo (get self.old.guests key) (get self.new.guests key) }
+        ensures others { AreOthersKept key self.old.guests self.new.guests }
     {
         let is_slow = match self.ticks(clock) {
             Ok(ticks) => self

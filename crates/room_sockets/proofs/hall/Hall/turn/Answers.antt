@@ -1,7 +1,8 @@
-use Rattle.std.proofs.Common.{refl}
+use Rattle.std.proofs.Common.{ap, refl}
+use Rattle.mio.specs.Events.{items}
 use Rattle.room_sockets.proofs.Drives.{continues}
-use Rattle.room_sockets.proofs.HallSteps.{enters, leaves, same, same_guests, then}
-use Rattle.room_sockets.specs.Halls.{guests_of}
+use Rattle.room_sockets.proofs.HallSteps.{enters, goes_on, leaves, same, same_guests, serves_none, then, told_then_goes_on}
+use Rattle.room_sockets.specs.Halls.{guests_of, keys_told}
 use Rattle.room_sockets.proofs.hall.Hall.turn.Goals as goal
 
 pub returns-in_err-poll-clause-goes_on : goal.returns-in_err-poll-clause-goes_on
@@ -10,26 +11,39 @@ returns-in_err-poll-clause-goes_on g c = same g.S.Store (guests_of c.args.self.n
 pub returns-in_err-poll-clause-continues : goal.returns-in_err-poll-clause-continues
 returns-in_err-poll-clause-continues g c = continues g.S.Store (guests_of c.args.self.now) (guests_of c.args.self.now) c.args.served.now c.args.served.now (returns-in_err-poll-clause-goes_on g c)
 
+pub returns-in_err-poll-clause-serves : goal.returns-in_err-poll-clause-serves
+returns-in_err-poll-clause-serves g c = serves_none g.S.Store (keys_told (items c.poll.new.events)) (guests_of c.args.self.now) (guests_of c.args.self.now) c.args.served.now c.args.served.now (ap keys_told c.in_err-poll.ensures.err) (returns-in_err-poll-clause-goes_on g c)
+
+pub returns-in_err-ticks-clause-serves : goal.returns-in_err-ticks-clause-serves
+returns-in_err-ticks-clause-serves g c =
+    let first = guests_of c.args.self.now in
+    let served = c.serve_all.new.self.guests in
+    let ticked = c.ticks.new.self.guests in
+    let new = c.serve_all.new.served in
+    told_then_goes_on g.S.Store (keys_told (items c.poll.new.events)) first served ticked c.args.served.now new new c.serve_all.ensures (same g.S.Store served ticked new (same_guests served ticked c.ticks.ensures))
+
 pub returns-in_err-ticks-clause-goes_on : goal.returns-in_err-ticks-clause-goes_on
-returns-in_err-ticks-clause-goes_on g c =
-    then g.S.Store (guests_of c.args.self.now) (guests_of c.serve_all.new.self) (guests_of c.ticks.new.self) c.args.served.now c.serve_all.new.served c.serve_all.new.served c.serve_all.ensures (same g.S.Store (guests_of c.serve_all.new.self) (guests_of c.ticks.new.self) c.serve_all.new.served (same_guests (guests_of c.serve_all.new.self) (guests_of c.ticks.new.self) c.ticks.ensures))
+returns-in_err-ticks-clause-goes_on g c = goes_on g.S.Store (keys_told (items c.poll.new.events)) (guests_of c.args.self.now) c.ticks.new.self.guests c.args.served.now c.serve_all.new.served (returns-in_err-ticks-clause-serves g c)
 
 pub returns-in_err-ticks-clause-continues : goal.returns-in_err-ticks-clause-continues
-returns-in_err-ticks-clause-continues g c = continues g.S.Store (guests_of c.args.self.now) (guests_of c.ticks.new.self) c.args.served.now c.serve_all.new.served (returns-in_err-ticks-clause-goes_on g c)
+returns-in_err-ticks-clause-continues g c = continues g.S.Store (guests_of c.args.self.now) c.ticks.new.self.guests c.args.served.now c.serve_all.new.served (returns-in_err-ticks-clause-goes_on g c)
+
+pub returns-clause-serves : goal.returns-clause-serves
+returns-clause-serves g c =
+    let first = guests_of c.args.self.now in
+    let served = c.serve_all.new.self.guests in
+    let ticked = c.ticks.new.self.guests in
+    let entered = c.admit_all.new.self.guests in
+    let resumed = c.resume_held_back.new.self.guests in
+    let left = c.drop_late.new.self.guests in
+    let new = c.serve_all.new.served in
+    let with_entered = then g.S.Store served ticked entered new new new (same g.S.Store served ticked new (same_guests served ticked c.ticks.ensures)) (enters g.S.Store ticked entered new c.admit_all.ensures) in
+    let with_resumed = then g.S.Store served entered resumed new new new with_entered (leaves g.S.Store entered resumed new c.resume_held_back.ensures) in
+    let with_left = then g.S.Store served resumed left new new new with_resumed (leaves g.S.Store resumed left new c.drop_late.ensures) in
+    told_then_goes_on g.S.Store (keys_told (items c.poll.new.events)) first served left c.args.served.now new new c.serve_all.ensures with_left
 
 pub returns-clause-goes_on : goal.returns-clause-goes_on
-returns-clause-goes_on g c =
-    let first = guests_of c.args.self.now in
-    let ticked = guests_of c.ticks.new.self in
-    let entered = guests_of c.admit_all.new.self in
-    let resumed = guests_of c.resume_held_back.new.self in
-    let left = guests_of c.drop_late.new.self in
-    let old = c.args.served.now in
-    let new = c.serve_all.new.served in
-    let served = then g.S.Store first (guests_of c.serve_all.new.self) ticked old new new c.serve_all.ensures (same g.S.Store (guests_of c.serve_all.new.self) ticked new (same_guests (guests_of c.serve_all.new.self) ticked c.ticks.ensures)) in
-    let with_entered = then g.S.Store first ticked entered old new new served (enters g.S.Store ticked entered new c.admit_all.ensures) in
-    let with_resumed = then g.S.Store first entered resumed old new new with_entered (leaves g.S.Store entered resumed new c.resume_held_back.ensures) in
-    then g.S.Store first resumed left old new new with_resumed (leaves g.S.Store resumed left new c.drop_late.ensures)
+returns-clause-goes_on g c = goes_on g.S.Store (keys_told (items c.poll.new.events)) (guests_of c.args.self.now) c.drop_late.new.self.guests c.args.served.now c.serve_all.new.served (returns-clause-serves g c)
 
 pub returns-clause-continues : goal.returns-clause-continues
-returns-clause-continues g c = continues g.S.Store (guests_of c.args.self.now) (guests_of c.drop_late.new.self) c.args.served.now c.serve_all.new.served (returns-clause-goes_on g c)
+returns-clause-continues g c = continues g.S.Store (guests_of c.args.self.now) c.drop_late.new.self.guests c.args.served.now c.serve_all.new.served (returns-clause-goes_on g c)
