@@ -12,8 +12,8 @@ ghost use Rattle.room_laws.specs.PrintedIsSent.{PrintedIsSent};
 ghost use Rattle.room_laws.specs.RoomsStay.{RoomsStay};
 ghost use Rattle.room_laws.specs.WithinGrants.{ReleasesLeave, RequestsGoByWhatIsLeft, StationsGoByWhatIsLeft, WithinGrants};
 
-/// What comes out of the device is what you sent: each document of the job, whole, in the order in
-/// which you sent them, byte for byte, and with the copies that you asked for when you made the job.
+/// What a device is handed is what you sent: each document of the job, whole, in the order in which
+/// you sent them, byte for byte, and with the copies that you asked for when you made the job.
 #[tactic(auto, using(crate::proofs::Printed::printed_is_sent))]
 pub fn printed_is_sent()
     ensures { PrintedIsSent }
