@@ -6,7 +6,7 @@
 //! stands for `@`. The second account comes some steps after the first, so that the two are in
 //! different states. In memory the rows are looked at after each step, and before each event the
 //! same event is refused at a moment that is out of range; in a file the rows are looked at in the
-//! end. Then the list is given to the store whole, over both; and the steps of the first account
+//! end. Then the list is given to the store whole, over both, and in one round; and the steps of the first account
 //! alone, over one database where it is alone and over one where another is beside it. Then the
 //! list comes over connections.
 //!
@@ -16,7 +16,7 @@
 use crate::beside::differs_beside;
 use crate::players::Player;
 use crate::trial::Trial;
-use crate::whole::Whole;
+use crate::whole::{Way, Whole};
 use crate::wired::Wired;
 use sqlite::{Alter, Connection, MemStore};
 use std::fs;
@@ -75,7 +75,7 @@ where
     in_file.run(rt, players)
 }
 
-/// Whether the list holds as one that the store is given whole, in memory and in a file, whether
+/// Whether the list holds as one that the store is given whole, in memory, there also in one round, and in a file, whether
 /// the first account is told the same, and has the same rows, beside another, and whether requests
 /// are answered the same over HTTP.
 fn holds_whole<S, F>(rt: &HostRuntime, files: &F, players: &[Player; 2]) -> Result<bool, Fault>
@@ -85,9 +85,12 @@ where
 {
     let [first, second] = players;
     let (firsts, seconds) = (first.steps.as_slice(), second.steps.as_slice());
-    let mut differs = Whole::new(rt, Tables::in_memory(rt)?).run(rt, firsts, seconds)?;
+    let mut differs = Whole::new(rt, Tables::in_memory(rt)?, Way::List).run(rt, firsts, seconds)?;
     if differs.is_none() {
-        differs = Whole::new(rt, Tables::in_file(rt, files)?).run(rt, firsts, seconds)?;
+        differs = Whole::new(rt, Tables::in_memory(rt)?, Way::Round).run(rt, firsts, seconds)?;
+    }
+    if differs.is_none() {
+        differs = Whole::new(rt, Tables::in_file(rt, files)?, Way::List).run(rt, firsts, seconds)?;
     }
     if differs.is_none() {
         differs = differs_beside(rt, first.account, firsts)?;

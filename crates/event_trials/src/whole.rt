@@ -8,10 +8,20 @@ use room_serve::Outcome;
 use sqlite::Alter;
 use trials::{Fault, Tables, answered, differing, rows_differ, set_next_job, skip_to, text};
 
+/// How the store is given a list.
+#[derive(Clone, Copy)]
+pub enum Way {
+    /// As one list, by `run_events`.
+    List,
+    /// Event by event, in one round.
+    Round,
+}
+
 /// The rooms and the shared tables, and the lines that neither was given yet.
 pub struct Whole<'a, S: Alter> {
     rooms: Rooms,
     tables: Tables<S>,
+    way: Way,
     waiting: Vec<&'a Line>,
 }
 
@@ -21,16 +31,18 @@ impl<S: Alter + Drop> Drop for Whole<'_, S> {
         let Whole {
             rooms: _,
             tables: _,
+            way: _,
             waiting: _,
         } = self;
     }
 }
 
 impl<'a, S: Alter + Drop> Whole<'a, S> {
-    pub fn new(rt: &HostRuntime, tables: Tables<S>) -> Whole<'a, S> {
+    pub fn new(rt: &HostRuntime, tables: Tables<S>, way: Way) -> Whole<'a, S> {
         Whole {
             rooms: Rooms::new(rt.alloc()),
             tables,
+            way,
             waiting: Vec::new(rt.alloc()),
         }
     }
@@ -75,10 +87,13 @@ impl<'a, S: Alter + Drop> Whole<'a, S> {
         }
     }
 
-    /// Gives the lines that wait to the store as one list, and to the rooms one by one. No event
-    /// may fail.
+    /// Gives the lines that wait to the store, as one list or in one round, and to the rooms one by
+    /// one. No event may fail.
     fn give(&mut self, rt: &HostRuntime) -> Result<Option<String>, Fault> {
-        let outcomes = self.tables.run(rt, self.waiting.as_slice())?;
+        let outcomes = match self.way {
+            Way::List => self.tables.run(rt, self.waiting.as_slice())?,
+            Way::Round => self.tables.run_in_a_round(rt, self.waiting.as_slice())?,
+        };
         let differs = self.answers_differ(rt, outcomes.as_slice())?;
         self.waiting = Vec::new(rt.alloc());
         Ok(differs)

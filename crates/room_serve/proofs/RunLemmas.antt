@@ -211,7 +211,7 @@ pub record SoFar (events : List Timed) (outcomes : List Outcome) (old new : Stat
 pub begins : (s : State) → SoFar [] [] s s
 begins s = record {
   each = refl;
-  connection = record { clean = omega arith; back = λ _ is. is; mode = λ is. is; shield = λ is. is; counts = omega arith; limit = refl; closes = λ _ is. inl is };
+  connection = record { clean = omega arith; back = λ _ is. is; mode = λ _ is. is; shield = λ is. is; counts = omega arith; limit = refl; closes = λ _ is. inl is };
   schema = λ _ has _. has;
   alone = λ _ _ name room devices holds has. record { replies = refl; rows = λ _. holds; devices = λ _. has };
   devices = λ _ _ devices has. record { replies = refl; devices = λ _. has };

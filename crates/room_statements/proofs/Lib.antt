@@ -28,4 +28,5 @@ pub mod LeftAlone
 pub mod OwnRows
 pub mod OwnRooms
 pub mod DevicesHeld
-pub mod Inside
+pub mod Retelling
+pub mod RoundTexts

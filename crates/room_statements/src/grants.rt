@@ -1,7 +1,7 @@
 //! The rows of the table `grants`.
 
 ghost use Rattle.std.specs.Prelude.{◌≡◌, ◌≢◌, ℕ, ◌≤◌, pos, [], ◌∷◌, map, Err, option_map, IfOk, IfSome, OnOk, IsPermutation};
-ghost use Rattle.room_statements.specs.Words.{Changes, GetsRow, HasGathered, HoldsRoom, IfOurTables, IsRowOf, KeepsOpen, ReadsStore, RoomValue, SetsRow, WalksStore, WritesInTransaction, column, number};
+ghost use Rattle.room_statements.specs.Words.{Changes, GetsRow, HasGathered, HoldsRoom, IfOurTables, IsRowOf, KeepsOpen, ReadsStore, RoomValue, SetsRow, WalksStore, WritesInSavepoint, column, number};
 ghost use Rattle.room_rules.specs.Limits.{most_pages, most_units};
 ghost use Rattle.room_state.specs.Sums.{granted_to};
 ghost use Rattle.room_tables.specs.Tables.{grants as grants_table};
@@ -15,7 +15,7 @@ use crate::walking::{Gather, walk};
 use room_rules::{MOST_PAGES, Name};
 use room_state::sum_of_units;
 use room_tables::{TableFault, find_row, write};
-use sqlite::{Alter, Connection, Error, Row, Transaction};
+use sqlite::{Alter, Connection, Error, Row, Savepoint};
 use sqlite_value::value::ValueRef;
 
 /// The pages that the account was granted in the month, if there is such a grant. `Damaged` tells
@@ -137,19 +137,19 @@ fn walk_grants<S: Alter>(
     )
 }
 
-/// Sets the grant of a month, inside a transaction.
+/// Sets the grant of a month, inside a savepoint.
 pub fn set_grant<S: Alter>(
-    transaction: &mut Transaction<'_, S>,
+    savepoint: &mut Savepoint<'_, S>,
     account: Name,
     month: u32,
     pages: u32,
 ) -> Result<(), Error>
-    ensures sets { Changes S.Store transaction.old.conn.now transaction.new.conn.now result
+    ensures sets { Changes S.Store savepoint.old.conn.now savepoint.new.conn.now result
         (SetsRow grants_table (grant_cells account month pages)) }
-    ensures inside { WritesInTransaction S.Store transaction.old.conn transaction.new.conn result }
+    ensures inside { WritesInSavepoint savepoint.old savepoint.new result }
 {
     write(
-        transaction,
+        savepoint,
         "INSERT INTO grants (account, month, pages) VALUES (?1, ?2, ?3) ON CONFLICT (account, month) DO UPDATE SET pages = excluded.pages",
         &[
             ValueRef::Text(account.bytes()),

@@ -1,5 +1,6 @@
 //! One function for each statement on the rows of the shared tables, and the changes that events
-//! make, each in one transaction of its own: whole or not at all.
+//! make, each in a savepoint of its own: whole or not at all. Outside a round that is a transaction;
+//! the changes of a round share its commit.
 #![tactic(auto)]
 
 mod accounts;
@@ -15,6 +16,7 @@ mod new_document;
 mod opening;
 mod queues;
 mod rates;
+mod rounds;
 mod tallies;
 mod unfinished;
 mod values;
@@ -34,5 +36,6 @@ pub use opening::open_account;
 pub use queues::{ended_jobs, unfinished_jobs};
 pub use rates::{find_rate, set_rate};
 pub use room_tables::TableFault;
+pub use rounds::{begin_round, commit_round};
 pub use tallies::tally_jobs;
 pub use unfinished::tally_unfinished;

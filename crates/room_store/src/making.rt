@@ -23,7 +23,6 @@ pub fn make<S: Alter>(
     now: u64,
     ask: &Ask<'_>,
 ) -> Result<List<u8>, TableFault>
-    requires mode { connection.old.in_transaction ≡ false }
     requires ask { IsAsk (plain_ask ask.now) }
     requires row { IsAccount row }
     requires moment { now ≤ last_moment }

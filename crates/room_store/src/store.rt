@@ -22,6 +22,7 @@ ghost use Rattle.room_tables.specs.Devices.{AgreeOnDevices, HoldsDevices};
 ghost use Rattle.room_tables.specs.Migrating.{HoldsFirstDevices, IsMigrated, IsMigrateFault};
 
 use crate::answer_event;
+use crate::events::is_short;
 use crate::fault::StoreFault;
 use room_core::{Event, LAST_MOMENT, Reply};
 use room_tables::{OpenFault, is_blank, make_tables, migrate_tables, open_tables};
@@ -29,8 +30,8 @@ use sqlite::{Alter, Connection, Error};
 use std::alloc::Global;
 use std::marker::Model;
 
-/// The shared tables of all accounts, over one connection, which is in no transaction. Contracts
-/// see it as its connection.
+/// The shared tables of all accounts, over one connection, which is in no transaction, as far as the
+/// disk has returned what was written. Contracts see it as its connection.
 #[derive(Drop)]
 pub struct Store<S: Alter> {
     connection: Connection<S>,
@@ -38,7 +39,8 @@ pub struct Store<S: Alter> {
 
 impl<S: Alter> Model for Store<S> {
     ghost use Rattle.std.specs.Prelude.{◌≡◌, false};
-    ghost use Rattle.sqlite.specs.Held.{Held, held_code};
+    ghost use Rattle.sqlite.specs.State.{HasCleanDisk};
+    ghost use Rattle.sqlite.specs.Held.{Held, held_code, state};
 
     ghost Value = { Held S };
 
@@ -46,7 +48,8 @@ impl<S: Alter> Model for Store<S> {
 
     ghost view = { λ store. store.connection };
 
-    ghost invariant = { λ store. store.connection.in_transaction ≡ false };
+    ghost invariant = { λ store. HasCleanDisk (state S.Store store.connection)
+        → store.connection.in_transaction ≡ false };
 }
 
 /// Why there is no store, and the connection, whose tables are as they were.
@@ -200,7 +203,7 @@ impl<S: Alter> Store<S> {
         if now > LAST_MOMENT {
             return Err(StoreFault::Moment);
         }
-        if !self.connection.is_autocommit() {
+        if !self.connection.is_autocommit() && !is_short(e) {
             return Err(StoreFault::Storage);
         }
         Ok(answer_event(alloc, &mut self.connection, now, e)?)
@@ -209,7 +212,7 @@ impl<S: Alter> Store<S> {
     /// The connection, with its tables as they are, and in no transaction. It takes no memory.
     pub fn close(self) -> Connection<S>
         ensures same { result ≡ self }
-        ensures mode { result.in_transaction ≡ false }
+        ensures mode { HasCleanDisk (state S.Store result) → result.in_transaction ≡ false }
     {
         self.connection
     }

@@ -1,5 +1,5 @@
-//! The commands that write rows, each of which makes one call in a transaction of its own and
-//! answers `ok`:
+//! The commands that write rows, each of which makes one call in a savepoint of its own and answers
+//! `ok`:
 //!
 //! - `set-account NAME OPENED NEXT` and `set-next NAME NEXT`, `set-device NAME on|off`, `set-rate
 //! NAME UNITS`;
@@ -9,7 +9,7 @@
 //!   DOCUMENTS RATE DEVICE CREATED STARTED ENDED`, and `set-standing NAME NUMBER` with the words from STATE on;
 //! - `add-document NAME JOB NUMBER FORMAT HEX` and `remove-documents NAME JOB`.
 
-use crate::fault::{Fault, Wrong};
+use crate::fault::Fault;
 use crate::fields::Fields;
 use ipp_coding::List;
 use room_rules::{Account, Format, Job, LAST_JOB, LAST_MOMENT, Name, Standing};
@@ -17,7 +17,7 @@ use room_statements::{
     add_document, add_job, remove_documents, set_account, set_device, set_grant, set_next_job,
     set_rate, set_standing,
 };
-use sqlite::{Alter, Connection, Transaction};
+use sqlite::{Alter, Connection, Savepoint};
 use std::alloc::Global;
 
 pub enum Change {
@@ -123,16 +123,13 @@ impl Change {
     }
 
     pub fn call<S: Alter>(&self, connection: &mut Connection<S>) -> Result<(), Fault> {
-        if !connection.is_autocommit() {
-            return Err(Fault::Notation(Wrong::InTransaction));
-        }
-        let mut transaction = connection.transaction();
-        self.set(&mut transaction)?;
-        transaction.commit()?;
+        let mut savepoint = connection.savepoint()?;
+        self.set(&mut savepoint)?;
+        savepoint.commit()?;
         Ok(())
     }
 
-    fn set<S: Alter>(&self, transaction: &mut Transaction<'_, S>) -> Result<(), Fault> {
+    fn set<S: Alter>(&self, savepoint: &mut Savepoint<'_, S>) -> Result<(), Fault> {
         match self {
             Change::Account { name, account } => {
                 if account.opened > LAST_MOMENT
@@ -141,17 +138,17 @@ impl Change {
                 {
                     return Err(Fault::Range);
                 }
-                set_account(transaction, *name, *account)
+                set_account(savepoint, *name, *account)
             }
-            Change::NextJob { name, next_job } => set_next_job(transaction, *name, *next_job),
-            Change::Device { name, on } => set_device(transaction, *name, *on),
-            Change::Rate { name, units } => set_rate(transaction, *name, *units),
-            Change::Grant { name, month, pages } => set_grant(transaction, *name, *month, *pages),
+            Change::NextJob { name, next_job } => set_next_job(savepoint, *name, *next_job),
+            Change::Device { name, on } => set_device(savepoint, *name, *on),
+            Change::Rate { name, units } => set_rate(savepoint, *name, *units),
+            Change::Grant { name, month, pages } => set_grant(savepoint, *name, *month, *pages),
             Change::NewJob { name, job } => {
                 if !job.standing.is_in_range() {
                     return Err(Fault::Range);
                 }
-                add_job(transaction, *name, job)?;
+                add_job(savepoint, *name, job)?;
                 Ok(())
             }
             Change::Standing {
@@ -162,7 +159,7 @@ impl Change {
                 if !standing.is_in_range() {
                     return Err(Fault::Range);
                 }
-                set_standing(transaction, *name, *job, standing)
+                set_standing(savepoint, *name, *job, standing)
             }
             Change::NewDocument {
                 name,
@@ -171,10 +168,10 @@ impl Change {
                 format,
                 bytes,
             } => {
-                add_document(transaction, *name, *job, *number, *format, bytes.as_slice())?;
+                add_document(savepoint, *name, *job, *number, *format, bytes.as_slice())?;
                 Ok(())
             }
-            Change::RemoveDocuments { name, job } => remove_documents(transaction, *name, *job),
+            Change::RemoveDocuments { name, job } => remove_documents(savepoint, *name, *job),
         }?;
         Ok(())
     }

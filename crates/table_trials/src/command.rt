@@ -17,8 +17,10 @@ pub enum Command<'a> {
     Read(&'a str),
     /// `number TEXT` answers the one integer of a query.
     Number(&'a str),
-    /// `begin` leaves a transaction open.
+    /// `begin` begins a round.
     Begin,
+    /// `commit` commits it.
+    Commit,
     /// `tables` answers how many tables there are.
     Tables,
     /// `file NAME` goes on on the database in a file, opened anew.
@@ -48,6 +50,7 @@ impl Drop for Command<'_> {
             Command::Read(_) => {}
             Command::Number(_) => {}
             Command::Begin => {}
+            Command::Commit => {}
             Command::Tables => {}
             Command::File(_) => {}
             Command::Memory => {}
@@ -84,6 +87,7 @@ impl<'a> Command<'a> {
             "read" => Ok(Command::Read(fields.take()?)),
             "number" => Ok(Command::Number(fields.text()?)),
             "begin" => Ok(Command::Begin),
+            "commit" => Ok(Command::Commit),
             "tables" => Ok(Command::Tables),
             "file" => Ok(Command::File(fields.take()?)),
             "memory" => Ok(Command::Memory),

@@ -5,6 +5,7 @@ use crate::answer::Answer;
 use crate::command::{Command, StoreCall};
 use crate::fault::{Fault, Wrong};
 use crate::file_tables::FileTables;
+use room_statements::{begin_round, commit_round};
 use room_store::{OpenFault, Refused, Store};
 use sqlite::{Alter, Connection, MemStore};
 use std::fs;
@@ -139,7 +140,11 @@ fn answered<S: Alter>(
         Command::Read(file) => run_file(rt, connection, file),
         Command::Number(text) => number(connection, text),
         Command::Begin => {
-            connection.execute_batch("BEGIN")?;
+            begin_round(connection)?;
+            Ok(Answer::Ok)
+        }
+        Command::Commit => {
+            commit_round(connection)?;
             Ok(Answer::Ok)
         }
         Command::Tables => Ok(Answer::Count(tables(connection))),

@@ -10,7 +10,7 @@ use room_core::{Event, Name, Reply};
 use room_lines::Line;
 use room_rows::print_hex;
 use room_serve::{Outcome, run_events};
-use room_store::{Refused, Store, StoreFault};
+use room_store::{Refused, Rounds, Store, StoreFault};
 use sqlite::types::ValueRef;
 use sqlite::{Alter, Connection, MemStore, Row};
 use std::alloc::Global;
@@ -148,6 +148,18 @@ impl<S: Alter + Drop> Tables<S> {
         Ok(outcomes?)
     }
 
+    /// The same, each event being given to the store by itself, in one round.
+    pub fn run_in_a_round(
+        &mut self,
+        rt: &HostRuntime,
+        lines: &[&Line],
+    ) -> Result<Vec<Outcome>, Fault> {
+        let mut rounds = Rounds::over(self.store(rt)?);
+        let outcomes = outcomes_in_a_round(rt.alloc(), &mut rounds, lines);
+        self.waiting = Some(rounds.close());
+        outcomes
+    }
+
     /// What so many calls of `serve_one` on one connection come to (`wires`).
     pub fn serve(
         &mut self,
@@ -236,6 +248,22 @@ pub fn remove_files(rt: &HostRuntime) {
     for file in [FILE, LOG] {
         let _ = fs::remove_file(rt, file);
     }
+}
+
+/// What the events come to in a round, which is committed behind them.
+fn outcomes_in_a_round<S: Alter>(
+    alloc: Global,
+    rounds: &mut Rounds<S>,
+    lines: &[&Line],
+) -> Result<Vec<Outcome>, Fault> {
+    rounds.begin().map_err(Fault::Tables)?;
+    let mut outcomes = Vec::with_capacity(alloc, lines.len())?;
+    for line in lines {
+        let told = rounds.apply(alloc, line.moment, &line.action.event());
+        outcomes.push(Outcome::from(told))?;
+    }
+    rounds.commit().map_err(Fault::Tables)?;
+    Ok(outcomes)
 }
 
 fn events_of<'a>(alloc: Global, lines: &[&'a Line]) -> Result<Vec<(u64, Event<'a>)>, Fault>

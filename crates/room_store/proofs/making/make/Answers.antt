@@ -10,7 +10,7 @@ use Rattle.room_rules.specs.declared.job.Document.{Document}
 use Rattle.room_rules.specs.declared.job.Job.{Job}
 use Rattle.room_statements.specs.Rows.{IsFree}
 use Rattle.room_statements.specs.Changed.{MakesJob}
-use Rattle.room_statements.proofs.Inside.{leaves_as}
+use Rattle.room_statements.proofs.Retelling.{leaves_as}
 use Rattle.room_tables.specs.Accounts.{job_at, HoldsRoom}
 use Rattle.room_tables.specs.Keyed.{HasSchema}
 use Rattle.room_replies.specs.Places.{plain_place}
@@ -45,7 +45,7 @@ returns-in_err-make_job-clause-served g c opened =
     let made = c.in_err-make_job.ensures in
     let takes = sym c.check_accepting.ensures ∙ c.in_default.is in
     handed _ _ _ _ _ g.S.Store old new c.from_residual-in_err-make_job.result fault.0 _ fault.1 fault.2
-    (not_changed_after _ _ _ _ _ g.S.Store old mid passed new c.in_err-make_job.field-0.0 made.whole.keeps made.whole.undone
+    (not_changed_after _ _ _ _ _ g.S.Store old mid passed new c.in_err-make_job.field-0.0 made.makes.whole.keeps made.makes.whole.undone
     (λ was clean has same is readable.
     let free = readable.1 c.args.row (opened clean has) in
     made.damaged clean (subst HasSchema (sym same) has) (ap (λ e. Err e) is)
@@ -53,8 +53,8 @@ returns-in_err-make_job-clause-served g c opened =
     (subst (λ (db : Database). IsFree c.args.account (first_of job.job c.first_document.result) db) (sym same) (subst (λ (d : Option Document). IsFree c.args.account d (state g.S.Store old).now) (sym is_first) free.1)))
     (λ has. leaves_as g.S.Store mid new (MakesJob c.args.account job (first_of job.job c.first_document.result)) (DoesMake c.args.account c.args.now ask)
     (λ clean has_mid after it.
-    let was : HasCleanDisk (state g.S.Store mid) = omega (arith, made.whole.keeps.clean, clean) in
-    let same = (passed.same was has).0 in
+    let was : HasCleanDisk (state g.S.Store mid) = omega (arith, made.makes.whole.keeps.clean, clean) in
+    let same = (passed.same was has).now in
     let there = subst (HasAccountRow c.args.account c.args.row) (sym same) (opened clean has) in (
       it.alone c.args.row there,
       λ of held.
@@ -62,7 +62,7 @@ returns-in_err-make_job-clause-served g c opened =
           let queue = c.in_ok-tally.ensures.queue was has of.0 (subst (λ db. HoldsRoom db c.args.account of.0) same held.room) in
           grown of.0 c.args.row own c.in_ok-tally.tally.unfinished queue.0 takes ask c.args.now job (first_of job.job c.first_document.result) is_job is_first c.requires.ask c.requires.moment after c.args.account (it.room of.0 held.room),
     ))
-    made.crash))
+    made.makes.crash))
 
 pub returns-clause-served : goal.returns-clause-served
 returns-clause-served g c opened =
@@ -79,10 +79,10 @@ returns-clause-served g c opened =
     let passed = read_passed g.S.Store old mid _ c.in_ok-tally.ensures.reads in
     let made = c.in_ok-make_job.ensures in
     let takes = sym c.check_accepting.ensures ∙ c.in_default.is in
-    changed_after _ _ _ _ _ g.S.Store old mid passed new c.in_ok-text.text (record { keeps = made.whole.keeps; opened = made.whole.opened })
+    changed_after _ _ _ _ _ g.S.Store old mid passed new c.in_ok-text.text made.makes.whole
     (λ was clean has same.
     let has_mid = subst HasSchema (sym same) has in
-    let after = made.makes clean has_mid in (
+    let after = made.makes.made clean has_mid in (
       after.0,
       after.1.alone account (subst (HasAccountRow name account) (sym same) (opened clean has)),
       λ of held.
@@ -94,8 +94,8 @@ returns-clause-served g c opened =
     ))
     (λ has. leaves_as g.S.Store mid new (MakesJob c.args.account job (first_of job.job c.first_document.result)) (DoesMake c.args.account c.args.now ask)
     (λ clean has_mid after it.
-    let was : HasCleanDisk (state g.S.Store mid) = omega (arith, made.whole.keeps.clean, clean) in
-    let same = (passed.same was has).0 in
+    let was : HasCleanDisk (state g.S.Store mid) = omega (arith, made.makes.whole.keeps.clean, clean) in
+    let same = (passed.same was has).now in
     let there = subst (HasAccountRow c.args.account c.args.row) (sym same) (opened clean has) in (
       it.alone c.args.row there,
       λ of held.
@@ -103,4 +103,4 @@ returns-clause-served g c opened =
           let queue = c.in_ok-tally.ensures.queue was has of.0 (subst (λ db. HoldsRoom db c.args.account of.0) same held.room) in
           grown of.0 c.args.row own c.in_ok-tally.tally.unfinished queue.0 takes ask c.args.now job (first_of job.job c.first_document.result) is_job is_first c.requires.ask c.requires.moment after c.args.account (it.room of.0 held.room),
     ))
-    made.crash)
+    made.makes.crash)
