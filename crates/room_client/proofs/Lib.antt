@@ -4,3 +4,4 @@ pub mod PrintedGrants
 pub mod Refused
 pub mod SentLines
 pub mod SentRecords
+pub mod WordLemmas

@@ -2,8 +2,8 @@
 use Rattle.std.proofs.Common.{◌≡◌, ℕ, ◌+◌, All, List, [], ◌∷◌, ◌++◌, codes, length, refl, ap, sym, subst, ◌∙◌, append_assoc, append-nil, add-zero, arith, length-append}
 use Rattle.std.specs.Prelude.{None, Some, IfSome}
 use Rattle.std.specs.List.{flat_map}
-use Rattle.std.specs.Io.KnownBytes.{Appends, Consumes, prepend_known}
-use Rattle.std.proofs.KnownBytes.{Appends-nil, Appends-trans, Consumes-nil, Consumes-trans}
+use Rattle.std.specs.Io.KnownBytes.{Appends, Consumes, Keeps, prepend_known}
+use Rattle.std.proofs.KnownBytes.{Appends-kept, Appends-nil, Appends-trans, Consumes-nil, Consumes-trans}
 use Rattle.std.proofs.lemmas.Grind.{flat_map-append}
 use Rattle.std.proofs.lemmas.List.Elements.{All-append, All-cons, All-nil}
 use Rattle.std.specs.Fmt.{option_append}
@@ -11,10 +11,11 @@ use Rattle.room_client.specs.declared.answer.Answer.{Answer}
 use Rattle.room_client.specs.declared.answer.Answer.TheVariants as answer_is
 use Rattle.room_client.specs.declared.outcome.Outcome.{Outcome}
 use Rattle.room_client.specs.declared.outcome.Outcome.TheVariants.{Fine}
-use Rattle.room_client.specs.ProofAnswering.{AnsweredOnce, HearsDocument, PrintsAnswer, TakesDocuments}
+use Rattle.room_client.specs.ProofAnswering.{AnsweredOnce, HearsDocument, PrintsAnswer, SentAndAnswered, TakesDocuments}
 use Rattle.room_client.specs.Answers.{answer_said}
 use Rattle.room_client.specs.Outcomes.{outcome_after}
-use Rattle.room_client.specs.Replies.{Answered, Document, IsReply, Known, Reply, Shows, all_printed, document_heard, document_printed, documents_printed, documents_said, heard, outcome_from, printed, printed_as}
+use Rattle.room_client.specs.Words.{IsStartOf}
+use Rattle.room_client.specs.Replies.{Answered, Document, IsDocumentOf, IsOfJob, IsReply, asked_of, Known, Reply, Shows, all_printed, document_heard, document_printed, documents_printed, documents_said, heard, outcome_from, printed, printed_as}
 
 -- a line that was printed, and then what is shown after it
 pub printed-shown : (a b c d : Known) (head : List ℕ) (known : Known) → Appends a b head
@@ -84,6 +85,8 @@ TakesDocuments-more shown ha hb hc pa pb pc account job count done now same take
       subst (λ o. IfSome o (Appends pa pc)) (sym more)
           (printed-both pa pb pc (documents_printed shown account job 1 documents)
           (document_printed shown account job (1 + length documents) last) done.3 shows),
+      All-append (IsDocumentOf job) documents (last ∷ []) done.4
+          (All-cons (IsDocumentOf job) last [] next.3 (All-nil (IsDocumentOf job))),
     )
 
 -- an answer that is no documents is its line
@@ -120,33 +123,39 @@ outcome_from-more number outcome (first ∷ rest) last =
     ∙ ap (λ n. outcome_after (outcome_from (number + 1) (outcome_after outcome number first.says) rest)
     n last.says) same
 
-pub Answered-none : (shown : Shows) (h p : Known)
-    → (none : Answered shown h h p p Fine) × (1 ≡ length none.replies + 1)
-Answered-none shown h p =
-    let none : Answered shown h h p p Fine = record {
+pub Answered-none : (shown : Shows) (s h p : Known)
+    → (none : Answered shown s s h h p p Fine) × (1 ≡ length none.replies + 1)
+Answered-none shown s h p =
+    let none : Answered shown s s h h p p Fine = record {
       replies = [];
       said = All-nil IsReply;
+      sent_all = Appends-nil s;
       heard_all = Consumes-nil h;
       printed_all = Appends-nil p;
       came_to = refl;
     } in
     (none, refl)
 
-pub Answered-more : (shown : Shows) (ha hb hc pa pb pc : Known) (outcome : Outcome) (answer : Answer)
-    → (number : ℕ) (done : Answered shown ha hb pa pb outcome) → number ≡ length done.replies + 1
-    → (now : Shows) → now ≡ shown → AnsweredOnce now hb hc pb pc answer
+pub Answered-more : (shown : Shows) (sa sb sc ha hb hc pa pb pc : Known) (outcome : Outcome)
+    → (answer : Answer) (number : ℕ) (done : Answered shown sa sb ha hb pa pb outcome)
+    → number ≡ length done.replies + 1 → (now : Shows) → now ≡ shown
+    → SentAndAnswered now sb sc hb hc pb pc answer
     → (after : Outcome) → after ≡ outcome_after outcome number answer
-    → (more : Answered shown ha hc pa pc after)
+    → (more : Answered shown sa sc ha hc pa pc after)
     × (number + 1 ≡ length more.replies + 1)
-Answered-more shown ha hb hc pa pb pc outcome answer number done count now same answered after is =
-    let next = subst (λ s. AnsweredOnce s hb hc pb pc answer) same answered in
+Answered-more shown sa sb sc ha hb hc pa pb pc outcome answer number done count now same answered after is =
+    let both = subst (λ s. SentAndAnswered s sb sc hb hc pb pc answer) same answered in
+    let next = both.2 in
+    let sent = subst (λ asked. Appends sb sc (asked ++ codes "\n")) (sym next.asks) both.1 in
     let replies = done.replies in
     let last = next.reply in
     let place : number ≡ 1 + length replies = omega (arith, count) in
     let one : All IsReply (last ∷ []) = All-cons IsReply last [] next.said (All-nil IsReply) in
-    let more : Answered shown ha hc pa pc after = record {
+    let more : Answered shown sa sc ha hc pa pc after = record {
       replies = replies ++ last ∷ [];
       said = All-append IsReply replies (last ∷ []) done.said one;
+      sent_all = subst (Appends sa sc) (sym (flat_map-more asked_of replies last))
+          (Appends-trans sa sb sc (flat_map asked_of replies) (asked_of last) done.sent_all sent);
       heard_all = subst (Consumes ha hc) (sym (flat_map-more heard replies last))
           (Consumes-trans ha hb hc (flat_map heard replies) (heard last) done.heard_all next.heard_whole);
       printed_all = subst (λ o. IfSome o (Appends pa pc)) (sym (all_printed-more shown replies last))
@@ -159,33 +168,70 @@ Answered-more shown ha hb hc pa pb pc outcome answer number done count now same 
     let long : length (replies ++ last ∷ []) ≡ length replies + 1 = length-append replies (last ∷ []) in
     (more, omega (arith, count, long))
 
-pub PrintsAnswer-line : (shown : Shows) (h pa pb pc : Known) (text : List ℕ) (says : Answer)
+-- and needs no line that starts a job
+pub IsOfJob-other : (says : Answer) → ((count : ℕ) → says ≡ answer_is.Documents count → ⊥)
+    → (asked account : List ℕ) (job : ℕ) → IsOfJob says asked account job
+IsOfJob-other answer_is.Failed other asked account job = tt
+IsOfJob-other answer_is.BadLine other asked account job = tt
+IsOfJob-other (answer_is.Documents count) other asked account job = absurd (other count refl)
+IsOfJob-other answer_is.Told other asked account job = tt
+
+pub PrintsAnswer-line : (shown : Shows) (h pa pb pc : Known) (asked text : List ℕ) (says : Answer)
     → ((count : ℕ) → says ≡ answer_is.Documents count → ⊥) → Appends pa pb text
-    → Appends pb pc (codes "\n") → PrintsAnswer shown h h pa pc text says
-PrintsAnswer-line shown h pa pb pc text says other first feed = (
+    → Appends pb pc (codes "\n") → PrintsAnswer shown h h pa pc asked text says
+PrintsAnswer-line shown h pa pb pc asked text says other first feed = (
   [],
   0,
+  IsOfJob-other says other asked [] 0,
   [],
   documents_said-none says other,
   Consumes-nil h,
   subst (λ o. IfSome o (Appends pa pc))
       (sym (printed_as-line says (documents_printed shown [] 0 1 []) (Some (text ++ codes "\n")) other))
       (Appends-trans pa pb pc text (codes "\n") first feed),
+  All-nil (IsDocumentOf 0),
 )
 
-pub AnsweredOnce-of : (shown : Shows) (ha hb hc pa pb : Known) (line : List ℕ) (says : Answer)
+pub PrintsAnswer-documents : (shown : Shows) (ha hb pa pb : Known) (asked text : List ℕ) (count : ℕ)
+    → (account : List ℕ) × (job : ℕ) × IsStartOf asked account job
+    × TakesDocuments shown ha hb pa pb account job count
+    → PrintsAnswer shown ha hb pa pb asked text (answer_is.Documents count)
+PrintsAnswer-documents shown ha hb pa pb asked text count taken =
+    (taken.0, taken.1, taken.2, taken.3.0, taken.3.1, taken.3.2, taken.3.3, taken.3.4)
+
+printed-kept : (a b c : Known) (known : Known) → IfSome known (Appends a b) → Keeps b c
+    → IfSome known (Appends a c)
+printed-kept a b c None prints kept = tt
+printed-kept a b c (Some text) prints kept = Appends-kept a b c text prints kept
+
+-- what was printed is still there
+pub AnsweredOnce-kept : (shown : Shows) (ha hb pa pb pc : Known) (asked : List ℕ) (says : Answer)
+    → AnsweredOnce shown ha hb pa pb asked says → Keeps pb pc
+    → AnsweredOnce shown ha hb pa pc asked says
+AnsweredOnce-kept shown ha hb pa pb pc asked says once kept = record {
+  reply = once.reply;
+  asks = once.asks;
+  said = once.said;
+  heard_whole = once.heard_whole;
+  printed_whole = printed-kept pa pb pc (printed shown once.reply) once.printed_whole kept;
+  came_to = once.came_to;
+}
+
+pub AnsweredOnce-of : (shown : Shows) (ha hb hc pa pb : Known) (asked line : List ℕ) (says : Answer)
     → answer_said line ≡ Some says → Consumes ha hb (line ++ codes "\n")
-    → PrintsAnswer shown hb hc pa pb line says → AnsweredOnce shown ha hc pa pb says
-AnsweredOnce-of shown ha hb hc pa pb line says said first prints = record {
+    → PrintsAnswer shown hb hc pa pb asked line says → AnsweredOnce shown ha hc pa pb asked says
+AnsweredOnce-of shown ha hb hc pa pb asked line says said first prints = record {
   reply = record {
+    asked = asked;
     line = line;
     says = says;
     account = prints.0;
     job = prints.1;
-    documents = prints.2;
+    documents = prints.3;
   };
-  said = (said, prints.3);
-  heard_whole = Consumes-trans ha hb hc (line ++ codes "\n") (flat_map document_heard prints.2) first prints.4;
-  printed_whole = prints.5;
+  asks = refl;
+  said = record { said = said; count = prints.4; of_job = prints.2; each = prints.7 };
+  heard_whole = Consumes-trans ha hb hc (line ++ codes "\n") (flat_map document_heard prints.3) first prints.5;
+  printed_whole = prints.6;
   came_to = refl;
 }

@@ -1,11 +1,11 @@
 -- What of the lines of a text was sent.
-use Rattle.std.proofs.Common.{◌≡◌, ◌≢◌, ℕ, ◌<◌, List, [], ◌∷◌, ◌++◌, codes, length, cond, refl, ap, sym, subst, ◌∙◌, append_assoc, append-nil, ne_eqb, arith, inl, inr}
-use Rattle.std.specs.Prelude.{Option, None, Some}
+use Rattle.std.proofs.Common.{◌≡◌, ◌≢◌, ℕ, ◌<◌, List, [], ◌∷◌, ◌++◌, codes, length, Bool, cond, refl, ap, sym, subst, ◌∙◌, append_assoc, append-nil, ne_eqb, arith, inl, inr}
+use Rattle.std.specs.Prelude.{Option, None, Some, IfSome, ◌==◌, true, false}
 use Rattle.std.specs.Io.KnownBytes.{Appends, IsAtEnd}
 use Rattle.std.proofs.KnownBytes.{Appends-nil, Appends-trans}
 use Rattle.std.proofs.lemmas.List.Elements.{All-head, All-tail}
-use Rattle.room_client.specs.Sending.{AppendsUpTo, IsAtKnownEnd, SendsAll, SendsFront, SendsOn, as_lines}
-use Rattle.room_client.specs.ProofTaking.{HasNoFeed, MayBeLine, TakesLine}
+use Rattle.room_client.specs.Sending.{AppendsUpTo, HasLongLine, IsAtKnownEnd, SendsAll, SendsFront, SendsOn, as_lines}
+use Rattle.room_client.specs.ProofTaking.{HasNoFeed, MayBeLine, TakesLine, TakesTooMany}
 use Rattle.room_client.proofs.Fronts.{AppendsUpTo-behind, AppendsUpTo-longer}
 
 pub as_lines-line : (line rest : List ℕ) → as_lines (line ++ 10 ∷ rest) ≡ line ++ 10 ∷ as_lines rest
@@ -97,3 +97,40 @@ IsAtKnownEnd-behind (Some text) b c before between first end =
 pub SendsOn-none : (a before : Option (List ℕ)) → SendsOn a a before before
 SendsOn-none None before = tt
 SendsOn-none (Some text) before = (text, refl, [], refl, Appends-nil before)
+
+last-byte : (is_feed : Bool) (byte : ℕ)
+    → cond is_feed (byte ∷ []) (byte ∷ 10 ∷ []) ≡ byte ∷ cond is_feed [] (10 ∷ [])
+last-byte true byte = refl
+last-byte false byte = refl
+
+-- the first bytes of a text are those of the text as lines
+as_lines-front : (front rest : List ℕ)
+    → (tail : List ℕ) × (as_lines (front ++ rest) ≡ front ++ tail)
+as_lines-front [] rest = (as_lines rest, refl)
+as_lines-front (byte ∷ []) [] = (cond (byte == 10) [] (10 ∷ []), last-byte (byte == 10) byte)
+as_lines-front (byte ∷ []) (next ∷ rest) = (as_lines (next ∷ rest), refl)
+as_lines-front (byte ∷ next ∷ front) rest =
+    let more = as_lines-front (next ∷ front) rest in
+    (more.0, ap (λ l. byte ∷ l) more.1)
+
+long-line : (text sent rest : List ℕ) (after : Option (List ℕ))
+    → as_lines text ≡ sent ++ as_lines rest → TakesTooMany (Some rest) after → HasLongLine text
+long-line text sent rest None is taken = absurd taken.3
+long-line text sent rest (Some left) is taken =
+    let whole = as_lines-front taken.0 left in record {
+      front = sent;
+      line = taken.0;
+      rest = whole.0;
+      has = is ∙ ap (λ l. sent ++ as_lines l) taken.3 ∙ ap (λ l. sent ++ l) whole.1
+          ∙ sym (append_assoc sent taken.0 whole.0);
+      is_line = taken.2;
+      is_long = taken.1;
+    }
+
+-- a line that is too long, after what was sent
+pub HasLongLine-after : (a b c before after : Option (List ℕ))
+    → SendsOn a b before after → TakesTooMany b c → IfSome a HasLongLine
+HasLongLine-after None b c before after sent long = tt
+HasLongLine-after (Some text) b c before after sent long =
+    let taken = subst (λ o. TakesTooMany o c) sent.1 long in
+    long-line text sent.2 sent.0 c sent.3 taken

@@ -8,4 +8,5 @@ pub mod Outcomes
 pub mod Peers
 pub mod Replies
 pub mod Sending
+pub mod Words
 pub mod ProofTaking

@@ -1,21 +1,29 @@
 -- For the proof of the code alone: how one answer, document or record is heard and printed.
-use Rattle.std.specs.Prelude.{◌≡◌, ℕ, List, ◌++◌, codes, decimal, length, Some, IfSome}
+use Rattle.std.specs.Prelude.{◌≡◌, ℕ, List, ◌++◌, All, codes, decimal, length, Some, IfSome}
 use Rattle.std.specs.List.{flat_map}
 use Rattle.std.specs.Io.KnownBytes.{Appends, Consumes}
 use Rattle.room_input.specs.declared.grant_line.GrantLine.{GrantLine}
 use Rattle.room_client.specs.declared.answer.Answer.{Answer}
 use Rattle.room_client.specs.Answers.{answer_said}
 use Rattle.room_client.specs.GrantReplies.{AnswersLine, line_heard, line_printed}
-use Rattle.room_client.specs.Replies.{Document, IsReply, Known, Reply, Shows, document_heard, document_printed, documents_printed, documents_said, heard, printed, printed_as}
+use Rattle.room_client.specs.Replies.{Document, IsDocumentOf, IsOfJob, IsReply, Known, Reply, Shows, document_heard, document_printed, documents_printed, documents_said, heard, printed, printed_as}
 
--- one answer was heard and printed
+-- one answer to the line was heard and printed
 pub record AnsweredOnce (shown : Shows) (heard_before heard_after : Known)
-    (printed_before printed_after : Known) (answer : Answer) : Type 0 where
+    (printed_before printed_after : Known) (asked : List ℕ) (answer : Answer) : Type 0 where
   pub reply : Reply
+  pub asks : reply.asked ≡ asked
   pub said : IsReply reply
   pub heard_whole : Consumes heard_before heard_after (heard reply)
   pub printed_whole : IfSome (printed shown reply) (Appends printed_before printed_after)
   pub came_to : answer ≡ reply.says
+
+-- a line was sent, and its answer heard and printed
+abbrev pub SentAndAnswered : (shown : Shows) (sent_before sent_after : Known)
+    → (heard_before heard_after : Known) (printed_before printed_after : Known) → Answer → Type 0
+SentAndAnswered shown sent_before sent_after heard_before heard_after printed_before printed_after
+    answer = (asked : List ℕ) × Appends sent_before sent_after (asked ++ codes "\n")
+    × AnsweredOnce shown heard_before heard_after printed_before printed_after asked answer
 
 -- so many documents of the job were heard and printed
 abbrev pub TakesDocuments : (shown : Shows) (heard_before heard_after : Known)
@@ -24,7 +32,7 @@ TakesDocuments shown heard_before heard_after printed_before printed_after accou
     (documents : List Document) × (length documents ≡ count)
     × Consumes heard_before heard_after (flat_map document_heard documents)
     × IfSome (documents_printed shown account job 1 documents)
-    (Appends printed_before printed_after)
+    (Appends printed_before printed_after) × All (IsDocumentOf job) documents
 
 -- the document of the number was
 abbrev pub HearsDocument : (shown : Shows) (heard_before heard_after : Known)
@@ -32,17 +40,18 @@ abbrev pub HearsDocument : (shown : Shows) (heard_before heard_after : Known)
 HearsDocument shown heard_before heard_after printed_before printed_after account job number =
     (document : Document) × Consumes heard_before heard_after (document_heard document)
     × IfSome (document_printed shown account job number document)
-    (Appends printed_before printed_after)
+    (Appends printed_before printed_after) × IsDocumentOf job document
 
--- the answer of the text was printed, and its documents heard
+-- the answer of the text to the line was printed, and its documents heard
 abbrev pub PrintsAnswer : (shown : Shows) (heard_before heard_after : Known)
-    → (printed_before printed_after : Known) (text : List ℕ) → Answer → Type 0
-PrintsAnswer shown heard_before heard_after printed_before printed_after text says =
-    (account : List ℕ) × (job : ℕ) × (documents : List Document)
+    → (printed_before printed_after : Known) (asked text : List ℕ) → Answer → Type 0
+PrintsAnswer shown heard_before heard_after printed_before printed_after asked text says =
+    (account : List ℕ) × (job : ℕ) × IsOfJob says asked account job × (documents : List Document)
     × (length documents ≡ documents_said says)
     × Consumes heard_before heard_after (flat_map document_heard documents)
     × IfSome (printed_as says (documents_printed shown account job 1 documents)
     (Some (text ++ codes "\n"))) (Appends printed_before printed_after)
+    × All (IsDocumentOf job) documents
 
 -- the answer to the record of the number was heard and printed, or it is bad and `bad` was
 pub record GrantAnswered (asked : GrantLine) (number : ℕ) (heard_before heard_after : Known)

@@ -1,5 +1,5 @@
 -- What answers lines, what is printed of it, and what it comes to (all this project's own).
-use Rattle.std.specs.Prelude.{All, ◌≡◌, ℕ, ◌+◌, List, [], ◌∷◌, ◌++◌, codes, length, Option, Some, IfSome}
+use Rattle.std.specs.Prelude.{All, ◌≡◌, ℕ, ◌+◌, List, [], ◌∷◌, ◌++◌, codes, length, Option, Some, IfSome, ⊤}
 use Rattle.std.specs.List.{flat_map}
 use Rattle.std.specs.Io.KnownBytes.{Appends, Consumes, prepend_known}
 use Rattle.std.specs.Fmt.{option_append}
@@ -10,6 +10,7 @@ use Rattle.room_client.specs.declared.outcome.Outcome.TheVariants.{Fine}
 use Rattle.room_client.specs.Answers.{answer_said}
 use Rattle.room_client.specs.Names.{document_name}
 use Rattle.room_client.specs.Outcomes.{outcome_after}
+use Rattle.room_client.specs.Words.{IsHeadOf, IsStartOf}
 
 -- bytes that may be known
 abbrev pub Known : Type 0
@@ -24,9 +25,10 @@ pub record Document : Type 0 where
   pub head : List ℕ
   pub bytes : List ℕ
 
--- an answer: its first line with what that says, and the documents after it, which are those of
--- one job of an account
+-- an answer: the line that it answers, its first line with what that says, and the documents after
+-- it, which are those of one job of an account
 pub record Reply : Type 0 where
+  pub asked : List ℕ
   pub line : List ℕ
   pub says : Answer
   pub account : List ℕ
@@ -78,10 +80,27 @@ documents_said answer_is.Failed = 0
 documents_said answer_is.BadLine = 0
 documents_said answer_is.Told = 0
 
--- the line says so, and as many documents follow as it says
-abbrev pub IsReply : Reply → Type 0
-IsReply reply = (answer_said reply.line ≡ Some reply.says)
-    × (length reply.documents ≡ documents_said reply.says)
+-- documents answer a line that starts the job
+abbrev pub IsOfJob : Answer → (asked account : List ℕ) (job : ℕ) → Type 0
+IsOfJob (answer_is.Documents count) asked account job = IsStartOf asked account job
+IsOfJob answer_is.Failed asked account job = ⊤
+IsOfJob answer_is.BadLine asked account job = ⊤
+IsOfJob answer_is.Told asked account job = ⊤
+
+-- its line tells of the job, and of as many bytes as it has
+abbrev pub IsDocumentOf : (job : ℕ) → Document → Type 0
+IsDocumentOf job document = IsHeadOf document.head job (length document.bytes)
+
+-- the line says so, and as many documents follow as it says, of the job that was asked for
+pub record IsReply (reply : Reply) : Type 0 where
+  pub said : answer_said reply.line ≡ Some reply.says
+  pub count : length reply.documents ≡ documents_said reply.says
+  pub of_job : IsOfJob reply.says reply.asked reply.account reply.job
+  pub each : All (IsDocumentOf reply.job) reply.documents
+
+-- the line that it answers, as it was sent
+abbrev pub asked_of : Reply → List ℕ
+asked_of reply = reply.asked ++ codes "\n"
 
 -- what answers to lines come to, the first of which has this number
 abbrev pub outcome_from : (number : ℕ) (outcome : Outcome) (replies : List Reply) → Outcome
@@ -89,11 +108,12 @@ outcome_from number outcome [] = outcome
 outcome_from number outcome (first ∷ rest) =
     outcome_from (number + 1) (outcome_after outcome number first.says) rest
 
--- answers were heard one after another and printed, and came to the outcome
-pub record Answered (shown : Shows) (heard_before heard_after : Known)
+-- lines were sent, and their answers heard one after another and printed, and came to the outcome
+pub record Answered (shown : Shows) (sent_before sent_after : Known) (heard_before heard_after : Known)
     (printed_before printed_after : Known) (outcome : Outcome) : Type 0 where
   pub replies : List Reply
   pub said : All IsReply replies
+  pub sent_all : Appends sent_before sent_after (flat_map asked_of replies)
   pub heard_all : Consumes heard_before heard_after (flat_map heard replies)
   pub printed_all : IfSome (all_printed shown replies) (Appends printed_before printed_after)
   pub came_to : outcome ≡ outcome_from 1 Fine replies

@@ -1,5 +1,5 @@
 -- What is sent, and when nothing is left of an input (all this project's own).
-use Rattle.std.specs.Prelude.{◌≡◌, ℕ, ◌==◌, if◌then◌else◌, List, [], ◌∷◌, ◌++◌, codes, Option, Some, IfSome, OnSome}
+use Rattle.std.specs.Prelude.{◌≡◌, ◌≢◌, ◌+◌, All, length, ℕ, ◌==◌, if◌then◌else◌, List, [], ◌∷◌, ◌++◌, codes, Option, Some, IfSome, OnSome}
 use Rattle.std.specs.Io.KnownBytes.{Appends, IsAtEnd}
 
 -- bytes of a line that is sent, without the line feed that ends it
@@ -11,6 +11,15 @@ abbrev pub as_lines : (text : List ℕ) → List ℕ
 as_lines [] = []
 as_lines (last ∷ []) = if last == 10 then last ∷ [] else last ∷ codes "\n"
 as_lines (byte ∷ next ∷ rest) = byte ∷ as_lines (next ∷ rest)
+
+-- a line of the text is longer than any may be: no line feed is in so many of its bytes
+pub record HasLongLine (text : List ℕ) : Type 0 where
+  pub front : List ℕ
+  pub line : List ℕ
+  pub rest : List ℕ
+  pub has : as_lines text ≡ front ++ line ++ rest
+  pub is_line : All (λ byte. byte ≢ 10) line
+  pub is_long : length line ≡ longest_line + 1
 
 -- a front of the bytes, or all of them, were written after what was there
 abbrev pub AppendsUpTo : (before after : Option (List ℕ)) (bytes : List ℕ) → Type 0

@@ -1,7 +1,9 @@
 //! The job of which a line wants the documents.
-ghost use Rattle.std.specs.Prelude.{◌≡◌, IfOk, string_bytes};
+ghost use Rattle.std.specs.Prelude.{◌≡◌, IfOk, IfSome, string_bytes};
 ghost use Rattle.room_client.specs.Names.{document_name};
+ghost use Rattle.room_client.specs.Words.{IsStartOf};
 
+use crate::words::{after_word, first_word};
 use room_input::number;
 use room_rules::{LAST_JOB, Name};
 use std::alloc::{AllocError, Global};
@@ -16,18 +18,15 @@ pub(crate) struct Asked {
 
 impl Asked {
     /// The job that the line names, or `None` where it is no such line.
-    pub(crate) fn read(line: &[u8]) -> Option<Asked> {
-        let mut words = line.split(|byte| *byte == b' ');
-        if words.next()? != b"start".as_slice() {
-            return None;
-        }
-        let _device = words.next()?;
-        let account = Name::read(words.next()?)?;
-        let job = number(words.next()?, 1, LAST_JOB)?;
-        match words.next() {
-            Some(_) => None,
-            None => Some(Asked { account, job }),
-        }
+    pub(crate) fn read(line: &[u8]) -> Option<Asked>
+        ensures { IfSome result (λ asked. IsStartOf line.now asked.account asked.job) }
+    {
+        let words = after_word(line, b"start")?;
+        let (_device, rest) = first_word(words)?;
+        let (account, job) = first_word(rest)?;
+        let account = Name::read(account)?;
+        let job = number(job, 1, LAST_JOB)?;
+        Some(Asked { account, job })
     }
 
     /// The name of its document of the number: `ACCOUNT-JOB-NUMBER`.

@@ -1,6 +1,6 @@
 //! What is taken of a reader, so many bytes at a time.
 
-ghost use Rattle.std.specs.Prelude.{◌≡◌, ◌+◌, ◌≤◌, IfOk, OnOk, codes, length};
+ghost use Rattle.std.specs.Prelude.{◌≡◌, ◌≢◌, ◌+◌, ◌≤◌, IfErr, IfOk, OnOk, codes, length};
 ghost use Rattle.std.specs.Io.KnownBytes.{Consumes};
 ghost use Rattle.room_client.specs.ProofTaking.{TakesMore};
 
@@ -20,6 +20,7 @@ pub(crate) fn take_bytes<R: Read>(
     ensures bytes { IfOk result
         (λ bytes. Consumes (R.remaining reader.old) (R.remaining reader.new) bytes.items) }
     ensures count { IfOk result (λ bytes. length bytes.items ≡ count) }
+    ensures fault { IfErr result (λ fault. fault ≢ ClientFault.TooLong) }
 {
     let mut bytes = Vec::new(alloc);
     while bytes.len() < count {
@@ -34,6 +35,7 @@ fn add_bytes<R: Read>(reader: &mut R, room: usize, bytes: &mut Vec<u8>) -> Resul
     ensures added { OnOk result (TakesMore (R.remaining reader.old) (R.remaining reader.new)
         bytes.old.items bytes.new.items) }
     ensures count { OnOk result (length bytes.new.items ≡ length bytes.old.items + room) }
+    ensures fault { IfErr result (λ fault. fault ≢ ClientFault.TooLong) }
 {
     let mut piece = [0; PIECE];
     let front = &mut piece[..room];
@@ -43,8 +45,9 @@ fn add_bytes<R: Read>(reader: &mut R, room: usize, bytes: &mut Vec<u8>) -> Resul
 
 /// The line feed that has to come next.
 pub(crate) fn take_feed<R: Read>(reader: &mut R) -> Result<(), ClientFault>
-    ensures { OnOk result
+    ensures feed { OnOk result
         (Consumes (R.remaining reader.old) (R.remaining reader.new) (codes "\n")) }
+    ensures fault { IfErr result (λ fault. fault ≢ ClientFault.TooLong) }
 {
     let mut feed = [0];
     fill(reader, &mut feed)?;
@@ -56,8 +59,9 @@ pub(crate) fn take_feed<R: Read>(reader: &mut R) -> Result<(), ClientFault>
 
 /// Fills the buffer with the next bytes.
 fn fill<R: Read>(reader: &mut R, buffer: &mut [u8]) -> Result<(), ClientFault>
-    ensures { OnOk result
+    ensures filled { OnOk result
         (Consumes (R.remaining reader.old) (R.remaining reader.new) buffer.new) }
+    ensures fault { IfErr result (λ fault. fault ≢ ClientFault.TooLong) }
 {
     match reader.read_exact(buffer) {
         Ok(()) => Ok(()),

@@ -1,12 +1,14 @@
 //! The documents of an answer.
-ghost use Rattle.std.specs.Prelude.{◌≡◌, ◌≤◌, ℕ, List, IfSome, OnOk};
+ghost use Rattle.std.specs.Prelude.{◌≡◌, ◌≢◌, ◌≤◌, ℕ, List, IfErr, IfSome, OnOk};
 ghost use Rattle.room_rules.specs.Limits.{longest_document};
 ghost use Rattle.room_client.specs.ProofAnswering.{HearsDocument, TakesDocuments};
+ghost use Rattle.room_client.specs.Words.{IsHeadOf, IsStartOf};
 
 use crate::asked::Asked;
 use crate::fault::ClientFault;
 use crate::keeper::Keeper;
 use crate::peer::Peer;
+use crate::words::{after_word, first_word};
 use room_input::number;
 use room_rules::{LONGEST_DOCUMENT, MOST_COPIES};
 use std::alloc::Global;
@@ -23,11 +25,12 @@ pub(crate) fn take_documents<R: BufRead, W: Write, K: Keeper, O: Write>(
     output: &mut O,
 ) -> Result<(), ClientFault>
     ensures taken { OnOk result ((account : List ℕ) × (job : ℕ)
-        × TakesDocuments (K.shown keeper.old) (R.remaining peer.old.reader)
-        (R.remaining peer.new.reader) (O.contents output.old) (O.contents output.new)
-        account job count) }
+        × IsStartOf line.now account job × TakesDocuments (K.shown keeper.old)
+        (R.remaining peer.old.reader) (R.remaining peer.new.reader)
+        (O.contents output.old) (O.contents output.new) account job count) }
     ensures same { K.shown keeper.new ≡ K.shown keeper.old }
     ensures writer { peer.new.writer ≡ peer.old.writer }
+    ensures fault { IfErr result (λ fault. fault ≢ ClientFault.TooLong) }
 {
     let asked = Asked::read(line).ok_or(ClientFault::Broken)?;
     for index in 0..count {
@@ -50,6 +53,7 @@ fn take_document<R: BufRead, W: Write, K: Keeper, O: Write>(
         (O.contents output.old) (O.contents output.new) asked.now.account asked.now.job number) }
     ensures same { K.shown keeper.new ≡ K.shown keeper.old }
     ensures writer { peer.new.writer ≡ peer.old.writer }
+    ensures fault { IfErr result (λ fault. fault ≢ ClientFault.TooLong) }
 {
     let head = peer.hear(alloc)?;
     let length = length_said(head.as_slice(), asked.job).ok_or(ClientFault::Broken)?;
@@ -64,18 +68,15 @@ fn take_document<R: BufRead, W: Write, K: Keeper, O: Write>(
 /// How many bytes a document has by its line `document JOB COPIES FORMAT LENGTH`, or `None` where
 /// that is no line of a document of the job.
 fn length_said(line: &[u8], job: u32) -> Option<u32>
-    ensures { IfSome result (λ length. length ≤ longest_document) }
+    ensures most { IfSome result (λ length. length ≤ longest_document) }
+    ensures said { IfSome result (IsHeadOf line.now job) }
 {
-    let mut words = line.split(|byte| *byte == b' ');
-    if words.next()? != b"document".as_slice() {
-        return None;
-    }
-    let _job = number(words.next()?, job, job)?;
-    let _copies = number(words.next()?, 1, MOST_COPIES)?;
-    let _format = words.next()?;
-    let length = number(words.next()?, 0, LONGEST_DOCUMENT as u32)?;
-    match words.next() {
-        Some(_) => None,
-        None => Some(length),
-    }
+    let words = after_word(line, b"document")?;
+    let (own, rest) = first_word(words)?;
+    let (copies, rest) = first_word(rest)?;
+    let (_format, bytes) = first_word(rest)?;
+    let _job = number(own, job, job)?;
+    let _copies = number(copies, 1, MOST_COPIES)?;
+    let length = number(bytes, 0, LONGEST_DOCUMENT as u32)?;
+    Some(length)
 }

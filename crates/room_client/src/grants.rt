@@ -1,5 +1,5 @@
 //! Files of grants that are sent record by record.
-ghost use Rattle.std.specs.Prelude.{◌≡◌, ◌-◌, ◌^◌, ◌<◌, ◌≤◌, ◌++◌, All, IfOk, OnErr, OnOk, Some, codes, decimal, option_map};
+ghost use Rattle.std.specs.Prelude.{◌≡◌, ◌≢◌, ◌-◌, ◌^◌, ◌<◌, ◌≤◌, ◌++◌, All, IfErr, IfOk, IsErrOf, OnErr, OnOk, List, ℕ, Some, codes, decimal, option_map, true};
 ghost use Rattle.std.specs.Io.KnownBytes.{Appends};
 ghost use Rattle.room_rules.specs.Limits.{first_month, last_month};
 ghost use Rattle.room_client.specs.ProofAnswering.{GrantAnswered, HearsResult};
@@ -8,6 +8,7 @@ ghost use Rattle.room_client.specs.Grants.{SendsFile, SendsFileFront, grant_text
 ghost use Rattle.room_client.specs.GrantReplies.{FileAnswered, GrantsAnswered};
 ghost use Rattle.room_client.specs.Peers.{reader_of, writer_of};
 ghost use Rattle.room_client.specs.Sending.{AppendsUpTo};
+ghost use Rattle.room_input.specs.GrantFiles.{is_too_large};
 ghost use Rattle.room_input.specs.GrantLines.{IsInRange};
 
 use crate::answer::Answer;
@@ -37,6 +38,8 @@ pub fn send_grants<S: Source, R: BufRead, W: Write, O: Write>(
     ensures answered { IfOk result (FileAnswered (S.left input.old)
         (R.remaining (reader_of peer.old)) (R.remaining (reader_of peer.new))
         (O.contents output.old) (O.contents output.new)) }
+    ensures long { IsErrOf result ClientFault.TooLong → (file : List ℕ)
+        × S.left input.old file × (is_too_large file ≡ true) }
 {
     let records = read_grants(alloc, input)?;
     send_records(alloc, peer, records.as_slice(), output)
@@ -56,6 +59,7 @@ fn send_records<R: BufRead, W: Write, O: Write>(
     ensures answered { IfOk result (GrantsAnswered records.now
         (R.remaining peer.old.reader) (R.remaining peer.new.reader)
         (O.contents output.old) (O.contents output.new)) }
+    ensures fault { IfErr result (λ fault. fault ≢ ClientFault.TooLong) }
 {
     let mut outcome = Outcome::Fine;
     for (index, record) in records.iter().enumerate() {
@@ -82,6 +86,7 @@ fn send_record<R: BufRead, W: Write, O: Write>(
     ensures answered { IfOk result (GrantAnswered said.now number
         (R.remaining peer.old.reader) (R.remaining peer.new.reader)
         (O.contents output.old) (O.contents output.new)) }
+    ensures fault { IfErr result (λ fault. fault ≢ ClientFault.TooLong) }
 {
     let Some(line) = line_of(alloc, said)? else {
         print_bad(number, output)?;
@@ -92,16 +97,18 @@ fn send_record<R: BufRead, W: Write, O: Write>(
 }
 
 fn print_bad<O: Write>(number: usize, output: &mut O) -> Result<(), ClientFault>
-    ensures { OnOk result (Appends (O.contents output.old) (O.contents output.new)
+    ensures printed { OnOk result (Appends (O.contents output.old) (O.contents output.new)
         (decimal number ++ codes " bad\n")) }
+    ensures fault { IfErr result (λ fault. fault ≢ ClientFault.TooLong) }
 {
     writeln!(output, "{number} bad")?;
     Ok(output.flush()?)
 }
 
 fn print_number<O: Write>(number: usize, output: &mut O) -> Result<(), ClientFault>
-    ensures { OnOk result (Appends (O.contents output.old) (O.contents output.new)
+    ensures printed { OnOk result (Appends (O.contents output.old) (O.contents output.new)
         (decimal number ++ codes " ")) }
+    ensures fault { IfErr result (λ fault. fault ≢ ClientFault.TooLong) }
 {
     Ok(write!(output, "{number} ")?)
 }
@@ -117,6 +124,7 @@ fn take_result<R: BufRead, W: Write, O: Write>(
         (R.remaining peer.old.reader) (R.remaining peer.new.reader)
         (O.contents output.old) (O.contents output.new)) }
     ensures writer { peer.new.writer ≡ peer.old.writer }
+    ensures fault { IfErr result (λ fault. fault ≢ ClientFault.TooLong) }
 {
     let text = peer.hear(alloc)?;
     let answer = result_said(text.as_slice())?;
@@ -129,7 +137,8 @@ fn take_result<R: BufRead, W: Write, O: Write>(
 
 /// What answers a grant: no documents.
 fn result_said(text: &[u8]) -> Result<Answer, ClientFault>
-    ensures { IfOk result (λ answer. answer_said text.now ≡ Some answer) }
+    ensures said { IfOk result (λ answer. answer_said text.now ≡ Some answer) }
+    ensures fault { IfErr result (λ fault. fault ≢ ClientFault.TooLong) }
 {
     match Answer::read(text) {
         None | Some(Answer::Documents(_)) => Err(ClientFault::Broken),

@@ -17,6 +17,7 @@ mod month;
 mod outcome;
 mod peer;
 mod sent;
+mod words;
 
 pub use fault::ClientFault;
 pub use grants::send_grants;

@@ -1,9 +1,10 @@
 //! Lines that are sent one after another.
 
-ghost use Rattle.std.specs.Prelude.{◌≡◌, IfOk, IfSome, IfNone, OnOk, OnErr};
-ghost use Rattle.room_client.specs.ProofAnswering.{AnsweredOnce, PrintsAnswer};
+ghost use Rattle.std.specs.Prelude.{◌≡◌, ◌≢◌, IfErr, IfOk, IfSome, IfNone, IsErrOf, OnOk, OnErr};
+ghost use Rattle.room_client.specs.ProofAnswering.{AnsweredOnce, PrintsAnswer, SentAndAnswered};
 ghost use Rattle.room_client.specs.Replies.{Answered};
-ghost use Rattle.room_client.specs.Sending.{IsAtKnownEnd, SendsAll, SendsFront, SendsOn};
+ghost use Rattle.room_client.specs.Sending.{HasLongLine, IsAtKnownEnd, SendsAll, SendsFront, SendsOn};
+ghost use Rattle.room_client.specs.ProofTaking.{TakesTooMany};
 ghost use Rattle.room_client.specs.Peers.{reader_of, writer_of};
 
 use crate::answer::Answer;
@@ -33,8 +34,11 @@ pub fn send_lines<I: BufRead, R: BufRead, W: Write, K: Keeper, O: Write>(
     ensures end { OnOk result
         (IsAtKnownEnd (I.remaining input.old) (I.remaining input.new)) }
     ensures answered { IfOk result (Answered (K.shown keeper.old)
+        (W.contents (writer_of peer.old)) (W.contents (writer_of peer.new))
         (R.remaining (reader_of peer.old)) (R.remaining (reader_of peer.new))
         (O.contents output.old) (O.contents output.new)) }
+    ensures long { IsErrOf result ClientFault.TooLong
+        → IfSome (I.remaining input.old) HasLongLine }
 {
     let mut outcome = Outcome::Fine;
     for number in 1..usize::MAX {
@@ -44,7 +48,7 @@ pub fn send_lines<I: BufRead, R: BufRead, W: Write, K: Keeper, O: Write>(
         outcome = outcome.after(number, answer);
     }
     // More lines than any input has.
-    Err(ClientFault::TooLong)
+    Err(ClientFault::Io)
 }
 
 /// Sends the next line of the input and prints its answer. It is `None` at the end of the input.
@@ -61,12 +65,15 @@ fn send_next<I: BufRead, R: BufRead, W: Write, K: Keeper, O: Write>(
         (W.contents peer.old.writer) (W.contents peer.new.writer)) }
     ensures end { IfOk result (λ answer. IfNone answer
         (IsAtKnownEnd (I.remaining input.old) (I.remaining input.new))) }
-    ensures answered { IfOk result (λ answer. IfSome answer (AnsweredOnce (K.shown keeper.old)
+    ensures answered { IfOk result (λ answer. IfSome answer (SentAndAnswered (K.shown keeper.old)
+        (W.contents peer.old.writer) (W.contents peer.new.writer)
         (R.remaining peer.old.reader) (R.remaining peer.new.reader)
         (O.contents output.old) (O.contents output.new))) }
     ensures unheard { IfOk result (λ answer. IfNone answer (peer.new ≡ peer.old)) }
     ensures unprinted { IfOk result (λ answer. IfNone answer (output.new ≡ output.old)) }
     ensures same { K.shown keeper.new ≡ K.shown keeper.old }
+    ensures long { IsErrOf result ClientFault.TooLong
+        → TakesTooMany (I.remaining input.old) (I.remaining input.new) }
 {
     let Some(line) = next_line(alloc, input)? else {
         return Ok(None);
@@ -87,9 +94,10 @@ fn take_answer<R: BufRead, W: Write, K: Keeper, O: Write>(
 ) -> Result<Answer, ClientFault>
     ensures answered { IfOk result (AnsweredOnce (K.shown keeper.old)
         (R.remaining peer.old.reader) (R.remaining peer.new.reader)
-        (O.contents output.old) (O.contents output.new)) }
+        (O.contents output.old) (O.contents output.new) line.now) }
     ensures same { K.shown keeper.new ≡ K.shown keeper.old }
     ensures writer { peer.new.writer ≡ peer.old.writer }
+    ensures fault { IfErr result (λ fault. fault ≢ ClientFault.TooLong) }
 {
     let text = peer.hear(alloc)?;
     let answer = Answer::read(text.as_slice()).ok_or(ClientFault::Broken)?;
@@ -109,9 +117,10 @@ fn print_answer<R: BufRead, W: Write, K: Keeper, O: Write>(
 ) -> Result<(), ClientFault>
     ensures printed { OnOk result (PrintsAnswer (K.shown keeper.old)
         (R.remaining peer.old.reader) (R.remaining peer.new.reader)
-        (O.contents output.old) (O.contents output.new) text.now answer) }
+        (O.contents output.old) (O.contents output.new) line.now text.now answer) }
     ensures same { K.shown keeper.new ≡ K.shown keeper.old }
     ensures writer { peer.new.writer ≡ peer.old.writer }
+    ensures fault { IfErr result (λ fault. fault ≢ ClientFault.TooLong) }
 {
     if let Answer::Documents(count) = answer {
         return take_documents(alloc, peer, line, count, keeper, output);

@@ -1,5 +1,5 @@
 //! A connection to what serves rooms: a line goes there, and its answer comes from there.
-ghost use Rattle.std.specs.Prelude.{◌≡◌, ◌++◌, codes, length, IfOk, IsTrue, OnOk};
+ghost use Rattle.std.specs.Prelude.{◌≡◌, ◌≢◌, ◌++◌, codes, length, IfErr, IfOk, IsTrue, OnOk};
 ghost use Rattle.std.specs.Io.KnownBytes.{Appends, Consumes};
 ghost use Rattle.room_client.specs.Answers.{is_text};
 ghost use Rattle.room_client.specs.Sending.{AppendsUpTo};
@@ -37,6 +37,7 @@ impl<R: BufRead, W: Write> Peer<R, W> {
         ensures front { AppendsUpTo (W.contents self.old.writer) (W.contents self.new.writer)
             (line.now ++ codes "\n") }
         ensures reader { self.new.reader ≡ self.old.reader }
+        ensures fault { IfErr result (λ fault. fault ≢ ClientFault.TooLong) }
     {
         put(&mut self.writer, line)?;
         put(&mut self.writer, b"\n")?;
@@ -50,6 +51,7 @@ impl<R: BufRead, W: Write> Peer<R, W> {
             (R.remaining self.new.reader) (line.items ++ codes "\n")) }
         ensures text { IfOk result (λ line. IsTrue (is_text line.items)) }
         ensures writer { self.new.writer ≡ self.old.writer }
+        ensures fault { IfErr result (λ fault. fault ≢ ClientFault.TooLong) }
     {
         match take_line(alloc, &mut self.reader)? {
             Taken::Line(line) => text_of(line),
@@ -64,6 +66,7 @@ impl<R: BufRead, W: Write> Peer<R, W> {
             (R.remaining self.new.reader) (bytes.items ++ codes "\n")) }
         ensures count { IfOk result (λ bytes. length bytes.items ≡ count) }
         ensures writer { self.new.writer ≡ self.old.writer }
+        ensures fault { IfErr result (λ fault. fault ≢ ClientFault.TooLong) }
     {
         let bytes = take_bytes(alloc, &mut self.reader, count as usize)?;
         take_feed(&mut self.reader)?;
@@ -74,6 +77,7 @@ impl<R: BufRead, W: Write> Peer<R, W> {
 fn text_of(line: Vec<u8>) -> Result<Vec<u8>, ClientFault>
     ensures same { IfOk result (λ text. text ≡ line) }
     ensures text { IfOk result (λ text. IsTrue (is_text text.items)) }
+    ensures fault { IfErr result (λ fault. fault ≢ ClientFault.TooLong) }
 {
     if is_text(line.as_slice()) {
         return Ok(line);

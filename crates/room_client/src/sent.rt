@@ -1,6 +1,6 @@
 //! What is written, whole or up to where that fails.
 
-ghost use Rattle.std.specs.Prelude.{◌≡◌, ◌≤◌, ◌++◌, ℕ, List, [], IfOk, OnOk, OnErr, length, take};
+ghost use Rattle.std.specs.Prelude.{◌≡◌, ◌≢◌, ◌≤◌, ◌++◌, ℕ, List, [], IfErr, IfOk, OnOk, OnErr, length, take};
 ghost use Rattle.std.specs.Io.KnownBytes.{Appends};
 ghost use Rattle.room_client.specs.Sending.{AppendsUpTo};
 
@@ -14,6 +14,7 @@ pub(crate) fn put<W: Write>(writer: &mut W, bytes: &[u8]) -> Result<(), ClientFa
     ensures whole { OnOk result
         (Appends (W.contents writer.old) (W.contents writer.new) bytes.now) }
     ensures front { AppendsUpTo (W.contents writer.old) (W.contents writer.new) bytes.now }
+    ensures fault { IfErr result (λ fault. fault ≢ ClientFault.TooLong) }
 {
     let mut rest = bytes;
     for _ in 0..u64::MAX {
@@ -32,6 +33,7 @@ fn put_front<W: Write>(writer: &mut W, bytes: &[u8]) -> Result<usize, ClientFaul
     ensures front { IfOk result (λ count. Appends (W.contents writer.old) (W.contents writer.new)
         (take count bytes.now)) }
     ensures nothing { OnErr result (Appends (W.contents writer.old) (W.contents writer.new) []) }
+    ensures fault { IfErr result (λ fault. fault ≢ ClientFault.TooLong) }
 {
     match writer.write(bytes) {
         Ok(0) => Err(ClientFault::Io),
@@ -41,7 +43,8 @@ fn put_front<W: Write>(writer: &mut W, bytes: &[u8]) -> Result<usize, ClientFaul
 }
 
 fn none_put(error: io::Error) -> Result<usize, ClientFault>
-    ensures { IfOk result (λ count. count ≡ 0) }
+    ensures none { IfOk result (λ count. count ≡ 0) }
+    ensures fault { IfErr result (λ fault. fault ≢ ClientFault.TooLong) }
 {
     if error.kind() == ErrorKind::Interrupted {
         return Ok(0);

@@ -22,7 +22,7 @@ returns-clause-front g c =
 pub returns-in_default-clause-answered : goal.returns-in_default-clause-answered
 returns-in_default-clause-answered g c =
     let bad = rw c.in_default.is at c.in_ok-line.ensures in
-    GrantAnswered-bad c.args.said.now c.args.number _ _ _ bad c.in_ok-print_bad.ensures
+    GrantAnswered-bad c.args.said.now c.args.number _ _ _ bad c.in_ok-print_bad.ensures.printed
 
 pub returns-clause-answered : goal.returns-clause-answered
 returns-clause-answered g c =

@@ -1,10 +1,13 @@
-use Rattle.std.proofs.Common.{refl}
-use Rattle.room_client.proofs.Printed.{PrintsAnswer-line}
+use Rattle.room_client.proofs.Printed.{PrintsAnswer-documents, PrintsAnswer-line}
+use Rattle.room_client.proofs.Refused.{OnOk-map}
 use Rattle.room_client.proofs.lines.print_answer.Goals as goal
 
-pub returns : goal.returns
-returns g c = record {
-  printed = PrintsAnswer-line (g.K.Keeper.shown c.args.keeper.now) _ _ _ _ c.args.text.now c.args.answer c.in_default.not-Documents c.in_ok-write_all.ensures.bytes c.in_ok-write_all-2.ensures.bytes;
-  same = refl;
-  writer = refl;
-}
+pub returns-clause-printed : goal.returns-clause-printed
+returns-clause-printed g c =
+    PrintsAnswer-line (g.K.Keeper.shown c.args.keeper.now) _ _ _ _ c.args.line.now c.args.text.now c.args.answer c.in_default.not-Documents c.in_ok-write_all.ensures.bytes c.in_ok-write_all-2.ensures.bytes
+
+pub returns-in-Documents-clause-printed : goal.returns-in-Documents-clause-printed
+returns-in-Documents-clause-printed g c = rw c.in-Documents.is
+    (OnOk-map c.take_documents.result _ _
+    (PrintsAnswer-documents (g.K.Keeper.shown c.args.keeper.now) _ _ _ _ c.args.line.now c.args.text.now c.in-Documents.count)
+    c.take_documents.ensures.taken)

@@ -1,5 +1,6 @@
 use Rattle.std.proofs.Common.{◌++◌, codes}
 use Rattle.room_client.proofs.Fronts.{AppendsUpTo-whole}
+use Rattle.room_client.proofs.Printed.{AnsweredOnce-kept}
 use Rattle.room_client.proofs.Refused.{OnErr-of}
 use Rattle.room_client.proofs.SentLines.{SendsFront-line, SendsOn-line}
 use Rattle.room_client.proofs.lines.send_next.Goals as goal
@@ -33,3 +34,9 @@ returns-clause-sent g c =
     let short = rw c.in-Some.is at c.in_ok-line.ensures.line in
     let sent = rw (c.as_slice.ensures.value, ← c.in_ok-answer.ensures.writer) at c.in_ok-say.ensures.sent in
     SendsOn-line _ _ _ _ c.in-Some.line.items found short sent
+
+pub returns-clause-answered : goal.returns-clause-answered
+returns-clause-answered g c =
+    let sent = rw (c.as_slice.ensures.value, ← c.in_ok-answer.ensures.writer) at c.in_ok-say.ensures.sent in
+    let answered = rw (c.as_slice-2.ensures.value, c.in_ok-say.ensures.reader) at c.in_ok-answer.ensures.answered in
+    (c.in-Some.line.items, sent, AnsweredOnce-kept _ _ _ _ _ _ c.in-Some.line.items c.in_ok-answer.answer answered c.in_ok-flush.ensures.bytes)

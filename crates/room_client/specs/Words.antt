@@ -1,0 +1,33 @@
+-- The words of lines that ask for documents, and of those that come with them (all this project's
+-- own).
+use Rattle.std.specs.Prelude.{◌≡◌, ◌≢◌, ℕ, All, List, ◌++◌, codes}
+use Rattle.std.specs.Str.Parse.{digits_value}
+use Rattle.room_input.specs.Fields.{IsDecimal}
+
+abbrev pub HasNoSpace : List ℕ → Type 0
+HasNoSpace word = All (λ byte. byte ≢ 32) word
+
+-- the word is the number in decimal
+abbrev pub IsNumber : (word : List ℕ) (number : ℕ) → Type 0
+IsNumber word number = IsDecimal word × (digits_value 10 word ≡ number)
+
+-- `start DEVICE ACCOUNT JOB`
+pub record IsStartOf (line account : List ℕ) (job : ℕ) : Type 0 where
+  pub device : List ℕ
+  pub number : List ℕ
+  pub words : line ≡ codes "start" ++ codes " " ++ device ++ codes " " ++ account
+      ++ codes " " ++ number
+  pub is_word : HasNoSpace device
+  pub is_job : IsNumber number job
+
+-- `document JOB COPIES FORMAT LENGTH`
+pub record IsHeadOf (line : List ℕ) (job bytes : ℕ) : Type 0 where
+  pub number : List ℕ
+  pub copies : List ℕ
+  pub format : List ℕ
+  pub length : List ℕ
+  pub words : line ≡ codes "document" ++ codes " " ++ number ++ codes " " ++ copies
+      ++ codes " " ++ format ++ codes " " ++ length
+  pub is_format : HasNoSpace format
+  pub is_job : IsNumber number job
+  pub is_length : IsNumber length bytes
