@@ -1,6 +1,7 @@
 //! The databases of this machine: in memory, and in files.
 
 use crate::command::MEMORY;
+use crate::file::connect;
 use crate::opener::Opener;
 use crate::program::run;
 use crate::words::CREATE;
@@ -40,7 +41,7 @@ impl Opener for InFile<'_> {
         if !self.is_new && fs::metadata(self.rt, database).is_err() {
             return Err(OpenFault::Storage);
         }
-        Ok(Connection::open(self.rt, database)?)
+        connect(self.rt, database)
     }
 
     fn close(&mut self, kept: Connection<FileStore<File>>) {

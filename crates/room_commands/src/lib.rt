@@ -7,6 +7,7 @@ mod arguments;
 mod command;
 mod database;
 mod fault;
+mod file;
 mod grants;
 mod input;
 mod listening;

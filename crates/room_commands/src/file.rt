@@ -1,0 +1,80 @@
+//! Connections to files of this machine.
+ghost use Rattle.std.specs.Prelude.{◌≡◌, ◌*◌, ◌≤◌, IfOk};
+ghost use Rattle.room_commands.specs.FileFaults.{file_fault};
+
+use crate::command::MEMORY;
+use room_store::OpenFault;
+use sqlite::{Connection, File, FileStore, Options, Unknown};
+use sqlite_std_file::OpenError;
+use std::fs;
+use std::hash::{BuildHasher, RandomState};
+use std::io::ErrorKind;
+
+/// The most pages that a connection keeps in memory of those that it has read. A page has 4096
+/// bytes, so they take 160 MiB.
+const CACHE_PAGES: usize = 40_000;
+
+/// The pages that a connection keeps at least, which take 8 MiB.
+const LEAST_CACHE_PAGES: usize = 2_000;
+
+/// How many bytes a page has in a file that the program has made.
+const PAGE_BYTES: u64 = 4_096;
+
+/// A connection to the file, which is made where it is not there. A URI, and `:memory:`, name no
+/// file.
+pub(crate) fn connect(
+    rt: &HostRuntime,
+    path: &str,
+) -> Result<Connection<FileStore<File>>, OpenFault> {
+    if path == MEMORY || path.starts_with("file:") {
+        return Err(OpenFault::Storage);
+    }
+    let options = options_for(rt, path)?;
+    let files = match sqlite_std_file::open(rt, path, Unknown) {
+        Ok(files) => files,
+        Err(error) => return Err(fault_of(error)),
+    };
+    match Connection::open_files(rt.alloc(), files, options) {
+        Ok(connection) => Ok(connection),
+        Err((error, _)) => Err(OpenFault::from(error)),
+    }
+}
+
+/// The options of a connection to the file as long as it is now.
+fn options_for(rt: &HostRuntime, path: &str) -> Result<Options, OpenFault>
+    ensures least { IfOk result (λ options. LEAST_CACHE_PAGES ≤ options.cache_pages) }
+    ensures most { IfOk result (λ options. options.cache_pages ≤ CACHE_PAGES) }
+{
+    // A file that can't be looked at can't be opened either, unless it is made.
+    let length = match fs::metadata(rt, path) {
+        Ok(found) => found.len(),
+        Err(_) => 0,
+    };
+    let Ok(state) = RandomState::new(rt) else {
+        return Err(OpenFault::Storage);
+    };
+    let mut options = Options::new(state.hash_one(&0u8));
+    options.cache_pages = cache_pages(length);
+    Ok(options)
+}
+
+/// How many pages a connection keeps of a file of the length: all that it has, within both limits.
+fn cache_pages(length: u64) -> usize
+    ensures least { LEAST_CACHE_PAGES ≤ result }
+    ensures most { result ≤ CACHE_PAGES }
+    ensures all { length ≤ CACHE_PAGES * PAGE_BYTES → length ≤ result * PAGE_BYTES }
+{
+    let pages = (length / PAGE_BYTES + 1).min(CACHE_PAGES as u64) as usize;
+    pages.max(LEAST_CACHE_PAGES)
+}
+
+/// What a file that can't be opened comes to.
+fn fault_of(error: OpenError) -> OpenFault
+    ensures { result ≡ file_fault error }
+{
+    match error {
+        OpenError::OutOfMemory => OpenFault::Memory,
+        OpenError::Io(error) if error.kind() == ErrorKind::OutOfMemory => OpenFault::Memory,
+        _ => OpenFault::Storage,
+    }
+}
