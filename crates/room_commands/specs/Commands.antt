@@ -1,20 +1,36 @@
 -- The numbers that a command line may say (this project's own).
-use Rattle.std.specs.Prelude.{Bool, true, ◌&&◌, nat_le}
+use Rattle.std.specs.Prelude.{ℕ, Bool, true, ◌&&◌, nat_le}
 use Rattle.room_rules.specs.Limits.{most_rate}
 use Rattle.room_commands.specs.declared.command.Command.{Command}
 use Rattle.room_commands.specs.declared.command.Command.TheVariants as command
+use Rattle.room_commands.specs.declared.listening.Listening.{Listening}
+use Rattle.room_commands.specs.declared.sending.Sending.{Sending}
+use Rattle.room_commands.specs.Addresses.{has_port_from}
 
-abbrev pub is_rated_in_range : Command → Bool
-is_rated_in_range (command.Help text) = true
-is_rated_in_range command.Explain = true
-is_rated_in_range (command.Create database) = true
-is_rated_in_range (command.Open database account) = true
-is_rated_in_range (command.Migrate database) = true
-is_rated_in_range (command.Device database name on) = true
-is_rated_in_range (command.Rate database name units) = nat_le 1 units && nat_le units most_rate
-is_rated_in_range (command.Grants database) = true
-is_rated_in_range (command.Station database) = true
-is_rated_in_range (command.Script database) = true
-is_rated_in_range (command.Listen listening) = true
-is_rated_in_range (command.Serve serving) = true
-is_rated_in_range (command.Send sending) = true
+-- connections of one run of `listen`
+abbrev pub most_connections : ℕ
+most_connections = 1000000
+
+-- a port that can be connected to, and not too many connections
+abbrev pub is_listening_in_range : Listening → Bool
+is_listening_in_range listening =
+    nat_le 1 listening.port && nat_le listening.connections most_connections
+
+-- an address that can be connected to
+abbrev pub is_sending_in_range : Sending → Bool
+is_sending_in_range sending = has_port_from 1 sending.address
+
+abbrev pub is_in_range : Command → Bool
+is_in_range (command.Help text) = true
+is_in_range command.Explain = true
+is_in_range (command.Create database) = true
+is_in_range (command.Open database account) = true
+is_in_range (command.Migrate database) = true
+is_in_range (command.Device database name on) = true
+is_in_range (command.Rate database name units) = nat_le 1 units && nat_le units most_rate
+is_in_range (command.Grants database) = true
+is_in_range (command.Station database) = true
+is_in_range (command.Script database) = true
+is_in_range (command.Listen listening) = is_listening_in_range listening
+is_in_range (command.Serve serving) = true
+is_in_range (command.Send sending) = is_sending_in_range sending

@@ -1,3 +1,7 @@
+pub mod Addresses
 pub mod Commands
+pub mod Faults
 pub mod FileFaults
+pub mod Grants
 pub mod Statuses
+pub mod Words

@@ -1,4 +1,6 @@
 //! Where lines are taken.
+ghost use Rattle.std.specs.Prelude.{◌≡◌, IfNone, IfSome, IsTrue};
+ghost use Rattle.room_commands.specs.Addresses.{has_digits_alone};
 
 use std::fmt;
 
@@ -13,18 +15,30 @@ pub enum Address<'a> {
 }
 
 impl<'a> Address<'a> {
+    ghost use Rattle.room_commands.specs.Addresses.{IsAddressOf, IsNoAddress, has_port_from};
+
     /// The address that a word is. Decimal digits alone are a port, which is at least `least`; any
     /// other word is a path. `None` where it is empty, or such a port is none.
-    pub(crate) fn read(word: &'a str, least: u32) -> Option<Address<'a>> {
+    pub(crate) fn read(word: &'a str, least: u32) -> Option<Address<'a>>
+        ensures said { IfSome result (IsAddressOf word.now least) }
+        ensures range { IfSome result (λ address. IsTrue (has_port_from least address)) }
+        ensures none { IfNone result (IsNoAddress word.now least) }
+    {
         if word.is_empty() {
             return None;
         }
-        if !word.bytes().all(|byte| byte.is_ascii_digit()) {
+        if !has_digits_alone(word) {
             return Some(Address::Path(word));
         }
         let port = room_input::number(word.as_bytes(), least, LAST_PORT)?;
-        Some(Address::Port(u16::try_from(port).ok()?))
+        Some(Address::Port(port as u16))
     }
+}
+
+fn has_digits_alone(word: &str) -> bool
+    ensures { result ≡ has_digits_alone word.now }
+{
+    word.bytes().all(|byte| byte.is_ascii_digit())
 }
 
 impl fmt::Display for Address<'_> {

@@ -1,6 +1,7 @@
 //! The command line: its commands, and what their words may be.
 ghost use Rattle.std.specs.Prelude.{◌≤◌, IfOk, IsTrue};
-ghost use Rattle.room_commands.specs.Commands.{is_rated_in_range};
+ghost use Rattle.room_commands.specs.Addresses.{has_port_from};
+ghost use Rattle.room_commands.specs.Commands.{is_in_range};
 
 use crate::address::{Address, LAST_PORT};
 use crate::fault::Fault;
@@ -20,6 +21,7 @@ use std::alloc::Global;
 /// The database that lives in memory for one run.
 pub const MEMORY: &str = ":memory:";
 
+/// The most connections of one run of `listen`.
 const MOST_CONNECTIONS: u32 = 1_000_000;
 
 /// A command line of the program. `database` is the path of a file, or `:memory:`.
@@ -132,7 +134,7 @@ impl<'a> Command<'a> {
     /// Reads the words after the program's name. A command, a count of words, a number or a switch
     /// that is not in the table comes before a bad name.
     pub fn read(alloc: Global, words: &'a [&'a str]) -> Result<Command<'a>, Fault>
-        ensures { IfOk result (λ command. IsTrue (is_rated_in_range command)) }
+        ensures { IfOk result (λ command. IsTrue (is_in_range command)) }
     {
         let mut program = program(alloc)?;
         read_by(alloc, &mut program, words)
@@ -144,7 +146,7 @@ fn read_by<'a>(
     program: &mut clap::Command<'a>,
     words: &'a [&'a str],
 ) -> Result<Command<'a>, Fault>
-    ensures { IfOk result (λ command. IsTrue (is_rated_in_range command)) }
+    ensures { IfOk result (λ command. IsTrue (is_in_range command)) }
 {
     match program.try_get_matches_from_mut(words) {
         Ok(matches) => of_matches(&matches).map_err(|unfit| unfit.fault(program)),
@@ -154,7 +156,7 @@ fn read_by<'a>(
 
 // What the parser tells in place of a command line, where that is what the words ask for.
 fn help_of<'a>(alloc: Global, told: clap::Error) -> Result<Command<'a>, Fault>
-    ensures { IfOk result (λ command. IsTrue (is_rated_in_range command)) }
+    ensures { IfOk result (λ command. IsTrue (is_in_range command)) }
 {
     if told.use_stderr() {
         return Err(Fault::from(told));
@@ -164,7 +166,7 @@ fn help_of<'a>(alloc: Global, told: clap::Error) -> Result<Command<'a>, Fault>
 }
 
 fn of_matches<'a>(matches: &ArgMatches<'a>) -> Result<Command<'a>, Unfit>
-    ensures { IfOk result (λ command. IsTrue (is_rated_in_range command)) }
+    ensures { IfOk result (λ command. IsTrue (is_in_range command)) }
 {
     match matches.subcommand() {
         Some((SEND, words)) => sending(words),
@@ -179,7 +181,7 @@ fn on_database<'a>(
     words: &ArgMatches<'a>,
     database: &'a str,
 ) -> Result<Command<'a>, Unfit>
-    ensures { IfOk result (λ command. IsTrue (is_rated_in_range command)) }
+    ensures { IfOk result (λ command. IsTrue (is_in_range command)) }
 {
     match command {
         CREATE => Ok(Command::Create { database }),
@@ -197,14 +199,14 @@ fn on_database<'a>(
 }
 
 fn opening<'a>(words: &ArgMatches<'a>, database: &'a str) -> Result<Command<'a>, Unfit>
-    ensures { IfOk result (λ command. IsTrue (is_rated_in_range command)) }
+    ensures { IfOk result (λ command. IsTrue (is_in_range command)) }
 {
     let account = name(words, ACCOUNT)?;
     Ok(Command::Open { database, account })
 }
 
 fn turning<'a>(words: &ArgMatches<'a>, database: &'a str) -> Result<Command<'a>, Unfit>
-    ensures { IfOk result (λ command. IsTrue (is_rated_in_range command)) }
+    ensures { IfOk result (λ command. IsTrue (is_in_range command)) }
 {
     let on = word(words, SWITCH)? == ON;
     let name = name(words, NAME)?;
@@ -212,7 +214,7 @@ fn turning<'a>(words: &ArgMatches<'a>, database: &'a str) -> Result<Command<'a>,
 }
 
 fn rating<'a>(words: &ArgMatches<'a>, database: &'a str) -> Result<Command<'a>, Unfit>
-    ensures { IfOk result (λ command. IsTrue (is_rated_in_range command)) }
+    ensures { IfOk result (λ command. IsTrue (is_in_range command)) }
 {
     let units = number(words, UNITS, 1, MOST_RATE, Unfit::Units)?;
     let name = name(words, NAME)?;
@@ -224,7 +226,7 @@ fn rating<'a>(words: &ArgMatches<'a>, database: &'a str) -> Result<Command<'a>, 
 }
 
 fn listening<'a>(words: &ArgMatches<'a>, database: &'a str) -> Result<Command<'a>, Unfit>
-    ensures { IfOk result (λ command. IsTrue (is_rated_in_range command)) }
+    ensures { IfOk result (λ command. IsTrue (is_in_range command)) }
 {
     Ok(Command::Listen(Listening {
         database,
@@ -234,7 +236,7 @@ fn listening<'a>(words: &ArgMatches<'a>, database: &'a str) -> Result<Command<'a
 }
 
 fn serving<'a>(words: &ArgMatches<'a>, database: &'a str) -> Result<Command<'a>, Unfit>
-    ensures { IfOk result (λ command. IsTrue (is_rated_in_range command)) }
+    ensures { IfOk result (λ command. IsTrue (is_in_range command)) }
 {
     Ok(Command::Serve(Serving {
         database,
@@ -245,7 +247,7 @@ fn serving<'a>(words: &ArgMatches<'a>, database: &'a str) -> Result<Command<'a>,
 }
 
 fn sending<'a>(words: &ArgMatches<'a>) -> Result<Command<'a>, Unfit>
-    ensures { IfOk result (λ command. IsTrue (is_rated_in_range command)) }
+    ensures { IfOk result (λ command. IsTrue (is_in_range command)) }
 {
     Ok(Command::Send(Sending {
         address: address(words, ADDRESS, 1, Unfit::Address)?,
@@ -262,9 +264,11 @@ fn name(words: &ArgMatches<'_>, id: &str) -> Result<Name, Unfit> {
     Name::read(word(words, id)?.as_bytes()).ok_or(Unfit::Name)
 }
 
-fn port(words: &ArgMatches<'_>, least: u32, unfit: Unfit) -> Result<u16, Unfit> {
+fn port(words: &ArgMatches<'_>, least: u32, unfit: Unfit) -> Result<u16, Unfit>
+    ensures { IfOk result (λ port. least ≤ port) }
+{
     let port = number(words, PORT, least, LAST_PORT, unfit)?;
-    u16::try_from(port).map_err(|_| unfit)
+    Ok(port as u16)
 }
 
 fn address<'a>(
@@ -272,7 +276,9 @@ fn address<'a>(
     id: &str,
     least: u32,
     unfit: Unfit,
-) -> Result<Address<'a>, Unfit> {
+) -> Result<Address<'a>, Unfit>
+    ensures { IfOk result (λ address. IsTrue (has_port_from least address)) }
+{
     Address::read(word(words, id)?, least).ok_or(unfit)
 }
 

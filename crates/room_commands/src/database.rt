@@ -1,10 +1,11 @@
 //! The databases of this machine: in memory, and in files.
+ghost use Rattle.std.specs.Prelude.{◌≤◌};
 
 use crate::command::MEMORY;
 use crate::file::connect;
 use crate::opener::Opener;
 use crate::program::run;
-use crate::words::CREATE;
+use crate::words::{CREATE, is_command};
 use room_store::OpenFault;
 use sqlite::{Connection, File, FileStore, MemStore};
 use std::alloc::Global;
@@ -58,12 +59,14 @@ pub fn run_on<R: Read + Drop, W: Write, E: Write>(
     input: R,
     output: &mut W,
     errors: &mut E,
-) -> u8 {
+) -> u8
+    ensures { result ≤ 4 }
+{
     let alloc = rt.alloc();
     if words.contains(&MEMORY) {
         return run(alloc, words, now, InMemory { alloc }, input, output, errors);
     }
-    let is_new = words.first() == Some(&CREATE);
+    let is_new = is_command(words, CREATE);
     run(
         alloc,
         words,

@@ -1,6 +1,10 @@
 //! Why a run of the program ends with a status other than 0.
-ghost use Rattle.std.specs.Prelude.{◌≡◌};
+ghost use Rattle.std.specs.Prelude.{◌≡◌, ◌≤◌};
+ghost use Rattle.std.specs.IoError.{error_kind};
+ghost use Rattle.clap.specs.Values.{kind_of};
+ghost use Rattle.room_commands.specs.Faults.{client_fault, event_fault, grant_fault, io_fault, line_fault, open_fault, stream_fault, usage_fault};
 ghost use Rattle.room_commands.specs.Statuses.{exit_status_of};
+ghost use Rattle.room_commands.specs.declared.fault.Fault.TheVariants.{Memory};
 
 use room_client::ClientFault;
 use room_input::{GrantFault, StreamFault};
@@ -44,7 +48,9 @@ impl Fault {
     /// The exit status: 1 for usage, 2 for bad input, of which nothing was run unless it was sent,
     /// 3 for the store and for memory, 4 for reading and writing.
     pub fn status(&self) -> u8
-        ensures { result ≡ exit_status_of self.now }
+        ensures status { result ≡ exit_status_of self.now }
+        ensures least { 1 ≤ result }
+        ensures most { result ≤ 4 }
     {
         match self {
             Fault::Usage(_) => 1,
@@ -64,12 +70,16 @@ impl Fault {
 }
 
 impl From<AllocError> for Fault {
+    ghost from_gives = { λ _ fault. fault ≡ Memory };
+
     fn from(_error: AllocError) -> Fault {
         Fault::Memory
     }
 }
 
 impl From<LineFault> for Fault {
+    ghost from_gives = { λ error fault. fault ≡ line_fault error };
+
     fn from(fault: LineFault) -> Fault {
         match fault {
             LineFault::Line(number) => Fault::Line(number),
@@ -79,6 +89,8 @@ impl From<LineFault> for Fault {
 }
 
 impl From<StreamFault> for Fault {
+    ghost from_gives = { λ error fault. fault ≡ stream_fault error };
+
     fn from(fault: StreamFault) -> Fault {
         match fault {
             StreamFault::Read => Fault::Io,
@@ -89,6 +101,8 @@ impl From<StreamFault> for Fault {
 }
 
 impl From<GrantFault> for Fault {
+    ghost from_gives = { λ error fault. fault ≡ grant_fault error };
+
     fn from(fault: GrantFault) -> Fault {
         match fault {
             GrantFault::Read => Fault::Io,
@@ -99,6 +113,8 @@ impl From<GrantFault> for Fault {
 }
 
 impl From<ClientFault> for Fault {
+    ghost from_gives = { λ error fault. fault ≡ client_fault error };
+
     fn from(fault: ClientFault) -> Fault {
         match fault {
             ClientFault::Io | ClientFault::Broken => Fault::Io,
@@ -109,6 +125,8 @@ impl From<ClientFault> for Fault {
 }
 
 impl From<OpenFault> for Fault {
+    ghost from_gives = { λ error fault. fault ≡ open_fault error };
+
     fn from(fault: OpenFault) -> Fault {
         match fault {
             OpenFault::Memory => Fault::Memory,
@@ -118,6 +136,8 @@ impl From<OpenFault> for Fault {
 }
 
 impl From<RunFault> for Fault {
+    ghost from_gives = { λ _ fault. fault ≡ Memory };
+
     fn from(fault: RunFault) -> Fault {
         match fault {
             RunFault::Memory => Fault::Memory,
@@ -126,6 +146,8 @@ impl From<RunFault> for Fault {
 }
 
 impl From<StoreFault> for Fault {
+    ghost from_gives = { λ error fault. fault ≡ event_fault error };
+
     fn from(fault: StoreFault) -> Fault {
         match fault {
             StoreFault::Memory => Fault::Memory,
@@ -135,6 +157,8 @@ impl From<StoreFault> for Fault {
 }
 
 impl From<io::Error> for Fault {
+    ghost from_gives = { λ error fault. fault ≡ io_fault (error_kind error) };
+
     fn from(error: io::Error) -> Fault {
         match error.kind() {
             ErrorKind::OutOfMemory => Fault::Memory,
@@ -144,6 +168,8 @@ impl From<io::Error> for Fault {
 }
 
 impl From<clap::Error> for Fault {
+    ghost from_gives = { λ error fault. fault ≡ usage_fault (kind_of error) error };
+
     fn from(error: clap::Error) -> Fault {
         match error.kind() {
             clap::error::ErrorKind::OutOfMemory => Fault::Memory,

@@ -1,8 +1,9 @@
 //! Records of grants as events.
-ghost use Rattle.std.specs.Prelude.{All, IfOk, IfSome, IsTrue};
-ghost use Rattle.room_core.specs.Events.{plain_event};
+ghost use Rattle.std.specs.Prelude.{◌≡◌, All, IfOk, IfSome, IsTrue, option_map};
+ghost use Rattle.room_core.specs.Events.{plain_event, plain_timed};
 ghost use Rattle.room_core.specs.Fits.{fits};
 ghost use Rattle.room_input.specs.GrantLines.{IsInRange};
+ghost use Rattle.room_commands.specs.Grants.{grant_event};
 
 use room_core::Event;
 use room_input::GrantLine;
@@ -16,6 +17,7 @@ pub fn grants_of(
 ) -> Result<Vec<(u64, Event<'_>)>, AllocError>
     requires { All IsInRange lines.now }
     ensures fit { IfOk result (λ events. All (λ e. IsTrue (fits (plain_event e.1))) events.items) }
+    ensures moment { IfOk result (λ events. All (λ e. e.0 ≡ moment) events.items) }
 {
     lines
         .iter()
@@ -25,7 +27,9 @@ pub fn grants_of(
 
 fn grant_at(moment: u64, line: &GrantLine) -> Option<(u64, Event<'_>)>
     requires { IsInRange line.now }
-    ensures { IfSome result (λ e. IsTrue (fits (plain_event e.1))) }
+    ensures fit { IfSome result (λ e. IsTrue (fits (plain_event e.1))) }
+    ensures grant { option_map plain_timed result ≡ grant_event moment line.now }
+    ensures moment { IfSome result (λ e. e.0 ≡ moment) }
 {
     match *line {
         GrantLine::Good {

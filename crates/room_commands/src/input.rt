@@ -1,6 +1,9 @@
 //! What standard input has for a command.
-ghost use Rattle.std.specs.Prelude.{IfOk, All};
-ghost use Rattle.room_input.specs.GrantLines.{IsInRange};
+ghost use Rattle.std.specs.Prelude.{◌≡◌, ◌≤◌, ◌<◌, ℕ, List, false, true, IfOk, IsErrOf, All, length};
+ghost use Rattle.room_input.specs.GrantFiles.{is_too_large, records_of};
+ghost use Rattle.room_input.specs.GrantLines.{IsInRange, grant_lines};
+ghost use Rattle.room_input.specs.Streams.{MayBeLeft};
+ghost use Rattle.room_lines.specs.Saying.{AreLinesOf};
 
 use crate::fault::Fault;
 use room_input::{Counted, GrantLine, read_grants, read_whole};
@@ -16,19 +19,32 @@ pub fn read_lines<R: Read + Drop>(
     alloc: Global,
     input: R,
     grammar: Grammar,
-) -> Result<Vec<Line>, Fault> {
+) -> Result<Vec<Line>, Fault>
+    ensures said { IfOk result (λ lines. (text : List ℕ)
+        × MayBeLeft (R.remaining input) false text × AreLinesOf grammar text lines.items) }
+{
     let text = read_text(alloc, input)?;
     Ok(grammar.read(alloc, text.as_slice())?)
 }
 
 /// All of the input, whatever lines it has.
-pub fn read_text<R: Read + Drop>(alloc: Global, input: R) -> Result<Vec<u8>, Fault> {
+pub fn read_text<R: Read + Drop>(alloc: Global, input: R) -> Result<Vec<u8>, Fault>
+    ensures all { IfOk result (λ text. MayBeLeft (R.remaining input) false text.items) }
+    ensures short { IfOk result (λ text. length text.items ≤ MOST_BYTES) }
+    ensures long { IsErrOf result Fault.Input → (text : List ℕ)
+        × MayBeLeft (R.remaining input) false text × (MOST_BYTES < length text) }
+{
     Ok(read_whole(alloc, &mut Counted::new(input), MOST_BYTES)?)
 }
 
 /// The records of a file of grants, good and bad.
 pub fn read_records<R: Read + Drop>(alloc: Global, input: R) -> Result<Vec<GrantLine>, Fault>
+    ensures lines { IfOk result (λ lines. (file : List ℕ)
+        × MayBeLeft (R.remaining input) false file × (is_too_large file ≡ false)
+        × (lines.items ≡ grant_lines (records_of file))) }
     ensures ranges { IfOk result (λ lines. All IsInRange lines.items) }
+    ensures many { IsErrOf result Fault.Input → (file : List ℕ)
+        × MayBeLeft (R.remaining input) false file × (is_too_large file ≡ true) }
 {
     Ok(read_grants(alloc, &mut Counted::new(input))?)
 }

@@ -1,8 +1,10 @@
 //! What the command `listen` asks for.
+ghost use Rattle.std.specs.Prelude.{◌≡◌, ◌≢◌, IfOk, IfSome, IsTrue, None, Ok, Some, codes};
+ghost use Rattle.room_commands.specs.Words.{first_word};
 
 use crate::command::Command;
 use crate::fault::Fault;
-use crate::words::LISTEN;
+use crate::words::{LISTEN, is_command};
 use std::alloc::Global;
 
 /// The command `listen`: so many connections, at most 1000000, one after another on a port of
@@ -15,10 +17,18 @@ pub struct Listening<'a> {
 }
 
 impl<'a> Listening<'a> {
+    ghost use Rattle.room_commands.specs.Commands.{is_listening_in_range};
+
     /// What the words after the program's name ask for, or `None` where they are another command,
     /// or ask for help.
-    pub fn read(alloc: Global, words: &'a [&'a str]) -> Result<Option<Listening<'a>>, Fault> {
-        if words.first() != Some(&LISTEN) {
+    pub fn read(alloc: Global, words: &'a [&'a str]) -> Result<Option<Listening<'a>>, Fault>
+        ensures named { IfOk result (λ found. IfSome found
+            (λ _. first_word words.now ≡ Some (codes "listen"))) }
+        ensures other { first_word words.now ≢ Some (codes "listen") → result ≡ Ok None }
+        ensures range { IfOk result
+            (λ found. IfSome found (λ asked. IsTrue (is_listening_in_range asked))) }
+    {
+        if !is_command(words, LISTEN) {
             return Ok(None);
         }
         match Command::read(alloc, words)? {

@@ -1,4 +1,6 @@
 //! What a run prints.
+ghost use Rattle.std.specs.Prelude.{OnOk};
+ghost use Rattle.std.specs.Io.KnownBytes.{Appends};
 
 use room_input::GrantLine;
 use room_lines::print_answer;
@@ -8,7 +10,9 @@ use std::io;
 use std::io::Write;
 
 /// A text as it is.
-pub fn print_text<W: Write>(output: &mut W, text: &str) -> io::Result<()> {
+pub fn print_text<W: Write>(output: &mut W, text: &str) -> io::Result<()>
+    ensures { OnOk result (Appends (W.contents output.old) (W.contents output.new) text.now) }
+{
     output.write_all(text.as_bytes())?;
     output.flush()
 }

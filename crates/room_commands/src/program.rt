@@ -1,5 +1,5 @@
 //! One run of the program, over any reader, any writers and any databases.
-ghost use Rattle.std.specs.Prelude.{IsTrue};
+ghost use Rattle.std.specs.Prelude.{◌≤◌, IsTrue};
 ghost use Rattle.room_lines.specs.Actions.{is_in_range};
 
 use crate::command::Command;
@@ -40,6 +40,7 @@ where
     R: Read + Drop,
     W: Write,
     E: Write,
+    ensures { result ≤ 4 }
 {
     match perform(alloc, words, now, opener, input, output) {
         Ok(()) => 0,

@@ -1,9 +1,11 @@
 //! What the command `send` asks for.
+ghost use Rattle.std.specs.Prelude.{◌≡◌, ◌≢◌, IfOk, IfSome, IsTrue, None, Ok, Some, codes};
+ghost use Rattle.room_commands.specs.Words.{first_word};
 
 use crate::address::Address;
 use crate::command::Command;
 use crate::fault::Fault;
-use crate::words::SEND;
+use crate::words::{SEND, is_command};
 use std::alloc::Global;
 
 /// The command `send`: the lines of standard input, or its grants, go to an address, whose port is
@@ -18,10 +20,18 @@ pub struct Sending<'a> {
 }
 
 impl<'a> Sending<'a> {
+    ghost use Rattle.room_commands.specs.Commands.{is_sending_in_range};
+
     /// What the words after the program's name ask for, or `None` where they are another command,
     /// or ask for help.
-    pub fn read(alloc: Global, words: &'a [&'a str]) -> Result<Option<Sending<'a>>, Fault> {
-        if words.first() != Some(&SEND) {
+    pub fn read(alloc: Global, words: &'a [&'a str]) -> Result<Option<Sending<'a>>, Fault>
+        ensures named { IfOk result (λ found. IfSome found
+            (λ _. first_word words.now ≡ Some (codes "send"))) }
+        ensures other { first_word words.now ≢ Some (codes "send") → result ≡ Ok None }
+        ensures range { IfOk result
+            (λ found. IfSome found (λ asked. IsTrue (is_sending_in_range asked))) }
+    {
+        if !is_command(words, SEND) {
             return Ok(None);
         }
         match Command::read(alloc, words)? {

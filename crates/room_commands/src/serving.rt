@@ -1,9 +1,11 @@
 //! What the command `serve` asks for.
+ghost use Rattle.std.specs.Prelude.{◌≡◌, ◌≢◌, IfOk, IfSome, None, Ok, Some, codes};
+ghost use Rattle.room_commands.specs.Words.{first_word};
 
 use crate::address::Address;
 use crate::command::Command;
 use crate::fault::Fault;
-use crate::words::SERVE;
+use crate::words::{SERVE, is_command};
 use std::alloc::Global;
 
 /// The command `serve`: HTTP on a port of 127.0.0.1, or on a free one where it is 0, and lines at
@@ -21,8 +23,12 @@ pub struct Serving<'a> {
 impl<'a> Serving<'a> {
     /// What the words after the program's name ask for, or `None` where they are another command,
     /// or ask for help.
-    pub fn read(alloc: Global, words: &'a [&'a str]) -> Result<Option<Serving<'a>>, Fault> {
-        if words.first() != Some(&SERVE) {
+    pub fn read(alloc: Global, words: &'a [&'a str]) -> Result<Option<Serving<'a>>, Fault>
+        ensures named { IfOk result (λ found. IfSome found
+            (λ _. first_word words.now ≡ Some (codes "serve"))) }
+        ensures other { first_word words.now ≢ Some (codes "serve") → result ≡ Ok None }
+    {
+        if !is_command(words, SERVE) {
             return Ok(None);
         }
         match Command::read(alloc, words)? {

@@ -1,7 +1,9 @@
 //! The tables of a run's database, and the events that come to them.
-ghost use Rattle.std.specs.Prelude.{All, IsTrue};
-ghost use Rattle.room_core.specs.Events.{plain_event};
+ghost use Rattle.std.specs.Prelude.{◌≡◌, All, IfOk, IsTrue, length, map};
+ghost use Rattle.sqlite.specs.Held.{Held};
+ghost use Rattle.room_core.specs.Events.{plain_event, plain_timed};
 ghost use Rattle.room_core.specs.Fits.{fits};
+ghost use Rattle.room_serve.specs.Runs.{AreApplied};
 
 use crate::command::MEMORY;
 use crate::fault::Fault;
@@ -40,6 +42,9 @@ pub fn outcomes_of<S: Alter + Drop, F: Opener<Kept = Connection<S>> + Drop>(
     events: &[(u64, Event<'_>)],
 ) -> Result<Vec<Outcome>, Fault>
     requires { All (λ e. IsTrue (fits (plain_event e.1))) events.now }
+    ensures applied { IfOk result (λ outcomes. (old : Held S) × (new : Held S)
+        × AreApplied S.Store (map plain_timed events.now) outcomes.items old new) }
+    ensures each { IfOk result (λ outcomes. length outcomes.items ≡ length events.now) }
 {
     let mut store = store_of(&mut opener, database, Begin::Open)?;
     let outcomes = run_events(alloc, &mut store, events);

@@ -1,4 +1,6 @@
 //! The words of the command line, as its parser and its help know them.
+ghost use Rattle.std.specs.Prelude.{◌≡◌, ◌↔◌, IsTrue, Some};
+ghost use Rattle.room_commands.specs.Words.{first_word};
 
 pub(crate) const CREATE: &str = "create";
 
@@ -220,3 +222,13 @@ pub(crate) const COMMANDS: [CommandWords; 12] = [
         arguments: &[],
     },
 ];
+
+/// Whether the words are a command line of the command.
+pub(crate) fn is_command(words: &[&str], command: &str) -> bool
+    ensures { IsTrue result ↔ (first_word words.now ≡ Some command.now) }
+{
+    match words.first() {
+        Some(word) => *word == command,
+        None => false,
+    }
+}

@@ -1,4 +1,6 @@
 //! Documents that are kept as files of one folder.
+ghost use Rattle.std.specs.Prelude.{◌++◌, Some, codes};
+ghost use Rattle.std.specs.Path.{path_join};
 
 use room_client::Keeper;
 use std::io::Write;
@@ -13,6 +15,8 @@ pub struct Folder<'a> {
 }
 
 impl Keeper for Folder<'_> {
+    ghost shown = { λ it name _. Some (path_join it.folder.now name ++ codes "\n") };
+
     fn keep<O: Write>(&mut self, output: &mut O, name: &str, bytes: Vec<u8>) -> io::Result<()> {
         let path = Path::new(self.folder).join(self.rt.alloc(), name)?;
         fs::write(self.rt, path.as_path(), bytes.as_slice())?;

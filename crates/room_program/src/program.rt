@@ -1,4 +1,5 @@
 //! One run of the program, from its words to its exit status.
+ghost use Rattle.std.specs.Prelude.{◌≤◌, IfOk};
 
 use crate::listening::listen;
 use crate::sending::send;
@@ -9,7 +10,9 @@ use std::io::{BufWriter, Write};
 
 /// Does what the words after the program's name ask for, over the standard streams, and answers the
 /// exit status. Where that is not 0, standard error has why.
-pub fn start(rt: &HostRuntime) -> u8 {
+pub fn start(rt: &HostRuntime) -> u8
+    ensures { result ≤ 4 }
+{
     match begin(rt) {
         Ok(status) => status,
         Err(fault) => {
@@ -21,7 +24,9 @@ pub fn start(rt: &HostRuntime) -> u8 {
 }
 
 // The exit status of a run, or why it could not begin.
-fn begin(rt: &HostRuntime) -> Result<u8, Fault> {
+fn begin(rt: &HostRuntime) -> Result<u8, Fault>
+    ensures { IfOk result (λ status. status ≤ 4) }
+{
     let alloc = rt.alloc();
     let given = words_of(rt)?;
     let words: Vec<&str> = given.iter().map(|word| word.as_str()).collect(alloc)?;
@@ -29,7 +34,9 @@ fn begin(rt: &HostRuntime) -> Result<u8, Fault> {
     run(rt, words.as_slice(), &mut output)
 }
 
-fn run<W: Write>(rt: &HostRuntime, words: &[&str], output: &mut W) -> Result<u8, Fault> {
+fn run<W: Write>(rt: &HostRuntime, words: &[&str], output: &mut W) -> Result<u8, Fault>
+    ensures { IfOk result (λ status. status ≤ 4) }
+{
     let alloc = rt.alloc();
     if let Some(asked) = Listening::read(alloc, words)? {
         listen(rt, &asked, output)?;
