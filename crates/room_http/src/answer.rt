@@ -1,5 +1,5 @@
 //! The texts of answers, in memory of a fixed size.
-ghost use Rattle.std.specs.Prelude.{◌≡◌, ◌+◌, ◌++◌, ◌≤◌, [], length, unwrap_or};
+ghost use Rattle.std.specs.Prelude.{◌≡◌, ◌+◌, ◌++◌, ◌≤◌, [], length, true, unwrap_or};
 ghost use Rattle.room_http.specs.Limits.{longest_answer_head, longest_status_line, longest_phrase};
 ghost use Rattle.http.specs.StatusCode.{reason_phrase};
 ghost use Rattle.arrayvec.specs.ArrayVec.{array_vec_len};
@@ -82,4 +82,13 @@ pub fn put_answer_head<const N: usize>(text: &mut ArrayVec<u8, N>, size: usize, 
         put(text, b"Connection: close\r\n");
     }
     put(text, b"\r\n");
+}
+
+/// The head of an answer of so many bytes that ends the connection.
+pub fn last_answer_head(size: usize) -> ArrayVec<u8, HEAD_ROOM>
+    ensures { result.items ≡ answer_head size true }
+{
+    let mut text = ArrayVec::new();
+    put_answer_head(&mut text, size, true);
+    text
 }

@@ -3,6 +3,7 @@
 #![tactic(auto)]
 
 // What `serve` and `listen` have in common.
+mod answer;
 mod digits;
 mod limits;
 mod refusal;
@@ -11,7 +12,6 @@ mod words;
 
 // What `listen` alone needs: a whole message is read from a source, judged and answered. `serve` has
 // its messages read by `http_server`.
-mod answer;
 mod body;
 mod chunks;
 mod fault;
@@ -24,6 +24,7 @@ mod receiving;
 mod send;
 mod trailers;
 
+pub use answer::{last_answer_head, refusal_text};
 pub use fault::WireFault;
 pub use fields::Field;
 pub use judging::{Order, Request};

@@ -6,7 +6,8 @@ use Rattle.std.proofs.lemmas.Int.{ints}
 use Rattle.room_core.specs.Steps.{with_moved}
 use Rattle.room_laws.proofs.AccountActs.{IsAccounted, MovesTo}
 use Rattle.room_laws.proofs.Accounts.{Adds, AreNumbered, IsAccount, IsApart, IsPart, account_then, all_stay, none_next, numbered_here, one_comes, one_moves, settlements}
-use Rattle.room_laws.proofs.Afterwards.{moved_grants, moved_jobs, moved_next, restood_jobs}
+use Rattle.room_laws.proofs.Afterwards.{moved_next, restood_jobs}
+use Rattle.room_core.proofs.Sums.{moved_grants, moved_jobs}
 use Rattle.room_laws.specs.Balance.{charged_by, granted_by}
 use Rattle.room_laws.specs.Releases.{rate_of}
 use Rattle.room_laws.specs.Histories.{Step}

@@ -22,18 +22,7 @@ inserted {X} m number x q = get-insert nat_cmp_total m number x q ∙ ap (λ b. 
 pub restood_jobs : (room : RoomValue) (number : ℕ) (job : Job) (standing : Standing) → get room.jobs number ≡ Some job → restood room.jobs number standing ≡ insert room.jobs number (record job { standing = standing })
 restood_jobs room number job standing there = rw there refl
 
--- whether it ends or not
-pub moved_jobs : (room : RoomValue) (number : ℕ) (job : Job) (standing : Standing) → get room.jobs number ≡ Some job → (with_moved room number standing).jobs ≡ insert room.jobs number (record job { standing = standing })
-moved_jobs room number job standing there =
-    elim (is_unfinished standing.state) as (λ b. (cond {A = RoomValue} b (with_standing room number standing None) (with_ended room number standing)).jobs ≡ insert room.jobs number (record job { standing = standing }))
-    [ true ↦ restood_jobs room number job standing there | false ↦ restood_jobs room number job standing there ]
-
 -- what a move leaves as it was
-pub moved_grants : (room : RoomValue) (number : ℕ) (standing : Standing) → (with_moved room number standing).grants ≡ room.grants
-moved_grants room number standing =
-    elim (is_unfinished standing.state) as (λ b. (cond {A = RoomValue} b (with_standing room number standing None) (with_ended room number standing)).grants ≡ room.grants)
-    [ true ↦ refl | false ↦ refl ]
-
 pub moved_next : (room : RoomValue) (number : ℕ) (standing : Standing) → (with_moved room number standing).next ≡ room.next
 moved_next room number standing =
     elim (is_unfinished standing.state) as (λ b. (cond {A = RoomValue} b (with_standing room number standing None) (with_ended room number standing)).next ≡ room.next)

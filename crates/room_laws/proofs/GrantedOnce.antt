@@ -12,7 +12,8 @@ use Rattle.room_core.specs.declared.event.Reply.{Reply}
 use Rattle.room_core.specs.declared.event.Reply.TheVariants as reply
 use Rattle.room_laws.specs.GrantsOnce.{GrantsOnce, IsGranted, IsConflict, IsRepeated}
 use Rattle.room_laws.specs.Histories.{Step, step_of}
-use Rattle.room_laws.proofs.Afterwards.{inserted, moved_grants, none_or_some}
+use Rattle.room_laws.proofs.Afterwards.{inserted, none_or_some}
+use Rattle.room_core.proofs.Sums.{moved_grants}
 use Rattle.room_laws.proofs.Alls.{all_at, all_more}
 use Rattle.room_laws.proofs.Changes.{Makes, makes_one, refuses, reads, makes, takes, acts, releases, starts, settles, grants}
 use Rattle.room_laws.proofs.HistoryLemmas.{IsKept, before_each}

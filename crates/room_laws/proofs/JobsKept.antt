@@ -12,7 +12,8 @@ use Rattle.room_core.specs.Steps.{with_moved}
 use Rattle.room_core.specs.declared.event.Reply.{Reply}
 use Rattle.room_laws.specs.Histories.{Step, left_by, step_of}
 use Rattle.room_laws.specs.JobsStay.{IsSameJob, JobsStay, KeepsJobs, NumbersJobs}
-use Rattle.room_laws.proofs.Afterwards.{inserted, moved_jobs, none_or_some, restood_jobs}
+use Rattle.room_laws.proofs.Afterwards.{inserted, none_or_some, restood_jobs}
+use Rattle.room_core.proofs.Sums.{moved_jobs}
 use Rattle.room_laws.proofs.Alls.{all_at, all_more}
 use Rattle.room_laws.proofs.Changes.{Makes, makes_one, refuses, reads, makes, takes, acts, releases, starts, settles, grants}
 use Rattle.room_laws.proofs.HistoryLemmas.{IsKept, after_later}

@@ -8,7 +8,8 @@ use Rattle.room_core.specs.Steps.{with_moved}
 use Rattle.room_core.specs.declared.event.Reply.{Reply}
 use Rattle.room_laws.specs.Histories.{Step, history, step_of}
 use Rattle.room_laws.specs.JobsStay.{JobsAreNumbered, NumbersJobs}
-use Rattle.room_laws.proofs.Afterwards.{inserted, moved_jobs, moved_next, none_or_some, restood_jobs}
+use Rattle.room_laws.proofs.Afterwards.{inserted, moved_next, none_or_some, restood_jobs}
+use Rattle.room_core.proofs.Sums.{moved_jobs}
 use Rattle.room_laws.proofs.Alls.{all_of_cuts}
 use Rattle.room_laws.proofs.Changes.{Makes, makes_one, refuses, reads, makes, takes, acts, releases, starts, settles, grants}
 use Rattle.room_laws.proofs.HistoryLemmas.{IsKept, before_each}

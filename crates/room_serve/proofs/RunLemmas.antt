@@ -1,8 +1,9 @@
 -- A list of events over one store, one after another.
-use Rattle.std.proofs.Common.{◌≡◌, ℕ, ◌+◌, Bool, true, false, cond, bytes_eq, List, [], ◌∷◌, ◌++◌, Option, Result, Ok, Err, IsTrue, length, filter, refl, sym, ap, subst, ◌∙◌, inl, inr, arith}
+use Rattle.std.proofs.Common.{◌≡◌, ◌≤◌, ℕ, ◌+◌, Bool, true, false, cond, bytes_eq, List, [], ◌∷◌, ◌++◌, Option, Result, Ok, Err, IsTrue, length, filter, refl, sym, ap, subst, ◌∙◌, inl, inr, arith}
 use Rattle.std.proofs.lemmas.Bool.{cases_Bool}
 use Rattle.std.proofs.lemmas.List.{append-nil, length-append}
 use Rattle.std.proofs.lemmas.List.Elements.{filter-append}
+use Rattle.sqlite_trees.specs.View.{doubt}
 use Rattle.sqlite_trees.specs.declared.store.Store.{Ghosts}
 use Rattle.sqlite.specs.Effect.{Database}
 use Rattle.sqlite.specs.Held.{Held, state}
@@ -68,7 +69,7 @@ its_own name now account it its = rw its refl
 anothers : (name : List ℕ) (now : ℕ) (account : List ℕ) (it : AccountEvent) → bytes_eq account name ≡ false → own name ((now, OfAccount account it) ∷ []) ≡ []
 anothers name now account it isnt = rw isnt refl
 
-next_schema : (now : ℕ) (e : PlainEvent) (old new : State) (r : Result Reply StoreFault) → Applies now e old new r → HasCleanDisk new → (IsTrue old.is_open → HasSchema old.now) → IsTrue new.is_open → HasSchema new.now
+pub next_schema : (now : ℕ) (e : PlainEvent) (old new : State) (r : Result Reply StoreFault) → Applies now e old new r → HasCleanDisk new → (IsTrue old.is_open → HasSchema old.now) → IsTrue new.is_open → HasSchema new.now
 next_schema now e old new (Ok reply) applied clean had is = (applied.answered clean (had (applied.connection.back clean is))).is_done.schema
 next_schema now e old new (Err fault) applied clean had is =
     let was = had (applied.connection.back clean is) in
@@ -200,6 +201,15 @@ applied_more store (x ∷ events) (o ∷ outcomes) e old mid new r (next, first,
 grow : {X Y : Type 0} (xs : List X) (ys : List Y) (x : X) (y : Y) → length xs ≡ length ys → length (xs ++ x ∷ []) ≡ length (ys ++ y ∷ [])
 grow xs ys x y same = length-append xs (x ∷ []) ∙ ap (λ n. n + 1) same ∙ sym (length-append ys (y ∷ []))
 
+-- what is seen after some events
+pub record Shows (events : List Timed) (outcomes : List Outcome) (old new : State) : Type 0 where
+  pub each : length outcomes ≡ length events
+  pub schema : HasCleanDisk new → HasSchema old.now → IsTrue new.is_open → HasSchema new.now
+  pub alone : HasCleanDisk new → HasSchema old.now → RunsAlone events outcomes old.now new.is_open new.now
+  pub devices : HasCleanDisk new → HasSchema old.now → RunsDevices events outcomes old.now new.is_open new.now
+  pub rest : HasCleanDisk new → HasSchema old.now → IsTrue new.is_open → LeavesTheRest events outcomes old.now new.is_open new.now
+
+-- and what the connection has kept
 pub record SoFar (events : List Timed) (outcomes : List Outcome) (old new : State) : Type 0 where
   pub each : length outcomes ≡ length events
   pub connection : KeepsConnection old new
@@ -207,6 +217,12 @@ pub record SoFar (events : List Timed) (outcomes : List Outcome) (old new : Stat
   pub alone : HasCleanDisk new → HasSchema old.now → RunsAlone events outcomes old.now new.is_open new.now
   pub devices : HasCleanDisk new → HasSchema old.now → RunsDevices events outcomes old.now new.is_open new.now
   pub rest : HasCleanDisk new → HasSchema old.now → IsTrue new.is_open → LeavesTheRest events outcomes old.now new.is_open new.now
+
+pub shown_of : (events : List Timed) (outcomes : List Outcome) (old new : State) → SoFar events outcomes old new → Shows events outcomes old new
+shown_of events outcomes old new is = record { each = is.each; schema = is.schema; alone = is.alone; devices = is.devices; rest = is.rest }
+
+pub kept_so : (events : List Timed) (outcomes : List Outcome) (old new : State) → Shows events outcomes old new → KeepsConnection old new → SoFar events outcomes old new
+kept_so events outcomes old new is keeps = record { each = is.each; connection = keeps; schema = is.schema; alone = is.alone; devices = is.devices; rest = is.rest }
 
 pub begins : (s : State) → SoFar [] [] s s
 begins s = record {
@@ -218,13 +234,42 @@ begins s = record {
   rest = λ _ _ _. record { accounts = λ name none. same_rows name s.now s.now refl; devices = λ none. same_devices s.now s.now refl; version = refl };
 }
 
-pub one_more : (events : List Timed) (outcomes : List Outcome) (e : Timed) (old mid new : State) (r : Result Reply StoreFault) → SoFar events outcomes old mid → Applies e.0 e.1 mid new r → SoFar (events ++ e ∷ []) (outcomes ++ outcome_of r ∷ []) old new
-one_more events outcomes e old mid new r so_far applied =
+-- nothing more, where an open connection sees the same
+pub still_shown : (events : List Timed) (outcomes : List Outcome) (old mid new : State) → Shows events outcomes old mid → doubt mid.is_clean ≤ doubt new.is_clean
+    → (HasCleanDisk new → IsTrue new.is_open → IsTrue mid.is_open) → (HasCleanDisk new → HasSchema old.now → IsTrue new.is_open → new.now ≡ mid.now) → Shows events outcomes old new
+still_shown events outcomes old mid new so_far doubts back same =
+    let clean : HasCleanDisk new → HasCleanDisk mid = λ is. omega (arith, doubts, is) in
+    record {
+      each = so_far.each;
+      schema = λ is has shown. subst HasSchema (sym (same is has shown)) (so_far.schema (clean is) has (back is shown));
+      alone = λ is has name room devices held holds.
+          let before = so_far.alone (clean is) has name room devices held holds in
+          let machine = alone room devices (own name (answered_of events outcomes)) in
+          record {
+            replies = before.replies;
+            rows = λ shown. subst (λ (db : Database). Holds db name machine.room) (sym (same is has shown)) (before.rows (back is shown));
+            devices = λ shown. subst (λ (db : Database). HoldsDevices db machine.devices) (sym (same is has shown)) (before.devices (back is shown));
+          };
+      devices = λ is has devices holds.
+          let before = so_far.devices (clean is) has devices holds in
+          let machine = devices_alone devices (of_devices (answered_of events outcomes)) in
+          record { replies = before.replies; devices = λ shown. subst (λ (db : Database). HoldsDevices db machine.devices) (sym (same is has shown)) (before.devices (back is shown)) };
+      rest = λ is has shown.
+          let before = so_far.rest (clean is) has (back is shown) in
+          let alike = same is has shown in
+          record {
+            accounts = λ name none. subst (AgreeOnRows name old.now) (sym alike) (before.accounts name none);
+            devices = λ none. subst (AgreeOnDevices old.now) (sym alike) (before.devices none);
+            version = ap (λ (db : Database). db.trees meta.tree) alike ∙ before.version;
+          };
+    }
+
+pub one_shown : (events : List Timed) (outcomes : List Outcome) (e : Timed) (old mid new : State) (r : Result Reply StoreFault) → Shows events outcomes old mid → Applies e.0 e.1 mid new r → Shows (events ++ e ∷ []) (outcomes ++ outcome_of r ∷ []) old new
+one_shown events outcomes e old mid new r so_far applied =
     let o = outcome_of r in
     let clean : HasCleanDisk new → HasCleanDisk mid = λ is. omega (arith, applied.connection.clean, is) in
     record {
       each = grow outcomes events o e so_far.each;
-      connection = goes_on old mid new so_far.connection applied.connection;
       schema = λ is has shown. next_schema e.0 e.1 mid new r applied is (so_far.schema (clean is) has) shown;
       alone = λ is has name room devices held holds.
           let before = so_far.alone (clean is) has name room devices held holds in
@@ -246,3 +291,7 @@ one_more events outcomes e old mid new r so_far applied =
       rest = λ is has shown. rest_both events outcomes e o old.now mid.now new.now mid.is_open new.is_open so_far.each
           (so_far.rest (clean is) has (applied.connection.back is shown)) (next_rest e.0 e.1 mid new r applied is (so_far.schema (clean is) has) shown);
     }
+
+pub one_more : (events : List Timed) (outcomes : List Outcome) (e : Timed) (old mid new : State) (r : Result Reply StoreFault) → SoFar events outcomes old mid → Applies e.0 e.1 mid new r → SoFar (events ++ e ∷ []) (outcomes ++ outcome_of r ∷ []) old new
+one_more events outcomes e old mid new r so_far applied =
+    kept_so (events ++ e ∷ []) (outcomes ++ outcome_of r ∷ []) old new (one_shown events outcomes e old mid new r (shown_of events outcomes old mid so_far) applied) (goes_on old mid new so_far.connection applied.connection)
