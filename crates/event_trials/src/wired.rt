@@ -95,7 +95,7 @@ impl Wired {
     /// The tables of the process that serves everybody, which is away then.
     fn front_tables(&mut self) -> Result<Tables<MemStore>, Fault> {
         match self.by_front.take() {
-            Some(served) => Ok(Tables::of(served.into_store().close())),
+            Some(served) => Ok(Tables::of(served.close())),
             None => Err(Fault::Away),
         }
     }

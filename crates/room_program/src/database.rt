@@ -34,7 +34,7 @@ where
     W: Write,
 {
     let store = store_of(&mut opener, database, Begin::Open)?;
-    let (store, served) = front.serve(rt, store, output);
-    opener.close(store.close());
+    let (connection, served) = front.serve(rt, store, output);
+    opener.close(connection);
     served
 }

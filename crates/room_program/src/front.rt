@@ -2,16 +2,17 @@
 
 use room_commands::Fault;
 use room_store::Store;
-use sqlite::Alter;
+use sqlite::{Alter, Connection};
 use std::io::Write;
 
 /// A command that has the store for as long as it serves.
 pub trait Front {
-    /// Serves to the end, writing what the command tells of itself, and hands the store back.
+    /// Serves to the end, writing what the command tells of itself, and hands the store's connection
+    /// back.
     fn serve<S: Alter + Drop, W: Write>(
         &self,
         rt: &HostRuntime,
         store: Store<S>,
         output: &mut W,
-    ) -> (Store<S>, Result<(), Fault>);
+    ) -> (Connection<S>, Result<(), Fault>);
 }

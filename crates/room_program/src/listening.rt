@@ -7,7 +7,7 @@ use room_input::Counted;
 use room_serve::{After, Wire, serve_one};
 use room_sockets::moment;
 use room_store::Store;
-use sqlite::Alter;
+use sqlite::{Alter, Connection};
 use std::io::{BufReader, Read, Write};
 use std::net::{Ipv4Addr, Shutdown, TcpListener, TcpStream};
 use std::time::Duration;
@@ -52,9 +52,9 @@ impl Front for Listening<'_> {
         rt: &HostRuntime,
         mut store: Store<S>,
         output: &mut W,
-    ) -> (Store<S>, Result<(), Fault>) {
+    ) -> (Connection<S>, Result<(), Fault>) {
         let served = serve_all(rt, &mut store, self, output);
-        (store, served)
+        (store.close(), served)
     }
 }
 

@@ -6,7 +6,7 @@ use room_commands::{Address, Fault, Serving};
 use room_served::Served;
 use room_sockets::{Door, Doors, Hall, moment};
 use room_store::Store;
-use sqlite::Alter;
+use sqlite::{Alter, Connection};
 use std::hash::RandomState;
 use std::io;
 use std::io::Write;
@@ -35,10 +35,10 @@ impl Front for Begun<'_> {
         rt: &HostRuntime,
         store: Store<S>,
         output: &mut W,
-    ) -> (Store<S>, Result<(), Fault>) {
+    ) -> (Connection<S>, Result<(), Fault>) {
         let mut served = Served::new(rt.alloc(), store, self.moment);
         let ended = serve_all(rt, &mut served, &self.asked, output);
-        (served.into_store(), ended)
+        (served.close(), ended)
     }
 }
 

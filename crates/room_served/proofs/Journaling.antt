@@ -1,5 +1,6 @@
 -- What comes to a journal, one after another.
-use Rattle.std.proofs.Common.{◌≡◌, ℕ, List, [], ◌∷◌, ◌++◌, Result, Ok, Err, refl, subst, sym, ap, ◌∙◌, append_assoc, append-nil, inl, inr}
+use Rattle.std.proofs.Common.{◌≡◌, ℕ, Bool, true, false, List, [], ◌∷◌, ◌++◌, map, Result, Ok, Err, refl, subst, sym, ap, ◌∙◌, append_assoc, append-nil, inl, inr}
+use Rattle.std.proofs.lemmas.List.{map-append}
 use Rattle.sqlite.specs.Held.{Held}
 use Rattle.sqlite_trees.specs.declared.store.Store.{Ghosts}
 use Rattle.room_core.specs.declared.event.Reply.{Reply}
@@ -11,41 +12,56 @@ use Rattle.http_server.specs.Exchange.{Call, Chain}
 use Rattle.http_server.specs.declared.response.Response.{Response}
 use Rattle.room_http.specs.declared.refusal.Refusal.{Refusal}
 use Rattle.room_served.specs.Answers.{Answers, Gives}
-use Rattle.room_served.specs.Lines.{Asks}
 use Rattle.room_served.specs.LinePeers as line_peers
 use Rattle.room_served.specs.LinePeers.{LineCall}
 use Rattle.room_served.specs.declared.line_connection.Side.{Side}
 use Rattle.room_served.specs.Requests.{asked}
-use Rattle.room_served.specs.Journals.{AppliesEntry, Continues, Leads, Told, journal, store_of}
+use Rattle.room_served.specs.Journals.{AppliesNext, Continues, Leads, Notes, Told, asked_of, by_themselves, open_of, rounds_of, shares_of, store_of}
+
+grown : {X : Type 0} (a b c first more : List X) → b ≡ a ++ first → c ≡ b ++ more → c ≡ a ++ (first ++ more)
+grown a b c first more one two = two ∙ ap (λ x. x ++ more) one ∙ append_assoc a first more
+
+module _ {S : Type 0} where
+  nothing : (shares : Bool) (served : Served S) → Notes shares [] served served
+  nothing false served = (sym (append-nil (rounds_of served)), refl, refl)
+  nothing true served = (refl, sym (append-nil (open_of served)), sym (append-nil (asked_of served)))
+
+  notes_then : (shares : Bool) (first more : List Told) (old mid new : Served S) → Notes shares first old mid → Notes shares more mid new → Notes shares (first ++ more) old new
+  notes_then false first more old mid new one two = (
+    grown (rounds_of old) (rounds_of mid) (rounds_of new) (by_themselves first) (by_themselves more) one.0 two.0 ∙ ap (λ x. rounds_of old ++ x) (sym (map-append (λ (told : Told). (told ∷ [], true)) first more)),
+    two.1 ∙ one.1,
+    two.2 ∙ one.2,
+  )
+  notes_then true first more old mid new one two = (
+    two.0 ∙ one.0,
+    grown (open_of old) (open_of mid) (open_of new) first more one.1 two.1,
+    grown (asked_of old) (asked_of mid) (asked_of new) (map (λ (told : Told). told.0) first) (map (λ (told : Told). told.0) more) one.2 two.2 ∙ ap (λ x. asked_of old ++ x) (sym (map-append (λ (told : Told). told.0) first more)),
+  )
 
 module _ {S : Type 0} (store : Ghosts S) where
   pub stays : (served : Served S) → Continues store served served
-  stays served = record { more = []; journal = sym (append-nil (journal served)); leads = refl }
+  stays served = record { more = []; notes = nothing (shares_of served) served; leads = refl; shares = refl; is_lost = refl }
 
-  pub as_it_was : (old new : Served S) → store_of new ≡ store_of old → journal new ≡ journal old → Continues store old new
-  as_it_was old new same kept = record { more = []; journal = kept ∙ sym (append-nil (journal old)); leads = same }
+  pub one_more : (entry : Entry) (told : Result Reply StoreFault) (old new : Served S) → AppliesNext store entry told old new → Continues store old new
+  one_more entry told old new next = record { more = (entry, told) ∷ []; notes = next.notes; leads = (store_of new, next.applies, refl); shares = next.shares; is_lost = next.is_lost }
 
-  pub one_more : (entry : Entry) (told : Result Reply StoreFault) (old new : Served S) → journal new ≡ journal old ++ (entry, told) ∷ [] → AppliesEntry store entry (store_of old) (store_of new) told → Continues store old new
-  one_more entry told old new kept applies = record { more = (entry, told) ∷ []; journal = kept; leads = (store_of new, applies, refl) }
-
-  leads_then : (first more : List Told) (old mid new : Held S) → Leads store old first mid → Leads store mid more new → Leads store old (first ++ more) new
-  leads_then [] more old mid new is later = subst_old is later
-    where
-      subst_old : mid ≡ old → Leads store mid more new → Leads store old more new
-      subst_old same leads = rw same at leads
-  leads_then (told ∷ first) more old mid new leads later = (leads.0, leads.1, leads_then first more leads.0 mid new leads.2 later)
+  pub leads_then : (shares : Bool) (first more : List Told) (old mid new : Held S) → Leads store shares old first mid → Leads store shares mid more new → Leads store shares old (first ++ more) new
+  leads_then shares [] more old mid new is later = subst (λ (held : Held S). Leads store shares held more new) is later
+  leads_then shares (told ∷ first) more old mid new leads later = (leads.0, leads.1, leads_then shares first more leads.0 mid new leads.2 later)
 
   pub then : (old mid new : Served S) → Continues store old mid → Continues store mid new → Continues store old new
   then old mid new first later = record {
     more = first.more ++ later.more;
-    journal = later.journal ∙ ap (λ (told : List Told). told ++ later.more) first.journal ∙ append_assoc (journal old) first.more later.more;
-    leads = leads_then first.more later.more (store_of old) (store_of mid) (store_of new) first.leads later.leads;
+    notes = notes_then (shares_of old) first.more later.more old mid new first.notes (subst (λ b. Notes b later.more mid new) first.shares later.notes);
+    leads = leads_then (shares_of old) first.more later.more (store_of old) (store_of mid) (store_of new) first.leads (subst (λ b. Leads store b (store_of mid) later.more (store_of new)) first.shares later.leads);
+    shares = later.shares ∙ first.shares;
+    is_lost = later.is_lost ∙ first.is_lost;
   }
 
   -- ---- requests over HTTP
 
   gives : (asks : Result (List ℕ) Refusal) (old : Served S) (request : Request (List ℕ)) (response : Response) (new : Served S) → Gives store asks old request response new → Continues store old new
-  gives (Ok account) old request response new is = one_more _ is.told old new is.journal is.applies
+  gives (Ok account) old request response new is = one_more _ is.told old new is.next
   gives (Err why) old request response new is = subst (λ (served : Served S). Continues store old served) (sym is.1) (stays old)
 
   pub chain : (calls : List Call) (old new : Served S) → Chain (Answers store) old calls new → Continues store old new
@@ -54,15 +70,12 @@ module _ {S : Type 0} (store : Ghosts S) where
 
   -- ---- lines
 
-  asks : (side : Side) (came : List ℕ) (old : Served S) (text : List ℕ) (new : Served S) → Asks store side came old text new → Continues store old new
-  asks side came old text new is = one_more is.entry is.told old new is.journal is.applies
-
   pub line_chain : (side : Side) (calls : List LineCall) (old new : Served S) → line_peers.Chain store side old calls new → Continues store old new
   line_chain side [] old new is = subst (λ (served : Served S). Continues store old served) (sym is) (stays old)
   line_chain side (call ∷ calls) old new is =
       let first : Continues store old is.0 =
       elim is.1 [
-        | inl asked ↦ asks side call.0 old call.1 is.0 asked
+        | inl asked ↦ one_more asked.entry asked.told old is.0 asked.next
         | inr bad ↦ subst (λ (served : Served S). Continues store old served) (sym bad.1) (stays old)
       ]
       in

@@ -6,7 +6,7 @@ use Rattle.std.proofs.lemmas.List.Quantifiers.{position-Some}
 use Rattle.sqlite_trees.specs.declared.store.Store.{Ghosts}
 use Rattle.room_core.specs.declared.event.Reply.{Reply}
 use Rattle.room_store.specs.declared.fault.StoreFault.{StoreFault}
-use Rattle.room_served.specs.Journals.{AppliesEntry, journal, moment_of, store_of}
+use Rattle.room_served.specs.Journals.{AppliesNext, moment_of}
 use Rattle.room_served.specs.Lines.{IsEntryOf, TakesLine, grammar_of, input_of, line_end, side_of}
 use Rattle.room_served.specs.LineTexts.{bad_line_text, line_text}
 use Rattle.room_served.specs.declared.entry.Entry.{Entry}
@@ -22,9 +22,9 @@ ends_with_feed input end is =
 module _ {S : Type 0} (store : Ghosts S) where
   -- a line of its side's was applied
   pub takes_entry : (before after : LineConnection) (old new : Served S) (end : ℕ) (entry : Entry) (told : Result Reply StoreFault) → line_end (input_of before) ≡ Some end → input_of after ≡ drop (end + 1) (input_of before)
-      → IsEntryOf (grammar_of (side_of before) (moment_of old)) (take end (input_of before)) entry → journal new ≡ journal old ++ (entry, told) ∷ [] → AppliesEntry store entry (store_of old) (store_of new) told → moment_of new ≡ moment_of old
+      → IsEntryOf (grammar_of (side_of before) (moment_of old)) (take end (input_of before)) entry → AppliesNext store entry told old new
       → TakesLine store before after old (line_text told) new
-  takes_entry before after old new end entry told first rest said journal applies moment = record {
+  takes_entry before after old new end entry told first rest said next = record {
     end = end;
     first = first;
     rest = rest;
@@ -34,9 +34,7 @@ module _ {S : Type 0} (store : Ghosts S) where
       entry = entry;
       said = said;
       told = told;
-      journal = journal;
-      applies = applies;
-      moment = moment;
+      next = next;
       says = refl;
     });
   }

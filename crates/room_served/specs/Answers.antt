@@ -1,5 +1,5 @@
 -- Which request gets which response, and what it does to the rooms (all this project's own).
-use Rattle.std.specs.Prelude.{◌≡◌, ◌⊎◌, ℕ, Bool, List, [], ◌∷◌, ◌++◌, codes, if◌then◌else◌, Result, Ok, Err}
+use Rattle.std.specs.Prelude.{◌≡◌, ◌⊎◌, ℕ, Bool, List, [], ◌∷◌, codes, if◌then◌else◌, Result, Ok, Err}
 use Rattle.http.specs.Request.{body_of}
 use Rattle.http.specs.declared.request.Request.{Request}
 use Rattle.http1.specs.Fields.{Header as Field}
@@ -17,7 +17,7 @@ use Rattle.room_store.specs.declared.fault.StoreFault.{StoreFault}
 use Rattle.room_replies.specs.Replies.{internal_error_text}
 use Rattle.room_served.specs.declared.entry.Entry.TheVariants as entry
 use Rattle.room_served.specs.declared.served.Served.{Served}
-use Rattle.room_served.specs.Journals.{AppliesEntry, journal, moment_of, store_of}
+use Rattle.room_served.specs.Journals.{AppliesNext, moment_of}
 use Rattle.room_served.specs.Requests.{asked, has_long_body}
 
 -- ---- the fields
@@ -58,11 +58,8 @@ module _ {S : Type 0} (store : Ghosts S) where
   pub record Sends (account : List ℕ) (old : Served S) (request : Request (List ℕ))
       (response : Response) (new : Served S) : Type 0 where
     pub told : Result Reply StoreFault
-    pub journal : journal new
-        ≡ journal old ++ (entry.Message (moment_of old) account (body_of request), told) ∷ []
-    pub applies : AppliesEntry store (entry.Message (moment_of old) account (body_of request))
-        (store_of old) (store_of new) told
-    pub moment : moment_of new ≡ moment_of old
+    pub next : AppliesNext store (entry.Message (moment_of old) account (body_of request)) told
+        old new
     pub tells : IsTold (header_in (body_of request)) (has_long_body request) told response
         ⊎ IsLost response
 

@@ -3,6 +3,7 @@ pub mod Journals
 pub mod Requests
 pub mod Answers
 pub mod LineTexts
+pub mod LastTexts
 pub mod Lines
 pub mod Patience
 pub mod Streams

@@ -16,7 +16,7 @@ use Rattle.room_served.specs.declared.line_connection.LineConnection.{LineConnec
 use Rattle.room_served.specs.declared.line_connection.Side.{Side}
 use Rattle.room_served.specs.declared.line_connection.Side.TheVariants.{Station, Operator}
 use Rattle.room_served.specs.declared.served.Served.{Served}
-use Rattle.room_served.specs.Journals.{AppliesEntry, journal, moment_of, store_of}
+use Rattle.room_served.specs.Journals.{AppliesNext, moment_of}
 use Rattle.room_served.specs.LineTexts.{bad_line_text, line_text}
 
 -- ---- a connection
@@ -74,9 +74,7 @@ module _ {S : Type 0} (store : Ghosts S) where
     pub entry : Entry
     pub said : IsEntryOf (grammar_of side (moment_of old)) line entry
     pub told : Result Reply StoreFault
-    pub journal : journal new ≡ journal old ++ (entry, told) ∷ []
-    pub applies : AppliesEntry store entry (store_of old) (store_of new) told
-    pub moment : moment_of new ≡ moment_of old
+    pub next : AppliesNext store entry told old new
     pub says : text ≡ line_text told
 
   -- a line that is none of its side's

@@ -10,7 +10,7 @@ use room_lines::Line;
 
 /// What a connection asked of the rooms or the devices, at a moment in seconds since
 /// 1970-01-01T00:00:00Z.
-#[derive(Debug, Drop)]
+#[derive(Debug)]
 pub enum Entry {
     /// A message of IPP for the queue of an account.
     Message {
@@ -20,6 +20,20 @@ pub enum Entry {
     },
     /// A line of a station or an operator.
     Line(Line),
+}
+
+// It is written out, so that a caller does not prove again how each part is dropped.
+impl Drop for Entry {
+    fn drop(self) {
+        match self {
+            Entry::Message {
+                moment: _,
+                account: _,
+                body: _,
+            } => {}
+            Entry::Line(_) => {}
+        }
+    }
 }
 
 impl Entry {

@@ -58,7 +58,7 @@ impl HttpPeer {
 
     /// Reads, answers and writes as far as it goes now, but a few steps at most. Each request is
     /// one call: it is applied, once, or refused. A peer is left to wait only where each request
-    /// that came has its call.
+    /// that came has its call. What shares a commit is no long request.
     pub fn drive<S: Alter, R: Read, W: Write>(
         &mut self,
         reader: &mut R,
@@ -76,6 +76,9 @@ impl HttpPeer {
     {
         if self.progress.parts {
             return drain(reader);
+        }
+        if served.is_shared() && self.load.is_long() {
+            return Next::Again;
         }
         self.progress.has_all = false;
         for _ in 0..STEPS {

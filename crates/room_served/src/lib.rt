@@ -6,6 +6,7 @@
 
 mod entry;
 mod http_peer;
+mod last_text;
 mod laws;
 mod limits;
 mod line_connection;
@@ -23,7 +24,7 @@ mod turns;
 
 pub use entry::Entry;
 pub use http_peer::HttpPeer;
-pub use laws::{always_keep_the_laws, always_runs};
+pub use laws::{always_found, always_keep_the_laws, always_runs};
 pub use limits::connection_config;
 pub use line_connection::{LineConnection, MOST_LINE, Side};
 pub use line_peer::LinePeer;

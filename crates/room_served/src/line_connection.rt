@@ -109,11 +109,16 @@ impl LineConnection {
             return Ok(false);
         };
         let grammar = self.side.grammar(served.moment);
-        let entry = entry_of(self.alloc, grammar, &self.input.as_slice()[..end])?;
-        self.input.advance(end + 1);
-        match entry {
-            Some(entry) => put_told(self.alloc, &mut self.output, served.apply(&entry))?,
-            None => put_bad(&mut self.output)?,
+        match entry_of(self.alloc, grammar, &self.input.as_slice()[..end])? {
+            Some(entry) => {
+                let told = served.apply(entry)?;
+                self.input.advance(end + 1);
+                put_told(self.alloc, &mut self.output, told)?;
+            }
+            None => {
+                self.input.advance(end + 1);
+                put_bad(&mut self.output)?;
+            }
         }
         Ok(true)
     }

@@ -5,6 +5,10 @@ use room_http::{BODY_LIMIT, HEAD_LIMIT};
 /// A request, or an answer, of more bytes is a large one.
 pub const LARGE: usize = 65_536;
 
+/// A request of which more bytes came shares no commit. A read brings 64 KiB at most, so that one
+/// that does has 256 KiB at most.
+const LONG: usize = 196_608;
+
 /// The most bytes of one request, with its head.
 pub const LONGEST: usize = HEAD_LIMIT + BODY_LIMIT;
 
@@ -53,5 +57,10 @@ impl Load {
     /// Whether a large request is coming.
     pub(crate) fn is_large(&self) -> bool {
         self.coming > LARGE
+    }
+
+    /// Whether so much of a request came that it is applied by itself.
+    pub(crate) fn is_long(&self) -> bool {
+        self.coming > LONG
     }
 }

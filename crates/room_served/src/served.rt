@@ -1,67 +1,178 @@
 //! The rooms as one process serves them to everybody.
-ghost use Rattle.std.specs.Prelude.{◌≡◌, ◌++◌, ◌∷◌, []};
-ghost use Rattle.room_served.specs.Journals.{AppliesEntry, Continues, journal, moment_of, store_of};
+ghost use Rattle.std.specs.Prelude.{◌≡◌, ◌⊎◌, [], true, false, IsTrue, None, IfOk, OnErr};
+ghost use Rattle.room_served.specs.Journals.{AppliesEntry, AppliesNext, IsBegun, IsNotBegun, IsSettled, asked_of, is_lost_of, list_of, moment_of, open_of, rounds_of, shares_of, store_of};
 
 use crate::entry::Entry;
 use http_server::Log;
 use room_core::Reply;
-use room_store::{Store, StoreFault};
-use sqlite::Alter;
-use std::alloc::Global;
+use room_store::{Rounds, Store, StoreFault};
+use sqlite::{Alter, Connection};
+use std::alloc::{AllocError, Global};
 
 /// The shared tables, the clock's moment, and a journal of all that was applied to them, of
 /// whichever connection. The journal takes no memory: only proofs read it.
 #[derive(Drop)]
 pub struct Served<S: Alter> {
     pub(crate) alloc: Global,
-    pub(crate) store: Store<S>,
+    pub(crate) rounds: Rounds<S>,
     pub(crate) moment: u64,
-    pub(crate) journal: Log<Entry, Result<Reply, StoreFault>>,
+    /// The rounds that are over, each with whether it was kept.
+    pub(crate) over: Log<Log<Entry, Result<Reply, StoreFault>>, bool>,
+    /// The round that is under way.
+    pub(crate) under_way: Log<Entry, Result<Reply, StoreFault>>,
+    /// Whether what is applied shares a commit.
+    pub(crate) shares: bool,
+    /// Whether the last round was lost.
+    pub(crate) is_lost: bool,
+    /// What the peer whose turn it is has asked in the round.
+    pub(crate) asked: Option<Entry>,
 }
 
 impl<S: Alter> Served<S> {
-    /// Serves a store, from the moment on, in seconds since 1970-01-01T00:00:00Z. It takes no
-    /// memory.
+    /// Serves a store, from the moment on, in seconds since 1970-01-01T00:00:00Z. No round is under
+    /// way. It takes no memory.
     pub fn new(alloc: Global, store: Store<S>, moment: u64) -> Served<S>
         ensures store { store_of result ≡ store }
         ensures moment { moment_of result ≡ moment }
-        ensures empty { journal result ≡ [] }
+        ensures empty { rounds_of result ≡ [] }
+        ensures none_open { open_of result ≡ [] }
+        ensures alone { shares_of result ≡ false }
+        ensures asked { asked_of result ≡ [] }
     {
         Served {
             alloc,
-            store,
+            rounds: Rounds::over(store),
             moment,
-            journal: Log::new(),
+            over: Log::new(),
+            under_way: Log::new(),
+            shares: false,
+            is_lost: false,
+            asked: None,
         }
     }
 
     /// The moment at which what comes from now on counts as done.
     pub fn set_moment(&mut self, moment: u64)
-        ensures moment { moment_of self.new ≡ moment }
-        ensures store { store_of self.new ≡ store_of self.old }
-        ensures journal { journal self.new ≡ journal self.old }
-        ensures continues { Continues S.Store self.old self.new }
+        ensures { self.new ≡ record self.old { moment = moment } }
     {
         self.moment = moment;
     }
 
-    /// The store, with its tables as they are. It takes no memory.
-    pub fn into_store(self) -> Store<S>
-        ensures { result ≡ store_of self }
+    /// Begins a round: until it is settled what is applied shares a commit. Where none can begin,
+    /// each is applied by itself.
+    pub fn begin(&mut self)
+        ensures under_way { IsTrue (shares_of self.old) → self.new ≡ self.old }
+        ensures begins { shares_of self.old ≡ false
+            → IsBegun S.Store self.old self.new ⊎ IsNotBegun S.Store self.old self.new }
     {
-        self.store
+        if self.shares {
+            return;
+        }
+        match self.rounds.begin() {
+            Ok(()) => self.shares = true,
+            Err(_) => self.over = self.over.and(&Log::new(), &false),
+        }
     }
 
-    /// Applies what came, once.
-    pub(crate) fn apply(&mut self, entry: &Entry) -> Result<Reply, StoreFault>
-        ensures journal { journal self.new ≡ journal self.old ++ (entry.now, result) ∷ [] }
-        ensures applies { AppliesEntry S.Store entry.now
-            (store_of self.old) (store_of self.new) result }
-        ensures continues { Continues S.Store self.old self.new }
-        ensures moment { moment_of self.new ≡ moment_of self.old }
+    /// Ends the round, if one is under way: what was applied in it is on the disk, or it is lost,
+    /// and nothing of it was applied.
+    pub fn settle(&mut self)
+        ensures alone { shares_of self.old ≡ false → self.new ≡ self.old }
+        ensures settles { IsTrue (shares_of self.old) → IsSettled S.Store self.old self.new }
     {
-        let told = self.store.apply(self.alloc, entry.moment(), &entry.event());
-        self.journal = self.journal.and(entry, &told);
+        if !self.shares {
+            return;
+        }
+        let kept = self.rounds.commit().is_ok();
+        self.over = self.over.and(&self.under_way, &kept);
+        self.under_way = Log::new();
+        self.shares = false;
+        self.is_lost = !kept;
+    }
+
+    /// Whether what is applied shares a commit.
+    pub fn is_shared(&self) -> bool
+        ensures { result ≡ shares_of self.now }
+    {
+        self.shares
+    }
+
+    /// Whether the last round was lost.
+    pub fn is_lost(&self) -> bool
+        ensures { result ≡ is_lost_of self.now }
+    {
+        self.is_lost
+    }
+
+    /// A peer's turn begins that has asked this in the round.
+    pub fn set_asked(&mut self, asked: Option<Entry>)
+        ensures { self.new ≡ record self.old { asked = asked } }
+    {
+        self.asked = asked;
+    }
+
+    /// What the peer whose turn it was has asked in the round.
+    pub fn take_asked(&mut self) -> Option<Entry>
+        ensures asked { result ≡ self.old.asked }
+        ensures same { self.new ≡ record self.old { asked = None } }
+    {
+        self.asked.take()
+    }
+
+    /// Applies what came, once. In a round a peer can ask one thing before that is settled: there is
+    /// no room for another, which is not applied.
+    pub(crate) fn apply(&mut self, entry: Entry) -> Result<Result<Reply, StoreFault>, AllocError>
+        ensures applies { IfOk result (λ told. AppliesNext S.Store entry told self.old self.new) }
+        ensures unchanged { OnErr result (self.new ≡ self.old) }
+    {
+        if self.shares {
+            return self.apply_shared(entry);
+        }
+        Ok(self.apply_alone(&entry))
+    }
+
+    pub(crate) fn apply_alone(&mut self, entry: &Entry) -> Result<Reply, StoreFault>
+        requires { shares_of self.old ≡ false }
+        ensures { AppliesNext S.Store entry.now result self.old self.new }
+    {
+        let told = self
+            .rounds
+            .apply_alone(self.alloc, entry.moment(), &entry.event());
+        self.over = self.over.and(&Log::new().and(entry, &told), &true);
         told
+    }
+
+    fn apply_shared(&mut self, entry: Entry) -> Result<Result<Reply, StoreFault>, AllocError>
+        requires { IsTrue (shares_of self.old) }
+        ensures applies { IfOk result (λ told. AppliesNext S.Store entry told self.old self.new) }
+        ensures unchanged { OnErr result (self.new ≡ self.old) }
+    {
+        if self.asked.is_some() {
+            return Err(AllocError);
+        }
+        let told = self.apply_in_round(&entry);
+        self.under_way = self.under_way.and(&entry, &told);
+        self.asked = Some(entry);
+        Ok(told)
+    }
+
+    /// Once the round is lost nothing is applied in it.
+    fn apply_in_round(&mut self, entry: &Entry) -> Result<Reply, StoreFault>
+        ensures applies { AppliesEntry S.Store true entry.now
+            (store_of self.old) (store_of self.new) result }
+        ensures same { self.new ≡ record self.old { rounds = store_of self.new } }
+    {
+        if !self.rounds.is_under_way() {
+            return Err(StoreFault::Storage);
+        }
+        self.rounds
+            .apply(self.alloc, entry.moment(), &entry.event())
+    }
+
+    /// The connection to the tables as they are, in no round that is under way. It takes no memory.
+    pub fn close(self) -> Connection<S>
+        ensures { result ≡ store_of self }
+    {
+        self.rounds.close()
     }
 }

@@ -55,7 +55,7 @@ impl<S: Alter> Served<S> {
             account,
             body,
         };
-        let told = self.apply(&entry);
+        let told = self.apply(entry)?;
         let header = header_in(request.body().as_slice());
         tell(response, told, header, has_long_body(request));
         Ok(())

@@ -1,21 +1,32 @@
--- What was applied in a hall is a list of events.
-use Rattle.std.proofs.Common.{List, [], ◌∷◌, Option, None, Some, sym, subst, inl, inr}
+-- What was applied in a hall is rounds, one after another.
+use Rattle.std.proofs.Common.{◌≡◌, ◌⊎◌, Bool, true, false, not, List, [], ◌∷◌, ◌++◌, Option, None, Some, IsTrue, refl, sym, ap, subst, ◌∙◌, append-nil, append_assoc, inl, inr}
 use Rattle.slab.specs.Slab.{Slab}
+use Rattle.sqlite.specs.Held.{Held}
 use Rattle.sqlite_trees.specs.declared.store.Store.{Ghosts}
-use Rattle.room_served.proofs.Journaling.{as_it_was, chain, line_chain, stays, then}
-use Rattle.room_served.specs.Journals.{Continues}
+use Rattle.std.proofs.lemmas.Bool.{true≢false}
+use Rattle.room_served.proofs.Journaling.{chain, leads_then, line_chain, one_more, stays}
+use Rattle.room_served.specs.Journals.{AllSettle, Begins, Continues, Follows, Leads, Notes, Round, Told, by_themselves, open_of, rounds_of, shares_of, store_of}
 use Rattle.room_served.specs.LinePeers as lines
 use Rattle.room_served.specs.Streams.{Ends}
+use Rattle.room_served.specs.declared.entry.Entry.{Entry}
 use Rattle.room_served.specs.declared.line_peer.LinePeer.{LinePeer}
 use Rattle.room_served.specs.declared.served.Served.{Served}
 use Rattle.room_served.specs.declared.step.Next.{Next}
-use Rattle.room_sockets.specs.Guests.{TakesTurn, of_socket}
-use Rattle.room_sockets.specs.Halls.{Does, DoesAll, Drop, Enter, GoesOn, Leave, Serve, Serves, Step}
+use Rattle.room_served.specs.declared.step.Turn.{Turn}
+use Rattle.room_sockets.specs.Guests.{AsksAgain, TakesTurn, Turns, in_round, of_socket}
+use Rattle.room_sockets.specs.Halls.{Begin, BeginsRound, Does, DoesAll, Drop, Enter, GoesOn, Leave, Serve, Serves, Settle, SettlesRound, Step}
 use Rattle.room_sockets.specs.declared.guest.Guest.{Guest}
 use Rattle.room_sockets.specs.declared.guest.Peer.{Peer}
 use Rattle.room_sockets.specs.declared.guest.Peer.TheVariants.{Http, Lines}
 
+-- it is, or it is not
+either : (b : Bool) → (b ≡ true) ⊎ (b ≡ false)
+either true = inl refl
+either false = inr refl
+
 module _ {S : Type 0} (store : Ghosts S) where
+  -- ---- a turn
+
   lines_continue : (ends ends2 : Ends) (next : Next) (before after : LinePeer) (old new : Served S) → lines.TakesTurn store ends ends2 next before after old new → Continues store old new
   lines_continue ends ends2 next before after old new is =
       elim is [
@@ -29,23 +40,191 @@ module _ {S : Type 0} (store : Ghosts S) where
   turn_continues ends ends2 next (Http before) (Lines after) old new is = absurd is
   turn_continues ends ends2 next (Lines before) (Http after) old new is = absurd is
 
-  serves_continues : (was now : Option Guest) (old new : Served S) → Serves store was now old new → Continues store old new
-  serves_continues None now old new is = as_it_was store old new is.1.tables is.1.journal
-  serves_continues (Some guest) now old new is =
-      elim is [
-        | inl driven ↦ then store old driven.begun new (as_it_was store old driven.begun driven.moment.tables driven.moment.journal) (turn_continues of_socket of_socket driven.next _ _ driven.begun new driven.driven.takes)
-        | inr gone ↦ subst (λ (served : Served S). Continues store old served) (sym gone.1) (stays store old)
+  again_continues : (lost : Bool) (asked : List Entry) (before begun : Peer) (old mid : Served S) → AsksAgain store lost asked before begun old mid → Continues store old mid
+  again_continues true (entry ∷ more) before (Lines begun) old mid is = one_more store entry is.told old mid is.next
+  again_continues true (entry ∷ more) before (Http begun) old mid is = absurd is
+  again_continues true [] before begun old mid is = subst (λ (served : Served S). Continues store old served) (sym is.1) (stays store old)
+  again_continues false asked before begun old mid is = subst (λ (served : Served S). Continues store old served) (sym is.1) (stays store old)
+
+  turn_shares : (shares : Bool) (turn : Turn) (next : Next) (guest left : Guest) (old new : Served S) → Turns store shares turn next guest left old new → shares_of new ≡ shares_of old
+  turn_shares false turn next guest left old new turns = (turn_continues of_socket of_socket next _ _ turns.mid new turns.takes).shares ∙ (again_continues _ _ _ _ old turns.mid turns.again).shares
+  turn_shares true turn next guest left old new turns = ap (λ (served : Served S). shares_of served) turns.same ∙ (turn_continues in_round in_round next _ _ (record old { asked = guest.asked }) turns.left turns.takes).shares
+
+  pub serves_shares : (was now : Option Guest) (old new : Served S) → Serves store was now old new → shares_of new ≡ shares_of old
+  serves_shares None now old new serves = ap (λ (served : Served S). shares_of served) serves.1.1
+  serves_shares (Some guest) now old new serves =
+      elim serves [
+        | inl driven ↦ turn_shares _ driven.turn driven.next guest driven.left driven.begun new driven.driven ∙ ap (λ (served : Served S). shares_of served) driven.moment.1
+        | inr gone ↦ ap (λ (served : Served S). shares_of served) gone.1
       ]
 
-  step_continues : (step : Step) (a b : Slab Guest) (old new : Served S) → Does store step a b old new → Continues store old new
-  step_continues (Serve key) a b old new is = serves_continues _ _ old new is.0
-  step_continues (Drop key) a b old new is = subst (λ (served : Served S). Continues store old served) (sym is.2) (stays store old)
-  step_continues Enter a b old new is = subst (λ (served : Served S). Continues store old served) (sym is.1) (stays store old)
-  step_continues Leave a b old new is = subst (λ (served : Served S). Continues store old served) (sym is.1) (stays store old)
+  -- ---- what was served so far, and the round that is under way, if one is
 
-  all_continue : (steps : List Step) (a b : Slab Guest) (old new : Served S) → DoesAll store steps a b old new → Continues store old new
-  all_continue [] a b old new is = subst (λ (served : Served S). Continues store old served) (sym is.1) (stays store old)
-  all_continue (step ∷ steps) a b old new is = then store old is.1 new (step_continues step a is.0 old is.1 is.2) (all_continue steps is.0 b is.1 new is.3)
+  pub record IsAlone (old new : Served S) : Type 0 where
+    pub alone : shares_of new ≡ false
+    pub none_left : open_of new ≡ []
+    pub follows : Follows store old new
 
-  pub continues : (a b : Slab Guest) (old new : Served S) → GoesOn store a b old new → Continues store old new
-  continues a b old new is = all_continue is.0 a b old new is.1
+  pub record IsInRound (old new : Served S) : Type 0 where
+    pub shared : IsTrue (shares_of new)
+    pub more : List Round
+    pub over : rounds_of new ≡ rounds_of old ++ more
+    pub was : Held S
+    pub begun : Held S
+    pub settles : AllSettle store (store_of old) more was
+    pub begins : Begins store was begun
+    pub leads : Leads store true begun (open_of new) (store_of new)
+
+  abbrev pub IsServed : (old new : Served S) → Type 0
+  IsServed old new = IsAlone old new ⊎ IsInRound old new
+
+  settle_then : (first more : List Round) (old mid new : Held S) → AllSettle store old first mid → AllSettle store mid more new → AllSettle store old (first ++ more) new
+  settle_then [] more old mid new is later = subst (λ (held : Held S). AllSettle store held more new) is later
+  settle_then (round ∷ first) more old mid new is later = (is.0, is.1, settle_then first more is.0 mid new is.2 later)
+
+  -- each by itself is a round of one
+  settle_each : (more : List Told) (old new : Held S) → Leads store false old more new → AllSettle store old (by_themselves more) new
+  settle_each [] old new is = is
+  settle_each (told ∷ more) old new (next, applies, leads) = (next, inr (inl (refl, (next, applies, refl))), settle_each more next new leads)
+
+  follow_then : (old mid new : Served S) (more : List Round) → Follows store old mid → rounds_of new ≡ rounds_of mid ++ more → AllSettle store (store_of mid) more (store_of new) → Follows store old new
+  follow_then old mid new more first over settles = record {
+    more = first.more ++ more;
+    over = over ∙ ap (λ x. x ++ more) first.over ∙ append_assoc (rounds_of old) first.more more;
+    settles = settle_then first.more more (store_of old) (store_of mid) (store_of new) first.settles settles;
+  }
+
+  -- what is applied by itself
+  alone_continues : (old mid new : Served S) (more : List Told) → IsAlone old mid → Notes false more mid new → Leads store false (store_of mid) more (store_of new) → shares_of new ≡ shares_of mid → IsAlone old new
+  alone_continues old mid new more is notes leads shares = record {
+    alone = shares ∙ is.alone;
+    none_left = notes.1 ∙ is.none_left;
+    follows = follow_then old mid new (by_themselves more) is.follows notes.0 (settle_each more (store_of mid) (store_of new) leads);
+  }
+
+  -- and in a round
+  round_continues : (old mid new : Served S) (more : List Told) → IsInRound old mid → Notes true more mid new → Leads store true (store_of mid) more (store_of new) → shares_of new ≡ shares_of mid → IsInRound old new
+  round_continues old mid new more is notes leads shares = record {
+    shared = shares ∙ is.shared;
+    more = is.more;
+    over = notes.0 ∙ is.over;
+    was = is.was;
+    begun = is.begun;
+    settles = is.settles;
+    begins = is.begins;
+    leads = subst (λ (asked : List Told). Leads store true is.begun asked (store_of new)) (sym notes.1) (leads_then store true (open_of mid) more is.begun (store_of mid) (store_of new) is.leads leads);
+  }
+
+  served_continues : (old mid new : Served S) → IsServed old mid → Continues store mid new → IsServed old new
+  served_continues old mid new (inl is) more = inl (alone_continues old mid new more.more is (subst (λ b. Notes b more.more mid new) is.alone more.notes) (subst (λ b. Leads store b (store_of mid) more.more (store_of new)) is.alone more.leads) more.shares)
+  served_continues old mid new (inr is) more = inr (round_continues old mid new more.more is (subst (λ b. Notes b more.more mid new) is.shared more.notes) (subst (λ b. Leads store b (store_of mid) more.more (store_of new)) is.shared more.leads) more.shares)
+
+  -- ---- what proofs alone read, and the moment, may be another
+
+  -- the same journal, over the same tables
+  record IsAsServed (old new : Served S) : Type 0 where
+    pub rounds : rounds_of new ≡ rounds_of old
+    pub left : open_of new ≡ open_of old
+    pub tables : store_of new ≡ store_of old
+    pub shares : shares_of new ≡ shares_of old
+
+  as_served : (old mid new : Served S) → IsServed old mid → IsAsServed mid new → IsServed old new
+  as_served old mid new (inl is) same = inl (record {
+    alone = same.shares ∙ is.alone;
+    none_left = same.left ∙ is.none_left;
+    follows = record {
+      more = is.follows.more;
+      over = same.rounds ∙ is.follows.over;
+      settles = subst (λ (held : Held S). AllSettle store (store_of old) is.follows.more held) (sym same.tables) is.follows.settles;
+    };
+  })
+  as_served old mid new (inr is) same = inr (record {
+    shared = same.shares ∙ is.shared;
+    more = is.more;
+    over = same.rounds ∙ is.over;
+    was = is.was;
+    begun = is.begun;
+    settles = is.settles;
+    begins = is.begins;
+    leads = subst (λ (held : Held S). Leads store true is.begun (open_of new) held) (sym same.tables) (subst (λ (asked : List Told). Leads store true is.begun asked (store_of mid)) (sym same.left) is.leads);
+  })
+
+  like : (old new other : Served S) → new ≡ other → IsAsServed old other → IsAsServed old new
+  like old new other is same = subst (IsAsServed old) (sym is) same
+
+  -- ---- steps
+
+  turn_served : (shares : Bool) (turn : Turn) (next : Next) (guest left : Guest) (old mid new : Served S) → IsServed old mid → Turns store shares turn next guest left mid new → IsServed old new
+  turn_served false turn next guest left old mid new is turns =
+      served_continues old turns.mid new (served_continues old mid turns.mid is (again_continues _ _ _ _ mid turns.mid turns.again)) (turn_continues of_socket of_socket next _ _ turns.mid new turns.takes)
+  turn_served true turn next guest left old mid new is turns =
+      let begun : Served S = record mid { asked = guest.asked } in
+      let there = as_served old mid begun is (record { rounds = refl; left = refl; tables = refl; shares = refl }) in
+      let on = served_continues old begun turns.left there (turn_continues in_round in_round next _ _ begun turns.left turns.takes) in
+      as_served old turns.left new on (like turns.left new (record turns.left { asked = None }) turns.same (record { rounds = refl; left = refl; tables = refl; shares = refl }))
+
+  serves_served : (was now : Option Guest) (old mid new : Served S) → IsServed old mid → Serves store was now mid new → IsServed old new
+  serves_served None now old mid new is serves = as_served old mid new is (like mid new (record mid { moment = serves.1.0 }) serves.1.1 (record { rounds = refl; left = refl; tables = refl; shares = refl }))
+  serves_served (Some guest) now old mid new is serves =
+      elim serves [
+        | inl driven ↦
+            let begun = as_served old mid driven.begun is (like mid driven.begun (record mid { moment = driven.moment.0 }) driven.moment.1 (record { rounds = refl; left = refl; tables = refl; shares = refl })) in
+            turn_served _ driven.turn driven.next guest driven.left old driven.begun new begun driven.driven
+        | inr gone ↦ subst (λ (served : Served S). IsServed old served) (sym gone.1) is
+      ]
+
+  begins_served : (old mid new : Served S) → IsServed old mid → BeginsRound store mid new → IsServed old new
+  begins_served old mid new is (inl under_way) = subst (λ (served : Served S). IsServed old served) (sym under_way.1) is
+  begins_served old mid new (inr is) (inr (inl begun)) = absurd (true≢false (sym is.shared ∙ begun.alone))
+  begins_served old mid new (inr is) (inr (inr not_begun)) = absurd (true≢false (sym is.shared ∙ not_begun.alone))
+  begins_served old mid new (inl is) (inr (inl begun)) = inr (record {
+    shared = ap (λ (served : Served S). shares_of served) begun.same;
+    more = is.follows.more;
+    over = ap (λ (served : Served S). rounds_of served) begun.same ∙ is.follows.over;
+    was = store_of mid;
+    begun = store_of new;
+    settles = is.follows.settles;
+    begins = begun.begins;
+    leads = subst (λ (asked : List Told). Leads store true (store_of new) asked (store_of new)) (sym (ap (λ (served : Served S). open_of served) begun.same ∙ is.none_left)) refl;
+  })
+  begins_served old mid new (inl is) (inr (inr not_begun)) = inl (record {
+    alone = ap (λ (served : Served S). shares_of served) not_begun.same ∙ is.alone;
+    none_left = ap (λ (served : Served S). open_of served) not_begun.same ∙ is.none_left;
+    follows = follow_then old mid new (([], false) ∷ []) is.follows not_begun.over (store_of new, inr (inr (refl, not_begun.refused)), refl);
+  })
+
+  settles_served : (old mid new : Served S) → IsServed old mid → SettlesRound store mid new → IsServed old new
+  settles_served old mid new is (inl none) = subst (λ (served : Served S). IsServed old served) (sym none.1) is
+  settles_served old mid new (inl is) (inr settled) = absurd (true≢false (sym settled.shared ∙ is.alone))
+  settles_served old mid new (inr is) (inr settled) =
+      let round : Round = (open_of mid, not (new.is_lost)) in
+      inl (record {
+        alone = ap (λ (served : Served S). shares_of served) settled.same;
+        none_left = settled.none_left;
+        follows = record {
+          more = is.more ++ round ∷ [];
+          over = settled.over ∙ ap (λ x. x ++ round ∷ []) is.over ∙ append_assoc (rounds_of old) is.more (round ∷ []);
+          settles = settle_then is.more (round ∷ []) (store_of old) is.was (store_of new) is.settles (store_of new, inl (record { begun = is.begun; ended = store_of mid; begins = is.begins; leads = is.leads; ends = settled.ends }), refl);
+        };
+      })
+
+  step_served : (step : Step) (a b : Slab Guest) (old mid new : Served S) → IsServed old mid → Does store step a b mid new → IsServed old new
+  step_served Begin a b old mid new is does = begins_served old mid new is does.1
+  step_served Settle a b old mid new is does = settles_served old mid new is does.1
+  step_served (Serve key) a b old mid new is does = serves_served _ _ old mid new is does.0
+  step_served (Drop key) a b old mid new is does = subst (λ (served : Served S). IsServed old served) (sym does.2) is
+  step_served Enter a b old mid new is does = subst (λ (served : Served S). IsServed old served) (sym does.1) is
+  step_served Leave a b old mid new is does = subst (λ (served : Served S). IsServed old served) (sym does.1) is
+
+  all_served : (steps : List Step) (a b : Slab Guest) (old mid new : Served S) → IsServed old mid → DoesAll store steps a b mid new → IsServed old new
+  all_served [] a b old mid new is does = subst (λ (served : Served S). IsServed old served) (sym does.1) is
+  all_served (step ∷ steps) a b old mid new is does = all_served steps does.0 b old does.1 new (step_served step a does.0 old mid does.1 is does.2) does.3
+
+  follows_if_alone : (old new : Served S) → IsServed old new → shares_of new ≡ false → Follows store old new
+  follows_if_alone old new (inl is) alone = is.follows
+  follows_if_alone old new (inr is) alone = absurd (true≢false (sym is.shared ∙ alone))
+
+  pub follows : (a b : Slab Guest) (old new : Served S) → GoesOn store a b old new → shares_of old ≡ false → open_of old ≡ [] → Follows store old new
+  follows a b old new goes alone none =
+      let first : IsServed old old = inl (record { alone = alone; none_left = none; follows = record { more = []; over = sym (append-nil (rounds_of old)); settles = refl } }) in
+      follows_if_alone old new (all_served goes.0 a b old old new first goes.1) (goes.2 alone)

@@ -1,12 +1,14 @@
 -- A turn of a peer that came in by a door (all this project's own).
-use Rattle.std.specs.Prelude.{◌≡◌, List, [], ◌∷◌, ◌++◌, None, IsFalse}
+use Rattle.std.specs.Prelude.{◌≡◌, Bool, true, false, List, [], ◌∷◌, ◌++◌, None, Some, IsFalse}
 use Rattle.http_server.specs.Connection.{history}
 use Rattle.http_server.specs.History.{new_history}
 use Rattle.sqlite_trees.specs.declared.store.Store.{Ghosts}
 use Rattle.room_served.specs.HttpPeers as http
+use Rattle.room_served.specs.Journals.{is_lost_of, list_of}
 use Rattle.room_served.specs.LinePeers as lines
 use Rattle.room_served.specs.Streams.{Ends}
 use Rattle.room_served.specs.Lines.{input_of, output_of, side_of}
+use Rattle.room_served.specs.declared.entry.Entry.{Entry}
 use Rattle.room_served.specs.declared.line_connection.Side.{Side}
 use Rattle.room_served.specs.declared.line_connection.Side.TheVariants as side_is
 use Rattle.room_served.specs.declared.line_peer.LinePeer.{LinePeer}
@@ -22,6 +24,10 @@ use Rattle.room_sockets.specs.declared.guest.Peer.TheVariants.{Http, Lines}
 
 abbrev pub peer_of : Guest → Peer
 peer_of guest = guest.peer
+
+-- what it asked in a round, until it has a turn once that is settled
+abbrev pub asked_in : Guest → List Entry
+asked_in guest = list_of guest.asked
 
 -- its turns so far, each with what came of it
 abbrev pub turns_of : Guest → List (Turn × Next)
@@ -53,6 +59,10 @@ IsAtRest (Lines peer) = lines.HasTaken (lines.lines_of peer)
 abbrev pub of_socket : Ends
 of_socket = (None, None)
 
+-- in a round nothing is written
+abbrev pub in_round : Ends
+in_round = (None, Some [])
+
 module _ {S : Type 0} (store : Ghosts S) where
   -- what came on this connection is taken, by what is spoken on it, and nothing else becomes of the
   -- rooms: each request is a call of the service, and each line is applied, or a bad one
@@ -64,10 +74,39 @@ module _ {S : Type 0} (store : Ghosts S) where
       lines.TakesTurn store ends ends2 next before after old new
   TakesTurn _ _ _ _ _ _ _ = ⊥
 
-  -- a guest had this turn, and this came of it
+  -- What was asked in a round that was lost is asked again, by itself, and that is told last on the
+  -- connection, in the place of what was to go. Otherwise all is as it was.
+  abbrev pub AsksAgain : (lost : Bool) (asked : List Entry) (before begun : Peer)
+      (old mid : Served S) → Type 0
+  AsksAgain true (entry ∷ more) before (Lines begun) old mid =
+      lines.IsToldAgain store entry begun old mid
+  AsksAgain true (entry ∷ more) before (Http begun) old mid = ⊥
+  AsksAgain _ _ before begun old mid = (begun ≡ before) × (mid ≡ old)
+
+  -- a guest had this turn where nothing is shared, and this came of it
   pub record HasTurn (turn : Turn) (next : Next) (before after : Guest) (old new : Served S)
       : Type 0 where
-    pub takes : TakesTurn of_socket of_socket next (peer_of before) (peer_of after) old new
+    pub begun : Peer
+    pub mid : Served S
+    pub again : AsksAgain (is_lost_of old) (asked_in before) (peer_of before) begun old mid
+    pub takes : TakesTurn of_socket of_socket next begun (peer_of after) mid new
+    pub asked : asked_in after ≡ []
     pub rests : next ≡ Wait → IsAtRest (peer_of after)
     pub holds : next ≡ Hold → IsFalse turn.has_room
     pub turns : turns_of after ≡ turns_of before ++ (turn, next) ∷ []
+
+  -- the same in a round, with what it asked before in the same round
+  pub record AsksTurn (turn : Turn) (next : Next) (before after : Guest) (old new : Served S)
+      : Type 0 where
+    pub left : Served S
+    pub takes : TakesTurn in_round in_round next (peer_of before) (peer_of after)
+        (record old { asked = before.asked }) left
+    pub asked : after.asked ≡ left.asked
+    pub same : new ≡ record left { asked = None }
+    pub holds : next ≡ Hold → IsFalse turn.has_room
+    pub turns : turns_of after ≡ turns_of before ++ (turn, next) ∷ []
+
+  abbrev pub Turns : (shares : Bool) (turn : Turn) (next : Next) (before after : Guest)
+      (old new : Served S) → Type 0
+  Turns false turn next before after old new = HasTurn turn next before after old new
+  Turns true turn next before after old new = AsksTurn turn next before after old new

@@ -1,17 +1,17 @@
 -- What a clause reads of a hall, and what goes on in it (all this project's own).
-use Rattle.std.specs.Prelude.{◌≡◌, ◌≢◌, ◌-◌, ◌⊎◌, ⊤, ℕ, List, [], ◌∷◌, Option, None, Some, IsSomeAnd, if◌then◌else◌, nat_le}
+use Rattle.std.specs.Prelude.{◌≡◌, ◌≢◌, ◌-◌, ◌⊎◌, ⊤, ℕ, false, IsTrue, List, [], ◌∷◌, Option, None, Some, IsSomeAnd, if◌then◌else◌, nat_le}
 use Rattle.std.specs.List.{All, filter_map}
 use Rattle.mio.specs.Event.{event_token}
 use Rattle.mio.specs.Events.{items}
 use Rattle.mio.specs.declared.event.event.Event.{Event}
 use Rattle.slab.specs.Slab.{Slab, SameValues, get}
 use Rattle.sqlite_trees.specs.declared.store.Store.{Ghosts}
-use Rattle.room_served.specs.Journals.{journal, store_of}
+use Rattle.room_served.specs.Journals.{IsBegun, IsNotBegun, IsSettled, shares_of}
 use Rattle.room_served.specs.declared.served.Served.{Served}
 use Rattle.room_served.specs.declared.step.Next.{Next}
 use Rattle.room_served.specs.declared.step.Next.TheVariants.{Again, Close, Part}
 use Rattle.room_served.specs.declared.step.Turn.{Turn}
-use Rattle.room_sockets.specs.Guests.{HasTurn, IsNew}
+use Rattle.room_sockets.specs.Guests.{IsNew, Turns}
 use Rattle.room_sockets.specs.declared.guest.Guest.{Guest}
 use Rattle.room_sockets.specs.declared.hall.Hall.{Hall}
 use Rattle.room_sockets.specs.declared.hall.TheConstants.{FIRST_GUEST}
@@ -65,10 +65,9 @@ MayLeave _ = ⊥
 abbrev pub StaysAfter : (next : Next) (left now : Option Guest) → Type 0
 StaysAfter next left now = ((next ≢ Close) × (now ≡ left)) ⊎ (MayLeave next × (now ≡ None))
 
--- the same tables and the same journal; only the moment may be another
-pub record IsAtMoment {S : Type 0} (old new : Served S) : Type 0 where
-  pub tables : store_of new ≡ store_of old
-  pub journal : journal new ≡ journal old
+-- only the moment may be another
+abbrev pub IsAtMoment : {S : Type 0} → (old new : Served S) → Type 0
+IsAtMoment old new = (moment : ℕ) × (new ≡ record old { moment = moment })
 
 module _ {S : Type 0} (store : Ghosts S) where
   -- a guest had a turn at a moment, and is there as the turn left it, or was let go after it
@@ -78,7 +77,7 @@ module _ {S : Type 0} (store : Ghosts S) where
     pub turn : Turn
     pub next : Next
     pub left : Guest
-    pub driven : HasTurn store turn next guest left begun new
+    pub driven : Turns store (shares_of begun) turn next guest left begun new
     pub stays : StaysAfter next (Some left) now
 
   -- Who has the key has a turn. Nobody has it where nobody has the key; and where a clock tells
@@ -90,6 +89,8 @@ module _ {S : Type 0} (store : Ghosts S) where
 -- ---- one thing after another
 
 pub data Step : Type 0 where
+  Begin : Step
+  Settle : Step
   Serve : (key : ℕ) → Step
   Drop : (key : ℕ) → Step
   Enter : Step
@@ -98,6 +99,8 @@ pub data Step : Type 0 where
 -- the peer of the key is served before anything else becomes of it in these steps
 abbrev pub IsServedFirst : (key : ℕ) (steps : List Step) → Type 0
 IsServedFirst key [] = ⊥
+IsServedFirst key (Begin ∷ steps) = IsServedFirst key steps
+IsServedFirst key (Settle ∷ steps) = IsServedFirst key steps
 IsServedFirst key (Serve other ∷ steps) = (other ≡ key) ⊎ IsServedFirst key steps
 IsServedFirst key (Drop other ∷ steps) = (other ≢ key) × IsServedFirst key steps
 IsServedFirst key (Enter ∷ steps) = ⊥
@@ -106,15 +109,29 @@ IsServedFirst key (Leave ∷ steps) = ⊥
 -- the same, or nothing becomes of it
 abbrev pub IsSpared : (key : ℕ) (steps : List Step) → Type 0
 IsSpared key [] = ⊤
+IsSpared key (Begin ∷ steps) = IsSpared key steps
+IsSpared key (Settle ∷ steps) = IsSpared key steps
 IsSpared key (Serve other ∷ steps) = (other ≡ key) ⊎ IsSpared key steps
 IsSpared key (Drop other ∷ steps) = (other ≢ key) × IsSpared key steps
 IsSpared key (Enter ∷ steps) = ⊥
 IsSpared key (Leave ∷ steps) = ⊥
 
 module _ {S : Type 0} (store : Ghosts S) where
-  -- who has a key is served, or may be let go, and all others stay; or some come in, or are let
-  -- go. Nothing becomes of what is served but where somebody is served.
+  -- a round begins, or can't, or one is under way
+  abbrev pub BeginsRound : (before after : Served S) → Type 0
+  BeginsRound before after = (IsTrue (shares_of before) × (after ≡ before))
+      ⊎ (IsBegun store before after ⊎ IsNotBegun store before after)
+
+  -- the round is settled, if one is under way
+  abbrev pub SettlesRound : (before after : Served S) → Type 0
+  SettlesRound before after =
+      ((shares_of before ≡ false) × (after ≡ before)) ⊎ IsSettled store before after
+
+  -- A round begins or is settled; or who has a key is served, or may be let go, and all others stay;
+  -- or some come in, or are let go. Nothing else becomes of what is served.
   abbrev pub Does : (step : Step) (old new : Slab Guest) (before after : Served S) → Type 0
+  Does Begin old new before after = SameValues old new × BeginsRound before after
+  Does Settle old new before after = SameValues old new × SettlesRound before after
   Does (Serve key) old new before after =
       Serves store (get old key) (get new key) before after × AreOthersKept key old new
   Does (Drop key) old new before after =
@@ -128,25 +145,32 @@ module _ {S : Type 0} (store : Ghosts S) where
   DoesAll (step ∷ steps) old new before after = (mid : Slab Guest) × (between : Served S)
       × Does step old mid before between × DoesAll steps mid new between after
 
+  -- where no round was under way none is
+  abbrev pub StaysAlone : (before after : Served S) → Type 0
+  StaysAlone before after = shares_of before ≡ false → shares_of after ≡ false
+
   -- all that became of the peers and of what is served is such steps
   abbrev pub GoesOn : (old new : Slab Guest) (before after : Served S) → Type 0
   GoesOn old new before after = (steps : List Step) × DoesAll steps old new before after
+      × StaysAlone before after
 
   -- the same, and nobody is let go who was not served
   abbrev pub SparesAll : (old new : Slab Guest) (before after : Served S) → Type 0
   SparesAll old new before after = (steps : List Step)
-      × DoesAll steps old new before after × ((key : ℕ) → IsSpared key steps)
+      × DoesAll steps old new before after × StaysAlone before after
+      × ((key : ℕ) → IsSpared key steps)
 
   -- the same, and each peer of these keys is served
   abbrev pub SparesAndServes : (keys : List ℕ) (old new : Slab Guest) (before after : Served S)
       → Type 0
   SparesAndServes keys old new before after = (steps : List Step)
-      × DoesAll steps old new before after × ((key : ℕ) → IsSpared key steps)
-      × All (λ key. IsServedFirst key steps) keys
+      × DoesAll steps old new before after × StaysAlone before after
+      × ((key : ℕ) → IsSpared key steps) × All (λ key. IsServedFirst key steps) keys
 
   -- all that became of the peers and of what is served is such steps, and each peer of these keys
   -- is served before anything else becomes of it
   abbrev pub ServesThose : (keys : List ℕ) (old new : Slab Guest) (before after : Served S)
       → Type 0
   ServesThose keys old new before after = (steps : List Step)
-      × DoesAll steps old new before after × All (λ key. IsServedFirst key steps) keys
+      × DoesAll steps old new before after × StaysAlone before after
+      × All (λ key. IsServedFirst key steps) keys

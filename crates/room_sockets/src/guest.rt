@@ -1,22 +1,32 @@
 //! A peer that came in: its socket, and what it speaks.
 
-ghost use Rattle.std.specs.Prelude.{◌≡◌, ◌++◌, ◌∷◌, [], IsFalse};
-ghost use Rattle.room_served.specs.Journals.{Continues};
-ghost use Rattle.room_sockets.specs.Guests.{IsAtRest, TakesTurn, of_socket, peer_of, turns_of};
+ghost use Rattle.std.specs.Prelude.{◌≡◌, [], false, IsFalse};
+ghost use Rattle.room_served.specs.Journals.{Continues, is_lost_of, shares_of};
+ghost use Rattle.room_sockets.specs.Guests.{AsksAgain, AsksTurn, HasTurn, IsAtRest, TakesTurn, Turns, asked_in, peer_of, turns_of};
 
-use crate::stream::Stream;
+use crate::stream::{Stream, Unsent};
 use http_server::Log;
 use mio::{Interest, Registry, Token};
-use room_served::{HttpPeer, LARGE, LinePeer, Next, Patience, Served, Turn};
+use room_served::{Entry, HttpPeer, LARGE, LinePeer, Next, Patience, Served, Turn};
 use sqlite::Alter;
+use std::alloc::Global;
 use std::io;
 use std::io::{Read, Write};
 
 /// What a peer speaks.
-#[derive(Drop)]
 pub(crate) enum Peer {
     Http(HttpPeer),
     Lines(LinePeer),
+}
+
+// It is written out, so that a caller does not prove again how each part is dropped.
+impl Drop for Peer {
+    fn drop(self) {
+        match self {
+            Peer::Http(_) => {}
+            Peer::Lines(_) => {}
+        }
+    }
 }
 
 impl Peer {
@@ -49,6 +59,8 @@ pub(crate) struct Guest {
     peer: Peer,
     /// The place among the doors of that by which it came in.
     door: usize,
+    /// What it asked in a round, until it has another turn once that is settled.
+    asked: Option<Entry>,
     /// Its turns so far, each with what came of it. They take no memory: only proofs read them.
     turns: Log<Turn, Next>,
 }
@@ -57,11 +69,13 @@ impl Guest {
     pub(crate) fn new(stream: Stream, peer: Peer, door: usize) -> Guest
         ensures peer { peer_of result ≡ peer }
         ensures turns { turns_of result ≡ [] }
+        ensures asked { asked_in result ≡ [] }
     {
         Guest {
             stream,
             peer,
             door,
+            asked: None,
             turns: Log::new(),
         }
     }
@@ -70,19 +84,61 @@ impl Guest {
         self.door
     }
 
-    /// Has a turn: what came by its socket is taken, and what it is told goes by it.
-    pub(crate) fn drive<S: Alter>(&mut self, served: &mut Served<S>, turn: Turn) -> Next
-        ensures takes { TakesTurn S.Store of_socket of_socket result
-            (peer_of self.old) (peer_of self.new) served.old served.new }
-        ensures continues { Continues S.Store served.old served.new }
-        ensures rests { result ≡ Next.Wait → IsAtRest (peer_of self.new) }
-        ensures holds { result ≡ Next.Hold → IsFalse turn.has_room }
-        ensures turns { turns_of self.new ≡ turns_of self.old ++ (turn, result) ∷ [] }
+    /// Has a turn: what came by its socket is taken. In a round nothing goes by it; otherwise what
+    /// it is told does, and where the round in which it asked was lost that is asked again first.
+    pub(crate) fn drive<S: Alter>(
+        &mut self,
+        alloc: Global,
+        served: &mut Served<S>,
+        turn: Turn,
+    ) -> Next
+        ensures { Turns S.Store (shares_of served.old) turn result
+            self.old self.new served.old served.new }
     {
+        if served.is_shared() {
+            self.ask(served, turn)
+        } else {
+            self.go_on(alloc, served, turn)
+        }
+    }
+
+    fn ask<S: Alter>(&mut self, served: &mut Served<S>, turn: Turn) -> Next
+        ensures { AsksTurn S.Store turn result self.old self.new served.old served.new }
+    {
+        served.set_asked(self.asked.take());
+        let stream = &self.stream;
+        let next = self.peer.drive(&mut &*stream, &mut Unsent, served, turn);
+        self.asked = served.take_asked();
+        self.turns = self.turns.and(&turn, &next);
+        next
+    }
+
+    fn go_on<S: Alter>(&mut self, alloc: Global, served: &mut Served<S>, turn: Turn) -> Next
+        requires { shares_of served.old ≡ false }
+        ensures { HasTurn S.Store turn result self.old self.new served.old served.new }
+    {
+        self.ask_again(alloc, served, turn.ticks);
         let stream = &self.stream;
         let next = self.peer.drive(&mut &*stream, &mut &*stream, served, turn);
         self.turns = self.turns.and(&turn, &next);
         next
+    }
+
+    /// Where the round was lost, what it asked in it is asked again.
+    fn ask_again<S: Alter>(&mut self, alloc: Global, served: &mut Served<S>, ticks: u64)
+        requires { shares_of served.old ≡ false }
+        ensures again { AsksAgain S.Store (is_lost_of served.old) (asked_in self.old)
+            (peer_of self.old) (peer_of self.new) served.old served.new }
+        ensures asked { asked_in self.new ≡ [] }
+        ensures turns { turns_of self.new ≡ turns_of self.old }
+    {
+        let Some(asked) = self.asked.take() else {
+            return;
+        };
+        if served.is_lost() {
+            let peer = LinePeer::told_again(alloc, &asked, served, ticks);
+            self.peer = Peer::Lines(peer);
+        }
     }
 
     /// Tells the peer that nothing more comes.

@@ -1,9 +1,9 @@
 //! The peers of all doors, and the loop that waits for them.
 
-ghost use Rattle.std.specs.Prelude.{◌≡◌, ◌≢◌, [], ◌∷◌, IfOk, None, IsFalse, IsTrue};
+ghost use Rattle.std.specs.Prelude.{◌≡◌, ◌≢◌, [], ◌∷◌, false, IfOk, None, IsFalse, IsTrue};
 ghost use Rattle.mio.specs.Events.{items};
 ghost use Rattle.slab.specs.Slab.{SameValues, get};
-ghost use Rattle.room_served.specs.Journals.{Continues};
+ghost use Rattle.room_served.specs.Journals.{Follows, open_of, shares_of};
 ghost use Rattle.room_sockets.specs.Halls.{AreOthersKept, GoesOn, IsEmpty, MayLeave, OnlyLeave, Serves, ServesThose, SparesAndServes, StaysAfter, guests_of, keys_told, told_by};
 
 use crate::clock::{moment, ticks};
@@ -23,11 +23,11 @@ use std::io;
 use std::net::Net;
 use std::time::{Clock, Duration};
 
-/// How many events are taken from the system at once.
-const MOST_EVENTS: usize = 256;
+/// How many events are taken from the system at once. So many peers at most share a commit.
+const MOST_EVENTS: usize = 64;
 
 /// The doors have the first names among the events, and their guests those from here on.
-const FIRST_GUEST: usize = 3;
+pub(crate) const FIRST_GUEST: usize = 3;
 
 /// The peers of all doors, and what the system told of them last.
 #[derive(Drop)]
@@ -92,7 +92,8 @@ impl Hall {
     pub fn run<S: Alter>(&mut self, clock: &impl Clock, served: &mut Served<S>) -> io::Result<()>
         ensures goes_on { GoesOn S.Store (guests_of self.old) (guests_of self.new)
             served.old served.new }
-        ensures continues { Continues S.Store served.old served.new }
+        ensures follows { shares_of served.old ≡ false → open_of served.old ≡ []
+            → Follows S.Store served.old served.new }
     {
         for _ in 0..u64::MAX {
             self.turn(clock, served)?;
@@ -101,15 +102,19 @@ impl Hall {
     }
 
     /// Waits until something comes, or a deadline may have passed, and serves those who can go on.
+    /// Where the system told of several, what they ask shares a commit, and nobody is answered before
+    /// it.
     pub fn turn<S: Alter>(&mut self, clock: &impl Clock, served: &mut Served<S>) -> io::Result<()>
         ensures goes_on { GoesOn S.Store (guests_of self.old) (guests_of self.new)
             served.old served.new }
-        ensures continues { Continues S.Store served.old served.new }
+        ensures follows { shares_of served.old ≡ false → open_of served.old ≡ []
+            → Follows S.Store served.old served.new }
         ensures serves { ServesThose S.Store (told_by self.new)
             (guests_of self.old) (guests_of self.new) served.old served.new }
     {
         let timeout = self.peers.timeout();
         self.peers.poll.poll(&mut self.events, timeout)?;
+        self.peers.share(&self.events, clock, served);
         self.peers.serve_all(&self.events, clock, served);
         let ticks = self.peers.ticks(clock)?;
         self.peers.admit_all(ticks);
@@ -183,36 +188,38 @@ impl Peers {
             has_room: self.stock.has_room(key),
             is_last,
         };
+        let alloc = self.alloc;
+        let shares = served.is_shared();
         let Some(guest) = self.guests.get_mut(key) else {
             return;
         };
         let before = guest.held();
-        let next = guest.drive(served, turn);
+        let next = guest.drive(alloc, served, turn);
         self.stock
             .changed(key, before, guest.held(), guest.is_large());
-        self.after_turn(key, next);
+        self.after_turn(key, next, shares);
     }
 
     /// What a turn came to: the peer stays, or is let go.
-    fn after_turn(&mut self, key: usize, next: Next)
+    fn after_turn(&mut self, key: usize, next: Next, shares: bool)
         ensures stays { StaysAfter next
             (get self.old.guests key) (get self.new.guests key) }
         ensures others { AreOthersKept key self.old.guests self.new.guests }
     {
-        if !self.keeps(key, next) {
+        if !self.keeps(key, next, shares) {
             self.close(key);
         }
     }
 
-    /// Whether the peer stays after a turn.
-    fn keeps(&mut self, key: usize, next: Next) -> bool
+    /// Whether the peer stays after a turn. One in a round is followed by another.
+    fn keeps(&mut self, key: usize, next: Next, shares: bool) -> bool
         ensures same { SameValues self.old.guests self.new.guests }
         ensures goes { IsFalse result → MayLeave next }
         ensures stays { IsTrue result → next ≢ Next.Close }
     {
         match next {
             Next::Wait | Next::Parted => true,
-            Next::Again => self.rearm(key),
+            Next::Again => shares || self.rearm(key),
             Next::Hold => {
                 self.stock.hold();
                 true

@@ -10,6 +10,7 @@ mod guest;
 mod hall;
 mod memory;
 mod pace;
+mod sharing;
 mod stock;
 mod stream;
 

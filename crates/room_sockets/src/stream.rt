@@ -5,7 +5,7 @@ use mio::event::Source;
 use mio::net::{TcpStream, UnixStream};
 use mio::{Interest, Registry, Token};
 use std::io;
-use std::io::{Read, Write};
+use std::io::{ErrorKind, Read, Write};
 use std::net::Shutdown;
 
 /// How many bytes a read takes at most, so that a turn of a peer who sends much is short too.
@@ -57,6 +57,24 @@ impl Read for &Stream {
 impl Write for &Stream {
     fn write(&mut self, piece: &[u8]) -> io::Result<usize> {
         self.write_once(piece)
+    }
+
+    fn flush(&mut self) -> io::Result<()> {
+        Ok(())
+    }
+}
+
+/// What takes nothing yet.
+#[derive(Drop)]
+pub(crate) struct Unsent;
+
+impl Write for Unsent {
+    ghost use Rattle.std.specs.Prelude.{[], Some};
+
+    ghost contents = { λ _. Some [] };
+
+    fn write(&mut self, _piece: &[u8]) -> io::Result<usize> {
+        Err(io::Error::from(ErrorKind::WouldBlock))
     }
 
     fn flush(&mut self) -> io::Result<()> {

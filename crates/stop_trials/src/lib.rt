@@ -4,6 +4,7 @@
 mod disks;
 mod found;
 mod migrated;
+mod rounds;
 mod stopped;
 mod stopping;
 mod told;

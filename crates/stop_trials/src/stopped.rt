@@ -3,12 +3,14 @@
 //! the program tells `memory` or `store`, with status 3, and the database is found as it was before
 //! the event that was stopped or as it is after it.
 //!
-//! A row is a script, which runs on a new database. After the line `migrated` its steps make a
-//! database of version 1 instead, and the program migrates it.
+//! A row is a script, which runs on a new database, and once more with all its events in one round.
+//! After the line `migrated` its steps make a database of version 1 instead, and the program migrates
+//! it.
 
 use crate::disks::{DISK_FILES, DiskFile, Disks, InMemory, OnDisks};
 use crate::found::Found;
 use crate::migrated;
+use crate::rounds::in_a_round;
 use crate::stopping::on_disks;
 use crate::told::answered_before_failed;
 use room_rows::{Conversation, Step};
@@ -50,11 +52,13 @@ where
     if let Some(differs) = unexpected(rt.alloc(), whole.printed.as_slice(), talk)? {
         return Ok(Some(differs));
     }
-    for file in DISK_FILES {
-        if let Some((calls, end)) = whole.differs::<S, D>(rt, file, script.as_str())? {
-            return Ok(Some(format!(in rt.alloc();
-                "{file} that stops behind {calls} calls, {end}"
-            )?));
+    for way in [Way::Script, Way::Round] {
+        for file in DISK_FILES {
+            if let Some((calls, end)) = whole.differs::<S, D>(rt, way, file, script.as_str())? {
+                return Ok(Some(format!(in rt.alloc();
+                    "{way}: {file} that stops behind {calls} calls, {end}"
+                )?));
+            }
         }
     }
     Ok(None)
@@ -73,6 +77,24 @@ pub fn unexpected(
         text(found)?,
         String::from_str(alloc, talk.expected())?,
     )
+}
+
+/// How the events of a script are given.
+#[derive(Clone, Copy)]
+enum Way {
+    /// To the program, each in a transaction of its own.
+    Script,
+    /// In one round.
+    Round,
+}
+
+impl Display for Way {
+    fn fmt<W: Write>(&self, f: &mut Formatter<W>) -> fmt::Result {
+        f.write_str(match self {
+            Way::Script => "each by itself",
+            Way::Round => "in one round",
+        })
+    }
 }
 
 /// What a run came to.
@@ -127,6 +149,7 @@ impl Whole {
     fn differs<S, D>(
         &self,
         rt: &HostRuntime,
+        way: Way,
         file: DiskFile,
         script: &str,
     ) -> Result<Option<(u64, End)>, Fault>
@@ -136,9 +159,9 @@ impl Whole {
     {
         for calls in 0..u64::MAX {
             let mut disks = D::stopping(rt.alloc(), file, calls, b"")?;
-            let end = self.run(rt, &mut disks, script)?;
+            let end = self.run(rt, way, &mut disks, script)?;
             let is_stopped = disks.is_stopped() || !self.is_last(end);
-            if !self.is_due(rt.alloc(), end, disks)? {
+            if !self.is_due(rt.alloc(), way, end, disks)? {
                 return Ok(Some((calls, end)));
             }
             if !is_stopped {
@@ -149,7 +172,13 @@ impl Whole {
     }
 
     /// A run of the program on a new database over the disks.
-    fn run<S, D>(&self, rt: &HostRuntime, disks: &mut D, script: &str) -> Result<End, Fault>
+    fn run<S, D>(
+        &self,
+        rt: &HostRuntime,
+        way: Way,
+        disks: &mut D,
+        script: &str,
+    ) -> Result<End, Fault>
     where
         S: Alter + Drop,
         D: Disks<Kept = Connection<S>>,
@@ -161,6 +190,17 @@ impl Whole {
         if !created.is_ok() {
             return Ok(End::Other);
         }
+        match way {
+            Way::Script => self.run_script(rt, disks, script),
+            Way::Round => self.run_round(rt, disks),
+        }
+    }
+
+    fn run_script<S, D>(&self, rt: &HostRuntime, disks: &mut D, script: &str) -> Result<End, Fault>
+    where
+        S: Alter + Drop,
+        D: Disks<Kept = Connection<S>>,
+    {
         let told = on_disks(rt.alloc(), disks, "script", script)?;
         if told.is_well() && told.output.as_slice() == self.printed.as_slice() {
             return Ok(End::Answered(self.steps.len()));
@@ -174,6 +214,26 @@ impl Whole {
         )
     }
 
+    fn run_round<S, D>(&self, rt: &HostRuntime, disks: &mut D) -> Result<End, Fault>
+    where
+        S: Alter + Drop,
+        D: Disks<Kept = Connection<S>>,
+    {
+        let steps = self.steps.as_slice();
+        let Some(printed) = in_a_round(rt.alloc(), disks, steps)? else {
+            return Ok(End::Answered(0));
+        };
+        if printed.as_slice() == self.printed.as_slice() {
+            return Ok(End::Answered(steps.len()));
+        }
+        Ok(
+            match answered_before_failed(rt, steps, printed.as_slice())? {
+                Some(events) => End::Answered(events),
+                None => End::Other,
+            },
+        )
+    }
+
     fn is_last(&self, end: End) -> bool {
         match end {
             End::Answered(events) => events == self.steps.len(),
@@ -181,8 +241,9 @@ impl Whole {
         }
     }
 
-    /// Whether the database is found as such a run may leave it.
-    fn is_due<S, D>(&self, alloc: Global, end: End, disks: D) -> Result<bool, Fault>
+    /// Whether the database is found as such a run may leave it: of a round that was lost all may be
+    /// found.
+    fn is_due<S, D>(&self, alloc: Global, way: Way, end: End, disks: D) -> Result<bool, Fault>
     where
         S: Alter + Drop,
         D: Disks<Kept = Connection<S>> + Drop,
@@ -196,7 +257,8 @@ impl Whole {
         Ok(
             both.iter().all(|found| match found.fault {
                 None => self.is_behind(events, found)
-                    || self.is_behind(events.saturating_add(1), found),
+                    || self.is_behind(events.saturating_add(1), found)
+                    || matches!(way, Way::Round) && self.is_behind(self.steps.len(), found),
                 Some(OpenFault::NotOurs) => may_be_none,
                 Some(_) => false,
             }),

@@ -1,5 +1,5 @@
 use Rattle.std.proofs.Common.{refl}
-use Rattle.room_sockets.proofs.Drives.{continues}
+use Rattle.room_sockets.proofs.Drives.{follows}
 use Rattle.room_sockets.proofs.HallSteps.{same, then}
 use Rattle.room_sockets.specs.Halls.{guests_of}
 use Rattle.room_sockets.proofs.hall.Hall.run.Goals as goal
@@ -13,8 +13,8 @@ loop-preserved g c = then g.S.Store (guests_of c.args.self.now) (guests_of c.loo
 pub returns-in_err-turn-clause-goes_on : goal.returns-in_err-turn-clause-goes_on
 returns-in_err-turn-clause-goes_on g c = then g.S.Store (guests_of c.args.self.now) (guests_of c.loop.self) (guests_of c.turn.new.self) c.args.served.now c.loop.served c.turn.new.served c.loop.invariant c.turn.ensures.goes_on
 
-pub returns-in_err-turn-clause-continues : goal.returns-in_err-turn-clause-continues
-returns-in_err-turn-clause-continues g c = continues g.S.Store (guests_of c.args.self.now) (guests_of c.turn.new.self) c.args.served.now c.turn.new.served (returns-in_err-turn-clause-goes_on g c)
+pub returns-in_err-turn-clause-follows : goal.returns-in_err-turn-clause-follows
+returns-in_err-turn-clause-follows g c = follows g.S.Store (guests_of c.args.self.now) (guests_of c.turn.new.self) c.args.served.now c.turn.new.served (returns-in_err-turn-clause-goes_on g c)
 
-pub returns-clause-continues : goal.returns-clause-continues
-returns-clause-continues g c = continues g.S.Store (guests_of c.args.self.now) (guests_of c.loop.self) c.args.served.now c.loop.served c.loop.invariant
+pub returns-clause-follows : goal.returns-clause-follows
+returns-clause-follows g c = follows g.S.Store (guests_of c.args.self.now) (guests_of c.loop.self) c.args.served.now c.loop.served c.loop.invariant

@@ -1,25 +1,23 @@
 use Rattle.std.proofs.Common.{Option, IsSome, ap, refl, subst, sym, ◌∙◌}
 use Rattle.slab.proofs.SlabLemmas.{Updates-with_value}
 use Rattle.slab.specs.Slab.{Slab, get}
-use Rattle.room_sockets.proofs.HallSteps.{had_turn}
+use Rattle.room_sockets.proofs.HallSteps.{had_turn, let_go}
 use Rattle.room_sockets.specs.Halls.{StaysAfter}
 use Rattle.room_sockets.specs.declared.guest.Guest.{Guest}
 use Rattle.room_sockets.proofs.hall.Peers.serve.Goals as goal
+
+pub returns-in_default-clause-serves : goal.returns-in_default-clause-serves
+returns-in_default-clause-serves g c = let_go g.S.Store _ _ _ c.close.ensures.gone
 
 pub returns-clause-serves : goal.returns-clause-serves
 returns-clause-serves g c =
     let written = Updates-with_value c.ticks.new.self.guests c.args.key c.drive-next.new.self (subst (λ (slot : Option Guest). IsSome slot) c.in-Some.ensures.value refl) in
     had_turn g.S.Store _ _ c.in-Some.guest.now _ _ (ap (λ (guests : Slab Guest). get guests c.args.key) (sym c.ticks.ensures) ∙ sym c.in-Some.ensures.value) (record {
       begun = c.set_moment.new.self;
-      moment = record { tables = c.set_moment.ensures.store; journal = c.set_moment.ensures.journal };
+      moment = (c.in-Some-Ok.moment, c.set_moment.ensures);
       turn = record { ticks = c.in-Some-Ok.ticks; has_room = c.has_room.result; is_last = c.args.is_last };
       next = c.drive-next.result;
       left = c.drive-next.new.self;
-      driven = record {
-        takes = c.drive-next.ensures.takes;
-        rests = c.drive-next.ensures.rests;
-        holds = c.drive-next.ensures.holds;
-        turns = c.drive-next.ensures.turns;
-      };
+      driven = c.drive-next.ensures;
       stays = subst (λ (slot : Option Guest). StaysAfter c.drive-next.result slot (get c.after_turn.new.self.guests c.args.key)) written.changed c.after_turn.ensures.stays;
     })
