@@ -169,7 +169,8 @@ impl<S: Alter> Served<S> {
             .apply(self.alloc, entry.moment(), &entry.event())
     }
 
-    /// The connection to the tables as they are, in no round that is under way. It takes no memory.
+    /// The connection to the tables as they are. What a round that is under way has changed is on the
+    /// disk only once it is settled. It takes no memory.
     pub fn close(self) -> Connection<S>
         ensures { result ≡ store_of self }
     {
