@@ -199,6 +199,7 @@ module _ {S : Type 0} (store : Ghosts S) where
       under_way = new.under_way;
       shares = false;
       is_lost = new.is_lost;
+      told = 0;
     }
 
   -- it began, each was applied in it, and it ended

@@ -80,7 +80,7 @@ impl HttpPeer {
         if served.is_shared() && self.load.is_long() {
             return Next::Again;
         }
-        self.progress.has_all = false;
+        self.progress.begin_turn(turn);
         for _ in 0..STEPS {
             answer_requests(&mut self.connection, served);
             if let Some(next) = self.step(reader, writer, turn) {
@@ -116,6 +116,9 @@ impl HttpPeer {
         }
         if self.progress.has_all {
             return Some(Next::Wait);
+        }
+        if !turn.reads {
+            return Some(Next::Again);
         }
         self.progress.patience.let_on(turn.ticks);
         self.receive(reader, turn)

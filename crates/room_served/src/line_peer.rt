@@ -83,7 +83,7 @@ impl LinePeer {
         if self.progress.parts {
             return drain(reader);
         }
-        self.progress.has_all = false;
+        self.progress.begin_turn(turn);
         for _ in 0..STEPS {
             if let Some(next) = self.step(reader, writer, served, turn) {
                 return next;
@@ -119,6 +119,7 @@ impl LinePeer {
             Ok(true) => None,
             Ok(false) if self.has_ended || self.connection.is_too_long() => self.end(turn.ticks),
             Ok(false) if self.progress.has_all => Some(Next::Wait),
+            Ok(false) if !turn.reads => Some(Next::Again),
             Ok(false) => self.receive(reader, turn),
             Err(_) => Some(Next::Close),
         }

@@ -25,6 +25,13 @@ impl Progress {
         }
     }
 
+    /// A turn begins. Where it may read, more may have come since the last.
+    pub(crate) fn begin_turn(&mut self, turn: Turn) {
+        if turn.reads {
+            self.has_all = false;
+        }
+    }
+
     /// A read brought so many bytes.
     pub(crate) fn received(&mut self, count: usize, turn: Turn) {
         self.patience.moved(count, turn.ticks);

@@ -4,10 +4,13 @@ ghost use Rattle.room_served.specs.Journals.{AppliesEntry, AppliesNext, IsBegun,
 
 use crate::entry::Entry;
 use http_server::Log;
-use room_core::Reply;
+use room_core::{Part, Reply};
 use room_store::{Rounds, Store, StoreFault};
 use sqlite::{Alter, Connection};
 use std::alloc::{AllocError, Global};
+
+/// A round is full once more bytes than this were told in it.
+const MOST_TOLD: usize = 8_388_608;
 
 /// The shared tables, the clock's moment, and a journal of all that was applied to them, of
 /// whichever connection. The journal takes no memory: only proofs read it.
@@ -26,6 +29,8 @@ pub struct Served<S: Alter> {
     pub(crate) is_lost: bool,
     /// What the peer whose turn it is has asked in the round.
     pub(crate) asked: Option<Entry>,
+    /// How many bytes were told in the round.
+    pub(crate) told: usize,
 }
 
 impl<S: Alter> Served<S> {
@@ -48,6 +53,7 @@ impl<S: Alter> Served<S> {
             shares: false,
             is_lost: false,
             asked: None,
+            told: 0,
         }
     }
 
@@ -88,6 +94,7 @@ impl<S: Alter> Served<S> {
         self.under_way = Log::new();
         self.shares = false;
         self.is_lost = !kept;
+        self.told = 0;
     }
 
     /// Whether what is applied shares a commit.
@@ -95,6 +102,12 @@ impl<S: Alter> Served<S> {
         ensures { result ≡ shares_of self.now }
     {
         self.shares
+    }
+
+    /// Whether so much was told in the round that nothing more is to be asked in it: all of it waits
+    /// for the commit.
+    pub fn is_full(&self) -> bool {
+        self.told > MOST_TOLD
     }
 
     /// Whether the last round was lost.
@@ -151,6 +164,7 @@ impl<S: Alter> Served<S> {
             return Err(AllocError);
         }
         let told = self.apply_in_round(&entry);
+        self.told = self.told.saturating_add(size_of(&told));
         self.under_way = self.under_way.and(&entry, &told);
         self.asked = Some(entry);
         Ok(told)
@@ -176,4 +190,21 @@ impl<S: Alter> Served<S> {
     {
         self.rounds.close()
     }
+}
+
+/// About how many bytes it takes to tell the outcome.
+fn size_of(told: &Result<Reply, StoreFault>) -> usize {
+    match told {
+        Ok(Reply::Ipp(answer)) => answer.items.len(),
+        Ok(Reply::Documents(parts)) => size_of_parts(parts.items.as_slice()),
+        _ => 0,
+    }
+}
+
+fn size_of_parts(parts: &[Part]) -> usize {
+    let mut size: usize = 0;
+    for part in parts {
+        size = size.saturating_add(part.bytes.items.len());
+    }
+    size
 }

@@ -24,6 +24,9 @@ pub struct Turn {
     pub has_room: bool,
     /// Whether the system has told that the peer sends no more.
     pub is_last: bool,
+    /// Whether it may read. A peer that hears what it asked in a round leaves what comes next to the
+    /// next round.
+    pub reads: bool,
 }
 
 /// What a connection waits for.

@@ -117,9 +117,13 @@ impl Guest {
         requires { shares_of served.old ≡ false }
         ensures { HasTurn S.Store turn result self.old self.new served.old served.new }
     {
+        let hears = Turn {
+            reads: self.asked.is_none(),
+            ..turn
+        };
         self.ask_again(alloc, served, turn.ticks);
         let stream = &self.stream;
-        let next = self.peer.drive(&mut &*stream, &mut &*stream, served, turn);
+        let next = self.peer.drive(&mut &*stream, &mut &*stream, served, hears);
         self.turns = self.turns.and(&turn, &next);
         next
     }

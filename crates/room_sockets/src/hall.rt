@@ -187,6 +187,7 @@ impl Peers {
             ticks,
             has_room: self.stock.has_room(key),
             is_last,
+            reads: true,
         };
         let alloc = self.alloc;
         let shares = served.is_shared();

@@ -36,12 +36,12 @@ impl Peers {
         }
     }
 
-    /// Where no round could begin, or much is held, a peer asks by itself.
+    /// Where no round could begin, it is full, or much is held, a peer asks by itself.
     fn ask<S: Alter>(&mut self, clock: &impl Clock, event: &Event, served: &mut Served<S>)
         ensures { SparesAll S.Store self.old.guests self.new.guests served.old served.new }
     {
         if let Some(key) = event.token().0.checked_sub(FIRST_GUEST) {
-            if served.is_shared() && self.stock.has_room(key) {
+            if served.is_shared() && !served.is_full() && self.stock.has_room(key) {
                 self.serve(clock, key, served, event.is_read_closed());
             }
         }

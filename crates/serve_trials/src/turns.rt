@@ -14,12 +14,14 @@ const ROOM: Turn = Turn {
     ticks: 0,
     has_room: true,
     is_last: false,
+    reads: true,
 };
 
 const NO_ROOM: Turn = Turn {
     ticks: 0,
     has_room: false,
     is_last: false,
+    reads: true,
 };
 
 pub fn hold<W: Write>(rt: &HostRuntime, report: &mut Report<'_, W>) {

@@ -13,5 +13,8 @@ returns-then-wants_write-clause-later g c = moves.writes _ _ _ _ _ c.send.ensure
 pub returns-then-not-turn-clause-later : goal.returns-then-not-turn-clause-later
 returns-then-not-turn-clause-later g c = moves.still _ _ _ refl
 
+pub returns-then-not-turn-2-clause-later : goal.returns-then-not-turn-2-clause-later
+returns-then-not-turn-2-clause-later g c = moves.still _ _ _ refl
+
 pub returns-then-self-clause-later : goal.returns-then-self-clause-later
 returns-then-self-clause-later g c = moves.still _ _ _ refl

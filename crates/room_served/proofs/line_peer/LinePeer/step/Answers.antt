@@ -18,7 +18,10 @@ pub returns-in-Ok-false-2-clause-takes : goal.returns-in-Ok-false-2-clause-takes
 returns-in-Ok-false-2-clause-takes g c = waits g.S.Store _ _ _ _ _ _ (c.in-Ok-false.ensures.none (ap Ok c.in-Ok-false.field-0-test))
 
 pub returns-in-Ok-false-3-clause-takes : goal.returns-in-Ok-false-3-clause-takes
-returns-in-Ok-false-3-clause-takes g c = waited_then g.S.Store _ _ _ _ _ _ _ _ _ (c.in-Ok-false.ensures.none (ap Ok c.in-Ok-false.field-0-test)) (received g.S.Store _ _ _ _ _ _ _ c.receive.ensures.receives)
+returns-in-Ok-false-3-clause-takes g c = waits g.S.Store _ _ _ _ _ _ (c.in-Ok-false.ensures.none (ap Ok c.in-Ok-false.field-0-test))
+
+pub returns-in-Ok-false-4-clause-takes : goal.returns-in-Ok-false-4-clause-takes
+returns-in-Ok-false-4-clause-takes g c = waited_then g.S.Store _ _ _ _ _ _ _ _ _ (c.in-Ok-false.ensures.none (ap Ok c.in-Ok-false.field-0-test)) (received g.S.Store _ _ _ _ _ _ _ c.receive.ensures.receives)
 
 pub returns-in-Err-clause-takes : goal.returns-in-Err-clause-takes
 returns-in-Err-clause-takes g c = lost g.S.Store _ _ _ _ _ _ c.in-Err.ensures.lost c.in-Err.ensures.side refl

@@ -1,4 +1,4 @@
-use Rattle.std.proofs.Common.{Option, IsSome, ap, refl, subst, sym, ◌∙◌}
+use Rattle.std.proofs.Common.{true, Option, IsSome, ap, refl, subst, sym, ◌∙◌}
 use Rattle.slab.proofs.SlabLemmas.{Updates-with_value}
 use Rattle.slab.specs.Slab.{Slab, get}
 use Rattle.room_sockets.proofs.HallSteps.{had_turn, let_go}
@@ -15,7 +15,7 @@ returns-clause-serves g c =
     had_turn g.S.Store _ _ c.in-Some.guest.now _ _ (ap (λ (guests : Slab Guest). get guests c.args.key) (sym c.ticks.ensures) ∙ sym c.in-Some.ensures.value) (record {
       begun = c.set_moment.new.self;
       moment = (c.in-Some-Ok.moment, c.set_moment.ensures);
-      turn = record { ticks = c.in-Some-Ok.ticks; has_room = c.has_room.result; is_last = c.args.is_last };
+      turn = record { ticks = c.in-Some-Ok.ticks; has_room = c.has_room.result; is_last = c.args.is_last; reads = true };
       next = c.drive-next.result;
       left = c.drive-next.new.self;
       driven = c.drive-next.ensures;
