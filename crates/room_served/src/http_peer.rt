@@ -77,11 +77,11 @@ impl HttpPeer {
         if self.progress.parts {
             return drain(reader);
         }
-        if served.is_shared() && self.load.is_long() {
-            return Next::Again;
-        }
         self.progress.begin_turn(turn);
         for _ in 0..STEPS {
+            if served.is_shared() && self.load.is_long() {
+                return Next::Again;
+            }
             answer_requests(&mut self.connection, served);
             if let Some(next) = self.step(reader, writer, turn) {
                 return next;

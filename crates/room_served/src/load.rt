@@ -5,9 +5,8 @@ use room_http::{BODY_LIMIT, HEAD_LIMIT};
 /// A request, or an answer, of more bytes is a large one.
 pub const LARGE: usize = 65_536;
 
-/// A request of which more bytes came shares no commit. A read brings 64 KiB at most, so that one
-/// that does has 256 KiB at most.
-const LONG: usize = 196_608;
+/// A request of which more bytes came shares no commit.
+const LONG: usize = 262_144;
 
 /// The most bytes of one request, with its head.
 pub const LONGEST: usize = HEAD_LIMIT + BODY_LIMIT;

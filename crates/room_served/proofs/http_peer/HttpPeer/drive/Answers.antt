@@ -13,9 +13,6 @@ use Rattle.room_served.proofs.http_peer.HttpPeer.drive.Goals as goal
 pub returns-then-self-clause-later : goal.returns-then-self-clause-later
 returns-then-self-clause-later g c = inl (c.drain.ensures.drops.0, c.if-self.true, (c.drain.ensures.drops.1, Appends-nil _), refl)
 
-pub returns-then-is_long-clause-later : goal.returns-then-is_long-clause-later
-returns-then-is_long-clause-later g c = inr (moves.still _ _ _ refl)
-
 pub loop-init : goal.loop-init
 loop-init g c = record {
   calls = Calls-none (Answers g.S.Store) _ _ _ _ refl refl;
@@ -23,6 +20,9 @@ loop-init g c = record {
   continues = stays g.S.Store _;
   limits = refl;
 }
+
+pub returns-then-is_long-clause-later : goal.returns-then-is_long-clause-later
+returns-then-is_long-clause-later g c = inr c.loop.invariant.later
 
 pub returns-in-Some-clause-calls : goal.returns-in-Some-clause-calls
 returns-in-Some-clause-calls g c =
