@@ -211,27 +211,19 @@ pub record Shows (events : List Timed) (outcomes : List Outcome) (old new : Stat
 
 -- and what the connection has kept
 pub record SoFar (events : List Timed) (outcomes : List Outcome) (old new : State) : Type 0 where
-  pub each : length outcomes ≡ length events
+  pub shows : Shows events outcomes old new
   pub connection : KeepsConnection old new
-  pub schema : HasCleanDisk new → HasSchema old.now → IsTrue new.is_open → HasSchema new.now
-  pub alone : HasCleanDisk new → HasSchema old.now → RunsAlone events outcomes old.now new.is_open new.now
-  pub devices : HasCleanDisk new → HasSchema old.now → RunsDevices events outcomes old.now new.is_open new.now
-  pub rest : HasCleanDisk new → HasSchema old.now → IsTrue new.is_open → LeavesTheRest events outcomes old.now new.is_open new.now
-
-pub shown_of : (events : List Timed) (outcomes : List Outcome) (old new : State) → SoFar events outcomes old new → Shows events outcomes old new
-shown_of events outcomes old new is = record { each = is.each; schema = is.schema; alone = is.alone; devices = is.devices; rest = is.rest }
-
-pub kept_so : (events : List Timed) (outcomes : List Outcome) (old new : State) → Shows events outcomes old new → KeepsConnection old new → SoFar events outcomes old new
-kept_so events outcomes old new is keeps = record { each = is.each; connection = keeps; schema = is.schema; alone = is.alone; devices = is.devices; rest = is.rest }
 
 pub begins : (s : State) → SoFar [] [] s s
 begins s = record {
-  each = refl;
+  shows = record {
+    each = refl;
+    schema = λ _ has _. has;
+    alone = λ _ _ name room devices holds has. record { replies = refl; rows = λ _. holds; devices = λ _. has };
+    devices = λ _ _ devices has. record { replies = refl; devices = λ _. has };
+    rest = λ _ _ _. record { accounts = λ name none. same_rows name s.now s.now refl; devices = λ none. same_devices s.now s.now refl; version = refl };
+  };
   connection = record { clean = omega arith; back = λ _ is. is; mode = λ _ is. is; shield = λ is. is; counts = omega arith; limit = refl; closes = λ _ is. inl is };
-  schema = λ _ has _. has;
-  alone = λ _ _ name room devices holds has. record { replies = refl; rows = λ _. holds; devices = λ _. has };
-  devices = λ _ _ devices has. record { replies = refl; devices = λ _. has };
-  rest = λ _ _ _. record { accounts = λ name none. same_rows name s.now s.now refl; devices = λ none. same_devices s.now s.now refl; version = refl };
 }
 
 -- nothing more, where an open connection sees the same
@@ -293,5 +285,4 @@ one_shown events outcomes e old mid new r so_far applied =
     }
 
 pub one_more : (events : List Timed) (outcomes : List Outcome) (e : Timed) (old mid new : State) (r : Result Reply StoreFault) → SoFar events outcomes old mid → Applies e.0 e.1 mid new r → SoFar (events ++ e ∷ []) (outcomes ++ outcome_of r ∷ []) old new
-one_more events outcomes e old mid new r so_far applied =
-    kept_so (events ++ e ∷ []) (outcomes ++ outcome_of r ∷ []) old new (one_shown events outcomes e old mid new r (shown_of events outcomes old mid so_far) applied) (goes_on old mid new so_far.connection applied.connection)
+one_more events outcomes e old mid new r so_far applied = record { shows = one_shown events outcomes e old mid new r so_far.shows applied; connection = goes_on old mid new so_far.connection applied.connection }

@@ -1,13 +1,13 @@
 -- What is applied one round after another is run as a list of events.
 use Rattle.std.proofs.Common.{◌≡◌, suc, Bool, true, false, not, List, [], ◌∷◌, ◌++◌, length, if◌then◌else◌, IsTrue, refl, sym, ap, subst, ◌∙◌, append_assoc, append-nil, inl, inr, ◌⊎◌, arith}
-use Rattle.std.proofs.lemmas.Bool.{true≢false}
+use Rattle.std.proofs.lemmas.Bool.{cases_Bool, true≢false}
 use Rattle.std.proofs.lemmas.List.{length-append, map-append}
 use Rattle.sqlite.specs.Effect.{Database}
 use Rattle.sqlite.specs.Held.{Held, state}
 use Rattle.sqlite.specs.State.{State, HasCleanDisk}
 use Rattle.sqlite_trees.specs.declared.store.Store.{Ghosts}
 use Rattle.room_core.specs.Events.{Timed}
-use Rattle.room_serve.proofs.RunLemmas.{Shows, SoFar, begins, kept_so, next_schema, one_more, one_shown, shown_of, still_shown}
+use Rattle.room_serve.proofs.RunLemmas.{Shows, SoFar, begins, next_schema, one_more, one_shown, still_shown}
 use Rattle.room_serve.specs.Outcomes.{outcome_of}
 use Rattle.room_serve.specs.declared.outcome.Outcome.{Outcome}
 use Rattle.room_statements.specs.Rounds.{BeginsRound}
@@ -17,11 +17,6 @@ use Rattle.room_tables.specs.Keyed.{HasSchema}
 use Rattle.room_served.proofs.LineEnds.{on_err}
 use Rattle.room_served.specs.Entries.{event_of_entry, moment_at, timed}
 use Rattle.room_served.specs.Journals.{AllSettle, AlwaysFound, AlwaysRuns, AppliesEntry, IsRound, Leads, Round, Told, events_of, kept_in, outcomes_of, Settles}
-
--- it is, or it is not
-either : (b : Bool) → (b ≡ true) ⊎ (b ≡ false)
-either true = inl refl
-either false = inr refl
 
 -- the same, whether a transaction is under way or not
 abbrev outside : State → State
@@ -59,7 +54,7 @@ module _ {S : Type 0} (store : Ghosts S) where
 
   -- what is under way at the end was so before
   was_inside : (old new : Held S) → KeepsConnection (state store old) (state store new) → HasCleanDisk (state store new) → IsTrue (state store new).in_transaction → IsTrue (state store old).in_transaction
-  was_inside old new keeps clean inside = elim (either (state store old).in_transaction) [
+  was_inside old new keeps clean inside = elim (cases_Bool (state store old).in_transaction) [
     | inl is ↦ is
     | inr isnt ↦ absurd (true≢false (sym inside ∙ keeps.mode clean isnt))
   ]
@@ -119,7 +114,7 @@ module _ {S : Type 0} (store : Ghosts S) where
         let ended_clean = was_clean is.ended new is.ends.connection clean in
         let begun_clean = was_clean is.begun is.ended (leads_keep more is.begun is.ended is.leads) ended_clean in
         let begun : BeginsRound (state store old) (state store is.begun) = is.begins.begun begun_clean in
-        let first = still_shown events outcomes (state store a) (state store old) (state store is.begun) (shown_of events outcomes (state store a) (state store old) so_far) is.begins.survives.clean (λ _ _. begun.opened.0) (λ _ _ _. begun.now) in
+        let first = still_shown events outcomes (state store a) (state store old) (state store is.begun) so_far.shows is.begins.survives.clean (λ _ _. begun.opened.0) (λ _ _ _. begun.now) in
         let in_round = round_shown more events outcomes a is.begun is.ended first is.leads ended_clean ends.was_under_way in
         still_shown (events ++ events_of store more) (outcomes ++ outcomes_of store more) (state store a) (state store is.ended) (state store new) in_round is.ends.connection.clean (λ _ _. ends.opened.0) (λ _ _ _. ends.now)
 
@@ -127,12 +122,14 @@ module _ {S : Type 0} (store : Ghosts S) where
     kept more so_far is =
         let shown = kept_shown more so_far is in
         record {
-          each = length-append outcomes (outcomes_of store more) ∙ rw (so_far.each, lengths more) (sym (length-append events (events_of store more)));
+          shows = record {
+            each = length-append outcomes (outcomes_of store more) ∙ rw (so_far.shows.each, lengths more) (sym (length-append events (events_of store more)));
+            schema = λ clean. (shown clean).schema clean;
+            alone = λ clean. (shown clean).alone clean;
+            devices = λ clean. (shown clean).devices clean;
+            rest = λ clean. (shown clean).rest clean;
+          };
           connection = goes_on (state store a) (state store old) (state store new) so_far.connection (round_keeps (more, true) old new is (λ it clean. (it.ends.over clean).mode));
-          schema = λ clean. (shown clean).schema clean;
-          alone = λ clean. (shown clean).alone clean;
-          devices = λ clean. (shown clean).devices clean;
-          rest = λ clean. (shown clean).rest clean;
         }
 
   -- ---- a round that was lost
@@ -154,7 +151,7 @@ module _ {S : Type 0} (store : Ghosts S) where
   entry_leaves db told old new clean was (inr late) = subst (λ (held : Held S). StillGoes db (state store held) ⊎ IsGone db (state store held)) (sym late.same) was
   entry_leaves db told old new clean (inl goes) (inl shared) =
       let back : IsTrue (state store new).is_open → IsTrue (state store old).is_open = shared.connection.back clean in
-      elim (either (state store new).in_transaction) [
+      elim (cases_Bool (state store new).in_transaction) [
         | inl inside ↦ inl (record {
           inside = inside;
           schema = λ shown. next_schema (moment_at told.0) (event_of_entry told.0) (state store old) (state store new) told.1 (shared.applies (λ _. on_err told.1 _ (inside ∙ sym goes.inside))) clean goes.schema shown;
@@ -207,7 +204,7 @@ module _ {S : Type 0} (store : Ghosts S) where
 
   module _ (more : List Told) (old new : Held S) (is : IsRound store (more, false) old new) (clean : HasCleanDisk (state store new)) where
     lost_mode : (state store new).in_transaction ≡ false
-    lost_mode = elim (either (state store is.ended).in_transaction) [
+    lost_mode = elim (cases_Bool (state store is.ended).in_transaction) [
       | inl inside ↦ ((is.ends.over clean).1 inside).mode
       | inr outside ↦ is.ends.connection.mode clean outside
     ]
@@ -232,10 +229,10 @@ module _ {S : Type 0} (store : Ghosts S) where
     -- nothing becomes of what is seen
     nothing_more : KeepsConnection (state store old) (state store new) → (HasCleanDisk (state store new) → (IsTrue (state store old).is_open → HasSchema (state store old).now) → IsTrue (state store new).is_open → (state store new).now ≡ (state store old).now)
         → SoFar events outcomes (state store a) (state store new)
-    nothing_more keeps same =
-        kept_so events outcomes (state store a) (state store new)
-        (still_shown events outcomes (state store a) (state store old) (state store new) (shown_of events outcomes (state store a) (state store old) so_far) keeps.clean keeps.back (λ clean has. same clean (so_far.schema (was_clean old new keeps clean) has)))
-        (goes_on (state store a) (state store old) (state store new) so_far.connection keeps)
+    nothing_more keeps same = record {
+      shows = still_shown events outcomes (state store a) (state store old) (state store new) so_far.shows keeps.clean keeps.back (λ clean has. same clean (so_far.shows.schema (was_clean old new keeps clean) has));
+      connection = goes_on (state store a) (state store old) (state store new) so_far.connection keeps;
+    }
 
   -- ---- one round after another
 
@@ -270,9 +267,9 @@ module _ {S : Type 0} (store : Ghosts S) where
 
   pub runs : AlwaysRuns store
   runs rounds old new settles = let so_far = settle_on rounds [] [] old old new (begins (state store old)) settles in record {
-    alone = so_far.alone;
-    devices = so_far.devices;
-    rest = so_far.rest;
-    schema = so_far.schema;
+    alone = so_far.shows.alone;
+    devices = so_far.shows.devices;
+    rest = so_far.shows.rest;
+    schema = so_far.shows.schema;
     connection = so_far.connection;
   }
