@@ -1,6 +1,7 @@
 //! Records of grants as events.
-ghost use Rattle.std.specs.Prelude.{◌≡◌, All, IfOk, IfSome, IsTrue, option_map};
-ghost use Rattle.room_core.specs.Events.{plain_event, plain_timed};
+ghost use Rattle.std.specs.Prelude.{◌≡◌, All, IfOk, IsTrue};
+ghost use Rattle.std.specs.List.{filter_map};
+ghost use Rattle.room_core.specs.Events.{plain_event};
 ghost use Rattle.room_core.specs.Fits.{fits};
 ghost use Rattle.room_input.specs.GrantLines.{IsInRange};
 ghost use Rattle.room_commands.specs.Grants.{grant_event};
@@ -14,10 +15,11 @@ pub fn grants_of(
     alloc: Global,
     moment: u64,
     lines: &[GrantLine],
-) -> Result<Vec<(u64, Event<'_>)>, AllocError>
+) -> Result<Vec<(u64, Event<'static>)>, AllocError>
     requires { All IsInRange lines.now }
     ensures fit { IfOk result (λ events. All (λ e. IsTrue (fits (plain_event e.1))) events.items) }
-    ensures moment { IfOk result (λ events. All (λ e. e.0 ≡ moment) events.items) }
+    ensures grants { IfOk result (λ events.
+        events.items ≡ filter_map (grant_event moment) lines.now) }
 {
     lines
         .iter()
@@ -25,11 +27,8 @@ pub fn grants_of(
         .collect(alloc)
 }
 
-fn grant_at(moment: u64, line: &GrantLine) -> Option<(u64, Event<'_>)>
-    requires { IsInRange line.now }
-    ensures fit { IfSome result (λ e. IsTrue (fits (plain_event e.1))) }
-    ensures grant { option_map plain_timed result ≡ grant_event moment line.now }
-    ensures moment { IfSome result (λ e. e.0 ≡ moment) }
+fn grant_at(moment: u64, line: &GrantLine) -> Option<(u64, Event<'static>)>
+    ensures { result ≡ grant_event moment line.now }
 {
     match *line {
         GrantLine::Good {
