@@ -1,6 +1,6 @@
 -- What was applied to the tables, one round after another, and what that makes of them (all this
 -- project's own).
-use Rattle.std.specs.Prelude.{◌≡◌, ◌⊎◌, ℕ, Bool, true, false, List, [], ◌∷◌, ◌++◌, map, if◌then◌else◌, not, IsTrue, Option, None, Some, OnErr, Result, Err}
+use Rattle.std.specs.Prelude.{◌≡◌, ◌⊎◌, ℕ, Bool, true, false, List, [], ◌∷◌, ◌++◌, map, if◌then◌else◌, nat_lt, not, IsTrue, Option, None, Some, OnErr, Result, Err}
 use Rattle.std.specs.List.{flat_map}
 use Rattle.sqlite.specs.Held.{Held, state}
 use Rattle.sqlite.specs.State.{HasCleanDisk, Survives}
@@ -71,13 +71,20 @@ moment_of served = served.moment
 abbrev pub shares_of : {S : Type 0} → Served S → Bool
 shares_of served = served.shares
 
--- the last round was lost
+-- the round that was settled last was lost
 abbrev pub is_lost_of : {S : Type 0} → Served S → Bool
 is_lost_of served = served.is_lost
 
 -- what the peer whose turn it is has asked in the round
 abbrev pub asked_of : {S : Type 0} → Served S → List Entry
 asked_of served = list_of served.asked
+
+-- bytes that may be told in a round before it is full
+abbrev pub most_told : ℕ
+most_told = 8388608
+
+abbrev pub is_full_of : {S : Type 0} → Served S → Bool
+is_full_of served = nat_lt most_told served.bytes_told
 
 -- Where each is applied by itself it is a round of one, which is over; in a round it stands there,
 -- and with whoever asked it.
@@ -128,7 +135,7 @@ module _ {S : Type 0} (store : Ghosts S) where
 
   -- ---- a connection's turn
 
-  -- what came was applied, once, and stands in the journal
+  -- what came was applied, once, or came too late in a round that is lost; and it is noted
   pub record AppliesNext (entry : Entry) (told : Result Reply StoreFault) (old new : Served S)
       : Type 0 where
     pub notes : Notes (shares_of old) ((entry, told) ∷ []) old new
@@ -137,7 +144,7 @@ module _ {S : Type 0} (store : Ghosts S) where
     pub is_lost : is_lost_of new ≡ is_lost_of old
     pub moment : moment_of new ≡ moment_of old
 
-  -- what came stands in the journal, and it, and nothing else, made of the tables what they are
+  -- what came is noted, and it, and nothing else, made of the tables what they are
   pub record Continues (old new : Served S) : Type 0 where
     pub more : List Told
     pub notes : Notes (shares_of old) more old new
@@ -199,7 +206,7 @@ module _ {S : Type 0} (store : Ghosts S) where
       under_way = new.under_way;
       shares = false;
       is_lost = new.is_lost;
-      told = 0;
+      bytes_told = 0;
     }
 
   -- it began, each was applied in it, and it ended

@@ -39,8 +39,9 @@ impl LinePeer {
         }
     }
 
-    /// A peer whose round was lost: what it asked is applied again, by itself, and that is told it
-    /// last. Where memory is refused it is told nothing.
+    /// What becomes of a peer whose round was lost, whatever it spoke: what it asked is applied again,
+    /// by itself, and that is told it last. No line is to come, so it only writes what waits, and
+    /// ends. Where memory is refused it is told nothing.
     pub fn told_again<S: Alter>(
         alloc: Global,
         asked: &Entry,

@@ -1,6 +1,6 @@
 //! The rooms as one process serves them to everybody.
-ghost use Rattle.std.specs.Prelude.{◌≡◌, ◌⊎◌, [], true, false, IsTrue, None, IfOk, OnErr};
-ghost use Rattle.room_served.specs.Journals.{AppliesEntry, AppliesNext, IsBegun, IsNotBegun, IsSettled, asked_of, is_lost_of, list_of, moment_of, open_of, rounds_of, shares_of, store_of};
+ghost use Rattle.std.specs.Prelude.{◌≡◌, ◌≢◌, ◌⊎◌, [], true, false, IsTrue, None, IfOk, OnErr};
+ghost use Rattle.room_served.specs.Journals.{AppliesEntry, AppliesNext, IsBegun, IsNotBegun, IsSettled, asked_of, is_full_of, is_lost_of, moment_of, open_of, rounds_of, shares_of, store_of};
 
 use crate::entry::Entry;
 use http_server::Log;
@@ -19,18 +19,19 @@ pub struct Served<S: Alter> {
     pub(crate) alloc: Global,
     pub(crate) rounds: Rounds<S>,
     pub(crate) moment: u64,
-    /// The rounds that are over, each with whether it was kept.
+    /// The rounds that are over, each with whether it was kept. What is applied by itself is a round
+    /// of one that was kept, and a round that could not begin is an empty one that was not.
     pub(crate) over: Log<Log<Entry, Result<Reply, StoreFault>>, bool>,
     /// The round that is under way.
     pub(crate) under_way: Log<Entry, Result<Reply, StoreFault>>,
     /// Whether what is applied shares a commit.
     pub(crate) shares: bool,
-    /// Whether the last round was lost.
+    /// Whether the round that was settled last was lost.
     pub(crate) is_lost: bool,
     /// What the peer whose turn it is has asked in the round.
     pub(crate) asked: Option<Entry>,
     /// How many bytes were told in the round.
-    pub(crate) told: usize,
+    pub(crate) bytes_told: usize,
 }
 
 impl<S: Alter> Served<S> {
@@ -53,7 +54,7 @@ impl<S: Alter> Served<S> {
             shares: false,
             is_lost: false,
             asked: None,
-            told: 0,
+            bytes_told: 0,
         }
     }
 
@@ -81,7 +82,7 @@ impl<S: Alter> Served<S> {
     }
 
     /// Ends the round, if one is under way: what was applied in it is on the disk, or it is lost,
-    /// and nothing of it was applied.
+    /// which `is_lost` tells, and nothing of it was applied.
     pub fn settle(&mut self)
         ensures alone { shares_of self.old ≡ false → self.new ≡ self.old }
         ensures settles { IsTrue (shares_of self.old) → IsSettled S.Store self.old self.new }
@@ -94,7 +95,7 @@ impl<S: Alter> Served<S> {
         self.under_way = Log::new();
         self.shares = false;
         self.is_lost = !kept;
-        self.told = 0;
+        self.bytes_told = 0;
     }
 
     /// Whether what is applied shares a commit.
@@ -106,11 +107,13 @@ impl<S: Alter> Served<S> {
 
     /// Whether so much was told in the round that nothing more is to be asked in it: all of it waits
     /// for the commit.
-    pub fn is_full(&self) -> bool {
-        self.told > MOST_TOLD
+    pub fn is_full(&self) -> bool
+        ensures { result ≡ is_full_of self.now }
+    {
+        self.bytes_told > MOST_TOLD
     }
 
-    /// Whether the last round was lost.
+    /// Whether the round that was settled last was lost.
     pub fn is_lost(&self) -> bool
         ensures { result ≡ is_lost_of self.now }
     {
@@ -132,11 +135,13 @@ impl<S: Alter> Served<S> {
         self.asked.take()
     }
 
-    /// Applies what came, once. In a round a peer can ask one thing before that is settled: there is
-    /// no room for another, which is not applied.
+    /// Applies what came, once, and answers what that came to. In a round a peer can ask one thing
+    /// before that is settled; another is not applied, as if there were no memory for it.
     pub(crate) fn apply(&mut self, entry: Entry) -> Result<Result<Reply, StoreFault>, AllocError>
         ensures applies { IfOk result (λ told. AppliesNext S.Store entry told self.old self.new) }
         ensures unchanged { OnErr result (self.new ≡ self.old) }
+        ensures second { OnErr result
+            (IsTrue (shares_of self.old) × (asked_of self.old ≢ [])) }
     {
         if self.shares {
             return self.apply_shared(entry);
@@ -159,12 +164,14 @@ impl<S: Alter> Served<S> {
         requires { IsTrue (shares_of self.old) }
         ensures applies { IfOk result (λ told. AppliesNext S.Store entry told self.old self.new) }
         ensures unchanged { OnErr result (self.new ≡ self.old) }
+        ensures second { OnErr result
+            (IsTrue (shares_of self.old) × (asked_of self.old ≢ [])) }
     {
         if self.asked.is_some() {
             return Err(AllocError);
         }
         let told = self.apply_in_round(&entry);
-        self.told = self.told.saturating_add(size_of(&told));
+        self.bytes_told = self.bytes_told.saturating_add(size_of(&told));
         self.under_way = self.under_way.and(&entry, &told);
         self.asked = Some(entry);
         Ok(told)

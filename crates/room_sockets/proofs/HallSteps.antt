@@ -268,13 +268,13 @@ module _ {S : Type 0} (store : Ghosts S) where
   pub goes_on : (keys : List ℕ) (a b : Slab Guest) (old new : Served S) → ServesThose store keys a b old new → GoesOn store a b old new
   goes_on keys a b old new is = (is.0, is.1, is.2)
 
--- an event names the peer of a key
-pub key_named : (event : Event) (name key : ℕ) → name ≡ (event_token event).0 → SomeIff (Some key) (FIRST_GUEST ≤ name) (name - FIRST_GUEST) → keys_told (event ∷ []) ≡ key ∷ []
-key_named event name key is some = grind (arith, nat_tests)
+-- an event tells of the peer of a key
+pub key_named : (event : Event) (token key : ℕ) → token ≡ (event_token event).0 → SomeIff (Some key) (FIRST_GUEST ≤ token) (token - FIRST_GUEST) → keys_told (event ∷ []) ≡ key ∷ []
+key_named event token key is some = grind (arith, nat_tests)
 
--- an event names a door
-pub door_named : (event : Event) (name : ℕ) → name ≡ (event_token event).0 → ¬ (FIRST_GUEST ≤ name) → keys_told (event ∷ []) ≡ []
-door_named event name is none = grind (arith, nat_tests)
+-- an event tells of a door
+pub door_named : (event : Event) (token : ℕ) → token ≡ (event_token event).0 → ¬ (FIRST_GUEST ≤ token) → keys_told (event ∷ []) ≡ []
+door_named event token is none = grind (arith, nat_tests)
 
 -- one event more
 pub told_with_one : {X : Type 0} (event_of : X → Event) (xs : List X) (x : X) → keys_told (map event_of (xs ++ x ∷ [])) ≡ keys_told (map event_of xs) ++ keys_told (event_of x ∷ [])

@@ -95,7 +95,8 @@ module _ {S : Type 0} (store : Ghosts S) where
     pub holds : next ≡ Hold → IsFalse turn.has_room
     pub turns : turns_of after ≡ turns_of before ++ (turn, next) ∷ []
 
-  -- the same in a round, with what it asked before in the same round
+  -- The same in a round, in which nothing is written. What it asks is kept with it, for its turn
+  -- once the round is settled; it begins with what it asked in the same round before.
   pub record AsksTurn (turn : Turn) (next : Next) (before after : Guest) (old new : Served S)
       : Type 0 where
     pub left : Served S

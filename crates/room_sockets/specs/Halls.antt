@@ -4,6 +4,7 @@ use Rattle.std.specs.List.{All, filter_map}
 use Rattle.mio.specs.Event.{event_token}
 use Rattle.mio.specs.Events.{items}
 use Rattle.mio.specs.declared.event.event.Event.{Event}
+use Rattle.mio.specs.declared.token.Token.{Token}
 use Rattle.slab.specs.Slab.{Slab, SameValues, get}
 use Rattle.sqlite_trees.specs.declared.store.Store.{Ghosts}
 use Rattle.room_served.specs.Journals.{IsBegun, IsNotBegun, IsSettled, shares_of}
@@ -20,12 +21,15 @@ use Rattle.room_sockets.specs.declared.hall.TheConstants.{FIRST_GUEST}
 abbrev pub guests_of : Hall → Slab Guest
 guests_of hall = hall.peers.guests
 
--- the key of the peer whom an event names, or none where it names a door
-abbrev pub key_told : Event → Option ℕ
-key_told event = let name = (event_token event).0 in
-    if nat_le FIRST_GUEST name then Some (name - FIRST_GUEST) else None
+-- the key of the peer whose token it is, or none where it is a door's
+abbrev pub key_of : Token → Option ℕ
+key_of token = if nat_le FIRST_GUEST token.0 then Some (token.0 - FIRST_GUEST) else None
 
--- the keys of the peers whom events name, in the order of the events
+-- the key of the peer of whom an event tells
+abbrev pub key_told : Event → Option ℕ
+key_told event = key_of (event_token event)
+
+-- the keys of the peers of whom events tell, in the order of the events
 abbrev pub keys_told : List Event → List ℕ
 keys_told events = filter_map key_told events
 
@@ -154,7 +158,8 @@ module _ {S : Type 0} (store : Ghosts S) where
   GoesOn old new before after = (steps : List Step) × DoesAll steps old new before after
       × StaysAlone before after
 
-  -- the same, and nobody is let go who was not served
+  -- all that became of the peers and of what is served is such steps, and nobody is let go who was
+  -- not served
   abbrev pub SparesAll : (old new : Slab Guest) (before after : Served S) → Type 0
   SparesAll old new before after = (steps : List Step)
       × DoesAll steps old new before after × StaysAlone before after

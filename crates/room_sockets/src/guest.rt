@@ -84,8 +84,8 @@ impl Guest {
         self.door
     }
 
-    /// Has a turn: what came by its socket is taken. In a round nothing goes by it; otherwise what
-    /// it is told does, and where the round in which it asked was lost that is asked again first.
+    /// Has a turn: what came by its socket is taken. In a round nothing is written to it; otherwise
+    /// what it is told is, and where the round in which it asked was lost that is asked again first.
     pub(crate) fn drive<S: Alter>(
         &mut self,
         alloc: Global,
@@ -102,6 +102,7 @@ impl Guest {
         }
     }
 
+    /// A turn in a round. What it asks is kept for its turn once the round is settled.
     fn ask<S: Alter>(&mut self, served: &mut Served<S>, turn: Turn) -> Next
         ensures { AsksTurn S.Store turn result self.old self.new served.old served.new }
     {
@@ -113,6 +114,7 @@ impl Guest {
         next
     }
 
+    /// A turn outside a round. Who hears now what it asked in one reads nothing more.
     fn go_on<S: Alter>(&mut self, alloc: Global, served: &mut Served<S>, turn: Turn) -> Next
         requires { shares_of served.old ≡ false }
         ensures { HasTurn S.Store turn result self.old self.new served.old served.new }
@@ -128,7 +130,8 @@ impl Guest {
         next
     }
 
-    /// Where the round was lost, what it asked in it is asked again.
+    /// Where the round was lost, what it asked in it is asked again, by itself. From then on it is a
+    /// peer of lines, whatever it spoke, that only writes what that came to, and ends.
     fn ask_again<S: Alter>(&mut self, alloc: Global, served: &mut Served<S>, ticks: u64)
         requires { shares_of served.old ≡ false }
         ensures again { AsksAgain S.Store (is_lost_of served.old) (asked_in self.old)

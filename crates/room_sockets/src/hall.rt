@@ -1,10 +1,10 @@
 //! The peers of all doors, and the loop that waits for them.
 
-ghost use Rattle.std.specs.Prelude.{◌≡◌, ◌≢◌, [], ◌∷◌, false, IfOk, None, IsFalse, IsTrue};
+ghost use Rattle.std.specs.Prelude.{◌≡◌, ◌≢◌, ◌≤◌, [], ◌∷◌, false, IfOk, None, Some, IsFalse, IsTrue};
 ghost use Rattle.mio.specs.Events.{items};
 ghost use Rattle.slab.specs.Slab.{SameValues, get};
 ghost use Rattle.room_served.specs.Journals.{Follows, open_of, shares_of};
-ghost use Rattle.room_sockets.specs.Halls.{AreOthersKept, GoesOn, IsEmpty, MayLeave, OnlyLeave, Serves, ServesThose, SparesAndServes, StaysAfter, guests_of, keys_told, told_by};
+ghost use Rattle.room_sockets.specs.Halls.{AreOthersKept, GoesOn, IsEmpty, MayLeave, OnlyLeave, Serves, ServesThose, SparesAndServes, StaysAfter, guests_of, key_of, keys_told, told_by};
 
 use crate::clock::{moment, ticks};
 use crate::deadlines::TICK;
@@ -26,7 +26,7 @@ use std::time::{Clock, Duration};
 /// How many events are taken from the system at once. So many peers at most share a commit.
 const MOST_EVENTS: usize = 64;
 
-/// The doors have the first names among the events, and their guests those from here on.
+/// The doors have the first tokens, and their guests those from here on.
 pub(crate) const FIRST_GUEST: usize = 3;
 
 /// The peers of all doors, and what the system told of them last.
@@ -155,13 +155,13 @@ impl Peers {
         ensures { SparesAndServes S.Store (keys_told (event.now ∷ []))
             self.old.guests self.new.guests served.old served.new }
     {
-        let name = event.token().0;
-        match name.checked_sub(FIRST_GUEST) {
+        let token = event.token().0;
+        match token.checked_sub(FIRST_GUEST) {
             Some(key) => {
                 self.serve(clock, key, served, event.is_read_closed());
                 self.free_memory(clock, served);
             }
-            None => self.note_waiting(name),
+            None => self.note_waiting(token),
         }
     }
 
@@ -212,7 +212,8 @@ impl Peers {
         }
     }
 
-    /// Whether the peer stays after a turn. One in a round is followed by another.
+    /// Whether the peer stays after a turn. A turn in a round is followed by another, so the system
+    /// need not tell again.
     fn keeps(&mut self, key: usize, next: Next, shares: bool) -> bool
         ensures same { SameValues self.old.guests self.new.guests }
         ensures goes { IsFalse result → MayLeave next }
@@ -260,6 +261,9 @@ impl Peers {
     }
 }
 
-pub(crate) fn token_of(key: usize) -> Token {
+/// The token by which the system tells of the peer of the key.
+pub(crate) fn token_of(key: usize) -> Token
+    ensures { key ≤ MOST_GUESTS → key_of result ≡ Some key }
+{
     Token(key.saturating_add(FIRST_GUEST))
 }

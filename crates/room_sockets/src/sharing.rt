@@ -36,7 +36,8 @@ impl Peers {
         }
     }
 
-    /// Where no round could begin, it is full, or much is held, a peer asks by itself.
+    /// The peer's turn in the round. It has none where no round could begin, the round is full, or
+    /// much is held and the peer is not the favoured one: then it asks by itself, in `serve_all`.
     fn ask<S: Alter>(&mut self, clock: &impl Clock, event: &Event, served: &mut Served<S>)
         ensures { SparesAll S.Store self.old.guests self.new.guests served.old served.new }
     {
