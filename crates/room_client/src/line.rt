@@ -90,14 +90,15 @@ fn none_shown(error: io::Error) -> Result<Piece, ClientFault>
     Err(ClientFault::from(error))
 }
 
-/// Adds what is shown to the line, up to its first line feed but no more than so many bytes, and
-/// answers how many of the bytes are done with.
+/// Adds the front of what is shown to the line, up to the first line feed there but no more than so
+/// many bytes, and answers how many bytes are done with, that line feed among them.
 fn add_front(shown: &[u8], room: usize, line: &mut Vec<u8>) -> Result<(usize, Piece), AllocError>
     requires { 0 < room }
     ensures shown { IfOk result (λ added. added.0 ≤ length shown.now) }
     ensures room { IfOk result (λ added. added.0 ≤ room) }
     ensures adds { IfOk result
         (λ added. Adds (take added.0 shown.now) line.old.items line.new.items added.1) }
+    ensures goes_on { IfOk result (λ added. 0 < length shown.now → 0 < added.0) }
     ensures end { IfOk result (λ added. added.1 ≡ Piece.End → length shown.now ≡ 0) }
 {
     let front = &shown[..shown.len().min(room)];

@@ -1,4 +1,4 @@
--- The laws together (all this project's own).
+-- The laws on whole lives, together (all this project's own).
 use Rattle.std.specs.Prelude.{List}
 use Rattle.std.specs.List.{AllByRecursion}
 use Rattle.room_laws.specs.Balance.{Balance, SettleOnce}
@@ -22,7 +22,8 @@ pub record KeepTheLaws (steps : List Step) : Type 0 where
   pub number_jobs : NumberJobs steps
   pub keep_jobs : KeepJobs steps
   pub grant_once : GrantOnce steps
-  -- so what holds of each event of each room, as of passwords, holds of each of them
+  -- each step is what its event makes of its room: so the laws on single events, as of passwords,
+  -- hold of each
   pub of_their_events : AllByRecursion IsOfItsEvent steps
 
 abbrev pub LawsAreKept : Type 0

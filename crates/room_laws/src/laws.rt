@@ -114,7 +114,8 @@ pub fn grants_once()
     ensures { GrantsOnce }
 {}
 
-/// The laws together, of all that happens to an account from its opening on.
+/// The laws on whole lives together, of all that happens to an account from its opening on. Those on
+/// single events hold of each step too, since a step is what its event makes of the room.
 pub fn laws_are_kept()
     ensures { LawsAreKept }
 {}

@@ -17,7 +17,7 @@ pub struct Act {
     name: &'static str,
     /// The job that it acts on, 0 where it acts on none.
     job: u32,
-    /// Of that job, empty where there is none.
+    /// Of that job, or of the device whether it is known; empty where there is neither.
     state: &'static str,
     has_password: bool,
     /// Whether the account has no number for a further job.

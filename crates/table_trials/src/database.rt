@@ -47,7 +47,9 @@ impl<S: Alter + Drop> Database<S> {
         }
     }
 
-    /// The database after a command, and what the command answers.
+    /// The database after a command, and what the command answers. A file that the command names is
+    /// opened or removed. What a table or a statement refuses is an answer; a fault is bad notation,
+    /// storage or memory that fails, and the database is gone with it.
     pub fn run<F: FileTables<Kept = Connection<S>>>(
         self,
         rt: &HostRuntime,
@@ -154,8 +156,8 @@ fn answered<S: Alter>(
     }
 }
 
-/// Tells that a call is made once more, since the first was refused memory. None is where memory is
-/// there, so that in the gate such a line is a fault.
+/// Prints that a call is made once more, since the first failed. Where memory and storage are there
+/// none fails, so that in the gate such a line is one that no row has.
 pub fn tell_again(rt: &HostRuntime) {
     let _ = writeln!(rt.stdout(), "asked again");
 }
