@@ -28,17 +28,18 @@ def create(path, accounts=(), lines=()):
 class Serving:
     """A run of `serve` up to the end of the block, on free ports or at the paths that are named.
 
-    `descriptors` is how many files it may have open.
+    `descriptors` is how many files it may have open, and `variables` are put among those of its environment.
     """
 
-    def __init__(self, path, stations='0', operators='0', descriptors=4096):
+    def __init__(self, path, stations='0', operators='0', descriptors=4096, variables=None):
         self.words = [PROGRAM, 'serve', path, '0', stations, operators]
         self.descriptors = descriptors
+        self.environment = {**os.environ, **(variables or {})}
 
     def __enter__(self):
         def limit():
             resource.setrlimit(resource.RLIMIT_NOFILE, (self.descriptors, self.descriptors))
-        self.process = subprocess.Popen(self.words, stdout=subprocess.PIPE, preexec_fn=limit)
+        self.process = subprocess.Popen(self.words, stdout=subprocess.PIPE, preexec_fn=limit, env=self.environment)
         told = self.process.stdout.readline().decode().split()
         if len(told) != 4 or told[0] != 'serving':
             raise OSError(f'serve told {told}, status {self.process.wait()}')
