@@ -6,7 +6,7 @@
 //! - `is-device-on` answers `yes` or `no`, `granted NAME MONTH` a number;
 //! - `tally NAME` answers `unfinished COUNT idle|processing reserved UNITS charged UNITS` of all
 //! jobs, `queue NAME`
-//!   of those that have not ended;
+//!   of those that have not ended, of which `count NAME` answers the number alone;
 //! - `job NAME NUMBER` answers the words that `add-job` takes after the account;
 //! - `unfinished NAME LIMIT` and `ended NAME LIMIT` answer the number and the name of each job;
 //! - `documents NAME JOB` answers the job, the number, the format and the bytes of each document.
@@ -16,8 +16,8 @@ use crate::fault::Fault;
 use crate::fields::Fields;
 use room_rules::Name;
 use room_statements::{
-    ended_jobs, find_account, find_device, find_documents, find_grant, find_job, find_rate,
-    granted_to, is_device_on, tally_jobs, tally_unfinished, unfinished_jobs,
+    count_unfinished, ended_jobs, find_account, find_device, find_documents, find_grant, find_job,
+    find_rate, granted_to, is_device_on, tally_jobs, tally_unfinished, unfinished_jobs,
 };
 use sqlite::{Alter, Connection};
 use std::alloc::Global;
@@ -32,6 +32,7 @@ pub enum Ask {
     Granted { name: Name, month: u32 },
     Tally { name: Name },
     Queue { name: Name },
+    Count { name: Name },
     Job { name: Name, job: u32 },
     Unfinished { name: Name, limit: Option<u32> },
     Ended { name: Name, limit: Option<u32> },
@@ -43,7 +44,9 @@ impl Ask {
     pub fn read(kind: &str, fields: &mut Fields<'_>) -> Result<Option<Ask>, Fault> {
         match kind {
             "is-device-on" => Ok(Some(Ask::IsDeviceOn)),
-            "account" | "device" | "rate" | "tally" | "queue" => Ask::by_name(kind, fields),
+            "account" | "device" | "rate" | "tally" | "queue" | "count" => {
+                Ask::by_name(kind, fields)
+            }
             "grant" | "granted" => Ask::by_month(kind, fields),
             "job" | "documents" => Ask::by_job(kind, fields),
             "unfinished" | "ended" => Ask::by_limit(kind, fields),
@@ -59,6 +62,7 @@ impl Ask {
             "rate" => Some(Ask::Rate { name }),
             "tally" => Some(Ask::Tally { name }),
             "queue" => Some(Ask::Queue { name }),
+            "count" => Some(Ask::Count { name }),
             _ => None,
         })
     }
@@ -107,6 +111,7 @@ impl Ask {
             Ask::Granted { name, month } => Answer::Units(granted_to(connection, name, month)?),
             Ask::Tally { name } => Answer::Tally(tally_jobs(connection, name)?),
             Ask::Queue { name } => Answer::Tally(tally_unfinished(connection, name)?),
+            Ask::Count { name } => Answer::Units(count_unfinished(connection, name)? as u64),
             Ask::Job { name, job } => Answer::Job(find_job(connection, name, job)?),
             Ask::Unfinished { name, limit } => {
                 Answer::Jobs(unfinished_jobs(alloc, connection, name, limit)?)
