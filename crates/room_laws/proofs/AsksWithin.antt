@@ -45,20 +45,20 @@ each_passes (check ∷ checks) none =
     (parts.0, each_passes checks parts.1)
 
 -- those after some others do too
-later_pass : (earlier later : List Check) → first_refusal (earlier ++ later) ≡ None → first_refusal later ≡ None
+pub later_pass : (earlier later : List Check) → first_refusal (earlier ++ later) ≡ None → first_refusal later ≡ None
 later_pass [] later none = none
 later_pass (check ∷ earlier) later none =
     later_pass earlier later (none_here check.refused (refusal_of check) (first_refusal (earlier ++ later)) none).1
 
 -- and those before them
-earlier_pass : (earlier later : List Check) → first_refusal (earlier ++ later) ≡ None → first_refusal earlier ≡ None
+pub earlier_pass : (earlier later : List Check) → first_refusal (earlier ++ later) ≡ None → first_refusal earlier ≡ None
 earlier_pass [] later none = refl
 earlier_pass (check ∷ earlier) later none =
     let parts = none_here check.refused (refusal_of check) (first_refusal (earlier ++ later)) none in
     ap (λ b. if b then Some (refusal_of check) else first_refusal earlier) parts.0 ∙ earlier_pass earlier later parts.1
 
 -- what passes is handed on as it is
-passed : {A : Type 0} (first : Option PlainRefusal) (x z : A) → unless_refused first x ≡ Ok z → (first ≡ None) × (x ≡ z)
+pub passed : {A : Type 0} (first : Option PlainRefusal) (x z : A) → unless_refused first x ≡ Ok z → (first ≡ None) × (x ≡ z)
 passed None x z is = (refl, cc)
 passed (Some refusal) x z is = absurd (let no : ⊥ = cc in no)
 
@@ -175,7 +175,7 @@ attributes_checked account operation m none =
     let those = earlier_pass (attribute_checks account operation attributes) (document_checks operation (fidelity operation attributes) (unsupported (template_attributes operation m)) m.payload) none in
     later_pass (opening_checks attributes) (target_checks account operation attributes ++ field_checks operation attributes) those
 
-fields_checked : (account : List ℕ) (operation : Operation) (m : PlainMessage) → first_refusal (message_checks account operation m) ≡ None → first_refusal (field_checks operation (operation_attributes m)) ≡ None
+pub fields_checked : (account : List ℕ) (operation : Operation) (m : PlainMessage) → first_refusal (message_checks account operation m) ≡ None → first_refusal (field_checks operation (operation_attributes m)) ≡ None
 fields_checked account operation m none =
     later_pass (target_checks account operation (operation_attributes m)) (field_checks operation (operation_attributes m)) (attributes_checked account operation m none)
 

@@ -18,7 +18,7 @@ use Rattle.room_core.specs.Stations.{by_word, release_told, settling_told, start
 use Rattle.room_core.specs.Steps.{Step, and_then, refusing, refusing_or, telling, with_moved}
 use Rattle.room_core.specs.declared.event.Reply.{Reply}
 use Rattle.room_core.specs.declared.event.Reply.TheVariants as reply
-use Rattle.room_laws.specs.Told.{is_documents, is_ok, is_successful, makes_jobs}
+use Rattle.room_laws.specs.Told.{is_documents, is_ok, is_successful}
 use Rattle.room_laws.proofs.Statuses.{IsError, RefusesByError, accepting_errs, ask_errs, move_errs}
 use Rattle.room_laws.proofs.Tellings.{tells_error, tells_success, tells_word}
 use Rattle.room_replies.specs.Grants.{grant_refusal}
@@ -42,6 +42,12 @@ use Rattle.room_state.specs.Documents.{documents_of}
 use Rattle.room_state.specs.RoomRules.{unfinished_count}
 use Rattle.room_state.specs.Rooms.{RoomValue}
 use Rattle.room_state.specs.Sums.{left_in}
+
+-- a request that makes a job
+abbrev pub makes_jobs : Operation → Bool
+makes_jobs PrintJob = true
+makes_jobs CreateJob = true
+makes_jobs _ = false
 
 -- a request that shows something, or would make a job, and changes nothing
 abbrev pub only_reads : Operation → Bool

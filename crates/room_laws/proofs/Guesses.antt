@@ -6,7 +6,7 @@ use Rattle.room_core.specs.JobActs.{job_or_refusal}
 use Rattle.room_core.specs.Stations.{by_word, release_told, station, station_release}
 use Rattle.room_core.specs.Steps.{and_then, refusing, with_moved}
 use Rattle.room_core.specs.declared.event.Reply.TheVariants as reply
-use Rattle.room_laws.specs.Passwords.{AreLike, DifferInPasswords, IsPasswordOf}
+use Rattle.room_laws.proofs.LikeRooms.{AreLike, DifferInPasswords, IsPasswordOf}
 use Rattle.room_laws.proofs.HiddenAnswers.{GoAlike, hidden_step}
 use Rattle.room_laws.proofs.HiddenDifferences.{same_rooms}
 use Rattle.room_laws.proofs.HiddenRooms.{hidden_room, left_alike, moved_hidden}
@@ -79,13 +79,13 @@ module _ (device given : List ℕ) (impressions rate : ℕ) (left : ℤ) where
 -- ---- what is told of it
 
 module _ (a b : RoomValue) (differ : DifferInPasswords a b) where
-  moved_alike : (number : ℕ) (standing : Standing) → hidden_room (with_moved a number standing) ≡ hidden_room (with_moved b number standing)
+  pub moved_alike : (number : ℕ) (standing : Standing) → hidden_room (with_moved a number standing) ≡ hidden_room (with_moved b number standing)
   moved_alike number standing =
       sym (moved_hidden a number standing)
       ∙ ap (λ room. hidden_room (with_moved room number standing)) (same_rooms a b differ)
       ∙ moved_hidden b number standing
 
-  told_alike : (now number : ℕ) (decided : Result Standing Word) → GoAlike (release_told a now number decided) (release_told b now number decided)
+  pub told_alike : (now number : ℕ) (decided : Result Standing Word) → GoAlike (release_told a now number decided) (release_told b now number decided)
   told_alike now number (Err word) = ap (λ room. record { reply = (refusing a word).reply; room = room }) (same_rooms a b differ)
   told_alike now number (Ok standing) =
       let rooms = moved_alike number standing in

@@ -55,11 +55,11 @@ use Rattle.room_laws.proofs.MappedValues.{get-with_each, values-with_each}
 abbrev pub hidden_step : Step → Step
 hidden_step step = record { reply = step.reply; room = hidden_room step.room }
 
-abbrev hidden_response : Response → Response
+abbrev pub hidden_response : Response → Response
 hidden_response response = record { text = response.text; room = hidden_room response.room }
 
 -- two responses that are alike
-abbrev AreAlike : (a b : Response) → Type 0
+abbrev pub AreAlike : (a b : Response) → Type 0
 AreAlike a b = hidden_response a ≡ hidden_response b
 
 -- two steps that are alike

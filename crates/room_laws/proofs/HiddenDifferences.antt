@@ -1,7 +1,7 @@
 -- Two rooms that differ in passwords alone are the same where the passwords are hidden.
 use Rattle.std.proofs.Common.{◌≡◌, ℕ, List, [], ◌∷◌, Option, Some, None, option_map, unwrap_or, refl, sym, ap, ◌∙◌}
 use Rattle.std.specs.FinMap.{get}
-use Rattle.room_laws.specs.Passwords.{AreLike, DiffersInPassword, DifferInPasswords}
+use Rattle.room_laws.proofs.LikeRooms.{AreLike, DiffersInPassword, DifferInPasswords}
 use Rattle.room_laws.proofs.HiddenPasswords.{hidden, secret}
 use Rattle.room_laws.proofs.HiddenRooms.{hidden_room}
 use Rattle.room_laws.proofs.MappedValues.{get-with_each, same_with_each}
@@ -10,7 +10,7 @@ use Rattle.room_state.specs.Rooms.{RoomValue}
 
 -- ---- both have a password, or both have none
 
-same_secrets : (a b : List ℕ) → (a ≡ [] → b ≡ []) → (b ≡ [] → a ≡ []) → secret a ≡ secret b
+pub same_secrets : (a b : List ℕ) → (a ≡ [] → b ≡ []) → (b ≡ [] → a ≡ []) → secret a ≡ secret b
 same_secrets [] [] to from = refl
 same_secrets [] (byte ∷ bytes) to from = let no : byte ∷ bytes ≡ [] = to refl in absurd cc
 same_secrets (byte ∷ bytes) [] to from = let no : byte ∷ bytes ≡ [] = from refl in absurd cc
@@ -48,7 +48,7 @@ like_found (Some a) (Some b) same = differs_hidden a b (ap (λ found. unwrap_or 
 
 pub same_rooms : (a b : RoomValue) → DifferInPasswords a b → hidden_room a ≡ hidden_room b
 same_rooms a b differ =
-    let jobs = same_with_each hidden a.jobs b.jobs (λ number. same_found (get a.jobs number) (get b.jobs number) (differ.jobs number)) in
+    let jobs = same_with_each hidden hidden a.jobs b.jobs (λ number. same_found (get a.jobs number) (get b.jobs number) (differ.jobs number)) in
     λ i. record { opened = differ.opened i; next = differ.next i; jobs = jobs i; documents = differ.documents i; grants = differ.grants i }
 
 pub differ_rooms : (a b : RoomValue) → hidden_room a ≡ hidden_room b → DifferInPasswords a b

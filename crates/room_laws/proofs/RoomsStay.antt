@@ -1,20 +1,47 @@
--- Each step of a history leaves a room.
-use Rattle.std.proofs.Common.{ℕ, List, [], ◌∷◌, Option, Some, None, All}
+-- A life of events within their limits leaves a room.
+use Rattle.std.proofs.Common.{ℕ, sym, ◌∙◌, List, [], ◌∷◌, ◌++◌, Option, Some, None, All}
+use Rattle.std.specs.FinMap.{get-empty}
 use Rattle.std.specs.Prelude.{IfSome}
 use Rattle.std.proofs.lemmas.List.Elements.{All-cons, All-head, All-nil, All-tail}
+use Rattle.std.proofs.lemmas.Option.{none-some}
 use Rattle.room_core.specs.DeviceEvents.{device_answered}
-use Rattle.room_core.specs.Events.{AccountEvent, Timed, OfAccount, OfDevice, Open, Ipp, Release, Start, Settle, Grant}
-use Rattle.room_core.specs.Machine.{answered_unopened}
-use Rattle.room_laws.specs.Histories.{history, step_of}
-use Rattle.room_laws.specs.RoomsStay.{IsEvent, KeepsRules, RoomsStay}
-use Rattle.room_rules.specs.Devices.{Devices}
+use Rattle.room_core.specs.Events.{AccountEvent, DeviceEvent, OfAccount, OfDevice, Open, Ipp, Release, Start, Settle, Grant}
+use Rattle.room_core.specs.Machine.{answered, answered_unopened}
+use Rattle.room_laws.proofs.Changes.{makes_one}
+use Rattle.room_laws.proofs.DevicesStay.{AreDevices, devices_stay}
+use Rattle.room_laws.proofs.LifeLemmas.{account_exchange, device_exchange, of_each_life}
+use Rattle.room_laws.proofs.StepsKeepRooms.{event_keeps}
+use Rattle.room_laws.specs.Lives.{Exchange, Life}
+use Rattle.room_laws.specs.RoomsStay.{IsEvent, RoomsStay}
+use Rattle.room_rules.specs.Devices.{Devices, name_cmp}
 use Rattle.room_rules.specs.Limits.{IsMoment}
 use Rattle.room_state.specs.RoomRules.{IsRoom}
 use Rattle.room_state.specs.Rooms.{RoomValue}
 use Rattle.room_state.proofs.RoomLemmas.{empty_room_keeps}
-use Rattle.room_laws.proofs.Changes.{makes_one}
-use Rattle.room_laws.proofs.DevicesStay.{AreDevices, devices_stay}
-use Rattle.room_laws.proofs.StepsKeepRooms.{event_keeps}
+
+record Stays (room : Option RoomValue) (devices : Devices) : Type 0 where
+  pub rules : IfSome room IsRoom
+  pub known : AreDevices devices
+
+abbrev AreEvents : Life → Type 0
+AreEvents life = All (λ (x : Exchange). IsEvent x.0) life
+
+abbrev StaysSo : Life → Option RoomValue → Devices → Type 0
+StaysSo life room devices = AreEvents life → Stays room devices
+
+-- all that came before, and the one behind it
+record AreBoth (past : Life) (x : Exchange) : Type 0 where
+  pub all : AreEvents past
+  pub one : IsEvent x.0
+
+abbrev Fits : Exchange → Type 0
+Fits x = IsEvent x.0
+
+both : (past : Life) (x : Exchange) → AreEvents (past ++ x ∷ []) → AreBoth past x
+both [] x are = record { all = All-nil Fits; one = All-head Fits x [] are }
+both (first ∷ past) x are =
+    let rest = both past x (All-tail Fits first (past ++ x ∷ []) are) in
+    record { all = All-cons Fits first past (All-head Fits first (past ++ x ∷ []) are) rest.all; one = rest.one }
 
 -- an account that is opened has a room
 opened : (now : ℕ) (account : List ℕ) (event : AccountEvent) → IsMoment now → IfSome (answered_unopened now (OfAccount account event)).room IsRoom
@@ -25,21 +52,31 @@ opened now account (Start device job) moment = tt
 opened now account (Settle device job impressions failed) moment = tt
 opened now account (Grant month pages) moment = tt
 
--- event by event: one of a device leaves the rooms as they are, and one of the account leaves a room
-each_stays : (events : List Timed) (room : Option RoomValue) (devices : Devices) → IfSome room IsRoom → AreDevices devices → All IsEvent events → All KeepsRules (history room devices events)
-each_stays [] room devices rules known all = All-nil KeepsRules
-each_stays ((now, OfDevice device event) ∷ events) room devices rules known all =
-    let e = All-head IsEvent (now, OfDevice device event) events all in
-    each_stays events room (device_answered devices (OfDevice device event)).devices rules (devices_stay devices device event e.named e.fit known) (All-tail IsEvent (now, OfDevice device event) events all)
-each_stays ((now, OfAccount account event) ∷ events) None devices rules known all =
-    let e = All-head IsEvent (now, OfAccount account event) events all in
-    each_stays events (answered_unopened now (OfAccount account event)).room devices (opened now account event e.moment) known (All-tail IsEvent (now, OfAccount account event) events all)
-each_stays ((now, OfAccount account event) ∷ events) (Some room) devices rules known all =
-    let e = All-head IsEvent (now, OfAccount account event) events all in
-    let step = step_of room devices now account event in
-    let here : IsRoom step.after = event_keeps room devices now account event step.reply step.after rules known.named known.rated e.moment e.fit (makes_one room devices now account event) in
-    All-cons KeepsRules step (history (Some step.after) devices events) (record { before = rules; after = here; named = known.named; rated = known.rated })
-    (each_stays events (Some step.after) devices here known (All-tail IsEvent (now, OfAccount account event) events all))
+by_account : (past : Life) (room : Option RoomValue) (devices : Devices) (now : ℕ) (account : List ℕ) (it : AccountEvent) → StaysSo past room devices
+    → StaysSo (past ++ account_exchange room devices now account it ∷ []) (answered room devices now (OfAccount account it)).room devices
+by_account past None devices now account it so are =
+    let each = both past (account_exchange None devices now account it) are in
+    record { rules = opened now account it each.one.moment; known = (so each.all).known }
+by_account past (Some room) devices now account it so are =
+    let each = both past (account_exchange (Some room) devices now account it) are in
+    let before = so each.all in
+    record {
+      rules = event_keeps room devices now account it _ _ before.rules before.known.named before.known.rated each.one.moment each.one.fit (makes_one room devices now account it);
+      known = before.known;
+    }
+
+by_device : (past : Life) (room : Option RoomValue) (devices : Devices) (now : ℕ) (device : List ℕ) (it : DeviceEvent) → StaysSo past room devices
+    → StaysSo (past ++ device_exchange devices now device it ∷ []) room (device_answered devices (OfDevice device it)).devices
+by_device past room devices now device it so are =
+    let each = both past (device_exchange devices now device it) are in
+    let before = so each.all in
+    record { rules = before.rules; known = devices_stay devices device it each.one.named each.one.fit before.known }
 
 pub rooms_stay : RoomsStay
-rooms_stay room devices events rules named rated all = each_stays events room devices rules (record { named = named; rated = rated }) all
+rooms_stay life room devices is are =
+    let stays = of_each_life StaysSo (record {
+      begun = λ _. record { rules = tt; known = record { named = λ name device here. absurd (none-some device (sym (get-empty name_cmp name) ∙ here)); rated = λ name device here. absurd (none-some device (sym (get-empty name_cmp name) ∙ here)) } };
+      by_account = by_account;
+      by_device = by_device;
+    }) life room devices is are in
+    record { rules = stays.rules; named = stays.known.named; rated = stays.known.rated }

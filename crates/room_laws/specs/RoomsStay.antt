@@ -4,7 +4,7 @@ use Rattle.std.specs.FinMap.{get}
 use Rattle.room_core.specs.Events.{PlainEvent, Timed, OfAccount, OfDevice}
 use Rattle.room_core.specs.Fits.{fits}
 use Rattle.room_core.specs.Rates.{AreRated}
-use Rattle.room_laws.specs.Histories.{Step, history}
+use Rattle.room_laws.specs.Lives.{Exchange, IsLife, Life}
 use Rattle.room_rules.specs.Devices.{Devices}
 use Rattle.room_rules.specs.Limits.{IsMoment}
 use Rattle.room_rules.specs.Names.{is_name}
@@ -28,17 +28,14 @@ pub record IsEvent (e : Timed) : Type 0 where
   pub fit : IsTrue (fits e.1)
   pub named : IsNamed e.1
 
--- a step from a room to a room, among devices that have names and rates
-pub record KeepsRules (step : Step) : Type 0 where
-  pub before : IsRoom step.before
-  pub after : IsRoom step.after
-  pub named : AreNamed step.devices
-  pub rated : AreRated step.devices
+-- a room that keeps its rules, if there is one, among devices that have names and rates
+pub record KeepsRules (room : Option RoomValue) (devices : Devices) : Type 0 where
+  pub rules : IfSome room IsRoom
+  pub named : AreNamed devices
+  pub rated : AreRated devices
 
--- of events within their limits each step begins with a room and leaves one, where the account had
--- one or none at first
+-- what a life leaves whose events lie within their limits
 abbrev pub RoomsStay : Type 0
 RoomsStay =
-    (room : Option RoomValue) (devices : Devices) (events : List Timed)
-    → IfSome room IsRoom → AreNamed devices → AreRated devices → All IsEvent events
-    → All KeepsRules (history room devices events)
+    (life : Life) (room : Option RoomValue) (devices : Devices) → IsLife life room devices
+    → All (λ (x : Exchange). IsEvent x.0) life → KeepsRules room devices

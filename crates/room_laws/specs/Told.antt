@@ -1,14 +1,11 @@
 -- What an event asked for, and whether it was done, as its answer tells (all this project's own).
-use Rattle.std.specs.Prelude.{ℕ, Bool, true, false, nat_eq, nat_lt, ◌==◌, if◌then◌else◌, List, [], ◌∷◌, Option, Some, None, Result, Ok, Err, codes, option_and_then}
+use Rattle.std.specs.Prelude.{ℕ, Bool, true, false, nat_eq, nat_lt, List, Option, Some, None, Result, Ok, Err, codes}
 use Rattle.std.specs.List.{starts_with}
 use Rattle.ipp_coding.specs.Reading.{header_in}
 use Rattle.room_asks.specs.Asks.{PlainAsk, PlainRefusal, ask_of}
-use Rattle.room_asks.specs.declared.operation.Operation.{Operation}
-use Rattle.room_asks.specs.declared.operation.Operation.TheVariants.{PrintJob, CreateJob}
 use Rattle.room_core.specs.Events.{AccountEvent, Ipp}
 use Rattle.room_core.specs.declared.event.Reply.{Reply}
 use Rattle.room_core.specs.declared.event.Reply.TheVariants as reply
-use Rattle.room_laws.specs.Histories.{Step}
 
 -- a request was done: its status is one of successful-ok (RFC 8011 section B.1.2)
 abbrev pub is_successful : Reply → Bool
@@ -33,32 +30,3 @@ if_passed (Err refused) = None
 abbrev pub request_of : (account : List ℕ) → AccountEvent → Option PlainAsk
 request_of account (Ipp body) = if_passed (ask_of account body)
 request_of account _ = None
-
--- the request of a step, where it was done
-abbrev pub done_in : Step → Option PlainAsk
-done_in step = if is_successful step.reply then request_of step.account step.event else None
-
--- ---- the request that made a job
-
-abbrev pub makes_jobs : Operation → Bool
-makes_jobs PrintJob = true
-makes_jobs CreateJob = true
-makes_jobs _ = false
-
--- it makes the job that has the account's next number
-abbrev pub maker_in : (number : ℕ) → Step → Option PlainAsk
-maker_in number step =
-    option_and_then
-    (λ (ask : PlainAsk).
-    if makes_jobs ask.operation then (if step.before.next == number then Some ask else None)
-    else None)
-    (done_in step)
-
--- the first of some steps that made the job
-abbrev pub or_else : {A : Type 0} → Option A → Option A → Option A
-or_else None other = other
-or_else (Some x) other = Some x
-
-abbrev pub maker_of : (number : ℕ) → List Step → Option PlainAsk
-maker_of number [] = None
-maker_of number (step ∷ steps) = or_else (maker_in number step) (maker_of number steps)

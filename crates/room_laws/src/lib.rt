@@ -1,11 +1,19 @@
 //! What holds of an account over its whole life, as laws on what its machine does.
 #![tactic(auto)]
 
+mod answers;
 mod laws;
+mod operators;
+mod page_account;
+mod printing;
+mod requests;
 
-pub use laws::{
-    accepted_by_what_is_left, asks_lie_within, balances, changes_as_told, grants_once,
-    jobs_are_numbered, jobs_stay, laws_are_kept, passwords_show_nowhere, printed_by_leave,
-    printed_is_sent, printed_once, releases_leave, rooms_stay, settled_once, within_grants,
-    wrong_passwords,
+pub use answers::{operators_are_answered, stations_are_answered};
+pub use laws::{asks_lie_within, leaves_as_told, lives_go_on, rooms_stay};
+pub use operators::{devices_are_set_by_their_lines, months_are_granted_once};
+pub use page_account::{accounts_balance, releases_owe_nothing, settlements_charge};
+pub use printing::{
+    done_stays, handed_as_sent, handed_by_leave, handed_once, its_own_job_alone,
+    passwords_stay_secret,
 };
+pub use requests::{asks_are_spelled, jobs_are_counted, jobs_last, requests_are_answered};
