@@ -1,0 +1,57 @@
+-- A connection that is asked whether it is open, before an event.
+use Rattle.std.proofs.Common.{◌≡◌, ℕ, List, Option, Result, Err, IsTrue, inl, inr}
+use Rattle.sqlite_value.specs.Order.{Row}
+use Rattle.sqlite_trees.specs.declared.store.Store.{Ghosts}
+use Rattle.sqlite.specs.Effect.{Database}
+use Rattle.sqlite.specs.Held.{Held, state}
+use Rattle.sqlite.specs.State.{State, IsNotRun, IsUnchanged as IsLeftSame}
+use Rattle.sqlite.specs.declared.error.Error.{Error}
+use Rattle.room_core.specs.DeviceEvents.{device_answered}
+use Rattle.room_core.specs.Events.{PlainEvent, OfAccount, OfDevice}
+use Rattle.room_core.specs.Machine.{answered}
+use Rattle.room_core.specs.declared.event.Reply.{Reply}
+use Rattle.room_rules.specs.Devices.{Devices}
+use Rattle.room_state.specs.Rooms.{RoomValue}
+use Rattle.room_statements.specs.Alone.{OnlyAccount, OnlyDevices}
+use Rattle.room_store.proofs.ServingLemmas.{Passed, look_failed_as, serves_after}
+use Rattle.room_store.specs.Reading.{IsReadable}
+use Rattle.room_store.specs.Serving.{DoesEvent, LooksUp, MayBeHeld}
+use Rattle.room_tables.proofs.Savepoints.{undone_by}
+use Rattle.room_tables.specs.Accounts.{Holds}
+use Rattle.room_tables.specs.Calls.{IsUnchanged, UnchangedOrUndone}
+use Rattle.room_tables.specs.Devices.{HoldsDevices}
+use Rattle.room_tables.specs.declared.fault.TableFault.{TableFault}
+use Rattle.room_tables.specs.declared.fault.TableFault.TheVariants as table
+
+pub unchanged_by : (old new : State) → IsLeftSame old new → IsUnchanged old new
+unchanged_by old new same = record { now = same.0.now_is; committed = same.0.committed_is; mode = same.0.mode }
+
+-- a text that was not run
+pub not_run : (text : List ℕ) (params : Row) (old new : State) (error : Error) → IsNotRun old new text params error → UnchangedOrUndone old new
+unfolding IsNotRun
+not_run text params old new error (inl refused) = inl (unchanged_by old new refused.1)
+not_run text params old new error (inr fails) = inr (undone_by old new fails.3)
+
+pub not_run_back : (text : List ℕ) (params : Row) (old new : State) (error : Error) → IsNotRun old new text params error → IsTrue new.is_open → IsTrue old.is_open
+unfolding IsNotRun
+not_run_back text params old new error (inl refused) is_open = refused.1.0.was_open
+not_run_back text params old new error (inr fails) is_open = fails.3.was_open is_open
+
+module _ {S : Type 0} (store : Ghosts S) (now : ℕ) where
+  -- where it is not, the event is not begun
+  pub event_failed : (e : PlainEvent) (old new : Held S) (r : Result Reply TableFault) (f g : TableFault) → r ≡ Err f → f ≡ g → LooksUp store old new {T = Unit {0}} (Err g) → (g ≡ table.Damaged → ⊥) → DoesEvent store old new now e r
+  event_failed (OfAccount name it) old new r f g is same looks never =
+      look_failed_as {R = Option RoomValue × Devices} (MayBeHeld name) (IsReadable now (OfAccount name it)) (OnlyAccount name) (λ of. (answered of.0 of.1 now (OfAccount name it)).reply) (λ of db. Holds db name (answered of.0 of.1 now (OfAccount name it)).room)
+      store {U = Unit {0}} old new r f g is same looks (λ clean has damaged readable. never damaged)
+  event_failed (OfDevice name it) old new r f g is same looks never =
+      look_failed_as {R = Devices} (λ devices db. HoldsDevices db devices) (IsReadable now (OfDevice name it)) OnlyDevices (λ devices. (device_answered devices (OfDevice name it)).reply) (λ devices db. HoldsDevices db (device_answered devices (OfDevice name it)).devices)
+      store {U = Unit {0}} old new r f g is same looks (λ clean has damaged readable. never damaged)
+
+  -- where it is, the event is as ever
+  pub event_after : (e : PlainEvent) (old mid new : Held S) (r : Result Reply TableFault) → Passed (state store old) (state store mid) → DoesEvent store mid new now e r → DoesEvent store old new now e r
+  event_after (OfAccount name it) old mid new r passed does =
+      serves_after {R = Option RoomValue × Devices} (MayBeHeld name) (IsReadable now (OfAccount name it)) (OnlyAccount name) (λ of. (answered of.0 of.1 now (OfAccount name it)).reply) (λ of db. Holds db name (answered of.0 of.1 now (OfAccount name it)).room)
+      store old mid passed {Rest = IsReadable now (OfAccount name it)} new r (λ clean has readable. readable) does
+  event_after (OfDevice name it) old mid new r passed does =
+      serves_after {R = Devices} (λ devices db. HoldsDevices db devices) (IsReadable now (OfDevice name it)) OnlyDevices (λ devices. (device_answered devices (OfDevice name it)).reply) (λ devices db. HoldsDevices db (device_answered devices (OfDevice name it)).devices)
+      store old mid passed {Rest = IsReadable now (OfDevice name it)} new r (λ clean has readable. readable) does

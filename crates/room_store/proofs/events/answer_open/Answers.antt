@@ -1,0 +1,20 @@
+use Rattle.std.proofs.Common.{sym, subst}
+use Rattle.room_core.specs.Events.{plain_event}
+use Rattle.room_core.specs.Machine.{answered_open}
+use Rattle.room_store.specs.Reading.{IsReadableOpen}
+use Rattle.room_store.specs.Serving.{DoesStep}
+use Rattle.room_store.proofs.events.answer_open.Goals as goal
+
+pub returns-in-Release : goal.returns-in-Release
+returns-in-Release g c =
+    record {
+      served = subst (λ e. DoesStep g.S.Store c.args.connection.now c.release_at.new.connection c.args.account (IsReadableOpen c.args.account c.args.now (plain_event e)) (λ room devices. answered_open room devices c.args.now (plain_event e)) c.release_at.result)
+          (sym c.in-Release.is) c.release_at.ensures.served;
+    }
+
+pub returns-in-Start : goal.returns-in-Start
+returns-in-Start g c =
+    record {
+      served = subst (λ e. DoesStep g.S.Store c.args.connection.now c.start.new.connection c.args.account (IsReadableOpen c.args.account c.args.now (plain_event e)) (λ room devices. answered_open room devices c.args.now (plain_event e)) c.start.result)
+          (sym c.in-Start.is) c.start.ensures.served;
+    }
