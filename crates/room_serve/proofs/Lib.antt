@@ -5,3 +5,6 @@ pub mod Agreed
 pub mod Applying
 pub mod Exchanging
 pub mod LifeLemmas
+pub mod LivesOn
+pub mod FoundLives
+pub mod FoundLists

@@ -1,4 +1,4 @@
--- An account's life is the history of its own events, and runs in a row are one.
+-- An account's machine goes on from event to event, and runs in a row are one.
 use Rattle.std.proofs.Common.{◌≡◌, ℕ, ◌+◌, Bool, true, false, ◌||◌, cond, bytes_eq, List, [], ◌∷◌, ◌++◌, map, length, Option, Some, None, IsSome, refl, sym, ap, subst, ◌∙◌}
 use Rattle.std.proofs.lemmas.List.{append-nil, append_assoc, length-append}
 use Rattle.std.proofs.lemmas.List.Elements.{filter-append}
@@ -7,7 +7,6 @@ use Rattle.room_core.specs.DeviceEvents.{device_answered}
 use Rattle.room_core.specs.Events.{AccountEvent, PlainEvent, Timed, OfAccount, OfDevice}
 use Rattle.room_core.specs.Machine.{answered, answered_unopened}
 use Rattle.room_core.specs.declared.event.Reply.{Reply}
-use Rattle.room_laws.specs.Histories.{Step, history, left_by, step_of}
 use Rattle.room_rules.specs.Devices.{Devices}
 use Rattle.room_state.specs.Rooms.{RoomValue}
 use Rattle.room_tables.specs.Accounts.{Holds}
@@ -19,8 +18,6 @@ use Rattle.room_serve.specs.Alone.{Alone, alone, answer_on}
 use Rattle.room_serve.specs.Outcomes.{answered_of, replies_to}
 use Rattle.room_serve.specs.Runs.{IsAlone, RunsAlone}
 use Rattle.room_serve.specs.Isolation.{IsRun}
-use Rattle.room_serve.specs.Lives.{HasLived, LivesKeepTheLaws, told_in, told_of}
-use Rattle.room_laws.proofs.KeptLaws.{laws_are_kept}
 use Rattle.room_serve.proofs.Grown.{answer_both, shorter}
 
 -- ---- what a machine had told before changes nothing of what it tells
@@ -41,101 +38,11 @@ tells_behind said room devices ((now, OfAccount account it) ∷ events) =
     ∙ ap (behind said) (sym (tells_behind (answer.reply ∷ []) answer.room devices events))
 
 -- it answers an event of an account, and goes on with the room that this leaves
-goes_on : (room : Option RoomValue) (devices : Devices) (now : ℕ) (account : List ℕ) (it : AccountEvent) (events : List Timed)
+pub goes_on : (room : Option RoomValue) (devices : Devices) (now : ℕ) (account : List ℕ) (it : AccountEvent) (events : List Timed)
     → alone room devices ((now, OfAccount account it) ∷ events)
     ≡ behind ((answered room devices now (OfAccount account it)).reply ∷ []) (alone (answered room devices now (OfAccount account it)).room devices events)
 goes_on room devices now account it events =
     let answer = answered room devices now (OfAccount account it) in tells_behind (answer.reply ∷ []) answer.room devices events
-
--- ---- what was told
-
--- the events of accounts, each with its reply
-abbrev with_replies : List Timed → List Reply → List (Timed × Reply)
-with_replies ((now, OfDevice device it) ∷ events) replies = with_replies events replies
-with_replies ((now, OfAccount account it) ∷ events) (reply ∷ replies) = ((now, OfAccount account it), reply) ∷ with_replies events replies
-with_replies _ _ = []
-
-told_with_replies : (name : List ℕ) (events : List Timed) (outcomes : List Outcome)
-    → told_of name events outcomes ≡ with_replies (own name (answered_of events outcomes)) (replies_to (is_of name) events outcomes)
-told_with_replies name [] outcomes = refl
-told_with_replies name (e ∷ events) [] = refl
-told_with_replies name (e ∷ events) (Failed fault ∷ outcomes) = told_with_replies name events outcomes
-told_with_replies name ((now, OfDevice device it) ∷ events) (Answered reply ∷ outcomes) = told_with_replies name events outcomes
-told_with_replies name ((now, OfAccount account it) ∷ events) (Answered reply ∷ outcomes) =
-    let e : Timed = (now, OfAccount account it) in
-    let rest = told_with_replies name events outcomes in
-    elim (bytes_eq account name) as (λ b. cond b ((e, reply) ∷ told_of name events outcomes) (told_of name events outcomes)
-    ≡ with_replies (cond (b || false) (e ∷ own name (answered_of events outcomes)) (own name (answered_of events outcomes))) (cond b (reply ∷ replies_to (is_of name) events outcomes) (replies_to (is_of name) events outcomes))) [
-      | true ↦ ap (λ l. (e, reply) ∷ l) rest
-      | false ↦ rest
-    ]
-
--- what is told while the account is not open
-abbrev told_unopened : Option RoomValue → List Timed → List (Timed × Reply)
-told_unopened (Some room) events = []
-told_unopened None [] = []
-told_unopened None ((now, OfDevice device it) ∷ events) = told_unopened None events
-told_unopened None ((now, OfAccount account it) ∷ events) =
-    let answer = answered_unopened now (OfAccount account it) in
-    ((now, OfAccount account it), answer.reply) ∷ told_unopened answer.room events
-
-none_unopened : (room : Option RoomValue) (events : List Timed) → IsSome room → told_unopened room events ≡ []
-none_unopened (Some room) events is = refl
-none_unopened None events is = let no : ⊥ = cc in absurd no
-
--- and after that what the history tells
-tells_history : (room : Option RoomValue) (devices : Devices) (events : List Timed)
-    → with_replies events (alone room devices events).replies ≡ told_unopened room events ++ map told_in (history room devices events)
-tells_history None devices [] = refl
-tells_history (Some room) devices [] = refl
-tells_history None devices ((now, OfDevice device it) ∷ events) = tells_history None (device_answered devices (OfDevice device it)).devices events
-tells_history (Some room) devices ((now, OfDevice device it) ∷ events) = tells_history (Some room) (device_answered devices (OfDevice device it)).devices events
-tells_history None devices ((now, OfAccount account it) ∷ events) =
-    let e : Timed = (now, OfAccount account it) in
-    let answer = answered_unopened now (OfAccount account it) in
-    ap (λ (machine : Alone). with_replies (e ∷ events) machine.replies) (goes_on None devices now account it events)
-    ∙ ap (λ l. (e, answer.reply) ∷ l) (tells_history answer.room devices events)
-tells_history (Some room) devices ((now, OfAccount account it) ∷ events) =
-    let e : Timed = (now, OfAccount account it) in
-    let step = step_of room devices now account it in
-    ap (λ (machine : Alone). with_replies (e ∷ events) machine.replies) (goes_on (Some room) devices now account it events)
-    ∙ ap (λ l. (e, step.reply) ∷ l) (tells_history (Some step.after) devices events)
-
--- ---- what is left
-
-leaves : (room : RoomValue) (devices : Devices) (events : List Timed) → (alone (Some room) devices events).room ≡ Some (left_by room (history (Some room) devices events))
-leaves room devices [] = refl
-leaves room devices ((now, OfDevice device it) ∷ events) = leaves room (device_answered devices (OfDevice device it)).devices events
-leaves room devices ((now, OfAccount account it) ∷ events) =
-    ap (λ (machine : Alone). machine.room) (goes_on (Some room) devices now account it events) ∙ leaves (step_of room devices now account it).after devices events
-
-left_by_last : (room : RoomValue) (before : List Step) (step : Step) → left_by room (before ++ step ∷ []) ≡ step.after
-left_by_last room [] step = refl
-left_by_last room (first ∷ before) step = left_by_last first.after before step
-
--- the room that the last step left
-leaves_last : (room : Option RoomValue) (devices : Devices) (events : List Timed) (before : List Step) (step : Step) → history room devices events ≡ before ++ step ∷ []
-    → (alone room devices events).room ≡ Some step.after
-leaves_last (Some room) devices events before step is = leaves room devices events ∙ ap Some (ap (left_by room) is ∙ left_by_last room before step)
-leaves_last None devices [] [] step is = let no : ⊥ = cc in absurd no
-leaves_last None devices [] (first ∷ before) step is = let no : ⊥ = cc in absurd no
-leaves_last None devices ((now, OfDevice device it) ∷ events) before step is = leaves_last None (device_answered devices (OfDevice device it)).devices events before step is
-leaves_last None devices ((now, OfAccount account it) ∷ events) before step is =
-    ap (λ (machine : Alone). machine.room) (goes_on None devices now account it events)
-    ∙ leaves_last (answered_unopened now (OfAccount account it)).room devices events before step is
-
-pub lives_are_histories : (events : List Timed) (outcomes : List Outcome) (old : Database) (is_open : Bool) (new : Database) → RunsAlone events outcomes old is_open new
-    → (name : List ℕ) (room : Option RoomValue) (devices : Devices) → Holds old name room → HoldsDevices old devices
-    → HasLived name events outcomes is_open new room (history room devices (own name (answered_of events outcomes)))
-lives_are_histories events outcomes old is_open new runs name room devices holds has =
-    let mine = runs name room devices holds has in
-    let its = own name (answered_of events outcomes) in
-    record {
-      earlier = told_unopened room its;
-      open_from_the_start = none_unopened room its;
-      told = told_with_replies name events outcomes ∙ ap (with_replies its) mine.replies ∙ tells_history room devices its;
-      rows = λ shown before step is. subst (λ (left : Option RoomValue). Holds new name left) (leaves_last room devices its before step is) (mine.rows shown);
-    }
 
 -- ---- two runs in a row
 
@@ -186,9 +93,3 @@ runs_join first second firsts seconds a b c is_open one other = record {
         devices = others.devices;
       });
 }
-
--- it is a history, and histories keep the laws
-pub lives_keep_the_laws : LivesKeepTheLaws
-lives_keep_the_laws events outcomes old is_open new runs name devices holds has =
-    let own_events = own name (answered_of events outcomes) in
-    (history None devices own_events, lives_are_histories events outcomes old is_open new runs name None devices holds has, laws_are_kept devices own_events)

@@ -1,5 +1,5 @@
 -- The headline: what others ask makes no difference to an account (all this project's own).
-use Rattle.std.specs.Prelude.{◌≡◌, ℕ, Bool, List, length, IsTrue}
+use Rattle.std.specs.Prelude.{◌≡◌, ℕ, Bool, List, length, IsTrue, true, ◌++◌}
 use Rattle.sqlite.specs.Effect.{Database}
 use Rattle.room_tables.specs.Accounts.{IsSound}
 use Rattle.room_tables.specs.Devices.{AreSoundDevices}
@@ -31,3 +31,11 @@ Isolation =
     → Agree name a b → own name first ≡ own name second
     → NoneFailed name first firsts → NoneFailed name second seconds
     → AreTheSame name first second firsts seconds a_open b_open a_new b_new
+
+-- Two runs in a row, of which the first left the connection open, are one run of both lists: so an
+-- account's life goes on from run to run, as from process to process over one file.
+abbrev pub RunsJoin : Type 0
+RunsJoin =
+    (first second : List Timed) (firsts seconds : List Outcome) (a b c : Database) (is_open : Bool)
+    → IsRun first firsts a true b → IsRun second seconds b is_open c
+    → IsRun (first ++ second) (firsts ++ seconds) a is_open c

@@ -6,4 +6,5 @@ pub mod Agreement
 pub mod Isolation
 pub mod Wires
 pub mod Exchanges
-pub mod Lives
+pub mod LivesInFiles
+pub mod Crashes

@@ -1,7 +1,10 @@
 //! What is promised to each account, as laws that hold of any two runs.
 ghost use Rattle.room_serve.specs.Agreement.{AgreeAgain, HoldTheSame};
-ghost use Rattle.room_serve.specs.Isolation.{Isolation};
-ghost use Rattle.room_serve.specs.Lives.{LivesAreHistories, LivesKeepTheLaws, RunsJoin};
+ghost use Rattle.room_serve.specs.Crashes.{AnsweredIsFound, ListsAreFound, UnderWayIsFound};
+ghost use Rattle.room_serve.specs.Isolation.{Isolation, RunsJoin};
+ghost use Rattle.room_serve.specs.LivesInFiles.{ListsJoin, LivesAreMigrated, LivesAreOpened, LivesBegin, LivesGoOnInLists, LivesGoOnInRuns, MessagesAreEvents};
+
+use sqlite::Alter;
 
 /// The headline. Two databases that agree on an account's rows and on the devices', and two lists
 /// of events with the same events of that account and of devices, of which none failed: the account
@@ -18,22 +21,34 @@ pub fn agreement()
     ensures again { AgreeAgain }
 {}
 
-/// Each account lives the history of its own events. In a list of events of anybody's, what the
-/// account was told is what the steps of that history tell, answer by answer, after what it was
-/// told while it was not open; and its rows are the room that the last step left. So what is proved
-/// of every history holds of each account, whatever others asked in between.
-pub fn lives_are_histories()
-    ensures { LivesAreHistories }
-{}
-
-/// An account that is opened in a list of events of anybody's keeps all the laws of `room_laws` from
-/// then on: what it was told are the answers of steps of which they hold.
-pub fn lives_keep_the_laws()
-    ensures { LivesKeepTheLaws }
-{}
-
-/// Two runs in a row, of which the first left the connection open, are one run of both lists. So an
-/// account's life goes on from run to run, as from process to process over one file.
+/// Two runs in a row, of which the first left the connection open, are one run of both lists.
 pub fn runs_join()
     ensures { RunsJoin }
+{}
+
+/// An account's life goes on with what it is told. Where its rows are what a life left, and events of
+/// anybody's are applied one after another, its rows afterwards are what that life with all that it
+/// was told in the list behind it has left; and so the devices' rows. A message of HTTP is a list of
+/// one event, and lists in a row are one.
+pub fn lives_go_on_in_files<S: Alter>()
+    ensures runs { LivesGoOnInRuns }
+    ensures lists { LivesGoOnInLists S.Store }
+    ensures messages { MessagesAreEvents S.Store }
+    ensures join { ListsJoin S.Store }
+{}
+
+/// A life begins where the tables are made, and stays where they are opened or migrated: nothing is
+/// told there. So it goes on from process to process over one file.
+pub fn lives_stay_in_files<S: Alter>()
+    ensures begin { LivesBegin }
+    ensures open { LivesAreOpened S.Store }
+    ensures migrate { LivesAreMigrated S.Store }
+{}
+
+/// Over a crash the life is found with all that the account was told, and behind that at most the
+/// event that was under way, once.
+pub fn lives_are_found<S: Alter>()
+    ensures answered { AnsweredIsFound S.Store }
+    ensures under_way { UnderWayIsFound S.Store }
+    ensures lists { ListsAreFound S.Store }
 {}

@@ -1,11 +1,15 @@
 //! A list of events, one after another.
-ghost use Rattle.std.specs.Prelude.{◌≡◌, ◌++◌, ◌∷◌, [], ◌<◌, ◌≤◌, length, map, All, IfOk, OnErr, IsTrue};
+ghost use Rattle.std.specs.Prelude.{◌≡◌, ◌++◌, ◌∷◌, [], ◌<◌, ◌≤◌, ℕ, true, List, length, map, All, IfOk, OnErr, IsTrue};
 ghost use Rattle.std.specs.Vec.{vec_capacity, vec_len};
 ghost use Rattle.sqlite.specs.Held.{state};
+ghost use Rattle.sqlite_trees.specs.Tree.{Trees};
 ghost use Rattle.room_core.specs.Events.{plain_event, plain_timed};
 ghost use Rattle.room_core.specs.Fits.{fits};
+ghost use Rattle.room_laws.specs.Lives.{Life};
 ghost use Rattle.room_tables.specs.Calls.{KeepsConnection, IfOurTables};
 ghost use Rattle.room_tables.specs.Keyed.{HasSchema};
+ghost use Rattle.room_serve.specs.Crashes.{IsFound};
+ghost use Rattle.room_serve.specs.LivesInFiles.{IsLifeIn, exchanges_of};
 ghost use Rattle.room_serve.specs.Runs.{AreApplied, LeavesTheRest, RunsAlone, RunsDevices};
 
 use crate::fault::RunFault;
@@ -39,12 +43,24 @@ pub fn run_events<S: Alter>(
     ensures rest { IfOurTables S.Store store.old store.new (λ db. IfOk result (λ outcomes.
         IsTrue (state S.Store store.new).is_open → LeavesTheRest (map plain_timed events.now)
         outcomes.items db (state S.Store store.new).is_open (state S.Store store.new).now)) }
+    ensures lives { IfOurTables S.Store store.old store.new (λ db. IfOk result (λ outcomes.
+        (name : List ℕ) (life : Life) → IsLifeIn db true name life
+        → IsLifeIn (state S.Store store.new).now (state S.Store store.new).is_open name
+        (life ++ exchanges_of name (map plain_timed events.now) outcomes.items))) }
+    ensures found { IfOurTables S.Store store.old store.new (λ db. IfOk result (λ outcomes.
+        IsTrue (state S.Store store.new).is_open
+        → (name : List ℕ) (life : Life) → IsLifeIn db true name life
+        → (found : Trees) → (state S.Store store.new).may_leave found
+        → IsFound name (life ++ exchanges_of name (map plain_timed events.now) outcomes.items)
+        found)) }
     ensures schema { IfOurTables S.Store store.old store.new (λ db.
         IsTrue (state S.Store store.new).is_open → HasSchema (state S.Store store.new).now) }
     ensures unchanged { OnErr result (store.new ≡ store.old) }
     ensures connection { KeepsConnection (state S.Store store.old) (state S.Store store.new) }
 {
     let mut outcomes = Vec::with_capacity(alloc, events.len())?;
+    // Asked for what it says: a crash finds what is seen.
+    let _on_disk = store.is_on_disk();
     for (now, event) in events {
         let answer = store.apply(alloc, *now, event);
         keep(&mut outcomes, Outcome::from(answer));

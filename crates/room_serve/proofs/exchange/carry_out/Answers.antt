@@ -13,6 +13,9 @@ applied g c = let says = c.apply-told.ensures in record {
   moment = says.moment;
   short = says.short;
   asked = says.asked;
+  opened = says.opened;
+  on_disk = λ clean _. says.on_disk clean;
+  shut = says.shut;
   connection = says.connection;
 }
 

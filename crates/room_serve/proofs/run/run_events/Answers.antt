@@ -1,11 +1,16 @@
-use Rattle.std.proofs.Common.{◌≡◌, ◌+◌, [], ◌∷◌, ◌++◌, map, take, IsTrue, sym, subst, ◌∙◌, ap, arith}
-use Rattle.std.proofs.lemmas.List.{map-append, take_more}
+use Rattle.std.proofs.Common.{◌≡◌, ◌+◌, List, [], ◌∷◌, ◌++◌, map, take, IsTrue, sym, subst, ◌∙◌, ap, arith}
+use Rattle.std.proofs.lemmas.List.{map-append, take_all, take_more}
 use Rattle.std.proofs.lemmas.List.Elements.{All-get_or}
 use Rattle.sqlite.specs.Held.{state}
-use Rattle.room_core.specs.Events.{plain_event, plain_timed}
+use Rattle.sqlite.specs.State.{HasCleanDisk}
+use Rattle.room_core.specs.Events.{Timed, plain_event, plain_timed}
 use Rattle.room_core.specs.Fits.{fits}
 use Rattle.room_store.specs.Applied.{Applies}
+use Rattle.room_serve.proofs.FoundLives.{answered_is_found}
+use Rattle.room_serve.proofs.LivesOn.{lives_go_on_in_runs}
 use Rattle.room_serve.proofs.RunLemmas.{applied_more, one_more}
+use Rattle.room_serve.specs.Crashes.{IsFound}
+use Rattle.room_serve.specs.LivesInFiles.{IsLifeIn, exchanges_of}
 use Rattle.room_serve.proofs.run.run_events.Goals as goal
 
 pub apply-answer-requires : goal.apply-answer-requires
@@ -28,6 +33,9 @@ loop-now-preserved g c =
       moment = does.moment;
       short = does.short;
       asked = does.asked;
+      opened = does.opened;
+      on_disk = λ clean _. does.on_disk clean;
+      shut = does.shut;
       connection = does.connection;
     } in
     let events = c.args.events.now in
@@ -40,3 +48,25 @@ loop-now-preserved g c =
       applied = rw (mapped, c.keep.ensures.kept, c.from.ensures) (applied_more g.S.Store (map plain_timed front) c.loop-now.outcomes.items e c.args.store.now c.loop-now.store c.apply-answer.new.self c.apply-answer.result c.loop-now.invariant.applied applied);
       fits = omega (arith, c.loop-now.invariant.fits, c.keep.ensures.capacity);
     }
+
+pub returns-clause-lives : goal.returns-clause-lives
+returns-clause-lives g c clean has name life lived =
+    let events = c.args.events.now in
+    let new = state g.S.Store c.loop-now.store in
+    let shows = c.loop-now.invariant.run.shows in
+    let all = ap (map plain_timed) (take_all c.loop-now.now-index events c.loop-now-test.false) in
+    subst (λ (run : List Timed). IsLifeIn new.now new.is_open name (life ++ exchanges_of name run c.loop-now.outcomes.items)) all
+    (lives_go_on_in_runs _ _ _ _ _ (shows.alone clean has) (shows.devices clean has) name life lived)
+
+pub returns-clause-found : goal.returns-clause-found
+returns-clause-found g c clean has shown name life lived found may =
+    let store = g.S.Store in
+    let events = c.args.events.now in
+    let old = state store c.args.store.now in
+    let new = state store c.loop-now.store in
+    let run = c.loop-now.invariant.run in
+    let old_clean : HasCleanDisk old = omega (arith, run.connection.clean, clean) in
+    let on_disk = c.is_on_disk-on_disk.ensures.on_disk (c.is_on_disk-on_disk.ensures.always old_clean) in
+    let all = ap (map plain_timed) (take_all c.loop-now.now-index events c.loop-now-test.false) in
+    subst (λ (run : List Timed). IsFound name (life ++ exchanges_of name run c.loop-now.outcomes.items) found) all
+    (answered_is_found store _ _ c.args.store.now c.loop-now.store on_disk c.loop-now.invariant.applied clean has shown name life lived found may)
