@@ -4,3 +4,5 @@ pub mod LineEnds
 pub mod LineCalls
 pub mod HttpMoves
 pub mod Ends
+pub mod Finding
+pub mod LastSteps

@@ -16,7 +16,7 @@ use Rattle.room_tables.specs.Calls.{KeepsConnection, LeavesNoMore}
 use Rattle.room_tables.specs.Keyed.{HasSchema}
 use Rattle.room_served.proofs.LineEnds.{on_err}
 use Rattle.room_served.specs.Entries.{event_of_entry, moment_at, timed}
-use Rattle.room_served.specs.Journals.{AllSettle, AlwaysFound, AlwaysRuns, AppliesEntry, IsRound, Leads, Round, Told, events_of, kept_in, outcomes_of, Settles}
+use Rattle.room_served.specs.Journals.{AllSettle, AlwaysRuns, AppliesEntry, IsRound, Leads, Round, Told, events_of, kept_in, outcomes_of, Settles}
 
 -- the same, whether a transaction is under way or not
 abbrev outside : State → State
@@ -26,13 +26,13 @@ keeps_outside : (old new : State) → KeepsConnection old new → KeepsConnectio
 keeps_outside old new keeps = record { clean = keeps.clean; back = keeps.back; mode = λ _ _. refl; shield = keeps.shield; counts = keeps.counts; limit = keeps.limit; closes = keeps.closes }
 
 module _ {S : Type 0} (store : Ghosts S) where
-  lengths : (more : List Told) → length (outcomes_of store more) ≡ length (events_of store more)
+  pub lengths : (more : List Told) → length (outcomes_of store more) ≡ length (events_of store more)
   lengths [] = refl
   lengths (told ∷ more) = ap suc (lengths more)
 
   -- ---- each by itself
 
-  leads_on : (more : List Told) (events : List Timed) (outcomes : List Outcome) (old mid new : Held S) → SoFar events outcomes (state store old) (state store mid) → Leads store false mid more new
+  pub leads_on : (more : List Told) (events : List Timed) (outcomes : List Outcome) (old mid new : Held S) → SoFar events outcomes (state store old) (state store mid) → Leads store false mid more new
       → SoFar (events ++ events_of store more) (outcomes ++ outcomes_of store more) (state store old) (state store new)
   leads_on [] events outcomes old mid new so_far is = rw (append-nil events, append-nil outcomes) (subst (λ (held : Held S). SoFar events outcomes (state store old) (state store held)) (sym is) so_far)
   leads_on (told ∷ more) events outcomes old mid new so_far leads =
@@ -44,11 +44,11 @@ module _ {S : Type 0} (store : Ghosts S) where
 
   -- ---- in a round
 
-  entry_keeps : (told : Told) (old new : Held S) → AppliesEntry store true told.0 old new told.1 → KeepsConnection (state store old) (state store new)
+  pub entry_keeps : (told : Told) (old new : Held S) → AppliesEntry store true told.0 old new told.1 → KeepsConnection (state store old) (state store new)
   entry_keeps told old new (inl shared) = shared.connection
   entry_keeps told old new (inr late) = subst (λ (held : Held S). KeepsConnection (state store old) (state store held)) (sym late.same) (begins (state store old)).connection
 
-  leads_keep : (more : List Told) (old new : Held S) → Leads store true old more new → KeepsConnection (state store old) (state store new)
+  pub leads_keep : (more : List Told) (old new : Held S) → Leads store true old more new → KeepsConnection (state store old) (state store new)
   leads_keep [] old new is = subst (λ (held : Held S). KeepsConnection (state store old) (state store held)) (sym is) (begins (state store old)).connection
   leads_keep (told ∷ more) old new leads = goes_on (state store old) (state store leads.0) (state store new) (entry_keeps told old leads.0 leads.1) (leads_keep more leads.0 new leads.2)
 
@@ -59,10 +59,10 @@ module _ {S : Type 0} (store : Ghosts S) where
     | inr isnt ↦ absurd (true≢false (sym inside ∙ keeps.mode clean isnt))
   ]
 
-  was_clean : (old new : Held S) → KeepsConnection (state store old) (state store new) → HasCleanDisk (state store new) → HasCleanDisk (state store old)
+  pub was_clean : (old new : Held S) → KeepsConnection (state store old) (state store new) → HasCleanDisk (state store new) → HasCleanDisk (state store old)
   was_clean old new keeps clean = omega (arith, keeps.clean, clean)
 
-  round_shown : (more : List Told) (events : List Timed) (outcomes : List Outcome) (old mid new : Held S) → Shows events outcomes (state store old) (state store mid) → Leads store true mid more new
+  pub round_shown : (more : List Told) (events : List Timed) (outcomes : List Outcome) (old mid new : Held S) → Shows events outcomes (state store old) (state store mid) → Leads store true mid more new
       → HasCleanDisk (state store new) → IsTrue (state store new).in_transaction
       → Shows (events ++ events_of store more) (outcomes ++ outcomes_of store more) (state store old) (state store new)
   round_shown [] events outcomes old mid new shown is clean inside = rw (append-nil events, append-nil outcomes) (subst (λ (held : Held S). Shows events outcomes (state store old) (state store held)) (sym is) shown)
@@ -135,12 +135,12 @@ module _ {S : Type 0} (store : Ghosts S) where
   -- ---- a round that was lost
 
   -- within it nothing is committed, and once it is lost what is seen is what was committed before
-  record StillGoes (db : Database) (s : State) : Type 0 where
+  pub record StillGoes (db : Database) (s : State) : Type 0 where
     pub inside : IsTrue s.in_transaction
     pub schema : IsTrue s.is_open → HasSchema s.now
     pub committed : IsTrue s.is_open → s.committed ≡ db
 
-  record IsGone (db : Database) (s : State) : Type 0 where
+  pub record IsGone (db : Database) (s : State) : Type 0 where
     pub mode : s.in_transaction ≡ false
     pub now : IsTrue s.is_open → s.now ≡ db
     pub committed : IsTrue s.is_open → s.committed ≡ db
@@ -166,41 +166,27 @@ module _ {S : Type 0} (store : Ghosts S) where
             })
       ]
 
-  leads_leave : (db : Database) (more : List Told) (old new : Held S) → HasCleanDisk (state store new) → StillGoes db (state store old) ⊎ IsGone db (state store old) → Leads store true old more new → StillGoes db (state store new) ⊎ IsGone db (state store new)
+  pub leads_leave : (db : Database) (more : List Told) (old new : Held S) → HasCleanDisk (state store new) → StillGoes db (state store old) ⊎ IsGone db (state store old) → Leads store true old more new → StillGoes db (state store new) ⊎ IsGone db (state store new)
   leads_leave db [] old new clean was is = subst (λ (held : Held S). StillGoes db (state store held) ⊎ IsGone db (state store held)) (sym is) was
   leads_leave db (told ∷ more) old new clean was (next, applies, leads) =
       leads_leave db more next new clean (entry_leaves db told old next (was_clean next new (leads_keep more next new leads) clean) was applies) leads
 
   -- ---- what a crash finds
 
-  entry_leaves_no_more : (db : Database) (told : Told) (old new : Held S) → HasCleanDisk (state store new) → StillGoes db (state store old) ⊎ IsGone db (state store old) → AppliesEntry store true told.0 old new told.1
-      → IsTrue (state store new).is_open → LeavesNoMore (state store old) (state store new)
+  pub entry_leaves_no_more : (db : Database) (told : Told) (old new : Held S) → HasCleanDisk (state store new) → StillGoes db (state store old) ⊎ IsGone db (state store old) → AppliesEntry store true told.0 old new told.1
+      → IsTrue (state store old).is_open → LeavesNoMore (state store old) (state store new)
   entry_leaves_no_more db told old new clean (inr gone) (inl shared) shown = absurd (true≢false (sym shared.inside ∙ gone.mode))
-  entry_leaves_no_more db told old new clean (inl goes) (inl shared) shown = (shared.within clean (goes.schema (shared.connection.back clean shown))).crash goes.inside
+  entry_leaves_no_more db told old new clean (inl goes) (inl shared) shown = (shared.within clean (goes.schema shown)).crash goes.inside
   entry_leaves_no_more db told old new clean was (inr late) shown = subst (λ (held : Held S). LeavesNoMore (state store old) (state store held)) (sym late.same) (λ found may. may)
 
-  leads_leave_no_more : (db : Database) (more : List Told) (old new : Held S) → HasCleanDisk (state store new) → StillGoes db (state store old) ⊎ IsGone db (state store old) → Leads store true old more new
+  pub leads_leave_no_more : (db : Database) (more : List Told) (old new : Held S) → HasCleanDisk (state store new) → StillGoes db (state store old) ⊎ IsGone db (state store old) → Leads store true old more new
       → IsTrue (state store new).is_open → LeavesNoMore (state store old) (state store new)
   leads_leave_no_more db [] old new clean was is shown = subst (λ (held : Held S). LeavesNoMore (state store old) (state store held)) (sym is) (λ found may. may)
   leads_leave_no_more db (told ∷ more) old new clean was (next, applies, leads) shown = λ found may.
       let later = leads_keep more next new leads in
       let next_clean = was_clean next new later clean in
-      entry_leaves_no_more db told old next next_clean was applies (later.back clean shown) found
+      entry_leaves_no_more db told old next next_clean was applies ((entry_keeps told old next applies).back next_clean (later.back clean shown)) found
       (leads_leave_no_more db more next new clean (entry_leaves db told old next next_clean was applies) leads shown found may)
-
-  pub found : AlwaysFound store
-  found round old new is clean has shown tables may =
-      let ended_clean = was_clean is.ended new is.ends.connection clean in
-      let begun_clean = was_clean is.begun is.ended (leads_keep round.0 is.begun is.ended is.leads) ended_clean in
-      let begun : BeginsRound (state store old) (state store is.begun) = is.begins.begun begun_clean in
-      let first : StillGoes (state store old).now (state store is.begun) = record { inside = begun.mode; schema = λ _. subst HasSchema (sym begun.now) has; committed = λ _. begun.committed } in
-      elim (is.ends.survives.crash clean tables may) [
-        | inl before ↦ elim (is.begins.survives.crash begun_clean tables (leads_leave_no_more (state store old).now round.0 is.begun is.ended ended_clean (inl first) is.leads (is.ends.connection.back clean shown) tables before)) [
-          | inl was ↦ inl was
-          | inr none ↦ absurd none
-        ]
-        | inr whole ↦ inr whole
-      ]
 
   module _ (more : List Told) (old new : Held S) (is : IsRound store (more, false) old new) (clean : HasCleanDisk (state store new)) where
     lost_mode : (state store new).in_transaction ≡ false
@@ -236,7 +222,7 @@ module _ {S : Type 0} (store : Ghosts S) where
 
   -- ---- one round after another
 
-  abbrev RunsOn : (events : List Timed) (outcomes : List Outcome) (old : Held S) (more : List Told) (new : Held S) → Type 0
+  abbrev pub RunsOn : (events : List Timed) (outcomes : List Outcome) (old : Held S) (more : List Told) (new : Held S) → Type 0
   RunsOn events outcomes old more new = SoFar (events ++ events_of store more) (outcomes ++ outcomes_of store more) (state store old) (state store new)
 
   none_more : (events : List Timed) (outcomes : List Outcome) (old new : Held S) → SoFar events outcomes (state store old) (state store new) → RunsOn events outcomes old [] new
@@ -253,7 +239,7 @@ module _ {S : Type 0} (store : Ghosts S) where
   settle_one (more, false) events outcomes a old new so_far (inr (inr (is, refused))) =
       none_more events outcomes a new (nothing_more events outcomes a old new so_far refused.connection (λ clean has shown. (refused.unchanged clean shown).now))
 
-  settle_on : (rounds : List Round) (events : List Timed) (outcomes : List Outcome) (a mid new : Held S) → SoFar events outcomes (state store a) (state store mid) → AllSettle store mid rounds new → RunsOn events outcomes a (kept_in rounds) new
+  pub settle_on : (rounds : List Round) (events : List Timed) (outcomes : List Outcome) (a mid new : Held S) → SoFar events outcomes (state store a) (state store mid) → AllSettle store mid rounds new → RunsOn events outcomes a (kept_in rounds) new
   settle_on [] events outcomes a mid new so_far is = none_more events outcomes a new (subst (λ (held : Held S). SoFar events outcomes (state store a) (state store held)) (sym is) so_far)
   settle_on (round ∷ more) events outcomes a mid new so_far (next, settles, later) =
       let these = if round.1 then round.0 else [] in

@@ -4,6 +4,7 @@ pub mod Requests
 pub mod Answers
 pub mod LineTexts
 pub mod LastTexts
+pub mod LastPeers
 pub mod Lines
 pub mod Patience
 pub mod Streams

@@ -1,12 +1,7 @@
 -- What a connection of lines has taken and told (all this project's own).
-use Rattle.std.specs.Prelude.{◌≡◌, ◌≢◌, ◌⊎◌, ℕ, Bool, List, [], ◌∷◌, ◌++◌, None, IsTrue, Result}
+use Rattle.std.specs.Prelude.{◌≡◌, ◌≢◌, ◌⊎◌, ℕ, Bool, List, [], ◌∷◌, ◌++◌, None, IsTrue}
 use Rattle.std.specs.List.{flat_map}
 use Rattle.sqlite_trees.specs.declared.store.Store.{Ghosts}
-use Rattle.room_core.specs.declared.event.Reply.{Reply}
-use Rattle.room_store.specs.declared.fault.StoreFault.{StoreFault}
-use Rattle.room_served.specs.Journals.{AppliesNext}
-use Rattle.room_served.specs.LastTexts.{last_text}
-use Rattle.room_served.specs.declared.entry.Entry.{Entry}
 use Rattle.room_served.specs.Lines.{Asks, IsBad, input_of, line_end, output_of, side_of}
 use Rattle.room_served.specs.declared.line_connection.LineConnection.{LineConnection}
 use Rattle.room_served.specs.declared.line_connection.Side.{Side}
@@ -59,13 +54,6 @@ module _ {S : Type 0} (store : Ghosts S) where
     pub output : output_of before ++ bytes_told calls ≡ went ++ waits
     pub chain : Chain store (side_of before) old calls new
     pub side : side_of after ≡ side_of before
-
-  -- what was asked in a round that was lost is applied again, by itself, and that waits to go, and
-  -- nothing else; or there was no memory for it
-  pub record IsToldAgain (asked : Entry) (peer : LinePeer) (old new : Served S) : Type 0 where
-    pub told : Result Reply StoreFault
-    pub next : AppliesNext store asked told old new
-    pub waits : (output_of (lines_of peer) ≡ last_text asked told) ⊎ (output_of (lines_of peer) ≡ [])
 
   -- what still comes where all was said is dropped
   abbrev pub DropsBytes : (ends ends2 : Ends) (before after : LinePeer) (old new : Served S) → Type 0

@@ -1,5 +1,5 @@
 //! What holds of all that was served.
-ghost use Rattle.room_served.specs.Journals.{AlwaysFound, AlwaysKeepTheLaws, AlwaysRuns};
+ghost use Rattle.room_served.specs.Journals.{AloneIsFound, AlwaysFound, AlwaysLives, AlwaysRuns, KeptIsFound, RoundIsFound, RoundIsNotFound};
 
 use sqlite::Alter;
 
@@ -12,13 +12,24 @@ pub fn always_runs<S: Alter>()
     ensures { AlwaysRuns S.Store }
 {}
 
-/// Over a crash a round is there whole, or not at all.
+/// Over a crash a round is there whole, or not at all: whole where it was kept, and not at all where
+/// it was lost and the connection is still open.
 pub fn always_found<S: Alter>()
     ensures { AlwaysFound S.Store }
 {}
 
-/// Whoever was opened by a line that was served keeps the laws of `room_laws` from then on, whatever
-/// came on whichever other connection: what it was told are the answers of steps of which they hold.
-pub fn always_keep_the_laws<S: Alter>()
-    ensures { AlwaysKeepTheLaws S.Store }
+/// An account's life goes on with what it was told in the rounds that were kept, in the journal's
+/// order, whatever came on whichever other connection: its rows are what that life has left.
+pub fn always_lives<S: Alter>()
+    ensures { AlwaysLives S.Store }
+{}
+
+/// Over a crash an account's life is found with all that it was told in the rounds that were kept,
+/// each event once and in order, and behind that at most what was under way: the whole round, or the
+/// one event that was applied by itself.
+pub fn lives_are_always_found<S: Alter>()
+    ensures between { KeptIsFound S.Store }
+    ensures inside { RoundIsNotFound S.Store }
+    ensures round { RoundIsFound S.Store }
+    ensures alone { AloneIsFound S.Store }
 {}

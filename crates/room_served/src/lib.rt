@@ -6,6 +6,7 @@
 
 mod entry;
 mod http_peer;
+mod last_peer;
 mod last_text;
 mod laws;
 mod limits;
@@ -24,7 +25,8 @@ mod turns;
 
 pub use entry::Entry;
 pub use http_peer::HttpPeer;
-pub use laws::{always_found, always_keep_the_laws, always_runs};
+pub use last_peer::LastPeer;
+pub use laws::{always_found, always_lives, always_runs, lives_are_always_found};
 pub use limits::connection_config;
 pub use line_connection::{LineConnection, MOST_LINE, Side};
 pub use line_peer::LinePeer;

@@ -1,14 +1,13 @@
 //! A connection of lines: where it stands, and how long it may take.
 
-ghost use Rattle.std.specs.Prelude.{◌≡◌, ◌≢◌, [], false, IsFalse, Some};
-ghost use Rattle.room_served.specs.Journals.{Continues, shares_of};
+ghost use Rattle.std.specs.Prelude.{◌≡◌, ◌≢◌, [], IsFalse, Some};
+ghost use Rattle.room_served.specs.Journals.{Continues};
 ghost use Rattle.room_served.specs.Lines.{input_of, output_of, side_of};
 
-use crate::last_text::put_last;
 use crate::patience::Patience;
 use crate::progress::Progress;
 use crate::step::{Next, STEPS, Turn, after, drain};
-use crate::{Entry, LineConnection, Served, Side};
+use crate::{LineConnection, Served, Side};
 use sqlite::Alter;
 use std::alloc::Global;
 use std::io::{Read, Write};
@@ -23,7 +22,7 @@ pub struct LinePeer {
 }
 
 impl LinePeer {
-    ghost use Rattle.room_served.specs.LinePeers.{HasTaken, IsToldAgain, TakesTurn, lines_of, patience_of};
+    ghost use Rattle.room_served.specs.LinePeers.{HasTaken, TakesTurn, lines_of, patience_of};
     ghost use Rattle.room_served.specs.ProofLineSteps.{IsEnded, ReceivesBytes, SendsBytes, TakesStep};
 
     /// A peer that came just now. It takes no memory.
@@ -36,31 +35,6 @@ impl LinePeer {
             connection: LineConnection::new(alloc, side),
             progress: Progress::new(ticks),
             has_ended: false,
-        }
-    }
-
-    /// What becomes of a peer whose round was lost, whatever it spoke: what it asked is applied again,
-    /// by itself, and that is told it last. No line is to come, so it only writes what waits, and
-    /// ends. Where memory is refused it is told nothing.
-    pub fn told_again<S: Alter>(
-        alloc: Global,
-        asked: &Entry,
-        served: &mut Served<S>,
-        ticks: u64,
-    ) -> LinePeer
-        requires { shares_of served.old ≡ false }
-        ensures again { IsToldAgain S.Store asked.now result served.old served.new }
-        ensures input { input_of (lines_of result) ≡ [] }
-    {
-        let told = served.apply_alone(asked);
-        let mut connection = LineConnection::new(alloc, Side::Station);
-        if put_last(alloc, &mut connection.output, asked, told).is_err() {
-            connection.output.clear();
-        }
-        LinePeer {
-            connection,
-            progress: Progress::new(ticks),
-            has_ended: true,
         }
     }
 
