@@ -14,10 +14,10 @@ use Rattle.room_served.specs.declared.served.Served.{Served}
 use Rattle.room_served.specs.declared.step.Next.{Next}
 use Rattle.room_served.specs.declared.step.Turn.{Turn}
 use Rattle.room_sockets.specs.Guests.{AsksAgain, TakesTurn, Turns, in_round, of_socket}
-use Rattle.room_sockets.specs.Halls.{Begin, BeginsRound, Does, DoesAll, Drop, Enter, GoesOn, Leave, Serve, Serves, Settle, SettlesRound, Step}
+use Rattle.room_sockets.specs.Halls.{Ask, Begin, BeginsRound, Does, DoesAll, Drop, Enter, GoesOn, Leave, Serve, Serves, Settle, SettlesRound, Step}
 use Rattle.room_sockets.specs.declared.guest.Guest.{Guest}
 use Rattle.room_sockets.specs.declared.guest.Peer.{Peer}
-use Rattle.room_sockets.specs.declared.guest.Peer.TheVariants.{Http, Lines}
+use Rattle.room_sockets.specs.declared.guest.Peer.TheVariants.{Http, Last, Lines}
 
 module _ {S : Type 0} (store : Ghosts S) where
   -- ---- a turn
@@ -29,15 +29,21 @@ module _ {S : Type 0} (store : Ghosts S) where
         | inr takes ↦ line_chain store _ takes.1.calls old new takes.1.chain
       ]
 
-  turn_continues : (ends ends2 : Ends) (next : Next) (before after : Peer) (old new : Served S) → TakesTurn store ends ends2 next before after old new → Continues store old new
+  pub turn_continues : (ends ends2 : Ends) (next : Next) (before after : Peer) (old new : Served S) → TakesTurn store ends ends2 next before after old new → Continues store old new
   turn_continues ends ends2 next (Http before) (Http after) old new is = chain store is.0.0 old new is.0.2
   turn_continues ends ends2 next (Lines before) (Lines after) old new is = lines_continue ends ends2 next before after old new is
+  turn_continues ends ends2 next (Last before) (Last after) old new is = subst (λ (served : Served S). Continues store old served) (sym is.1) (stays store old)
   turn_continues ends ends2 next (Http before) (Lines after) old new is = absurd is
+  turn_continues ends ends2 next (Http before) (Last after) old new is = absurd is
   turn_continues ends ends2 next (Lines before) (Http after) old new is = absurd is
+  turn_continues ends ends2 next (Lines before) (Last after) old new is = absurd is
+  turn_continues ends ends2 next (Last before) (Http after) old new is = absurd is
+  turn_continues ends ends2 next (Last before) (Lines after) old new is = absurd is
 
-  again_continues : (lost : Bool) (asked : List Entry) (before begun : Peer) (old mid : Served S) → AsksAgain store lost asked before begun old mid → Continues store old mid
-  again_continues true (entry ∷ more) before (Lines begun) old mid is = one_more store entry is.told old mid is.next
+  pub again_continues : (lost : Bool) (asked : List Entry) (before begun : Peer) (old mid : Served S) → AsksAgain store lost asked before begun old mid → Continues store old mid
+  again_continues true (entry ∷ more) before (Last begun) old mid is = one_more store entry is.told old mid is.next
   again_continues true (entry ∷ more) before (Http begun) old mid is = absurd is
+  again_continues true (entry ∷ more) before (Lines begun) old mid is = absurd is
   again_continues true [] before begun old mid is = subst (λ (served : Served S). Continues store old served) (sym is.1) (stays store old)
   again_continues false asked before begun old mid is = subst (λ (served : Served S). Continues store old served) (sym is.1) (stays store old)
 
@@ -204,9 +210,10 @@ module _ {S : Type 0} (store : Ghosts S) where
       })
 
   step_served : (step : Step) (a b : Slab Guest) (old mid new : Served S) → IsServed old mid → Does store step a b mid new → IsServed old new
-  step_served Begin a b old mid new is does = begins_served old mid new is does.1
+  step_served Begin a b old mid new is does = begins_served old mid new is does.2
+  step_served (Ask key) a b old mid new is does = serves_served _ _ old mid new is does.1
   step_served Settle a b old mid new is does = settles_served old mid new is does.1
-  step_served (Serve key) a b old mid new is does = serves_served _ _ old mid new is does.0
+  step_served (Serve key) a b old mid new is does = serves_served _ _ old mid new is does.1
   step_served (Drop key) a b old mid new is does = subst (λ (served : Served S). IsServed old served) (sym does.2) is
   step_served Enter a b old mid new is does = subst (λ (served : Served S). IsServed old served) (sym does.1) is
   step_served Leave a b old mid new is does = subst (λ (served : Served S). IsServed old served) (sym does.1) is

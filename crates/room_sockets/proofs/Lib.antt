@@ -1,2 +1,3 @@
 pub mod HallSteps
 pub mod Drives
+mod HearingLemmas

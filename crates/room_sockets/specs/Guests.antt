@@ -1,10 +1,12 @@
 -- A turn of a peer that came in by a door (all this project's own).
-use Rattle.std.specs.Prelude.{◌≡◌, Bool, true, false, List, [], ◌∷◌, ◌++◌, None, Some, IsFalse}
+use Rattle.std.specs.Prelude.{◌≡◌, ◌≢◌, ℕ, Bool, true, false, List, [], ◌∷◌, ◌++◌, Option, None, Some, IsFalse, is_some}
 use Rattle.http_server.specs.Connection.{history}
 use Rattle.http_server.specs.History.{new_history}
+use Rattle.slab.specs.Slab.{Slab, get}
 use Rattle.sqlite_trees.specs.declared.store.Store.{Ghosts}
 use Rattle.room_served.specs.HttpPeers as http
 use Rattle.room_served.specs.Journals.{is_lost_of, list_of}
+use Rattle.room_served.specs.LastPeers as last
 use Rattle.room_served.specs.LinePeers as lines
 use Rattle.room_served.specs.Streams.{Ends}
 use Rattle.room_served.specs.Lines.{input_of, output_of, side_of}
@@ -20,7 +22,7 @@ use Rattle.room_sockets.specs.declared.doors.Kind.{Kind}
 use Rattle.room_sockets.specs.declared.doors.Kind.TheVariants.{Clients, Operators, Stations}
 use Rattle.room_sockets.specs.declared.guest.Guest.{Guest}
 use Rattle.room_sockets.specs.declared.guest.Peer.{Peer}
-use Rattle.room_sockets.specs.declared.guest.Peer.TheVariants.{Http, Lines}
+use Rattle.room_sockets.specs.declared.guest.Peer.TheVariants.{Http, Last, Lines}
 
 abbrev pub peer_of : Guest → Peer
 peer_of guest = guest.peer
@@ -28,6 +30,15 @@ peer_of guest = guest.peer
 -- what it asked in a round, until it has a turn once that is settled
 abbrev pub asked_in : Guest → List Entry
 asked_in guest = list_of guest.asked
+
+-- somebody is there who asked in a round, and has not heard of it
+abbrev pub is_waiting : Option Guest → Bool
+is_waiting None = false
+is_waiting (Some guest) = is_some guest.asked
+
+-- whoever is there has heard of each round in which it asked
+abbrev pub NobodyWaits : Slab Guest → Type 0
+NobodyWaits guests = (key : ℕ) → is_waiting (get guests key) ≡ false
 
 -- its turns so far, each with what came of it
 abbrev pub turns_of : Guest → List (Turn × Next)
@@ -49,41 +60,49 @@ CameBy _ _ = ⊥
 -- it came in by a door, and had no turn yet
 abbrev pub IsNew : Guest → Type 0
 IsNew guest = (kind : Kind) × CameBy kind (peer_of guest) × (turns_of guest ≡ [])
+    × (asked_in guest ≡ [])
 
--- each whole request that came has its call, or no line is whole where nothing waits to go
+-- each whole request that came has its call, or no line is whole where nothing waits to go, or what
+-- goes last does
 abbrev pub IsAtRest : Peer → Type 0
 IsAtRest (Http peer) = http.IsAtRest peer
 IsAtRest (Lines peer) = lines.HasTaken (lines.lines_of peer)
+IsAtRest (Last peer) = last.left_of peer ≢ []
 
 -- of a socket it is not known what reads will give, nor what was written to it
 abbrev pub of_socket : Ends
 of_socket = (None, None)
 
--- in a round nothing is written
+-- in a round nothing is to be written
 abbrev pub in_round : Ends
 in_round = (None, Some [])
 
 module _ {S : Type 0} (store : Ghosts S) where
-  -- what came on this connection is taken, by what is spoken on it, and nothing else becomes of the
-  -- rooms: each request is a call of the service, and each line is applied, or a bad one
+  -- What came on this connection is taken, by what is spoken on it, and nothing else becomes of the
+  -- rooms: each request is a call of the service, and each line is applied, or a bad one. Behind what
+  -- goes last nothing that comes is taken, and nothing becomes of the rooms.
   abbrev pub TakesTurn : (ends ends2 : Ends) (next : Next) (before after : Peer)
       (old new : Served S) → Type 0
   TakesTurn ends ends2 next (Http before) (Http after) old new =
       http.MakesCalls store before after old new × http.IsLater ends ends2 before after
   TakesTurn ends ends2 next (Lines before) (Lines after) old new =
       lines.TakesTurn store ends ends2 next before after old new
+  TakesTurn ends ends2 next (Last before) (Last after) old new =
+      last.SaysLast ends ends2 before after × (new ≡ old)
   TakesTurn _ _ _ _ _ _ _ = ⊥
 
-  -- What was asked in a round that was lost is asked again, by itself, and that is told last on the
-  -- connection, in the place of what was to go. Otherwise all is as it was.
+  -- What was asked in a round that was lost is asked again, by itself, and what that comes to goes
+  -- last on the connection, in the place of what was to go. Otherwise all is as it was.
   abbrev pub AsksAgain : (lost : Bool) (asked : List Entry) (before begun : Peer)
       (old mid : Served S) → Type 0
-  AsksAgain true (entry ∷ more) before (Lines begun) old mid =
-      lines.IsToldAgain store entry begun old mid
+  AsksAgain true (entry ∷ more) before (Last begun) old mid =
+      last.IsToldAgain store entry begun old mid
   AsksAgain true (entry ∷ more) before (Http begun) old mid = ⊥
+  AsksAgain true (entry ∷ more) before (Lines begun) old mid = ⊥
   AsksAgain _ _ before begun old mid = (begun ≡ before) × (mid ≡ old)
 
-  -- a guest had this turn where nothing is shared, and this came of it
+  -- A guest had this turn where nothing is shared, and this came of it. What it asked in the round
+  -- that was settled last it has heard then.
   pub record HasTurn (turn : Turn) (next : Next) (before after : Guest) (old new : Served S)
       : Type 0 where
     pub begun : Peer
@@ -95,7 +114,7 @@ module _ {S : Type 0} (store : Ghosts S) where
     pub holds : next ≡ Hold → IsFalse turn.has_room
     pub turns : turns_of after ≡ turns_of before ++ (turn, next) ∷ []
 
-  -- The same in a round, in which nothing is written. What it asks is kept with it, for its turn
+  -- The same in a round, of which nothing goes to it. What it asks is kept with it, for its turn
   -- once the round is settled; it begins with what it asked in the same round before.
   pub record AsksTurn (turn : Turn) (next : Next) (before after : Guest) (old new : Served S)
       : Type 0 where

@@ -1,6 +1,6 @@
 -- What a clause reads of a hall, and what goes on in it (all this project's own).
-use Rattle.std.specs.Prelude.{◌≡◌, ◌≢◌, ◌-◌, ◌⊎◌, ⊤, ℕ, false, IsTrue, List, [], ◌∷◌, Option, None, Some, IsSomeAnd, if◌then◌else◌, nat_le}
-use Rattle.std.specs.List.{All, filter_map}
+use Rattle.std.specs.Prelude.{◌≡◌, ◌≢◌, ◌-◌, ◌⊎◌, ⊤, ℕ, false, IsTrue, List, [], ◌∷◌, map, Option, None, Some, IsSomeAnd, if◌then◌else◌, nat_le}
+use Rattle.std.specs.List.{All, Contains, filter_map}
 use Rattle.mio.specs.Event.{event_token}
 use Rattle.mio.specs.Events.{items}
 use Rattle.mio.specs.declared.event.event.Event.{Event}
@@ -12,7 +12,7 @@ use Rattle.room_served.specs.declared.served.Served.{Served}
 use Rattle.room_served.specs.declared.step.Next.{Next}
 use Rattle.room_served.specs.declared.step.Next.TheVariants.{Again, Close, Part}
 use Rattle.room_served.specs.declared.step.Turn.{Turn}
-use Rattle.room_sockets.specs.Guests.{IsNew, Turns}
+use Rattle.room_sockets.specs.Guests.{IsNew, NobodyWaits, Turns, is_waiting}
 use Rattle.room_sockets.specs.declared.guest.Guest.{Guest}
 use Rattle.room_sockets.specs.declared.hall.Hall.{Hall}
 use Rattle.room_sockets.specs.declared.hall.TheConstants.{FIRST_GUEST}
@@ -94,16 +94,19 @@ module _ {S : Type 0} (store : Ghosts S) where
 
 pub data Step : Type 0 where
   Begin : Step
+  Ask : (key : ℕ) → Step
   Settle : Step
   Serve : (key : ℕ) → Step
   Drop : (key : ℕ) → Step
   Enter : Step
   Leave : Step
 
--- the peer of the key is served before anything else becomes of it in these steps
+-- The peer of the key is served before anything else becomes of it in these steps. A turn in a round,
+-- in which it only asks, does not serve it.
 abbrev pub IsServedFirst : (key : ℕ) (steps : List Step) → Type 0
 IsServedFirst key [] = ⊥
 IsServedFirst key (Begin ∷ steps) = IsServedFirst key steps
+IsServedFirst key (Ask other ∷ steps) = IsServedFirst key steps
 IsServedFirst key (Settle ∷ steps) = IsServedFirst key steps
 IsServedFirst key (Serve other ∷ steps) = (other ≡ key) ⊎ IsServedFirst key steps
 IsServedFirst key (Drop other ∷ steps) = (other ≢ key) × IsServedFirst key steps
@@ -114,11 +117,19 @@ IsServedFirst key (Leave ∷ steps) = ⊥
 abbrev pub IsSpared : (key : ℕ) (steps : List Step) → Type 0
 IsSpared key [] = ⊤
 IsSpared key (Begin ∷ steps) = IsSpared key steps
+IsSpared key (Ask other ∷ steps) = IsSpared key steps
 IsSpared key (Settle ∷ steps) = IsSpared key steps
 IsSpared key (Serve other ∷ steps) = (other ≡ key) ⊎ IsSpared key steps
 IsSpared key (Drop other ∷ steps) = (other ≢ key) × IsSpared key steps
 IsSpared key (Enter ∷ steps) = ⊥
 IsSpared key (Leave ∷ steps) = ⊥
+
+-- peers are served, or let go, and nothing else goes on
+abbrev pub OnlyServe : (steps : List Step) → Type 0
+OnlyServe [] = ⊤
+OnlyServe (Serve key ∷ steps) = OnlyServe steps
+OnlyServe (Drop key ∷ steps) = OnlyServe steps
+OnlyServe (_ ∷ steps) = ⊥
 
 module _ {S : Type 0} (store : Ghosts S) where
   -- a round begins, or can't, or one is under way
@@ -131,13 +142,17 @@ module _ {S : Type 0} (store : Ghosts S) where
   SettlesRound before after =
       ((shares_of before ≡ false) × (after ≡ before)) ⊎ IsSettled store before after
 
-  -- A round begins or is settled; or who has a key is served, or may be let go, and all others stay;
-  -- or some come in, or are let go. Nothing else becomes of what is served.
+  -- A round begins, once everybody has heard of those before; who has a key asks in it; it is
+  -- settled. Where none is under way who has a key is served. Or who has one may be let go. All
+  -- others stay. Or some come in, or are let go. Nothing else becomes of what is served.
   abbrev pub Does : (step : Step) (old new : Slab Guest) (before after : Served S) → Type 0
-  Does Begin old new before after = SameValues old new × BeginsRound before after
+  Does Begin old new before after =
+      SameValues old new × NobodyWaits old × BeginsRound before after
+  Does (Ask key) old new before after = IsTrue (shares_of before)
+      × Serves store (get old key) (get new key) before after × AreOthersKept key old new
   Does Settle old new before after = SameValues old new × SettlesRound before after
-  Does (Serve key) old new before after =
-      Serves store (get old key) (get new key) before after × AreOthersKept key old new
+  Does (Serve key) old new before after = (shares_of before ≡ false)
+      × Serves store (get old key) (get new key) before after × AreOthersKept key old new
   Does (Drop key) old new before after =
       MayGo (get old key) (get new key) × AreOthersKept key old new × (after ≡ before)
   Does Enter old new before after = OnlyEnter old new × (after ≡ before)
@@ -158,20 +173,6 @@ module _ {S : Type 0} (store : Ghosts S) where
   GoesOn old new before after = (steps : List Step) × DoesAll steps old new before after
       × StaysAlone before after
 
-  -- all that became of the peers and of what is served is such steps, and nobody is let go who was
-  -- not served
-  abbrev pub SparesAll : (old new : Slab Guest) (before after : Served S) → Type 0
-  SparesAll old new before after = (steps : List Step)
-      × DoesAll steps old new before after × StaysAlone before after
-      × ((key : ℕ) → IsSpared key steps)
-
-  -- the same, and each peer of these keys is served
-  abbrev pub SparesAndServes : (keys : List ℕ) (old new : Slab Guest) (before after : Served S)
-      → Type 0
-  SparesAndServes keys old new before after = (steps : List Step)
-      × DoesAll steps old new before after × StaysAlone before after
-      × ((key : ℕ) → IsSpared key steps) × All (λ key. IsServedFirst key steps) keys
-
   -- all that became of the peers and of what is served is such steps, and each peer of these keys
   -- is served before anything else becomes of it
   abbrev pub ServesThose : (keys : List ℕ) (old new : Slab Guest) (before after : Served S)
@@ -179,3 +180,27 @@ module _ {S : Type 0} (store : Ghosts S) where
   ServesThose keys old new before after = (steps : List Step)
       × DoesAll steps old new before after × StaysAlone before after
       × All (λ key. IsServedFirst key steps) keys
+
+  -- ---- the parts of a turn
+
+  -- some peers of these keys ask in the round that is under way, and nothing else goes on
+  abbrev pub OnlyAsk : (keys : List ℕ) (old new : Slab Guest) (before after : Served S) → Type 0
+  OnlyAsk keys old new before after = (asked : List ℕ) × All (Contains keys) asked
+      × DoesAll (map Ask asked) old new before after
+
+  -- Where everybody has heard of the rounds before, some peers of these keys may share one. Nobody
+  -- else waits to hear of it, nobody is let go but by a turn, and it is settled.
+  abbrev pub SharesRound : (keys : List ℕ) (old new : Slab Guest) (before after : Served S)
+      → Type 0
+  SharesRound keys old new before after = NobodyWaits old → (steps : List Step)
+      × DoesAll steps old new before after × (shares_of after ≡ false)
+      × ((key : ℕ) → IsSpared key steps)
+      × ((key : ℕ) → IsTrue (is_waiting (get new key)) → Contains keys key)
+
+  -- Where no round is under way peers are served, each of these keys among them, and nobody is let go
+  -- who was not served.
+  abbrev pub ServesEach : (keys : List ℕ) (old new : Slab Guest) (before after : Served S)
+      → Type 0
+  ServesEach keys old new before after = shares_of before ≡ false → (steps : List Step)
+      × DoesAll steps old new before after × OnlyServe steps
+      × ((key : ℕ) → IsSpared key steps) × All (λ key. IsServedFirst key steps) keys

@@ -1,4 +1,5 @@
 pub mod Guests
 pub mod Halls
+pub mod Hearing
 pub mod Paces
 pub mod Stocks

@@ -62,11 +62,11 @@ impl Door {
             Door::Tcp(listener) => {
                 let (stream, _) = listener.accept()?;
                 stream.set_nodelay(true)?;
-                Ok(Stream::Tcp(stream))
+                Ok(Stream::of_tcp(stream))
             }
             Door::Unix(listener) => {
                 let (stream, _) = listener.accept()?;
-                Ok(Stream::Unix(stream))
+                Ok(Stream::of_unix(stream))
             }
         }
     }

@@ -5,7 +5,7 @@ ghost use Rattle.room_sockets.specs.Halls.{OnlyEnter};
 
 use crate::door::Door;
 use crate::guest::{Guest, Peer};
-use crate::hall::{Peers, token_of};
+use crate::hall::Peers;
 use crate::stream::Stream;
 use room_served::{HttpPeer, LinePeer, Side};
 use std::alloc::Global;
@@ -140,7 +140,10 @@ impl Peers {
         let peer = kind.peer(self.alloc, self.keys, ticks);
         let mut guest = Guest::new(stream, peer, place);
         let key = self.guests.vacant_key();
-        if guest.register(self.poll.registry(), token_of(key)).is_err() {
+        if guest
+            .register(self.poll.registry(), Peers::token_of(key))
+            .is_err()
+        {
             return;
         }
         if self.guests.insert(guest).is_ok() {

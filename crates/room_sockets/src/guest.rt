@@ -7,7 +7,7 @@ ghost use Rattle.room_sockets.specs.Guests.{AsksAgain, AsksTurn, HasTurn, IsAtRe
 use crate::stream::{Stream, Unsent};
 use http_server::Log;
 use mio::{Interest, Registry, Token};
-use room_served::{Entry, HttpPeer, LARGE, LinePeer, Next, Patience, Served, Turn};
+use room_served::{Entry, HttpPeer, LARGE, LastPeer, LinePeer, Next, Patience, Served, Turn};
 use sqlite::Alter;
 use std::alloc::Global;
 use std::io;
@@ -17,6 +17,8 @@ use std::io::{Read, Write};
 pub(crate) enum Peer {
     Http(HttpPeer),
     Lines(LinePeer),
+    /// Its round was lost: it is told what it asked in it came to, and nothing more.
+    Last(LastPeer),
 }
 
 // It is written out, so that a caller does not prove again how each part is dropped.
@@ -25,6 +27,7 @@ impl Drop for Peer {
         match self {
             Peer::Http(_) => {}
             Peer::Lines(_) => {}
+            Peer::Last(_) => {}
         }
     }
 }
@@ -48,6 +51,7 @@ impl Peer {
         match self {
             Peer::Http(peer) => peer.drive(reader, writer, served, turn),
             Peer::Lines(peer) => peer.drive(reader, writer, served, turn),
+            Peer::Last(peer) => peer.drive(reader, writer, turn),
         }
     }
 }
@@ -107,8 +111,8 @@ impl Guest {
         ensures { AsksTurn S.Store turn result self.old self.new served.old served.new }
     {
         served.set_asked(self.asked.take());
-        let stream = &self.stream;
-        let next = self.peer.drive(&mut &*stream, &mut Unsent, served, turn);
+        let mut stream = &self.stream;
+        let next = self.peer.drive(&mut stream, &mut Unsent, served, turn);
         self.asked = served.take_asked();
         self.turns = self.turns.and(&turn, &next);
         next
@@ -124,27 +128,29 @@ impl Guest {
             ..turn
         };
         self.ask_again(alloc, served, turn.ticks);
-        let stream = &self.stream;
-        let next = self.peer.drive(&mut &*stream, &mut &*stream, served, hears);
+        let mut stream = &self.stream;
+        let mut sink = stream.sink(served);
+        let next = self.peer.drive(&mut stream, &mut sink, served, hears);
         self.turns = self.turns.and(&turn, &next);
         next
     }
 
-    /// Where the round was lost, what it asked in it is asked again, by itself. From then on it is a
-    /// peer of lines, whatever it spoke, that only writes what that came to, and ends.
+    /// Where the round was lost, what it asked in it is asked again, by itself. From then on it only
+    /// hears what that came to, whatever it spoke.
     fn ask_again<S: Alter>(&mut self, alloc: Global, served: &mut Served<S>, ticks: u64)
         requires { shares_of served.old ≡ false }
         ensures again { AsksAgain S.Store (is_lost_of served.old) (asked_in self.old)
             (peer_of self.old) (peer_of self.new) served.old served.new }
         ensures asked { asked_in self.new ≡ [] }
         ensures turns { turns_of self.new ≡ turns_of self.old }
+        ensures alone { shares_of served.new ≡ false }
     {
         let Some(asked) = self.asked.take() else {
             return;
         };
         if served.is_lost() {
-            let peer = LinePeer::told_again(alloc, &asked, served, ticks);
-            self.peer = Peer::Lines(peer);
+            let peer = LastPeer::told_again(alloc, &asked, served, ticks);
+            self.peer = Peer::Last(peer);
         }
     }
 
@@ -175,6 +181,7 @@ impl Guest {
         match &self.peer {
             Peer::Http(peer) => peer.patience(),
             Peer::Lines(peer) => peer.patience(),
+            Peer::Last(peer) => peer.patience(),
         }
     }
 
@@ -183,6 +190,7 @@ impl Guest {
         match &self.peer {
             Peer::Http(peer) => peer.held(),
             Peer::Lines(peer) => peer.held(),
+            Peer::Last(peer) => peer.held(),
         }
     }
 
@@ -191,6 +199,7 @@ impl Guest {
         match &self.peer {
             Peer::Http(peer) => peer.is_large(),
             Peer::Lines(peer) => peer.held() > LARGE,
+            Peer::Last(peer) => peer.held() > LARGE,
         }
     }
 
@@ -200,11 +209,11 @@ impl Guest {
     }
 
     /// Whether a large answer waits to go that can be asked for again. None is on a connection of
-    /// lines: a start's documents are sent once.
+    /// lines: a start's documents are sent once. Nor does one go last.
     pub(crate) fn has_large_answer(&self) -> bool {
         match &self.peer {
             Peer::Http(peer) => peer.has_large_answer(),
-            Peer::Lines(_) => false,
+            Peer::Lines(_) | Peer::Last(_) => false,
         }
     }
 

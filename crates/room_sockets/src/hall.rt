@@ -4,7 +4,7 @@ ghost use Rattle.std.specs.Prelude.{◌≡◌, ◌≢◌, ◌≤◌, [], ◌∷�
 ghost use Rattle.mio.specs.Events.{items};
 ghost use Rattle.slab.specs.Slab.{SameValues, get};
 ghost use Rattle.room_served.specs.Journals.{Follows, open_of, shares_of};
-ghost use Rattle.room_sockets.specs.Halls.{AreOthersKept, GoesOn, IsEmpty, MayLeave, OnlyLeave, Serves, ServesThose, SparesAndServes, StaysAfter, guests_of, key_of, keys_told, told_by};
+ghost use Rattle.room_sockets.specs.Guests.{NobodyWaits};
 
 use crate::clock::{moment, ticks};
 use crate::deadlines::TICK;
@@ -34,6 +34,8 @@ pub(crate) const FIRST_GUEST: usize = 3;
 pub struct Hall {
     peers: Peers,
     events: Events,
+    // Whoever asked in a round heard of it, or is gone.
+    ghost told: { NobodyWaits peers.guests },
 }
 
 /// The peers of all doors, and what it takes to serve them.
@@ -51,6 +53,8 @@ pub(crate) struct Peers {
 }
 
 impl Hall {
+    ghost use Rattle.room_sockets.specs.Halls.{GoesOn, IsEmpty, ServesThose, guests_of, told_by};
+
     /// A hall with nobody in it. `keys` are secret, since peers choose the names of fields.
     pub fn open<R: Net + Clock + Alloc<A = Global>>(
         rt: &R,
@@ -125,6 +129,8 @@ impl Hall {
 }
 
 impl Peers {
+    ghost use Rattle.room_sockets.specs.Halls.{AreOthersKept, MayLeave, Serves, ServesEach, StaysAfter, key_of, keys_told};
+
     /// The ticks that deadlines go by.
     pub(crate) fn ticks(&mut self, clock: &impl Clock) -> io::Result<u64>
         ensures { self.new.guests ≡ self.old.guests }
@@ -143,7 +149,7 @@ impl Peers {
 
     /// Serves each of whom the system told.
     fn serve_all<S: Alter>(&mut self, events: &Events, clock: &impl Clock, served: &mut Served<S>)
-        ensures { SparesAndServes S.Store (keys_told (items events.now))
+        ensures { ServesEach S.Store (keys_told (items events.now))
             self.old.guests self.new.guests served.old served.new }
     {
         for event in events {
@@ -152,7 +158,7 @@ impl Peers {
     }
 
     fn serve_event<S: Alter>(&mut self, clock: &impl Clock, event: &Event, served: &mut Served<S>)
-        ensures { SparesAndServes S.Store (keys_told (event.now ∷ []))
+        ensures { ServesEach S.Store (keys_told (event.now ∷ []))
             self.old.guests self.new.guests served.old served.new }
     {
         let token = event.token().0;
@@ -236,7 +242,9 @@ impl Peers {
         ensures { SameValues self.old.guests self.new.guests }
     {
         match self.guests.get_mut(key) {
-            Some(guest) => guest.rearm(self.poll.registry(), token_of(key)).is_ok(),
+            Some(guest) => guest
+                .rearm(self.poll.registry(), Peers::token_of(key))
+                .is_ok(),
             None => false,
         }
     }
@@ -259,11 +267,11 @@ impl Peers {
             }
         }
     }
-}
 
-/// The token by which the system tells of the peer of the key.
-pub(crate) fn token_of(key: usize) -> Token
-    ensures { key ≤ MOST_GUESTS → key_of result ≡ Some key }
-{
-    Token(key.saturating_add(FIRST_GUEST))
+    /// The token by which the system tells of the peer of the key.
+    pub(crate) fn token_of(key: usize) -> Token
+        ensures { key ≤ MOST_GUESTS → key_of result ≡ Some key }
+    {
+        Token(key.saturating_add(FIRST_GUEST))
+    }
 }

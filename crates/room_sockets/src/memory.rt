@@ -1,8 +1,9 @@
 //! What a hall does where its peers hold much: it frees some, and has those go on whom it
 //! held back.
 
+ghost use Rattle.std.specs.Prelude.{[]};
 ghost use Rattle.slab.specs.Slab.{get};
-ghost use Rattle.room_sockets.specs.Halls.{AreOthersKept, MayGo, OnlyLeave, SparesAll};
+ghost use Rattle.room_sockets.specs.Halls.{AreOthersKept, MayGo, OnlyLeave, ServesEach};
 
 use crate::doors::MOST_GUESTS;
 use crate::hall::Peers;
@@ -14,7 +15,7 @@ impl Peers {
     /// Where too much is held, has each large answer go on, and drops who hardly reads it, so that
     /// one turn of the loop gives out few more.
     pub(crate) fn free_memory<S: Alter>(&mut self, clock: &impl Clock, served: &mut Served<S>)
-        ensures { SparesAll S.Store self.old.guests self.new.guests served.old served.new }
+        ensures { ServesEach S.Store [] self.old.guests self.new.guests served.old served.new }
     {
         if !self.stock.is_over() {
             return;
@@ -26,7 +27,7 @@ impl Peers {
 
     /// Has the peer's large answer go on, if it has one, and drops it where it hardly reads it.
     fn free_memory_of<S: Alter>(&mut self, clock: &impl Clock, key: usize, served: &mut Served<S>)
-        ensures { SparesAll S.Store self.old.guests self.new.guests served.old served.new }
+        ensures { ServesEach S.Store [] self.old.guests self.new.guests served.old served.new }
     {
         if !self.has_large_answer(key) {
             return;

@@ -1,6 +1,8 @@
 //! Who shares a commit.
 
-ghost use Rattle.room_sockets.specs.Halls.{SparesAll};
+ghost use Rattle.std.specs.Prelude.{◌∷◌, []};
+ghost use Rattle.mio.specs.Events.{items};
+ghost use Rattle.room_sockets.specs.Halls.{OnlyAsk, SharesRound, keys_told};
 
 use crate::hall::{FIRST_GUEST, Peers};
 use mio::Events;
@@ -11,16 +13,18 @@ use std::time::Clock;
 
 impl Peers {
     /// Has those of whom the system told ask in one round, where they are several. Each has another
-    /// turn once it is settled.
+    /// turn once it is settled. No round is under way afterwards.
     pub(crate) fn share<S: Alter>(
         &mut self,
         events: &Events,
         clock: &impl Clock,
         served: &mut Served<S>,
     )
-        ensures { SparesAll S.Store self.old.guests self.new.guests served.old served.new }
+        ensures { SharesRound S.Store (keys_told (items events.now))
+            self.old.guests self.new.guests served.old served.new }
     {
         if events.iter().count() < 2 {
+            served.settle();
             return;
         }
         served.begin();
@@ -29,7 +33,8 @@ impl Peers {
     }
 
     fn ask_all<S: Alter>(&mut self, events: &Events, clock: &impl Clock, served: &mut Served<S>)
-        ensures { SparesAll S.Store self.old.guests self.new.guests served.old served.new }
+        ensures { OnlyAsk S.Store (keys_told (items events.now))
+            self.old.guests self.new.guests served.old served.new }
     {
         for event in events {
             self.ask(clock, event, served);
@@ -39,9 +44,11 @@ impl Peers {
     /// The peer's turn in the round. It has none where no round could begin, the round is full, or
     /// much is held and the peer is not the favoured one: then it asks by itself, in `serve_all`.
     fn ask<S: Alter>(&mut self, clock: &impl Clock, event: &Event, served: &mut Served<S>)
-        ensures { SparesAll S.Store self.old.guests self.new.guests served.old served.new }
+        ensures { OnlyAsk S.Store (keys_told (event.now ∷ []))
+            self.old.guests self.new.guests served.old served.new }
     {
-        if let Some(key) = event.token().0.checked_sub(FIRST_GUEST) {
+        let token = event.token().0;
+        if let Some(key) = token.checked_sub(FIRST_GUEST) {
             if served.is_shared() && !served.is_full() && self.stock.has_room(key) {
                 self.serve(clock, key, served, event.is_read_closed());
             }

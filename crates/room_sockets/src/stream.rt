@@ -1,9 +1,13 @@
 //! A peer's socket, of TCP or in the file system.
+ghost use Rattle.std.specs.Prelude.{◌≡◌, false};
 ghost use Rattle.std.specs.Io.{ReadsAtMost, WritesAtMost};
+ghost use Rattle.room_served.specs.Journals.{shares_of};
 
 use mio::event::Source;
 use mio::net::{TcpStream, UnixStream};
 use mio::{Interest, Registry, Token};
+use room_served::Served;
+use sqlite::Alter;
 use std::io;
 use std::io::{ErrorKind, Read, Write};
 use std::net::Shutdown;
@@ -11,19 +15,44 @@ use std::net::Shutdown;
 /// How many bytes a read takes at most, so that a turn of a peer who sends much is short too.
 const MOST_READ: usize = 65_536;
 
-/// A socket whose reads and writes answer `WouldBlock` where they would wait.
+/// A socket whose reads and writes answer `WouldBlock` where they would wait. What is read of it is
+/// read by a reference; what is written to it is written by a `Sink`.
 #[derive(Drop)]
-pub(crate) enum Stream {
+pub(crate) struct Stream {
+    socket: Socket,
+}
+
+#[derive(Drop)]
+enum Socket {
     Tcp(TcpStream),
     Unix(UnixStream),
 }
 
 impl Stream {
+    pub(crate) fn of_tcp(stream: TcpStream) -> Stream {
+        Stream {
+            socket: Socket::Tcp(stream),
+        }
+    }
+
+    pub(crate) fn of_unix(stream: UnixStream) -> Stream {
+        Stream {
+            socket: Socket::Unix(stream),
+        }
+    }
+
+    /// The one way in which something is written to the socket. In a round there is none.
+    pub(crate) fn sink<S: Alter>(&self, _served: &Served<S>) -> Sink<'_>
+        requires { shares_of _served.now ≡ false }
+    {
+        Sink { stream: self }
+    }
+
     /// Tells the peer that nothing more comes.
     pub(crate) fn end(&self) -> io::Result<()> {
-        match self {
-            Stream::Tcp(stream) => stream.shutdown(Shutdown::Write),
-            Stream::Unix(stream) => stream.shutdown(Shutdown::Write),
+        match &self.socket {
+            Socket::Tcp(stream) => stream.shutdown(Shutdown::Write),
+            Socket::Unix(stream) => stream.shutdown(Shutdown::Write),
         }
     }
 
@@ -32,18 +61,18 @@ impl Stream {
     {
         let most = buffer.len().min(MOST_READ);
         let front = &mut buffer[..most];
-        match self {
-            Stream::Tcp(stream) => read_of(stream, front),
-            Stream::Unix(stream) => read_of(stream, front),
+        match &self.socket {
+            Socket::Tcp(stream) => read_of(stream, front),
+            Socket::Unix(stream) => read_of(stream, front),
         }
     }
 
     fn write_once(&self, piece: &[u8]) -> io::Result<usize>
         ensures { WritesAtMost result piece.now }
     {
-        match self {
-            Stream::Tcp(stream) => write_to(stream, piece),
-            Stream::Unix(stream) => write_to(stream, piece),
+        match &self.socket {
+            Socket::Tcp(stream) => write_to(stream, piece),
+            Socket::Unix(stream) => write_to(stream, piece),
         }
     }
 }
@@ -54,9 +83,15 @@ impl Read for &Stream {
     }
 }
 
-impl Write for &Stream {
+/// What is written to a socket.
+#[derive(Drop)]
+pub(crate) struct Sink<'a> {
+    stream: &'a Stream,
+}
+
+impl Write for Sink<'_> {
     fn write(&mut self, piece: &[u8]) -> io::Result<usize> {
-        self.write_once(piece)
+        self.stream.write_once(piece)
     }
 
     fn flush(&mut self) -> io::Result<()> {
@@ -105,9 +140,9 @@ impl Source for Stream {
         token: Token,
         interests: Interest,
     ) -> io::Result<()> {
-        match self {
-            Stream::Tcp(stream) => stream.register(registry, token, interests),
-            Stream::Unix(stream) => stream.register(registry, token, interests),
+        match &mut self.socket {
+            Socket::Tcp(stream) => stream.register(registry, token, interests),
+            Socket::Unix(stream) => stream.register(registry, token, interests),
         }
     }
 
@@ -117,16 +152,16 @@ impl Source for Stream {
         token: Token,
         interests: Interest,
     ) -> io::Result<()> {
-        match self {
-            Stream::Tcp(stream) => stream.reregister(registry, token, interests),
-            Stream::Unix(stream) => stream.reregister(registry, token, interests),
+        match &mut self.socket {
+            Socket::Tcp(stream) => stream.reregister(registry, token, interests),
+            Socket::Unix(stream) => stream.reregister(registry, token, interests),
         }
     }
 
     fn deregister(&mut self, registry: &Registry) -> io::Result<()> {
-        match self {
-            Stream::Tcp(stream) => stream.deregister(registry),
-            Stream::Unix(stream) => stream.deregister(registry),
+        match &mut self.socket {
+            Socket::Tcp(stream) => stream.deregister(registry),
+            Socket::Unix(stream) => stream.deregister(registry),
         }
     }
 }

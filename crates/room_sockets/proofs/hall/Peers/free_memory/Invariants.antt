@@ -1,5 +1,6 @@
-use Rattle.room_sockets.specs.Halls.{SparesAll}
+use Rattle.std.proofs.Common.{[]}
+use Rattle.room_sockets.specs.Halls.{ServesEach}
 use Rattle.room_sockets.proofs.hall.Peers.free_memory.Given as goal
 
 abbrev pub invariant-loop-key : goal.invariant-loop-key
-invariant-loop-key g l = SparesAll g.S.Store l.fn.self.guests l.self.guests l.fn.served l.served
+invariant-loop-key g l = ServesEach g.S.Store [] l.fn.self.guests l.self.guests l.fn.served l.served
