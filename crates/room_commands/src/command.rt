@@ -1,7 +1,8 @@
 //! The command line: its commands, and what their words may be.
-ghost use Rattle.std.specs.Prelude.{◌≤◌, IfOk, IsTrue};
-ghost use Rattle.room_commands.specs.Addresses.{has_port_from};
-ghost use Rattle.room_commands.specs.Commands.{is_in_range};
+ghost use Rattle.std.specs.Prelude.{◌≤◌, ℕ, List, IfOk, IsSomeAnd, IsTrue, slice_get};
+ghost use Rattle.room_commands.specs.Addresses.{has_port_from, IsAddressOf};
+ghost use Rattle.room_commands.specs.Commands.{is_in_range, IsSaidBy};
+ghost use Rattle.room_commands.specs.Words.{placed, texts};
 
 use crate::address::{Address, LAST_PORT};
 use crate::fault::Fault;
@@ -11,7 +12,7 @@ use crate::sending::Sending;
 use crate::serving::Serving;
 use crate::words::{
     ACCOUNT, ADDRESS, COUNT, CREATE, DATABASE, DEVICE, EXPLAIN, FOLDER, GRANTS, LISTEN, MIGRATE,
-    NAME, ON, OPEN, OPERATORS, PORT, RATE, SCRIPT, SEND, SERVE, STATION, STATIONS, SWITCH, UNITS,
+    NAME, ON, OPEN, PORT, RATE, SCRIPT, SEND, SERVE, STATION, SWITCH, UNITS, word_at,
 };
 use clap::ArgMatches;
 use clap::error::ErrorKind;
@@ -134,7 +135,8 @@ impl<'a> Command<'a> {
     /// Reads the words after the program's name. A command, a count of words, a number or a switch
     /// that is not in the table comes before a bad name.
     pub fn read(alloc: Global, words: &'a [&'a str]) -> Result<Command<'a>, Fault>
-        ensures { IfOk result (λ command. IsTrue (is_in_range command)) }
+        ensures range { IfOk result (λ command. IsTrue (is_in_range command)) }
+        ensures said { IfOk result (IsSaidBy (placed (texts words.now))) }
     {
         let mut program = program(alloc)?;
         read_by(alloc, &mut program, words)
@@ -146,17 +148,19 @@ fn read_by<'a>(
     program: &mut clap::Command<'a>,
     words: &'a [&'a str],
 ) -> Result<Command<'a>, Fault>
-    ensures { IfOk result (λ command. IsTrue (is_in_range command)) }
+    ensures range { IfOk result (λ command. IsTrue (is_in_range command)) }
+    ensures said { IfOk result (IsSaidBy (placed (texts words.now))) }
 {
     match program.try_get_matches_from_mut(words) {
-        Ok(matches) => of_matches(&matches).map_err(|unfit| unfit.fault(program)),
+        Ok(matches) => of_matches(&matches, words).map_err(|unfit| unfit.fault(program)),
         Err(error) => help_of(alloc, error),
     }
 }
 
 // What the parser tells in place of a command line, where that is what the words ask for.
 fn help_of<'a>(alloc: Global, told: clap::Error) -> Result<Command<'a>, Fault>
-    ensures { IfOk result (λ command. IsTrue (is_in_range command)) }
+    ensures range { IfOk result (λ command. IsTrue (is_in_range command)) }
+    ensures said { (given : List (List ℕ)) → IfOk result (IsSaidBy given) }
 {
     if told.use_stderr() {
         return Err(Fault::from(told));
@@ -165,13 +169,15 @@ fn help_of<'a>(alloc: Global, told: clap::Error) -> Result<Command<'a>, Fault>
     Ok(Command::Help { text })
 }
 
-fn of_matches<'a>(matches: &ArgMatches<'a>) -> Result<Command<'a>, Unfit>
-    ensures { IfOk result (λ command. IsTrue (is_in_range command)) }
+fn of_matches<'a>(matches: &ArgMatches<'a>, words: &[&'a str]) -> Result<Command<'a>, Unfit>
+    ensures range { IfOk result (λ command. IsTrue (is_in_range command)) }
+    ensures said { IfOk result (IsSaidBy (placed (texts words.now))) }
 {
     match matches.subcommand() {
-        Some((SEND, words)) => sending(words),
+        Some((SERVE, _)) => serving(words),
+        Some((SEND, found)) => sending(found),
         Some((EXPLAIN, _)) => Ok(Command::Explain),
-        Some((command, words)) => on_database(command, words, word(words, DATABASE)?),
+        Some((command, found)) => on_database(command, found, word(found, DATABASE)?),
         None => Err(Unfit::Missing),
     }
 }
@@ -181,7 +187,8 @@ fn on_database<'a>(
     words: &ArgMatches<'a>,
     database: &'a str,
 ) -> Result<Command<'a>, Unfit>
-    ensures { IfOk result (λ command. IsTrue (is_in_range command)) }
+    ensures range { IfOk result (λ command. IsTrue (is_in_range command)) }
+    ensures said { (given : List (List ℕ)) → IfOk result (IsSaidBy given) }
 {
     match command {
         CREATE => Ok(Command::Create { database }),
@@ -193,20 +200,21 @@ fn on_database<'a>(
         STATION => Ok(Command::Station { database }),
         SCRIPT => Ok(Command::Script { database }),
         LISTEN => listening(words, database),
-        SERVE => serving(words, database),
         _ => Err(Unfit::Missing),
     }
 }
 
 fn opening<'a>(words: &ArgMatches<'a>, database: &'a str) -> Result<Command<'a>, Unfit>
-    ensures { IfOk result (λ command. IsTrue (is_in_range command)) }
+    ensures range { IfOk result (λ command. IsTrue (is_in_range command)) }
+    ensures said { (given : List (List ℕ)) → IfOk result (IsSaidBy given) }
 {
     let account = name(words, ACCOUNT)?;
     Ok(Command::Open { database, account })
 }
 
 fn turning<'a>(words: &ArgMatches<'a>, database: &'a str) -> Result<Command<'a>, Unfit>
-    ensures { IfOk result (λ command. IsTrue (is_in_range command)) }
+    ensures range { IfOk result (λ command. IsTrue (is_in_range command)) }
+    ensures said { (given : List (List ℕ)) → IfOk result (IsSaidBy given) }
 {
     let on = word(words, SWITCH)? == ON;
     let name = name(words, NAME)?;
@@ -214,7 +222,8 @@ fn turning<'a>(words: &ArgMatches<'a>, database: &'a str) -> Result<Command<'a>,
 }
 
 fn rating<'a>(words: &ArgMatches<'a>, database: &'a str) -> Result<Command<'a>, Unfit>
-    ensures { IfOk result (λ command. IsTrue (is_in_range command)) }
+    ensures range { IfOk result (λ command. IsTrue (is_in_range command)) }
+    ensures said { (given : List (List ℕ)) → IfOk result (IsSaidBy given) }
 {
     let units = number(words, UNITS, 1, MOST_RATE, Unfit::Units)?;
     let name = name(words, NAME)?;
@@ -226,7 +235,8 @@ fn rating<'a>(words: &ArgMatches<'a>, database: &'a str) -> Result<Command<'a>, 
 }
 
 fn listening<'a>(words: &ArgMatches<'a>, database: &'a str) -> Result<Command<'a>, Unfit>
-    ensures { IfOk result (λ command. IsTrue (is_in_range command)) }
+    ensures range { IfOk result (λ command. IsTrue (is_in_range command)) }
+    ensures said { (given : List (List ℕ)) → IfOk result (IsSaidBy given) }
 {
     Ok(Command::Listen(Listening {
         database,
@@ -235,19 +245,41 @@ fn listening<'a>(words: &ArgMatches<'a>, database: &'a str) -> Result<Command<'a
     }))
 }
 
-fn serving<'a>(words: &ArgMatches<'a>, database: &'a str) -> Result<Command<'a>, Unfit>
-    ensures { IfOk result (λ command. IsTrue (is_in_range command)) }
+// The words of `serve` are read by their places.
+fn serving<'a>(words: &[&'a str]) -> Result<Command<'a>, Unfit>
+    ensures range { IfOk result (λ command. IsTrue (is_in_range command)) }
+    ensures said { IfOk result (IsSaidBy (placed (texts words.now))) }
 {
     Ok(Command::Serve(Serving {
-        database,
-        port: port(words, 0, Unfit::ServedPort)?,
-        stations: address(words, STATIONS, 0, Unfit::ServedAddress)?,
-        operators: address(words, OPERATORS, 0, Unfit::ServedAddress)?,
+        database: word_at(words, 1).ok_or(Unfit::Missing)?,
+        port: served_port(words, 2)?,
+        stations: served_address(words, 3)?,
+        operators: served_address(words, 4)?,
     }))
 }
 
+fn served_port(words: &[&str], place: usize) -> Result<u16, Unfit>
+    ensures { IfOk result (λ port. IsSomeAnd (slice_get (placed (texts words.now)) place)
+        (λ word. IsAddressOf word 0 (Address.Port port))) }
+{
+    let word = word_at(words, place).ok_or(Unfit::Missing)?;
+    match Address::read(word, 0) {
+        Some(Address::Port(port)) => Ok(port),
+        _ => Err(Unfit::ServedPort),
+    }
+}
+
+fn served_address<'a>(words: &[&'a str], place: usize) -> Result<Address<'a>, Unfit>
+    ensures { IfOk result (λ address. IsSomeAnd (slice_get (placed (texts words.now)) place)
+        (λ word. IsAddressOf word 0 address)) }
+{
+    let word = word_at(words, place).ok_or(Unfit::Missing)?;
+    Address::read(word, 0).ok_or(Unfit::ServedAddress)
+}
+
 fn sending<'a>(words: &ArgMatches<'a>) -> Result<Command<'a>, Unfit>
-    ensures { IfOk result (λ command. IsTrue (is_in_range command)) }
+    ensures range { IfOk result (λ command. IsTrue (is_in_range command)) }
+    ensures said { (given : List (List ℕ)) → IfOk result (IsSaidBy given) }
 {
     Ok(Command::Send(Sending {
         address: address(words, ADDRESS, 1, Unfit::Address)?,

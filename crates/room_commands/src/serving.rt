@@ -1,6 +1,7 @@
 //! What the command `serve` asks for.
 ghost use Rattle.std.specs.Prelude.{◌≡◌, ◌≢◌, IfOk, IfSome, None, Ok, Some, codes};
-ghost use Rattle.room_commands.specs.Words.{first_word};
+ghost use Rattle.room_commands.specs.Commands.{SaysServing};
+ghost use Rattle.room_commands.specs.Words.{first_word, placed, texts};
 
 use crate::address::Address;
 use crate::command::Command;
@@ -27,6 +28,8 @@ impl<'a> Serving<'a> {
         ensures named { IfOk result (λ found. IfSome found
             (λ _. first_word words.now ≡ Some (codes "serve"))) }
         ensures other { first_word words.now ≢ Some (codes "serve") → result ≡ Ok None }
+        ensures said { IfOk result
+            (λ found. IfSome found (SaysServing (placed (texts words.now)))) }
     {
         if !is_command(words, SERVE) {
             return Ok(None);

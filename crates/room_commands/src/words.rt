@@ -1,6 +1,6 @@
 //! The words of the command line, as its parser and its help know them.
-ghost use Rattle.std.specs.Prelude.{◌≡◌, ◌↔◌, IsTrue, Some};
-ghost use Rattle.room_commands.specs.Words.{first_word};
+ghost use Rattle.std.specs.Prelude.{◌≡◌, ◌↔◌, IsTrue, Some, option_map, slice_get};
+ghost use Rattle.room_commands.specs.Words.{first_word, placed, texts};
 
 pub(crate) const CREATE: &str = "create";
 
@@ -26,6 +26,9 @@ pub(crate) const LISTEN: &str = "listen";
 pub(crate) const SERVE: &str = "serve";
 
 pub(crate) const SEND: &str = "send";
+
+/// Behind it no word is a flag.
+const ESCAPE: &str = "--";
 
 pub(crate) const ON: &str = "on";
 
@@ -231,4 +234,19 @@ pub(crate) fn is_command(words: &[&str], command: &str) -> bool
         Some(word) => *word == command,
         None => false,
     }
+}
+
+/// The word in this place, where the first `--` has none: behind it a word that begins with a dash
+/// is no flag.
+pub(crate) fn word_at<'a>(words: &[&'a str], place: usize) -> Option<&'a str>
+    ensures { option_map (λ word. word.now) result ≡ slice_get (placed (texts words.now)) place }
+{
+    let (word, rest) = words.split_first()?;
+    if *word == ESCAPE {
+        return rest.get(place).copied();
+    }
+    if place == 0 {
+        return Some(word);
+    }
+    word_at(rest, place - 1)
 }
