@@ -1,7 +1,8 @@
 //! An exchange over a connection of which one call fails, for each call in turn. The call of
-//! `serve_one` in which that comes tells it, and each after it that the connection has ended. What
-//! was written is a front of what the exchange writes, and not all of it. Where a read failed, the
-//! rows are those before the message; where a write did, those before or after it.
+//! `serve_one` in which that comes tells it, and each after it that the connection has ended. Behind
+//! what the calls before it wrote stands a front of what that call writes otherwise, and not all of
+//! it. Where a read failed, the rows are those before the message; where a write did, those before
+//! or after it.
 
 use crate::exchanges::{PIECES, Pieces, opened_tables};
 use room_rows::Exchange;
@@ -149,21 +150,21 @@ fn is_due(side: Side, served: &Served, rows: &[u8], states: &[State]) -> bool {
             _ => return false,
         }
     }
-    let (Some(before), Some(all)) = (states.get(answered), states.last()) else {
+    let next = answered.saturating_add(1);
+    let (Some(before), Some(behind)) = (states.get(answered), states.get(next)) else {
         return false;
     };
     let written = served.written.as_slice();
     let is_front = written.starts_with(before.written.as_slice())
-        && all.written.as_slice().starts_with(written);
-    let is_applied = match states.get(answered.saturating_add(1)) {
-        Some(behind) => behind.rows.as_slice() == rows,
-        None => false,
-    };
+        && behind.written.as_slice().starts_with(written);
+    let is_cut_off = written.len() < behind.written.len();
     let is_unapplied = before.rows.as_slice() == rows;
+    let is_applied = behind.rows.as_slice() == rows;
     match side {
-        Side::Read => is_front && is_unapplied,
-        Side::Write | Side::Full => {
-            is_front && written.len() < all.written.len() && (is_unapplied || is_applied)
+        // At the end of what is sent a call writes nothing.
+        Side::Read => {
+            is_front && is_unapplied && (is_cut_off || written.len() == before.written.len())
         }
+        Side::Write | Side::Full => is_front && is_cut_off && (is_unapplied || is_applied),
     }
 }
