@@ -5,15 +5,14 @@ use Rattle.ipp_coding.specs.Reading.{header_in}
 use Rattle.ipp_coding.specs.declared.message.Header.{Header}
 use Rattle.room_asks.specs.Asks.{PlainAsk, PlainRefusal, ask_of}
 use Rattle.room_asks.specs.declared.operation.Operation.{Operation}
-use Rattle.room_asks.specs.declared.operation.Operation.TheVariants.{PrintJob, ValidateJob, CreateJob, SendDocument, CancelJob, GetJobAttributes, GetJobs, GetPrinterAttributes, HoldJob, ReleaseJob}
+use Rattle.room_asks.specs.declared.operation.Operation.TheVariants.{PrintJob, CreateJob}
 use Rattle.room_core.specs.Events.{OfAccount, Ipp}
 use Rattle.room_core.specs.Machine.{answered_open, responded, responded_to}
 use Rattle.room_core.specs.NewJobs.{accepts, made, made_names, new_document, new_job}
 use Rattle.room_core.specs.Requests.{Response, asked_at, doing_ask, refusing_ask_or}
 use Rattle.room_core.specs.declared.event.Reply.TheVariants as reply
-use Rattle.room_laws.proofs.HiddenAnswers.{AreAlike, GoAlike, hidden_response, hidden_step}
-use Rattle.room_laws.proofs.HiddenDifferences.{same_secrets}
-use Rattle.room_laws.proofs.HiddenPasswords.{group_hidden, hidden, secret}
+use Rattle.room_laws.proofs.HiddenAnswers.{AnswerAlike, StepAlike, hidden_response, hidden_step}
+use Rattle.room_laws.proofs.HiddenPasswords.{group_hidden, hidden, same_secrets, secret}
 use Rattle.room_laws.proofs.HiddenRooms.{hidden_room}
 use Rattle.room_laws.proofs.MappedValues.{insert-with_each, with_each}
 use Rattle.std.specs.FinMap.{insert}
@@ -45,7 +44,7 @@ module _ (room : RoomValue) (devices : Devices) (account : List ℕ) (now : ℕ)
       ap (λ jobs. record (with_new_job room (job p) (new_document room.next ask)) { jobs = jobs })
       (insert-with_each hidden room.jobs room.next (job p) ∙ ap (λ (j : Job). insert (with_each hidden room.jobs) room.next j) same_jobs ∙ sym (insert-with_each hidden room.jobs room.next (job q)))
 
-  made_alike : AreAlike (made room account now (with_password ask p)) (made room account now (with_password ask q))
+  made_alike : AnswerAlike (made room account now (with_password ask p)) (made room account now (with_password ask q))
   made_alike = by (accepts room)
     where
       at : PlainPlace
@@ -54,40 +53,33 @@ module _ (room : RoomValue) (devices : Devices) (account : List ℕ) (now : ℕ)
       done : (password : List ℕ) → Response
       done password = doing_ask (with_new_job room (job password) (new_document room.next ask)) ask (job_group at (job password) made_names ∷ [])
 
-      by : (taken : Result (Unit {0}) Refusal) → AreAlike (refusing_ask_or room (with_password ask p) taken (λ _. done p)) (refusing_ask_or room (with_password ask q) taken (λ _. done q))
+      by : (taken : Result (Unit {0}) Refusal) → AnswerAlike (refusing_ask_or room (with_password ask p) taken (λ _. done p)) (refusing_ask_or room (with_password ask q) taken (λ _. done q))
       by (Ok x) = λ i. record { text = (doing_ask room ask (same_group at i ∷ [])).text; room = same_after i }
       by (Err refusal) = refl
 
-  responded_alike : (operation : Operation) → AreAlike (responded room devices account now (with_password ask p) operation) (responded room devices account now (with_password ask q) operation)
+  responded_alike : (operation : Operation) → AnswerAlike (responded room devices account now (with_password ask p) operation) (responded room devices account now (with_password ask q) operation)
   responded_alike PrintJob = made_alike
-  responded_alike ValidateJob = refl
   responded_alike CreateJob = made_alike
-  responded_alike SendDocument = refl
-  responded_alike CancelJob = refl
-  responded_alike GetJobAttributes = refl
-  responded_alike GetJobs = refl
-  responded_alike GetPrinterAttributes = refl
-  responded_alike HoldJob = refl
-  responded_alike ReleaseJob = refl
+  responded_alike _ = refl
 
 module _ (room : RoomValue) (devices : Devices) (account : List ℕ) (now : ℕ) where
-  asks_alike : (a b : PlainAsk) → AskAlike a b → AreAlike (responded room devices account now a a.operation) (responded room devices account now b b.operation)
+  asks_alike : (a b : PlainAsk) → AskAlike a b → AnswerAlike (responded room devices account now a a.operation) (responded room devices account now b b.operation)
   asks_alike a b alike =
-      subst (λ (rest : PlainAsk). AreAlike (responded room devices account now a a.operation) (responded room devices account now (with_password rest b.password) rest.operation)) alike.rest
+      subst (λ (rest : PlainAsk). AnswerAlike (responded room devices account now a a.operation) (responded room devices account now (with_password rest b.password) rest.operation)) alike.rest
       (responded_alike room devices account now (with_password a []) a.password b.password (same_secrets a.password b.password alike.both.0 alike.both.1) a.operation)
 
-  read_alike : (header other : Header) (a b : Result PlainAsk PlainRefusal) → header ≡ other → AreReadAlike a b → AreAlike (responded_to room devices account now header a) (responded_to room devices account now other b)
+  read_alike : (header other : Header) (a b : Result PlainAsk PlainRefusal) → header ≡ other → AreReadAlike a b → AnswerAlike (responded_to room devices account now header a) (responded_to room devices account now other b)
   read_alike header other (Ok a) (Ok b) same alike = asks_alike a b alike
   read_alike header other (Err a) (Err b) same alike = λ i. hidden_response (responded_to room devices account now (same i) (Err (alike i)))
   read_alike header other (Ok a) (Err b) same alike = absurd alike
   read_alike header other (Err a) (Ok b) same alike = absurd alike
 
-  step_alike : (short : Bool) (first second : Response) → AreAlike first second
-      → GoAlike (cond short (record { reply = reply.Short; room = room }) (record { reply = reply.Ipp first.text; room = first.room })) (cond short (record { reply = reply.Short; room = room }) (record { reply = reply.Ipp second.text; room = second.room }))
+  step_alike : (short : Bool) (first second : Response) → AnswerAlike first second
+      → StepAlike (cond short (record { reply = reply.Short; room = room }) (record { reply = reply.Ipp first.text; room = first.room })) (cond short (record { reply = reply.Short; room = room }) (record { reply = reply.Ipp second.text; room = second.room }))
   step_alike true first second alike = refl
   step_alike false first second alike = ap (λ (response : Response). record { reply = reply.Ipp response.text; room = response.room }) alike
 
-  pub bodies_alike : (a b : List ℕ) → AreBodiesAlike account a b → GoAlike (answered_open room devices now (OfAccount account (Ipp a))) (answered_open room devices now (OfAccount account (Ipp b)))
+  pub bodies_alike : (a b : List ℕ) → AreBodiesAlike account a b → StepAlike (answered_open room devices now (OfAccount account (Ipp a))) (answered_open room devices now (OfAccount account (Ipp b)))
   bodies_alike a b alike =
       let first = responded_to room devices account now (header_in a) (ask_of account a) in
       let second = responded_to room devices account now (header_in b) (ask_of account b) in

@@ -1,10 +1,10 @@
 -- What a life leaves is what was asked and told in it.
-use Rattle.std.proofs.Common.{◌≡◌, ◌≢◌, ℕ, ℤ, ◌+◌, ◌*◌, ◌<◌, ◌≤◌, Bool, true, false, cond, ◌==◌, not, nat_lt, List, [], ◌∷◌, ◌++◌, map, length, Option, Some, None, option_map, Result, Ok, Err, is_some, unwrap_or, refl, sym, ap, subst, ◌∙◌, arith, append-nil, length-append}
-use Rattle.std.specs.Cmp.Lexicographic.{bytes_decides, nat_list_cmp_total}
+use Rattle.std.proofs.Common.{◌≡◌, ◌≢◌, ℕ, ℤ, ◌+◌, ◌*◌, ◌<◌, ◌≤◌, Bool, true, false, cond, ◌==◌, not, nat_lt, List, [], ◌∷◌, ◌++◌, map, length, Option, Some, None, option_map, Result, Ok, is_some, unwrap_or, refl, sym, ap, subst, ◌∙◌, arith, append-nil, length-append}
+use Rattle.std.specs.Cmp.Lexicographic.{nat_list_cmp_total}
 use Rattle.std.specs.FinMap.{FinMap, contains_key, empty, get, get-empty, get-insert, insert}
 use Rattle.std.specs.Option.{option_map_or, option_to_list}
 use Rattle.std.specs.Ordering.{eq_by_cmp, nat_cmp}
-use Rattle.std.proofs.lemmas.Bool.{true≢false}
+use Rattle.std.proofs.lemmas.Bool.{eqb-false, eqb-true, ne_eqb, true≢false}
 use Rattle.std.proofs.lemmas.Bool.Decides.{nat_tests}
 use Rattle.std.proofs.lemmas.Grind.{common_steps}
 use Rattle.std.proofs.lemmas.List.{map-append}
@@ -25,7 +25,8 @@ use Rattle.room_core.specs.Steps.{with_moved}
 use Rattle.room_core.specs.declared.event.Reply.{Reply}
 use Rattle.room_core.specs.declared.event.Reply.TheVariants as reply
 use Rattle.room_laws.proofs.Afterwards.{inserted}
-use Rattle.room_laws.proofs.Changes.{Makes, refuses, reads, makes, takes, acts, releases, starts, settles, grants, act_asked, makes_one, only_reads, makes_jobs}
+use Rattle.room_laws.proofs.Changes.{Makes, refuses, reads, makes, takes, acts, releases, starts, settles, grants, act_asked, makes_one, only_reads, makes_jobs, ready_is}
+use Rattle.room_laws.proofs.DevicesStay.{same_name}
 use Rattle.room_laws.proofs.LifeLemmas.{account_exchange, device_exchange, of_each_life}
 use Rattle.room_laws.proofs.Moved.{no_document_more, one_document_more, same_copies, same_created, same_documents, was_unfinished, brings_document}
 use Rattle.room_laws.proofs.PlacedDocuments.{Follows, none_after, none_placed, others_stay, placed, placed_with, same_placed}
@@ -37,7 +38,6 @@ use Rattle.room_laws.specs.Lives.{Exchange, IsLife, Life}
 use Rattle.room_laws.specs.StandsAsTold.{AccountStands, AreAsTold, IsAsTold, IsAt, LeavesAsTold, StandsAsTold, WasNotOpened, as_sent, device_told}
 use Rattle.room_laws.specs.Told.{if_passed, is_documents, is_ok, is_successful, request_of}
 use Rattle.room_replies.specs.Lines.{success_text}
-use Rattle.room_replies.specs.Stations.{ready_device}
 use Rattle.room_replies.specs.Words.{word_text}
 use Rattle.room_replies.specs.declared.station_line.Success.TheVariants as success
 use Rattle.room_rules.specs.Acts.{Act, CancelJob, HoldJob, ReleaseJob, StationRelease, StationStart, StationSettle}
@@ -50,11 +50,8 @@ use Rattle.room_rules.specs.declared.device.Device.{Device}
 use Rattle.room_rules.specs.declared.job.Document.{Document}
 use Rattle.room_rules.specs.declared.job.Job.{Job}
 use Rattle.room_rules.specs.declared.job.Standing.{Standing}
-use Rattle.room_rules.specs.declared.refusal.Word.{Word}
-use Rattle.room_rules.specs.declared.refusal.Word.TheVariants.{DeviceOff, NoDevice}
-use Rattle.room_rules.proofs.DeviceMaps as maps
+use Rattle.room_rules.specs.declared.refusal.Word.TheVariants.{NoDevice}
 use Rattle.room_state.proofs.KeptDocuments.{left_document}
-use Rattle.room_state.proofs.KeptJobs.{job_inserted}
 use Rattle.room_state.proofs.KeptRooms.{restood_there}
 use Rattle.room_state.specs.Changes.{with_ended, with_grant, with_new_job, with_standing}
 use Rattle.room_state.specs.Documents.{documents_of}
@@ -90,12 +87,6 @@ pub with_job_there : (told : AccountTold) (number : ℕ) (change : JobTold → J
 with_job_there told number change ticket there = rw there refl
 
 -- ---- one job changes, and the others stay
-
-test_differs : (a b : ℕ) → (a == b) ≡ false → a ≢ b
-test_differs a b other = grind (arith, nat_tests)
-
-test_same : (a b : ℕ) → (a == b) ≡ true → a ≡ b
-test_same a b same = grind (arith, nat_tests)
 
 -- its documents are the same in both rooms
 abbrev KeepsDocuments : (before after : RoomValue) (number : ℕ) → Type 0
@@ -141,14 +132,14 @@ module _ (told : AccountTold) (before after : RoomValue) (number : ℕ) (ticket 
       (subst (λ (o : Option JobTold). AreAsTold q o after (cond (q == number) (Some job) (get before.jobs q))) (sym (inserted told.jobs number ticket q)) (by (q == number) refl))
     where
       by : (b : Bool) → (q == number) ≡ b → AreAsTold q (cond b (Some ticket) (get told.jobs q)) after (cond b (Some job) (get before.jobs q))
-      by true same = subst (λ (n : ℕ). IsAsTold n ticket after job) (sym (test_same q number same)) is
-      by false other = still_are before after q (get told.jobs q) (get before.jobs q) (replaces.others q (test_differs q number other)) (keeps.stands.jobs q)
+      by true same = subst (λ (n : ℕ). IsAsTold n ticket after job) (sym (eqb-true q number same)) is
+      by false other = still_are before after q (get told.jobs q) (get before.jobs q) (replaces.others q (eqb-false q number other)) (keeps.stands.jobs q)
 
   below_all : (q : ℕ) (other : Job) → get after.jobs q ≡ Some other → q < after.next
   below_all q other here = by (q == number) refl (sym (replaces.jobs q) ∙ here)
     where
       by : (b : Bool) → (q == number) ≡ b → cond b (Some job) (get before.jobs q) ≡ Some other → q < after.next
-      by true same there = let this = test_same q number same in omega (arith, replaces.below)
+      by true same there = let this = eqb-true q number same in omega (arith, replaces.below)
       by false differs there = let less = keeps.below q other there in omega (arith, replaces.up)
 
   none_further : (q : ℕ) (other : Job) → get after.jobs q ≡ Some other → is_unfinished other.standing.state ≡ true → (k : ℕ) → other.standing.documents < k → get after.documents (q, k) ≡ None
@@ -157,9 +148,9 @@ module _ (told : AccountTold) (before after : RoomValue) (number : ℕ) (ticket 
       by : (b : Bool) → (q == number) ≡ b → cond b (Some job) (get before.jobs q) ≡ Some other → is_unfinished other.standing.state ≡ true → (k : ℕ) → other.standing.documents < k → get after.documents (q, k) ≡ None
       by true same there unfinished k above =
           let it = same_Some job other there in
-          subst (λ (n : ℕ). get after.documents (n, k) ≡ None) (sym (test_same q number same))
+          subst (λ (n : ℕ). get after.documents (n, k) ≡ None) (sym (eqb-true q number same))
           (replaces.no_further (ap (λ (j : Job). is_unfinished j.standing.state) it ∙ unfinished) k (subst (λ (j : Job). j.standing.documents < k) (sym it) above))
-      by false differs there unfinished k above = replaces.others q (test_differs q number differs) k ∙ keeps.no_further q other there unfinished k above
+      by false differs there unfinished k above = replaces.others q (eqb-false q number differs) k ∙ keeps.no_further q other there unfinished k above
 
   one_changes : Keeps told_after after
   one_changes = record {
@@ -205,15 +196,12 @@ as_told number ticket room job of fits documents = record {
   documents = documents;
 }
 
-fits_of : (number : ℕ) (ticket : JobTold) (room : RoomValue) (job : Job) → IsAsTold number ticket room job → Fits ticket job.standing
-fits_of number ticket room job is = record { copies = is.copies; created = is.created; impressions = is.impressions; count = is.count; stage = is.stage; is_open = is.is_open }
-
 -- what an act without a document leaves of the documents
 left_of_others : (room : RoomValue) (number q : ℕ) (standing : Standing) → q ≢ number → KeepsDocuments room (with_moved room number standing) q
 left_of_others room number q standing differs k =
     elim (is_unfinished standing.state) as (λ (b : Bool). get (cond b (with_standing room number standing None) (with_ended room number standing)).documents (q, k) ≡ get room.documents (q, k)) [
       | true ↦ refl
-      | false ↦ left_document room.documents number (q, k) ∙ ap (λ b. cond (not b) (get room.documents (q, k)) None) (let apart : (q == number) ≡ false = grind (arith, nat_tests) in apart)
+      | false ↦ left_document room.documents number (q, k) ∙ ap (λ b. cond (not b) (get room.documents (q, k)) None) (ne_eqb q number differs)
     ]
 
 documents_left : (room : RoomValue) (number : ℕ) (standing : Standing) → is_unfinished standing.state ≡ true → (with_moved room number standing).documents ≡ room.documents
@@ -224,7 +212,7 @@ jobs_moved room number job standing there q =
     (elim (is_unfinished standing.state) as (λ (b : Bool). get (cond b (with_standing room number standing None) (with_ended room number standing)).jobs q ≡ get (insert room.jobs number (record job { standing = standing })) q) [
       | true ↦ ap (λ (jobs : FinMap nat_cmp Job). get jobs q) (restood_there room.jobs number standing job there)
       | false ↦ ap (λ (jobs : FinMap nat_cmp Job). get jobs q) (restood_there room.jobs number standing job there)
-    ]) ∙ job_inserted room.jobs number (record job { standing = standing }) q
+    ]) ∙ inserted room.jobs number (record job { standing = standing }) q
 
 same_rest : (room : RoomValue) (number : ℕ) (standing : Standing) → ((with_moved room number standing).next ≡ room.next) × ((with_moved room number standing).opened ≡ room.opened) × ((with_moved room number standing).grants ≡ room.grants)
 same_rest room number standing =
@@ -354,7 +342,7 @@ module _ (told : AccountTold) (room : RoomValue) (now : ℕ) (ask : PlainAsk) (j
         up = omega arith;
         below = keeps.below ask.job job there;
         grants = refl;
-        jobs = λ q. ap (λ (jobs : FinMap nat_cmp Job). get jobs q) (restood_there room.jobs ask.job standing job there) ∙ job_inserted room.jobs ask.job (record job { standing = standing }) q;
+        jobs = λ q. ap (λ (jobs : FinMap nat_cmp Job). get jobs q) (restood_there room.jobs ask.job standing job there) ∙ inserted room.jobs ask.job (record job { standing = standing }) q;
         others = λ q differs k. others_stay room.documents ask.job job.standing.documents standing.documents document follows q differs k;
         no_further = λ unfinished k above. none_after room.documents ask.job job.standing.documents standing.documents document follows behind k above;
       } in
@@ -439,7 +427,7 @@ made_one told room now ask keeps =
       up = omega arith;
       below = omega arith;
       grants = refl;
-      jobs = λ q. job_inserted room.jobs room.next job q;
+      jobs = λ q. inserted room.jobs room.next job q;
       others = λ q differs k. others_stay room.documents room.next 0 (so_many_first prints) document follows q differs k;
       no_further = λ unfinished k above. none_after room.documents room.next 0 (so_many_first prints) document follows (λ k _. unused k) k above;
     } in
@@ -477,29 +465,17 @@ deed_asked account body ask read = ap (λ (read : Result PlainAsk PlainRefusal).
 pub deed_done : (account body text : List ℕ) (ask : PlainAsk) → ask_of account body ≡ Ok ask → is_successful (reply.Ipp text) ≡ true → account_deed account (Ipp body) (reply.Ipp text) ≡ asked_deed ask ask.operation
 deed_done account body text ask read done = ap (λ (b : Bool). cond b (deed_of_request (request_of account (Ipp body))) NoDeed) done ∙ deed_asked account body ask read
 
-reads_nothing : (ask : PlainAsk) (operation : Operation) → only_reads operation ≡ true → asked_deed ask operation ≡ NoDeed
+pub reads_nothing : (ask : PlainAsk) (operation : Operation) → only_reads operation ≡ true → asked_deed ask operation ≡ NoDeed
 reads_nothing ask ValidateJob only = refl
 reads_nothing ask GetJobAttributes only = refl
 reads_nothing ask GetJobs only = refl
 reads_nothing ask GetPrinterAttributes only = refl
-reads_nothing ask PrintJob only = let no : ⊥ = cc in absurd no
-reads_nothing ask CreateJob only = let no : ⊥ = cc in absurd no
-reads_nothing ask SendDocument only = let no : ⊥ = cc in absurd no
-reads_nothing ask asks.CancelJob only = let no : ⊥ = cc in absurd no
-reads_nothing ask asks.HoldJob only = let no : ⊥ = cc in absurd no
-reads_nothing ask asks.ReleaseJob only = let no : ⊥ = cc in absurd no
+reads_nothing ask _ only = let no : ⊥ = cc in absurd no
 
 pub makes_one_job : (ask : PlainAsk) (operation : Operation) → makes_jobs operation ≡ true → asked_deed ask operation ≡ Made ask
 makes_one_job ask PrintJob a_job = refl
 makes_one_job ask CreateJob a_job = refl
-makes_one_job ask ValidateJob a_job = let no : ⊥ = cc in absurd no
-makes_one_job ask SendDocument a_job = let no : ⊥ = cc in absurd no
-makes_one_job ask asks.CancelJob a_job = let no : ⊥ = cc in absurd no
-makes_one_job ask GetJobAttributes a_job = let no : ⊥ = cc in absurd no
-makes_one_job ask GetJobs a_job = let no : ⊥ = cc in absurd no
-makes_one_job ask GetPrinterAttributes a_job = let no : ⊥ = cc in absurd no
-makes_one_job ask asks.HoldJob a_job = let no : ⊥ = cc in absurd no
-makes_one_job ask asks.ReleaseJob a_job = let no : ⊥ = cc in absurd no
+makes_one_job ask _ a_job = let no : ⊥ = cc in absurd no
 
 pub reads_no_deed : (account body text : List ℕ) (ask : PlainAsk) → ask_of account body ≡ Ok ask → only_reads ask.operation ≡ true → account_deed account (Ipp body) (reply.Ipp text) ≡ NoDeed
 reads_no_deed account body text ask read only =
@@ -508,15 +484,7 @@ reads_no_deed account body text ask read only =
 
 -- ---- a device that is known
 
--- a device that is ready is on, at the rate that was told
-pub ready_is : (found : Option Device) (ready : Device) → ready_device found ≡ Ok ready → found ≡ Some ready
-ready_is None ready is = let no : ⊥ = cc in absurd no
-ready_is (Some device) ready is =
-    (elim device.on as (λ (b : Bool). cond {A = Result Device Word} b (Ok device) (Err DeviceOff) ≡ Ok ready → Some device ≡ Some ready) [
-      | true ↦ λ same. let it : device ≡ ready = cc in ap Some it
-      | false ↦ λ same. let no : ⊥ = cc in absurd no
-    ]) is
-
+-- it has the rate that was told
 pub rate_is_told : (told : AccountTold) (name : List ℕ) (device : Device) → device_told told name ≡ Some device → device.rate ≡ rate_told told name
 rate_is_told told name device is = by (get told.on name) is
   where
@@ -529,7 +497,7 @@ rate_is_told told name device is = by (get told.on name) is
 handed_in_counts : (kept device given : List ℕ) (handed_in rate : ℕ) (left : ℤ) (s next : Standing) → move (StationRelease kept device given handed_in rate left) s ≡ Ok next → next.impressions ≡ impressions_of s handed_in
 handed_in_counts kept device given handed_in rate left s next goes = grind (arith, common_steps)
 
-counts_alike : (s : Standing) (handed_in : ℕ) (ticket : JobTold) → s.impressions ≡ ticket.impressions → impressions_of s handed_in ≡ impressions_told handed_in ticket
+pub counts_alike : (s : Standing) (handed_in : ℕ) (ticket : JobTold) → s.impressions ≡ ticket.impressions → impressions_of s handed_in ≡ impressions_told handed_in ticket
 counts_alike s handed_in ticket same = grind (arith, nat_tests)
 
 granted_too : (told : AccountTold) (room : RoomValue) (month pages : ℕ) → Keeps told room → Keeps (record told { grants = insert told.grants month pages }) (with_grant room month pages)
@@ -694,10 +662,6 @@ still_known before after devices same knows = record {
 
     device_same : (name : List ℕ) → device_told after name ≡ device_told before name
     device_same name = ap (λ (on : FinMap name_cmp Bool). device_by on after.rates name) same.on ∙ ap (λ (rates : FinMap name_cmp ℕ). device_by before.on rates name) same.rates
-
--- names that are compared as equal are
-pub same_name : (key name : List ℕ) → eq_by_cmp name_cmp key name ≡ true → key ≡ name
-same_name key name is = sym ((bytes_decides name key).0 (sym (maps.named name key) ∙ is))
 
 put : {X : Type 0} (m : FinMap name_cmp X) (name : List ℕ) (x : X) (q : List ℕ) → get (insert m name x) q ≡ cond (eq_by_cmp name_cmp q name) (Some x) (get m q)
 put m name x q = get-insert nat_list_cmp_total m name x q

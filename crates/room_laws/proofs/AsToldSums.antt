@@ -1,5 +1,6 @@
 -- What an account has left is what it was told.
-use Rattle.std.proofs.Common.{◌≡◌, ℕ, pos, Bool, true, false, cond, not, Option, Some, None, option_map, refl, sym, ap, ◌∙◌}
+use Rattle.std.proofs.Common.{◌≡◌, ℕ, pos, cond, not, Option, Some, None, option_map, ap, ◌∙◌}
+use Rattle.std.proofs.lemmas.Bool.{not-true}
 use Rattle.std.specs.Cmp.{nat_cmp_total}
 use Rattle.std.specs.FinMap.{FinMap, entries, get, nat_cmp-IsAntisymmetric, same_map, values}
 use Rattle.std.specs.List.{sum_by}
@@ -9,11 +10,10 @@ use Rattle.room_laws.specs.AccountsTold.{AccountTold, charged_told, granted_told
 use Rattle.room_laws.specs.JobsTold.{JobTold, Stage, Waits, IsFree, Prints, HasEnded, is_over, units_charged, units_held, units_reserved, units_taken}
 use Rattle.room_laws.specs.AccountsTold.{unfinished_told}
 use Rattle.room_laws.specs.StandsAsTold.{AreAsTold, IsAt, StandsAsTold}
-use Rattle.room_rules.specs.JobStates.{has_ended, is_unfinished}
+use Rattle.room_rules.specs.JobStates.{is_unfinished}
 use Rattle.room_rules.specs.Months.{month_at}
 use Rattle.room_rules.specs.Quota.{left_of}
 use Rattle.room_rules.specs.declared.job.Job.{Job}
-use Rattle.room_rules.specs.declared.job.JobState.{JobState}
 use Rattle.room_rules.specs.declared.job.Standing.{Standing}
 use Rattle.room_state.specs.RoomRules.{unfinished_count}
 use Rattle.room_state.specs.Rooms.{RoomValue}
@@ -33,18 +33,9 @@ charged_at (IsFree device rate units) s at = at.charged
 charged_at (Prints device rate units since is_canceled) s at = at.charged
 charged_at (HasEnded how count units since ended) s at = at.charged
 
-was_over : (how : JobState) → has_ended how ≡ true → is_unfinished how ≡ false
-was_over how over = by (is_unfinished how) over
-  where
-    by : (b : Bool) → not b ≡ true → b ≡ false
-    by true over = sym over
-    by false over = refl
-
 pub ends_at : (stage : Stage) (s : Standing) → IsAt stage s → is_unfinished s.state ≡ not (is_over stage)
-ends_at Waits s at = ap is_unfinished at.state
-ends_at (IsFree device rate units) s at = ap is_unfinished at.state
-ends_at (Prints device rate units since is_canceled) s at = ap is_unfinished at.state
-ends_at (HasEnded how count units since ended) s at = ap is_unfinished at.state ∙ was_over how at.is_end
+ends_at (HasEnded how count units since ended) s at = ap is_unfinished at.state ∙ not-true (is_unfinished how) at.is_end
+ends_at _ s at = ap is_unfinished at.state
 
 module _ (f : Job → ℕ) (g : JobTold → ℕ) (same : (ticket : JobTold) (job : Job) → IsAt ticket.stage job.standing → f job ≡ g ticket) where
   same_of : (number : ℕ) (room : RoomValue) (ticket : Option JobTold) (job : Option Job) → AreAsTold number ticket room job → option_map f job ≡ option_map g ticket

@@ -1,5 +1,6 @@
 -- Each field of a request that passes its checks lies within its limits.
 use Rattle.std.proofs.Common.{◌≡◌, ℕ, zero, suc, ◌≤◌, List, length, Option, Some, None, Ok, refl, subst, arith}
+use Rattle.std.proofs.lemmas.Bool.{ltb-false}
 use Rattle.std.specs.Prelude.{IfSome, option_and_then}
 use Rattle.std.specs.List.{AllByRecursion}
 use Rattle.ipp_coding.specs.Plain.{PlainAttribute, PlainMessage, PlainValue}
@@ -20,7 +21,7 @@ use Rattle.room_asks.specs.declared.operation.Operation.{Operation}
 use Rattle.room_rules.specs.Limits.{longest_uri}
 use Rattle.room_asks.proofs.Spelled.{unsupported_spelled}
 use Rattle.room_laws.specs.AsksLieWithin.{AreBytes, AsksLieWithin}
-use Rattle.room_laws.proofs.AsksWithin.{each_passes, message_passed, message_within, no_longer, target_checked}
+use Rattle.room_laws.proofs.AsksWithin.{each_passes, message_passed, message_within, target_checked}
 use Rattle.room_laws.proofs.TargetsWithin.{leads_so}
 
 -- ---- the limit of a list of jobs
@@ -45,7 +46,7 @@ limit_within operation attributes = search value_within
 
 uri_within : (account : List ℕ) (operation : Operation) (attributes : List PlainAttribute) → first_refusal (target_checks account operation attributes) ≡ None → length (uri_of (named_target operation attributes)) ≤ longest_uri
 unfolding target_checks
-uri_within account operation attributes none = no_longer longest_uri (length (uri_of (named_target operation attributes))) (each_passes (target_checks account operation attributes) none).1.0
+uri_within account operation attributes none = ltb-false longest_uri (length (uri_of (named_target operation attributes))) (each_passes (target_checks account operation attributes) none).1.0
 
 is_ask : (account : List ℕ) (header : Header) (operation : Operation) (m : PlainMessage) → AllByRecursion IsGroup m.groups → first_refusal (message_checks account operation m) ≡ None → IsAsk (asked account header operation m)
 unfolding asked fields_of

@@ -3,6 +3,7 @@ use Rattle.std.proofs.Common.{◌≡◌, ℕ, zero, suc, ◌≤◌, ◌-◌, ◌
 use Rattle.std.specs.Prelude.{IfSome, codes, option_and_then, unwrap_or}
 use Rattle.std.specs.List.{AllByRecursion}
 use Rattle.std.specs.Int.{w32, cast_signed}
+use Rattle.std.proofs.lemmas.Bool.{leb-true, ltb-false}
 use Rattle.std.proofs.lemmas.Bool.Decides.{nat_tests}
 use mir.Val.{sel}
 use Rattle.ipp_coding.specs.Plain.{PlainValue, PlainAttribute, PlainMessage}
@@ -64,17 +65,14 @@ passed (Some refusal) x z is = absurd (let no : ⊥ = cc in no)
 
 -- ---- name, password and document
 
-pub no_longer : (most n : ℕ) → nat_lt most n ≡ false → n ≤ most
-no_longer most n is = grind (arith, nat_tests)
-
 -- 15 and 16 of the checks
 fields_within : (operation : Operation) (attributes : List PlainAttribute) → first_refusal (field_checks operation attributes) ≡ None →
     (length (password operation attributes) ≤ longest_password) × (length (job_name operation attributes) ≤ longest_job_name)
 unfolding field_checks
 fields_within operation attributes none =
     let each = each_passes (field_checks operation attributes) none in (
-      no_longer longest_password (length (password operation attributes)) each.1.1.1.1.1.1.0,
-      no_longer longest_job_name (length (job_name operation attributes)) each.1.1.1.1.1.1.1.0,
+      ltb-false longest_password (length (password operation attributes)) each.1.1.1.1.1.1.0,
+      ltb-false longest_job_name (length (job_name operation attributes)) each.1.1.1.1.1.1.1.0,
     )
 
 second_false : (a b : Bool) → (a && b) ≡ false → a ≡ true → b ≡ false
@@ -87,7 +85,7 @@ document_within : (operation : Operation) (insists : Bool) (more : List PlainAtt
 unfolding document_checks
 document_within operation insists more payload none hands =
     let each = each_passes (document_checks operation insists more payload) none in
-    no_longer longest_document (length payload) (second_false (hands_in_document operation) (nat_lt longest_document (length payload)) each.1.0 hands)
+    ltb-false longest_document (length payload) (second_false (hands_in_document operation) (nat_lt longest_document (length payload)) each.1.0 hands)
 
 -- ---- impressions
 
@@ -130,13 +128,10 @@ up_to_most_within : (fits : Bool) (n : ℕ) → (fits ≡ true → AreCopies n) 
 up_to_most_within true n are = are refl
 up_to_most_within false n are = tt
 
-no_more : (n most : ℕ) → nat_le n most ≡ true → n ≤ most
-no_more n most is = grind (arith, nat_tests)
-
 -- copies that are said
 number_within : (n : ℕ) → IfSome (option_and_then up_to_most (from_one n)) AreCopies
 number_within zero = tt
-number_within (suc n) = up_to_most_within (nat_le (suc n) most_copies) (suc n) (λ is. (omega arith, no_more (suc n) most_copies is))
+number_within (suc n) = up_to_most_within (nat_le (suc n) most_copies) (suc n) (λ is. (omega arith, leb-true (suc n) most_copies is))
 
 positive_within : (o : Option ℕ) → IfSome (option_and_then up_to_most (option_and_then from_one o)) AreCopies
 positive_within None = tt

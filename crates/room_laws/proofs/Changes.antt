@@ -36,7 +36,7 @@ use Rattle.room_rules.specs.declared.job.Job.{Job}
 use Rattle.room_rules.specs.declared.job.Standing.{Standing}
 use Rattle.room_rules.specs.declared.refusal.Refusal.{Refusal}
 use Rattle.room_rules.specs.declared.refusal.Word.{Word}
-use Rattle.room_rules.specs.declared.refusal.Word.TheVariants.{Conflict, Exists, NoDevice, NoJob, Same}
+use Rattle.room_rules.specs.declared.refusal.Word.TheVariants.{Conflict, DeviceOff, Exists, NoDevice, NoJob, Same}
 use Rattle.room_state.specs.Changes.{with_grant, with_new_job, with_standing}
 use Rattle.room_state.specs.Documents.{documents_of}
 use Rattle.room_state.specs.RoomRules.{unfinished_count}
@@ -171,6 +171,15 @@ requests room devices now account body = long_or_short room devices now account 
 
 refuses_line : (room : RoomValue) (devices : Devices) (now : ℕ) (account : List ℕ) (event : AccountEvent) (word : Word) → MakesStep room devices now account event (refusing room word)
 refuses_line room devices now account event word = refuses _ _ refl (tells_word word) refl
+
+-- a device that is ready is known
+pub ready_is : (found : Option Device) (ready : Device) → ready_device found ≡ Ok ready → found ≡ Some ready
+ready_is None ready is = absurd (let no : ⊥ = cc in no)
+ready_is (Some device) ready is = by device.on is
+  where
+    by : (on : Bool) → cond {A = Result Device Word} on (Ok device) (Err DeviceOff) ≡ Ok ready → Some device ≡ Some ready
+    by true same = cc
+    by false same = absurd (let no : ⊥ = cc in no)
 
 -- a release
 released_or : (room : RoomValue) (devices : Devices) (now : ℕ) (account : List ℕ) (device : List ℕ) (number : ℕ) (password : List ℕ) (impressions : ℕ) (ready : Device) → ready_device (get devices device) ≡ Ok ready → (job : Job) → get room.jobs number ≡ Some job

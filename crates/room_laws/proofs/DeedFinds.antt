@@ -2,7 +2,7 @@
 use Rattle.std.proofs.Common.{bytes_eq, ◌≡◌, ◌⊎◌, ℕ, ℤ, Bool, true, false, cond, ◌==◌, not, List, [], ◌∷◌, ◌++◌, map, length, Option, Some, None, option_map, IsSomeAnd, Result, Ok, Err, inl, inr, refl, sym, ap, subst, ◌∙◌, arith, append_assoc, append-nil, nat_lt}
 use Rattle.std.specs.FinMap.{empty, get}
 use Rattle.std.specs.List.{fold}
-use Rattle.std.proofs.lemmas.Bool.{true≢false}
+use Rattle.std.proofs.lemmas.Bool.{eqb-true, not-false}
 use Rattle.std.proofs.lemmas.Bool.Decides.{nat_tests}
 use Rattle.std.proofs.lemmas.Grind.{common_steps}
 use Rattle.std.proofs.lemmas.Slice.Eq.{bytes_eq-Decides}
@@ -10,16 +10,16 @@ use Rattle.std.proofs.lemmas.Option.{none-some, same_Some}
 use Rattle.ipp_coding.specs.Limits.{header_length}
 use Rattle.room_asks.specs.Asks.{PlainAsk}
 use Rattle.room_asks.specs.declared.operation.Operation.{Operation}
-use Rattle.room_asks.specs.declared.operation.Operation.TheVariants.{PrintJob, ValidateJob, CreateJob, SendDocument, GetJobAttributes, GetJobs, GetPrinterAttributes}
+use Rattle.room_asks.specs.declared.operation.Operation.TheVariants.{SendDocument}
 use Rattle.room_asks.specs.declared.operation.Operation.TheVariants as asks
 use Rattle.room_core.specs.DeviceEvents.{device_answered}
-use Rattle.room_core.specs.Events.{AccountEvent, DeviceEvent, OfAccount, OfDevice, Open, Ipp, Release, Start, Settle, Grant, Turn, Rate}
+use Rattle.room_core.specs.Events.{AccountEvent, DeviceEvent, OfAccount, OfDevice, Ipp, Turn, Rate}
 use Rattle.room_core.specs.JobRequests.{has_data, has_password}
 use Rattle.room_core.specs.Machine.{answered, answered_unopened}
 use Rattle.room_core.specs.declared.event.Reply.{Reply}
 use Rattle.room_core.specs.declared.event.Reply.TheVariants as reply
-use Rattle.room_laws.proofs.AsTold.{Keeps, all_keep, deed_done, found, makes_one_job, no_deed, reads_no_deed, ready_is, told_more}
-use Rattle.room_laws.proofs.Changes.{Makes, refuses, reads, makes, takes, acts, releases, starts, settles, grants, act_asked, makes_one}
+use Rattle.room_laws.proofs.AsTold.{Keeps, all_keep, deed_done, found, makes_one_job, no_deed, reads_no_deed, told_more}
+use Rattle.room_laws.proofs.Changes.{Makes, refuses, reads, makes, takes, acts, releases, starts, settles, grants, act_asked, makes_one, ready_is}
 use Rattle.room_laws.proofs.DocumentsOfJobs as documents
 use Rattle.room_laws.proofs.DocumentsOfJobs.{AreOfJobs, has_of_jobs}
 use Rattle.room_laws.proofs.LifeLemmas.{account_exchange, device_exchange, leads_on, of_each_life}
@@ -98,6 +98,10 @@ Finds told x (Started device number) = (get told.on device ≡ Some true) × IsS
 Finds told x (Settled device number impressions failed) = IsSomeAnd (get told.jobs number) (λ (job : JobTold). IsPrinted job.stage)
 Finds told x _ = Unit {0}
 
+-- what is found of a job is of the one that is there
+pub found_it : (told : AccountTold) (q number : ℕ) (Is : JobTold → Type 0) (job : JobTold) → get told.jobs q ≡ Some job → (q == number) ≡ true → IsSomeAnd (get told.jobs number) Is → Is job
+found_it told q number Is job here same finds = subst (λ (o : Option JobTold). IsSomeAnd o Is) (ap (get told.jobs) (sym (eqb-true q number same)) ∙ here) finds
+
 -- ---- stages, by the state in which a job stands
 
 over_unfinished : (how : JobState) (s : Standing) → s.state ≡ how → has_ended how ≡ true → is_unfinished s.state ≡ true → ⊥
@@ -111,15 +115,11 @@ waits_if_held (HasEnded how count units since ended) s at held = absurd (over_un
 
 held_if_waits : (stage : Stage) (s : Standing) → IsAt stage s → stage ≡ Waits → s.state ≡ Held
 held_if_waits Waits s at waits = at.state
-held_if_waits (IsFree device rate units) s at waits = let no : ⊥ = cc in absurd no
-held_if_waits (Prints device rate units since is_canceled) s at waits = let no : ⊥ = cc in absurd no
-held_if_waits (HasEnded how count units since ended) s at waits = let no : ⊥ = cc in absurd no
+held_if_waits _ s at waits = let no : ⊥ = cc in absurd no
 
 goes_on_if_unfinished : (stage : Stage) (s : Standing) → IsAt stage s → is_unfinished s.state ≡ true → is_over stage ≡ false
-goes_on_if_unfinished Waits s at unfinished = refl
-goes_on_if_unfinished (IsFree device rate units) s at unfinished = refl
-goes_on_if_unfinished (Prints device rate units since is_canceled) s at unfinished = refl
 goes_on_if_unfinished (HasEnded how count units since ended) s at unfinished = absurd (over_unfinished how s at.state at.is_end unfinished)
+goes_on_if_unfinished _ s at unfinished = refl
 
 holds_if_moved : (stage : Stage) (s next : Standing) → IsAt stage s → move HoldJob s ≡ Ok next → CanBeHeld stage
 holds_if_moved Waits s next at goes = tt
@@ -127,14 +127,10 @@ holds_if_moved (IsFree device rate units) s next at goes = tt
 holds_if_moved (Prints device rate units since is_canceled) s next at goes = absurd (grind (arith, common_steps))
 holds_if_moved (HasEnded how count units since ended) s next at goes = absurd (over_unfinished how s at.state at.is_end (was_unfinished HoldJob s next goes))
 
-from_not_false : (b : Bool) → not b ≡ false → b ≡ true
-from_not_false true is = refl
-from_not_false false is = absurd (true≢false is)
-
 -- the device that a job is bound to, or none
 bound_here : (bound : Option (List ℕ)) (device : List ℕ) → is_bound_elsewhere bound device ≡ false → (bound ≡ None) ⊎ (bound ≡ Some device)
 bound_here None device is = inl refl
-bound_here (Some bound) device is = inr (ap Some ((bytes_eq-Decides bound device).0 (from_not_false (bytes_eq bound device) is)))
+bound_here (Some bound) device is = inr (ap Some ((bytes_eq-Decides bound device).0 (not-false (bytes_eq bound device) is)))
 
 free_if_started : (device : List ℕ) (rate now : ℕ) (stage : Stage) (s next : Standing) → IsAt stage s → move (StationStart device rate now) s ≡ Ok next → IsFreeFor device stage
 free_if_started device rate now Waits s next at goes = absurd (grind (arith, common_steps))
@@ -150,8 +146,8 @@ printed_if_settled device count failed now (IsFree for at_rate units) s next at 
 printed_if_settled device count failed now (Prints by at_rate units since is_canceled) s next at goes = tt
 printed_if_settled device count failed now (HasEnded how counted units since ended) s next at goes = absurd (over_unfinished how s at.state at.is_end (was_unfinished (StationSettle device count failed now) s next goes))
 
-held_if_released : (kept device given : List ℕ) (handed_in rate : ℕ) (left : ℤ) (s next : Standing) → move (StationRelease kept device given handed_in rate left) s ≡ Ok next → s.state ≡ Held
-held_if_released kept device given handed_in rate left s next goes = grind (arith, common_steps)
+pub waits_if_released : (kept device given : List ℕ) (handed_in rate : ℕ) (left : ℤ) (stage : Stage) (s next : Standing) → IsAt stage s → move (StationRelease kept device given handed_in rate left) s ≡ Ok next → stage ≡ Waits
+waits_if_released kept device given handed_in rate left stage s next at goes = waits_if_held stage s at (let held : s.state ≡ Held = grind (arith, common_steps) in held)
 
 right_if_released : (kept device given : List ℕ) (handed_in rate : ℕ) (left : ℤ) (s next : Standing) → move (StationRelease kept device given handed_in rate left) s ≡ Ok next → is_wrong_password kept given ≡ false
 right_if_released kept device given handed_in rate left s next goes = grind (arith, common_steps)
@@ -203,7 +199,7 @@ of_its_job told room number job Is keeps there is =
     let at = found number told room job keeps.stands there in
     subst (λ (o : Option JobTold). IsSomeAnd o Is) (sym at.is_told) (is at.ticket at.is)
 
-same_act : (it other : Act) (s next : Standing) → Some it ≡ Some other → move other s ≡ Ok next → move it s ≡ Ok next
+pub same_act : (it other : Act) (s next : Standing) → Some it ≡ Some other → move other s ≡ Ok next → move it s ≡ Ok next
 same_act it other s next same goes = ap (λ (a : Act). move a s) (same_Some it other same) ∙ goes
 
 module _ (told : AccountTold) (room : RoomValue) (devices : Devices) (known : (name : List ℕ) → get devices name ≡ device_told told name) (keeps : Keeps told room) (stand : AreOfJobs room.documents) (now : ℕ) (account : List ℕ) where
@@ -241,7 +237,7 @@ module _ (told : AccountTold) (room : RoomValue) (devices : Devices) (known : (n
       subst (Finds told x) (sym (deed_done account body text ask read done)) (asked_finds x ask job it standing there ask.operation is_act goes)
   finds _ _ _ (releases device number password impressions ready job standing is_ready there goes) =
       of_its_job told room number job (CanBeReleased password) keeps there (λ ticket at. record {
-        waits = waits_if_held ticket.stage job.standing at.stage (held_if_released job.password device password impressions ready.rate (left_in room now) job.standing standing goes);
+        waits = waits_if_released job.password device password impressions ready.rate (left_in room now) ticket.stage job.standing standing at.stage goes;
         password_met = subst (λ (kept : List ℕ). (kept ≡ []) ⊎ (password ≡ kept)) at.password (right_password job.password password (right_if_released job.password device password impressions ready.rate (left_in room now) job.standing standing goes));
       })
   finds _ _ _ (starts device number ready job standing is_ready there goes) =
@@ -284,12 +280,8 @@ short_finds told now account body true = tt
 short_finds told now account body false = tt
 
 unopened_finds : (told : AccountTold) (now : ℕ) (account : List ℕ) (it : AccountEvent) → let said = (answered_unopened now (OfAccount account it)).reply in Finds told ((now, OfAccount account it), said) (account_deed account it said)
-unopened_finds told now account Open = tt
 unopened_finds told now account (Ipp body) = short_finds told now account body (nat_lt (length body) header_length)
-unopened_finds told now account (Release device number password impressions) = tt
-unopened_finds told now account (Start device number) = tt
-unopened_finds told now account (Settle device number impressions failed) = tt
-unopened_finds told now account (Grant month pages) = tt
+unopened_finds told now account _ = tt
 
 device_finds : (told : AccountTold) (x : Exchange) (device : List ℕ) (it : DeviceEvent) (said : Reply) → Finds told x (device_deed device it said)
 device_finds told x device (Turn on) said = elim (is_ok said) as (λ (b : Bool). Finds told x (cond b (Turned device on) NoDeed)) [ true ↦ tt | false ↦ tt ]

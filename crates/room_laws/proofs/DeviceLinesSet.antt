@@ -7,7 +7,8 @@ use Rattle.std.specs.Ordering.{eq_by_cmp}
 use Rattle.room_core.specs.Events.{OfAccount, OfDevice, Turn, Rate}
 use Rattle.room_core.specs.declared.event.Reply.{Reply}
 use Rattle.room_core.specs.declared.event.Reply.TheVariants as reply
-use Rattle.room_laws.proofs.AsTold.{of_an_account, same_name, told_more}
+use Rattle.room_laws.proofs.AsTold.{of_an_account, told_more}
+use Rattle.room_laws.proofs.DevicesStay.{same_name}
 use Rattle.room_laws.proofs.OperatorsAnswered.{rates_are_answered, turns_are_answered}
 use Rattle.room_laws.specs.AccountsTold.{AccountTold, account_told, after_deed}
 use Rattle.room_laws.specs.Deeds.{Rated, Turned, NoDeed}

@@ -22,8 +22,8 @@ pub record AreDevices (devices : Devices) : Type 0 where
   pub rated : AreRated devices
 
 -- names that are compared as equal are
-same_name : (key name : List ℕ) → eq_by_cmp name_cmp key name ≡ true → name ≡ key
-same_name key name is = (bytes_decides name key).0 (sym (maps.named name key) ∙ is)
+pub same_name : (key name : List ℕ) → eq_by_cmp name_cmp key name ≡ true → key ≡ name
+same_name key name is = sym ((bytes_decides name key).0 (sym (maps.named name key) ∙ is))
 
 -- a name and a rate where one device is another now
 changed_named : (old : Devices) (name key : List ℕ) (changed device : Device) (same : Bool) → (same ≡ true → name ≡ key) → IsTrue (is_name name) → AreNamed old → (if same then Some changed else get old key) ≡ Some device → IsTrue (is_name key)
@@ -37,7 +37,7 @@ changed_rated old key changed device false is rated here = rated key device here
 -- one of them changes
 changed_stay : (old : Devices) (name : List ℕ) (changed : Device) → IsTrue (is_name name) → IsRate changed.rate → AreDevices old → AreDevices (insert old name changed)
 changed_stay old name changed is rate all = record {
-  named = λ key device here. changed_named old name key changed device (eq_by_cmp name_cmp key name) (same_name key name) is all.named (sym (get-insert nat_list_cmp_total old name changed key) ∙ here);
+  named = λ key device here. changed_named old name key changed device (eq_by_cmp name_cmp key name) (λ same. sym (same_name key name same)) is all.named (sym (get-insert nat_list_cmp_total old name changed key) ∙ here);
   rated = λ key device here. changed_rated old key changed device (eq_by_cmp name_cmp key name) rate all.rated (sym (get-insert nat_list_cmp_total old name changed key) ∙ here);
 }
 

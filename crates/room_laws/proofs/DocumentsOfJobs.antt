@@ -5,7 +5,7 @@ use Rattle.std.specs.List.{flat_map}
 use Rattle.std.specs.Option.{option_to_list}
 use Rattle.std.proofs.lemmas.Bool.Decides.{nat_tests}
 use Rattle.std.proofs.lemmas.Option.{none-some, same_Some}
-use Rattle.room_core.specs.Events.{AccountEvent, OfAccount, Open, Ipp, Release, Start, Settle, Grant}
+use Rattle.room_core.specs.Events.{AccountEvent, OfAccount, Open}
 use Rattle.room_core.specs.JobRequests.{sent_document}
 use Rattle.room_core.specs.Machine.{answered}
 use Rattle.room_core.specs.NewJobs.{new_document}
@@ -84,11 +84,7 @@ answered_keeps None devices now account it has = unopened it
   where
     unopened : (it : AccountEvent) → RoomHasOfJobs (answered None devices now (OfAccount account it)).room
     unopened Open = λ number k document here. absurd (none-some document (sym (get-empty place_cmp (number, k)) ∙ here))
-    unopened (Ipp body) = tt
-    unopened (Release device number password impressions) = tt
-    unopened (Start device number) = tt
-    unopened (Settle device number impressions failed) = tt
-    unopened (Grant month pages) = tt
+    unopened _ = tt
 answered_keeps (Some room) devices now account it are = each_keeps room devices now account it _ _ (makes_one room devices now account it) are
 
 pub has_of_jobs : (life : Life) (room : Option RoomValue) (devices : Devices) → IsLife life room devices → RoomHasOfJobs room

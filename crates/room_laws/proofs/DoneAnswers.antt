@@ -1,10 +1,11 @@
 -- What a request that is done is answered, by what was told before it.
-use Rattle.std.proofs.Common.{◌≡◌, ℕ, ◌==◌, Bool, true, false, true≢false, cond, List, [], ◌∷◌, Option, Some, None, option_map, unwrap_or, Result, Ok, Err, refl, sym, ap, subst, ◌∙◌, arith}
+use Rattle.std.proofs.Common.{◌≡◌, ℕ, Bool, true, true≢false, cond, List, [], ◌∷◌, Option, Some, None, option_map, unwrap_or, Result, Ok, Err, refl, sym, ap, subst, ◌∙◌}
+use Rattle.std.specs.Cmp.{both_ways}
 use Rattle.std.specs.FinMap.{FinMap, get, insert, values}
 use Rattle.std.specs.List.{list_any}
 use Rattle.std.specs.Option.{option_map_or}
 use Rattle.std.specs.Ordering.{nat_cmp}
-use Rattle.std.proofs.lemmas.Bool.Decides.{nat_tests}
+use Rattle.std.proofs.lemmas.Bool.{eq-eqb}
 use Rattle.std.proofs.lemmas.Option.{none-some, same_Some}
 use Rattle.ipp_coding.specs.Plain.{PlainGroup}
 use Rattle.room_asks.specs.Asks.{PlainAsk}
@@ -24,13 +25,13 @@ use Rattle.room_laws.proofs.Afterwards.{inserted}
 use Rattle.room_laws.proofs.AsTold.{Keeps, made_one, took, with_job_there}
 use Rattle.room_laws.proofs.AsToldSums.{unfinished_as_told}
 use Rattle.room_laws.proofs.MappedValues.{any_changed, same_with_each, values-with_each}
-use Rattle.room_laws.proofs.ShownJobs.{group_as_told, listed_as_told}
+use Rattle.room_laws.proofs.ShownJobs.{group_as_told, listed_as_told, not_processing}
 use Rattle.room_laws.proofs.Statuses.{RefusesByError, accepting_errs, move_errs}
 use Rattle.room_laws.proofs.Tellings.{tells_error}
 use Rattle.room_laws.specs.AccountsTold.{AccountTold, after_deed}
 use Rattle.room_laws.specs.Deeds.{Brought}
 use Rattle.room_laws.specs.DoneAnswers.{groups_told, job_shown, jobs_told, its_group, place_told, printer_told}
-use Rattle.room_laws.specs.JobsTold.{JobTold, Stage, Waits, IsFree, Prints, HasEnded, job_brought, job_made}
+use Rattle.room_laws.specs.JobsTold.{JobTold, Stage, HasEnded, job_brought, job_made}
 use Rattle.room_laws.specs.JobsTold.{is_printing}
 use Rattle.room_laws.specs.StandsAsTold.{AreAsTold, IsAsTold, IsAt, StandsAsTold, device_told}
 use Rattle.room_laws.specs.Told.{is_successful}
@@ -44,12 +45,10 @@ use Rattle.room_rules.proofs.DeviceMaps as maps
 use Rattle.room_rules.specs.Acts.{Act, CancelJob, HoldJob, ReleaseJob}
 use Rattle.room_rules.specs.Acts as act
 use Rattle.room_rules.specs.Devices.{Devices, is_some_on}
-use Rattle.room_rules.specs.JobStates.{has_ended, is_processing}
+use Rattle.room_rules.specs.JobStates.{is_processing}
 use Rattle.room_rules.specs.Moves.{move}
 use Rattle.room_rules.specs.declared.device.Device.{Device}
 use Rattle.room_rules.specs.declared.job.Job.{Job}
-use Rattle.room_rules.specs.declared.job.JobState.{JobState}
-use Rattle.room_rules.specs.declared.job.JobState.TheVariants.{Held, Pending, Processing, Canceled, Aborted, Completed}
 use Rattle.room_rules.specs.declared.job.Standing.{Standing}
 use Rattle.room_rules.specs.declared.refusal.Refusal.{Refusal}
 use Rattle.room_rules.specs.declared.refusal.Word.TheVariants.{NoJob}
@@ -73,11 +72,8 @@ act_errs act (Some job) = move_errs (act job) job.standing
 
 -- ---- a job that has just changed
 
-same_key : (n : ℕ) → (n == n) ≡ true
-same_key n = grind (arith, nat_tests)
-
 put_there : {X : Type 0} (m : FinMap nat_cmp X) (n : ℕ) (x : X) → get (insert m n x) n ≡ Some x
-put_there m n x = inserted m n x n ∙ ap (λ (b : Bool). cond b (Some x) (get m n)) (same_key n)
+put_there m n x = inserted m n x n ∙ ap (λ (b : Bool). cond b (Some x) (get m n)) (eq-eqb n n refl)
 
 -- where both are there, they are as told
 pub both_there : (number : ℕ) (room : RoomValue) (ticket : JobTold) (job : Job) (found : Option JobTold) (there : Option Job) → found ≡ Some ticket → there ≡ Some job → AreAsTold number found room there → IsAsTold number ticket room job
@@ -86,18 +82,8 @@ both_there number room ticket job found there is are both = subst (λ (o : Optio
 -- ---- the printer
 
 state_prints : (stage : Stage) (s : Standing) → IsAt stage s → is_processing s.state ≡ is_printing stage
-state_prints Waits s at = ap is_processing at.state
-state_prints (IsFree device rate units) s at = ap is_processing at.state
-state_prints (Prints device rate units since is_canceled) s at = ap is_processing at.state
-state_prints (HasEnded how count units since ended) s at = ap is_processing at.state ∙ by how at.is_end
-  where
-    by : (how : JobState) → has_ended how ≡ true → is_processing how ≡ false
-    by Held over = refl
-    by Pending over = refl
-    by Processing over = sym over
-    by Canceled over = refl
-    by Aborted over = refl
-    by Completed over = refl
+state_prints (HasEnded how count units since ended) s at = ap is_processing at.state ∙ not_processing how at.is_end
+state_prints _ s at = ap is_processing at.state
 
 some_print : (told : AccountTold) (room : RoomValue) → StandsAsTold told room → has_processing room ≡ list_any (λ (job : JobTold). is_printing job.stage) (values told.jobs)
 some_print told room stands =
@@ -112,13 +98,8 @@ some_print told room stands =
     by number (Some ticket) None are = absurd are
     by number (Some ticket) (Some job) are = ap Some (state_prints ticket.stage job.standing are.stage)
 
-same_truth : (a b : Bool) → (a ≡ true → b ≡ true) → (b ≡ true → a ≡ true) → a ≡ b
-same_truth true b to from = sym (to refl)
-same_truth false true to from = from refl
-same_truth false false to from = refl
-
 some_on : (told : AccountTold) (devices : Devices) → ((name : List ℕ) → get devices name ≡ device_told told name) → is_some_on devices ≡ list_any (λ (on : Bool). on) (values told.on)
-some_on told devices known = same_truth (is_some_on devices) (list_any (λ (on : Bool). on) (values told.on)) to from
+some_on told devices known = both_ways (is_some_on devices) (list_any (λ (on : Bool). on) (values told.on)) to from
   where
     to : is_some_on devices ≡ true → list_any (λ (on : Bool). on) (values told.on) ≡ true
     to any = let there = maps.some_value (λ (device : Device). device.on) devices any in by there.name there.value (get told.on there.name) refl (sym (known there.name) ∙ there.is) there.passes

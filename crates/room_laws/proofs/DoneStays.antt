@@ -1,32 +1,28 @@
 -- What was told as done is done.
-use Rattle.std.proofs.Common.{bytes_eq, ◌≡◌, ℕ, ◌+◌, Bool, true, false, cond, ◌==◌, ◌&&◌, ◌||◌, not, List, [], ◌∷◌, ◌++◌, Option, Some, None, option_map, IsSomeAnd, inl, inr, refl, sym, ap, subst, ◌∙◌, append_assoc, append-nil, arith}
+use Rattle.std.proofs.Common.{bytes_eq, ◌≡◌, ℕ, ◌+◌, Bool, true, false, cond, ◌==◌, not, List, [], ◌∷◌, ◌++◌, Option, Some, None, option_map, IsSomeAnd, inl, inr, refl, sym, ap, subst, ◌∙◌, append_assoc, append-nil}
 use Rattle.std.specs.FinMap.{get}
 use Rattle.std.specs.List.{All, fold, list_any}
-use Rattle.std.proofs.lemmas.Bool.{and_from, true≢false}
-use Rattle.std.proofs.lemmas.Bool.Decides.{nat_tests}
+use Rattle.std.proofs.lemmas.Bool.{and_from, and_parts, eq-eqb, eqb-true, ne_eqb, or_parts, true≢false}
 use Rattle.std.proofs.lemmas.List.Sums.{fold-append}
 use Rattle.std.proofs.lemmas.List.Elements.{All-cons, All-nil}
-use Rattle.std.proofs.lemmas.Option.{none-some, same_Some}
+use Rattle.std.proofs.lemmas.Option.{none-some}
 use Rattle.std.proofs.lemmas.Slice.Eq.{bytes_eq-Decides}
 use Rattle.room_asks.specs.Operations.{is_print_job}
 use Rattle.room_asks.specs.declared.operation.Operation.{Operation}
-use Rattle.room_asks.specs.declared.operation.Operation.TheVariants.{PrintJob, ValidateJob, CreateJob, SendDocument, GetJobAttributes, GetJobs, GetPrinterAttributes}
-use Rattle.room_asks.specs.declared.operation.Operation.TheVariants as asks
+use Rattle.room_asks.specs.declared.operation.Operation.TheVariants.{PrintJob}
 use Rattle.room_laws.proofs.AsTold.{told_more}
-use Rattle.room_laws.proofs.DeedFinds.{CanBeFreed, CanBeHeld, CanBeReleased, CanBeStarted, FindAll, Finds, IsFreeFor, IsPrinted, TakesDocuments, all_find, find_apart, found_at}
-use Rattle.room_laws.proofs.DeedTurns.{next_more, same_number, turned, turned_so}
-use Rattle.room_laws.proofs.HandedByLeave.{by_makers, canceled_not_free, held_not_free, released_was, settled_was_free, started_not_free}
+use Rattle.room_laws.proofs.DeedFinds.{CanBeFreed, CanBeHeld, CanBeReleased, CanBeStarted, FindAll, Finds, IsFreeFor, IsPrinted, TakesDocuments, all_find, find_apart, found_at, found_it}
+use Rattle.room_laws.proofs.DeedTurns.{next_is, turned, turned_so}
+use Rattle.room_laws.proofs.HandedByLeave.{bound, canceled_not_free, held_not_free, released_was, settled_was_free, started_not_free}
 use Rattle.room_laws.specs.AccountsTold.{AccountTold, account_told, after_exchange, nothing_told, rate_told}
-use Rattle.room_laws.specs.Deeds.{Deed, Opened, Made, Brought, Canceled, HeldBack, Freed, Released, Started, Settled, Granted, Turned, Rated, NoDeed, deed_of, moment_of}
+use Rattle.room_laws.specs.Deeds.{Deed, Made, Brought, Canceled, HeldBack, Freed, Released, Started, Settled, deed_of, moment_of}
 use Rattle.room_laws.specs.DoneStays.{CanceledIsNotHandedOut, ClosedTakesNoMore, EndedStays, HeldWaitsForRelease, StaysEnded, brings, closes, frees}
 use Rattle.room_laws.specs.HandedByLeave.{given_in}
 use Rattle.room_laws.specs.HandedOnce.{hands_out}
 use Rattle.room_laws.specs.ItsOwnJob.{is_on}
 use Rattle.room_laws.specs.JobsMade.{jobs_made}
 use Rattle.room_laws.specs.JobsTold.{JobTold, Stage, Waits, IsFree, Prints, HasEnded, is_left_open, is_over, job_brought, job_canceled, job_freed, job_held, job_made, job_released, job_settled, job_started, stage_canceled, stage_held, stage_released, stage_settled, stage_started}
-use Rattle.room_laws.specs.Lives.{Exchange, IsLife, Life}
-use Rattle.room_rules.specs.Devices.{Devices}
-use Rattle.room_state.specs.Rooms.{RoomValue}
+use Rattle.room_laws.specs.Lives.{Exchange, Life}
 
 -- ---- a job that is there, at a deed
 
@@ -67,17 +63,14 @@ changed now told (Settled device number impressions failed) job = job_settled im
 changed now told _ job = job
 
 module _ (now : ℕ) (told : AccountTold) (x : Exchange) (q : ℕ) (job : JobTold) (here : get told.jobs q ≡ Some job) where
-  found_it : (number : ℕ) (Is : JobTold → Type 0) → (q == number) ≡ true → IsSomeAnd (get told.jobs number) Is → Is job
-  found_it number Is same finds = subst (λ (o : Option JobTold). IsSomeAnd o Is) (ap (get told.jobs) (sym (same_number q number same)) ∙ here) finds
-
   finds_of : (deed : Deed) → acts_on q deed ≡ true → Finds told x deed → FindsOf x deed job
-  finds_of (Brought ask) on finds = found_it ask.job TakesDocuments on finds
-  finds_of (Canceled number) on finds = found_it number (λ (j : JobTold). is_over j.stage ≡ false) on finds
-  finds_of (HeldBack number) on finds = found_it number (λ (j : JobTold). CanBeHeld j.stage) on finds
-  finds_of (Freed number) on finds = found_it number CanBeFreed on finds
-  finds_of (Released device number impressions) on finds = let can = found_it number (CanBeReleased (given_in x.0.1)) on finds in can.waits
-  finds_of (Started device number) on finds = let can = found_it number (CanBeStarted device number x.1) on finds.1 in can.is_free
-  finds_of (Settled device number impressions failed) on finds = found_it number (λ (j : JobTold). IsPrinted j.stage) on finds
+  finds_of (Brought ask) on finds = found_it told q ask.job TakesDocuments job here on finds
+  finds_of (Canceled number) on finds = found_it told q number (λ (j : JobTold). is_over j.stage ≡ false) job here on finds
+  finds_of (HeldBack number) on finds = found_it told q number (λ (j : JobTold). CanBeHeld j.stage) job here on finds
+  finds_of (Freed number) on finds = found_it told q number CanBeFreed job here on finds
+  finds_of (Released device number impressions) on finds = let can = found_it told q number (CanBeReleased (given_in x.0.1)) job here on finds in can.waits
+  finds_of (Started device number) on finds = let can = found_it told q number (CanBeStarted device number x.1) job here on finds.1 in can.is_free
+  finds_of (Settled device number impressions failed) on finds = found_it told q number (λ (j : JobTold). IsPrinted j.stage) job here on finds
   finds_of _ on finds = absurd (true≢false (sym on))
 
   changes_it : (b : Bool) (change : JobTold → JobTold) → b ≡ true → cond b (option_map change (get told.jobs q)) (get told.jobs q) ≡ Some (change job)
@@ -97,11 +90,7 @@ module _ (now : ℕ) (told : AccountTold) (x : Exchange) (q : ℕ) (job : JobTol
   leaves_it b change isnt = ap (λ (b : Bool). cond b (option_map change (get told.jobs q)) (get told.jobs q)) isnt ∙ here
 
   not_next : get told.jobs told.next ≡ None → (q == told.next) ≡ false
-  not_next none = by (q == told.next) refl
-    where
-      by : (b : Bool) → (q == told.next) ≡ b → b ≡ false
-      by true same = absurd (none-some job (sym none ∙ ap (get told.jobs) (sym (same_number q told.next same)) ∙ here))
-      by false other = refl
+  not_next none = ne_eqb q told.next (λ same. none-some job (sym none ∙ ap (get told.jobs) (sym same) ∙ here))
 
   turned_off : (deed : Deed) → acts_on q deed ≡ false → Finds told x deed → turned now told q deed ≡ Some job
   turned_off (Made ask) isnt finds = ap (λ (b : Bool). cond b (Some (job_made now ask)) (get told.jobs q)) (not_next finds) ∙ here
@@ -112,25 +101,12 @@ module _ (now : ℕ) (told : AccountTold) (x : Exchange) (q : ℕ) (job : JobTol
   turned_off (Released device number impressions) isnt finds = leaves_it (q == number) (job_released device (rate_told told device) impressions) isnt
   turned_off (Started device number) isnt finds = leaves_it (q == number) (job_started device now) isnt
   turned_off (Settled device number impressions failed) isnt finds = leaves_it (q == number) (job_settled impressions failed now) isnt
-  turned_off Opened isnt finds = here
-  turned_off (Granted month pages) isnt finds = here
-  turned_off (Turned device on) isnt finds = here
-  turned_off (Rated device units) isnt finds = here
-  turned_off NoDeed isnt finds = here
-
-or_false : (a b : Bool) → (a || b) ≡ false → (a ≡ false) × (b ≡ false)
-or_false true b none = absurd (true≢false none)
-or_false false b none = (refl, none)
-
-and_both : (a b : Bool) → (a && b) ≡ true → (a ≡ true) × (b ≡ true)
-and_both true b both = (refl, both)
-and_both false b both = absurd (true≢false (sym both))
+  turned_off _ isnt finds = here
 
 -- ---- what goes on from an exchange
 
 -- the job is there, and such
 pub record Goes (q : ℕ) (Is : JobTold → Type 0) (past : Life) : Type 0 where
-  pub next : (account_told past).next ≡ jobs_made past + 1
   pub job : JobTold
   pub is_there : get (account_told past).jobs q ≡ Some job
   pub is : Is job
@@ -149,13 +125,11 @@ module _ (q : ℕ) (Is : JobTold → Type 0) (ends : Deed → Bool)
 
       by : (b : Bool) → acts_on q (deed_of x) ≡ b → Goes q Is (past ++ x ∷ [])
       by true on = record {
-        next = next_more past x goes.next;
         job = changed (moment_of x) (account_told past) (deed_of x) goes.job;
         is_there = then ∙ turned_on (moment_of x) (account_told past) x q goes.job goes.is_there (deed_of x) on;
         is = kept (moment_of x) (account_told past) x (deed_of x) goes.job isnt on (finds_of (moment_of x) (account_told past) x q goes.job goes.is_there (deed_of x) on finds) goes.is;
       }
       by false off = record {
-        next = next_more past x goes.next;
         job = goes.job;
         is_there = then ∙ turned_off (moment_of x) (account_told past) x q goes.job goes.is_there (deed_of x) off finds;
         is = goes.is;
@@ -164,7 +138,7 @@ module _ (q : ℕ) (Is : JobTold → Type 0) (ends : Deed → Bool)
   goes_on : (past later : Life) → never_ends later ≡ false → FindAll (account_told past) later → Goes q Is past → Goes q Is (past ++ later)
   goes_on past [] never all goes = subst (Goes q Is) (sym (append-nil past)) goes
   goes_on past (x ∷ later) never all goes =
-      let each = or_false (ends (deed_of x)) (never_ends later) never in
+      let each = or_parts (ends (deed_of x)) (never_ends later) never in
       subst (Goes q Is) (append_assoc past (x ∷ []) later)
       (goes_on (past ++ x ∷ []) later each.1 (subst (λ (told : AccountTold). FindAll told later) (sym (told_more past x)) all.1) (goes_more past x each.0 all.0 goes))
 
@@ -172,7 +146,7 @@ module _ (q : ℕ) (Is : JobTold → Type 0) (ends : Deed → Bool)
   each_later : (Holds : Exchange → Type 0) → ((past : Life) (x : Exchange) → Goes q Is past → Finds (account_told past) x (deed_of x) → Holds x) → (past later : Life) → never_ends later ≡ false → FindAll (account_told past) later → Goes q Is past → All Holds later
   each_later Holds holds past [] never all goes = All-nil Holds
   each_later Holds holds past (x ∷ later) never all goes =
-      let each = or_false (ends (deed_of x)) (never_ends later) never in
+      let each = or_parts (ends (deed_of x)) (never_ends later) never in
       All-cons Holds x later (holds past x goes all.0)
       (each_later Holds holds (past ++ x ∷ []) later each.1 (subst (λ (told : AccountTold). FindAll told later) (sym (told_more past x)) all.1) (goes_more past x each.0 all.0 goes))
 
@@ -185,16 +159,12 @@ nothing_ends [] = refl
 nothing_ends (x ∷ later) = nothing_ends later
 
 -- from an exchange on that is on the job
-goes_from : (q : ℕ) (Is : JobTold → Type 0) (life past later : Life) (x : Exchange) (room : Option RoomValue) (devices : Devices) → IsLife life room devices → life ≡ past ++ x ∷ later → (job : JobTold)
-    → turned (moment_of x) (account_told past) q (deed_of x) ≡ Some job → Is job → Goes q Is (past ++ x ∷ [])
-goes_from q Is life past later x room devices is here job there such =
-    let at = found_at life past later x room devices is here in
-    record {
-      next = next_more past x (by_makers past at.first).next;
-      job = job;
-      is_there = ap (λ (told : AccountTold). get told.jobs q) (told_more past x) ∙ turned_so (moment_of x) (account_told past) q (deed_of x) ∙ there;
-      is = such;
-    }
+goes_from : (q : ℕ) (Is : JobTold → Type 0) (past : Life) (x : Exchange) (job : JobTold) → turned (moment_of x) (account_told past) q (deed_of x) ≡ Some job → Is job → Goes q Is (past ++ x ∷ [])
+goes_from q Is past x job there such = record {
+  job = job;
+  is_there = ap (λ (told : AccountTold). get told.jobs q) (told_more past x) ∙ turned_so (moment_of x) (account_told past) q (deed_of x) ∙ there;
+  is = such;
+}
 
 -- ---- a job that was canceled
 
@@ -270,18 +240,15 @@ was_there q told Is is = by (get told.jobs q) refl is
     by None none is = absurd is
     by (Some job) here is = record { job = job; is_there = here }
 
-same_number_is : (q : ℕ) → (q == q) ≡ true
-same_number_is q = grind (arith, nat_tests)
-
 pub canceled_is_not_handed_out : CanceledIsNotHandedOut
 canceled_is_not_handed_out life room devices is past later x q here deed =
     let at = found_at life past later x room devices is here in
     let finds : Finds (account_told past) x (Canceled q) = subst (Finds (account_told past) x) deed at.finds in
     let was = was_there q (account_told past) (λ (job : JobTold). is_over job.stage ≡ false) finds in
-    let begins : turned (moment_of x) (account_told past) q (deed_of x) ≡ Some (job_canceled (moment_of x) was.job) = ap (turned (moment_of x) (account_told past) q) deed ∙ turned_on (moment_of x) (account_told past) x q was.job was.is_there (Canceled q) (same_number_is q) in
+    let begins : turned (moment_of x) (account_told past) q (deed_of x) ≡ Some (job_canceled (moment_of x) was.job) = ap (turned (moment_of x) (account_told past) q) deed ∙ turned_on (moment_of x) (account_told past) x q was.job was.is_there (Canceled q) (eq-eqb q q refl) in
     let Is : JobTold → Type 0 = λ job. CannotStart job.stage in
     each_later q Is nothing (still_cannot q) (λ (y : Exchange). hands_out q (deed_of y) ≡ false) (λ past y goes finds. not_handed q past y (deed_of y) goes finds) (past ++ x ∷ []) later (nothing_ends later) at.rest
-    (goes_from q Is life past later x room devices is here (job_canceled (moment_of x) was.job) begins (canceled_cannot (moment_of x) was.job.stage))
+    (goes_from q Is past x (job_canceled (moment_of x) was.job) begins (canceled_cannot (moment_of x) was.job.stage))
 
 -- ---- a job that was held
 
@@ -296,10 +263,7 @@ still_kept device q now told x (Freed number) job isnt on finds kept = absurd (t
 still_kept device q now told x (Released at number impressions) job isnt on finds kept = λ free.
     elim (released_was device (Some at) _ _ job.stage free) [
       | inl was ↦ kept was
-      | inr new ↦ elim new.1 [
-        | inl none ↦ none-some at (sym none)
-        | inr same ↦ true≢false (sym (and_from (q == number) (bytes_eq at device) on ((bytes_eq-Decides at device).1 (same_Some at device same))) ∙ isnt)
-      ]
+      | inr new ↦ true≢false (sym (and_from (q == number) (bytes_eq at device) on ((bytes_eq-Decides at device).1 (bound at device new.1))) ∙ isnt)
     ]
 still_kept device q now told x (Started at number) job isnt on finds kept = started_not_free device at now job.stage
 still_kept device q now told x (Settled at number impressions failed) job isnt on finds kept = λ free. kept (settled_was_free device impressions failed now job.stage free)
@@ -315,12 +279,12 @@ held_waits_for_release life room devices is past between later hold start device
         let at = found_at life past (between ++ start ∷ later) hold room devices is here in
         let finds : Finds (account_told past) hold (HeldBack q) = subst (Finds (account_told past) hold) deed at.finds in
         let was = was_there q (account_told past) (λ (job : JobTold). CanBeHeld job.stage) finds in
-        let begins : turned (moment_of hold) (account_told past) q (deed_of hold) ≡ Some (job_held was.job) = ap (turned (moment_of hold) (account_told past) q) deed ∙ turned_on (moment_of hold) (account_told past) hold q was.job was.is_there (HeldBack q) (same_number_is q) in
+        let begins : turned (moment_of hold) (account_told past) q (deed_of hold) ≡ Some (job_held was.job) = ap (turned (moment_of hold) (account_told past) q) deed ∙ turned_on (moment_of hold) (account_told past) hold q was.job was.is_there (HeldBack q) (eq-eqb q q refl) in
         let rest = find_apart (account_told (past ++ hold ∷ [])) between (start ∷ later) at.rest in
-        let goes = goes_on q (IsKeptFrom device) (frees device q) (still_kept device q) (past ++ hold ∷ []) between never rest.0 (goes_from q (IsKeptFrom device) life past (between ++ start ∷ later) hold room devices is here (job_held was.job) begins (held_not_free device was.job.stage)) in
+        let goes = goes_on q (IsKeptFrom device) (frees device q) (still_kept device q) (past ++ hold ∷ []) between never rest.0 (goes_from q (IsKeptFrom device) past hold (job_held was.job) begins (held_not_free device was.job.stage)) in
         let told = account_told ((past ++ hold ∷ []) ++ between) in
         let found : Finds told start (Started device q) = subst (λ (t : AccountTold). Finds t start (Started device q)) (sym (fold-append after_exchange nothing_told (past ++ hold ∷ []) between)) (subst (Finds (fold after_exchange (account_told (past ++ hold ∷ [])) between) start) starts rest.1.0) in
-        absurd (goes.is (finds_of 0 told start q goes.job goes.is_there (Started device q) (same_number_is q) found))
+        absurd (goes.is (finds_of 0 told start q goes.job goes.is_there (Started device q) (eq-eqb q q refl) found))
 
 -- ---- a job that was closed
 
@@ -344,15 +308,7 @@ not_brought q past x _ goes finds = refl
 
 print_job_closes : (operation : Operation) → is_print_job operation ≡ true → is_left_open operation ≡ false
 print_job_closes PrintJob is = refl
-print_job_closes ValidateJob is = absurd (true≢false (sym is))
-print_job_closes CreateJob is = absurd (true≢false (sym is))
-print_job_closes SendDocument is = absurd (true≢false (sym is))
-print_job_closes asks.CancelJob is = absurd (true≢false (sym is))
-print_job_closes GetJobAttributes is = absurd (true≢false (sym is))
-print_job_closes GetJobs is = absurd (true≢false (sym is))
-print_job_closes GetPrinterAttributes is = absurd (true≢false (sym is))
-print_job_closes asks.HoldJob is = absurd (true≢false (sym is))
-print_job_closes asks.ReleaseJob is = absurd (true≢false (sym is))
+print_job_closes _ is = absurd (true≢false (sym is))
 
 record IsClosedBy (q now : ℕ) (told : AccountTold) (deed : Deed) : Type 0 where
   pub job : JobTold
@@ -361,15 +317,15 @@ record IsClosedBy (q now : ℕ) (told : AccountTold) (deed : Deed) : Type 0 wher
 
 closed_by : (q now made : ℕ) (told : AccountTold) (x : Exchange) (deed : Deed) → told.next ≡ made + 1 → closes q made deed ≡ true → Finds told x deed → IsClosedBy q now told deed
 closed_by q now made told x (Made ask) next closing finds =
-    let both = and_both (q == made + 1) (is_print_job ask.operation) closing in
+    let both = and_parts (q == made + 1) (is_print_job ask.operation) closing in
     record {
       job = job_made now ask;
       is_there = ap (λ (b : Bool). cond b (Some (job_made now ask)) (get told.jobs q)) (ap (λ (n : ℕ). q == n) next ∙ both.0);
       is_closed = print_job_closes ask.operation both.1;
     }
 closed_by q now made told x (Brought ask) next closing finds =
-    let both = and_both (q == ask.job) ask.last closing in
-    let was = was_there q told TakesDocuments (subst (λ (n : ℕ). IsSomeAnd (get told.jobs n) TakesDocuments) (sym (same_number q ask.job both.0)) finds) in
+    let both = and_parts (q == ask.job) ask.last closing in
+    let was = was_there q told TakesDocuments (subst (λ (n : ℕ). IsSomeAnd (get told.jobs n) TakesDocuments) (sym (eqb-true q ask.job both.0)) finds) in
     record {
       job = job_brought ask was.job;
       is_there = turned_on now told x q was.job was.is_there (Brought ask) both.0;
@@ -380,30 +336,24 @@ closed_by q now made told x _ next closing finds = absurd (true≢false (sym clo
 pub closed_takes_no_more : ClosedTakesNoMore
 closed_takes_no_more life room devices is past later x q here closing =
     let at = found_at life past later x room devices is here in
-    let closed = closed_by q (moment_of x) (jobs_made past) (account_told past) x (deed_of x) (by_makers past at.first).next closing at.finds in
+    let closed = closed_by q (moment_of x) (jobs_made past) (account_told past) x (deed_of x) (next_is past) closing at.finds in
     let Is : JobTold → Type 0 = λ job. job.is_open ≡ false in
     each_later q Is nothing (still_closed q) (λ (y : Exchange). brings q (deed_of y) ≡ false) (λ past y goes finds. not_brought q past y (deed_of y) goes finds) (past ++ x ∷ []) later (nothing_ends later) at.rest
-    (goes_from q Is life past later x room devices is here closed.job closed.is_there closed.is_closed)
+    (goes_from q Is past x closed.job closed.is_there closed.is_closed)
 
 -- ---- a job that has ended
 
 held_goes_on : (stage : Stage) → CanBeHeld stage → is_over stage ≡ false
-held_goes_on Waits can = refl
-held_goes_on (IsFree for rate units) can = refl
-held_goes_on (Prints by rate units since is_canceled) can = refl
 held_goes_on (HasEnded how count units since at) can = absurd can
+held_goes_on _ can = refl
 
 free_goes_on : (device : List ℕ) (stage : Stage) → IsFreeFor device stage → is_over stage ≡ false
-free_goes_on device Waits free = refl
-free_goes_on device (IsFree for rate units) free = refl
-free_goes_on device (Prints by rate units since is_canceled) free = refl
 free_goes_on device (HasEnded how count units since at) free = absurd free
+free_goes_on device _ free = refl
 
 printed_goes_on : (stage : Stage) → IsPrinted stage → is_over stage ≡ false
-printed_goes_on Waits printed = refl
-printed_goes_on (IsFree for rate units) printed = refl
-printed_goes_on (Prints by rate units since is_canceled) printed = refl
 printed_goes_on (HasEnded how count units since at) printed = absurd printed
+printed_goes_on _ printed = refl
 
 over_is_not : {A : Type 0} (x : Exchange) (q : ℕ) (deed : Deed) (job : JobTold) → is_over job.stage ≡ true → acts_on q deed ≡ true → FindsOf x deed job → A
 over_is_not x q (Brought ask) job over on finds = absurd (true≢false (sym over ∙ ap is_over finds.waits))
@@ -427,7 +377,7 @@ module _ (q : ℕ) (job : JobTold) (over : is_over job.stage ≡ true) where
   off past x deed goes finds false isnt = refl
 
   not_on : (past : Life) (x : Exchange) (deed : Deed) → Goes q IsIt past → Finds (account_told past) x deed → is_on q (jobs_made past) deed ≡ false
-  not_on past x (Made ask) goes finds = ap (λ (n : ℕ). q == n) (sym goes.next) ∙ not_next 0 (account_told past) x q goes.job goes.is_there finds
+  not_on past x (Made ask) goes finds = ap (λ (n : ℕ). q == n) (sym (next_is past)) ∙ not_next 0 (account_told past) x q goes.job goes.is_there finds
   not_on past x (Brought ask) goes finds = off past x (Brought ask) goes finds (q == ask.job) refl
   not_on past x (Canceled number) goes finds = off past x (Canceled number) goes finds (q == number) refl
   not_on past x (HeldBack number) goes finds = off past x (HeldBack number) goes finds (q == number) refl
@@ -449,4 +399,4 @@ module _ (q : ℕ) (job : JobTold) (over : is_over job.stage ≡ true) where
 pub ended_stays : EndedStays
 ended_stays life room devices is past later q job here there over =
     let all = find_apart nothing_told past later (subst (FindAll nothing_told) here (all_find life room devices is)) in
-    it_stays q job over past later (record { next = (by_makers past all.0).next; job = job; is_there = there; is = refl }) all.1
+    it_stays q job over past later (record { job = job; is_there = there; is = refl }) all.1

@@ -1,8 +1,7 @@
 -- What was told before makes each deed possible.
 use Rattle.std.proofs.Common.{◌≡◌, ◌*◌, ℕ, ℤ, pos, ◌≤ℤ◌, Bool, true, false, cond, List, [], ◌∷◌, ◌++◌, nat_lt, length, Option, Some, None, Ok, refl, sym, ap, subst, ◌∙◌, arith, append-nil, append_assoc}
 use Rattle.std.specs.FinMap.{get}
-use Rattle.std.proofs.lemmas.Grind.{common_steps}
-use Rattle.std.proofs.lemmas.Option.{none-some, same_Some}
+use Rattle.std.proofs.lemmas.Option.{none-some}
 use Rattle.ipp_coding.specs.Limits.{header_length}
 use Rattle.room_asks.specs.Asks.{PlainAsk}
 use Rattle.room_asks.specs.declared.operation.Operation.{Operation}
@@ -12,16 +11,14 @@ use Rattle.room_core.specs.JobRequests.{has_password}
 use Rattle.room_core.specs.Machine.{answered}
 use Rattle.room_core.specs.declared.event.Reply.{Reply}
 use Rattle.room_core.specs.declared.event.Reply.TheVariants as reply
-use Rattle.room_laws.proofs.AsTold.{AccountKeeps, Keeps, all_keep, deed_done, found, makes_one_job, no_deed, rate_is_told, reads_no_deed, ready_is}
+use Rattle.room_laws.proofs.AsTold.{AccountKeeps, Keeps, all_keep, counts_alike, deed_done, found, makes_one_job, no_deed, rate_is_told, reads_no_deed}
 use Rattle.room_laws.proofs.AsToldSums.{left_as_told}
-use Rattle.room_laws.proofs.Changes.{Makes, refuses, reads, makes, takes, acts, releases, starts, settles, grants, act_asked, makes_one}
-use Rattle.room_laws.proofs.DeedFinds.{IsPrinted, none_next, printed_if_settled}
+use Rattle.room_laws.proofs.Changes.{Makes, refuses, reads, makes, takes, acts, releases, starts, settles, grants, act_asked, makes_one, ready_is}
+use Rattle.room_laws.proofs.DeedFinds.{IsPrinted, none_next, printed_if_settled, same_act, waits_if_released}
 use Rattle.room_laws.proofs.LifeLemmas.{front_of_life}
-use Rattle.room_laws.proofs.Moved.{none_ended}
-use Rattle.room_laws.proofs.StationsAnswered.{counts_alike}
 use Rattle.room_laws.specs.AccountsTold.{AccountTold, account_told, left_told, rate_told}
 use Rattle.room_laws.specs.Deeds.{Deed, Made, Freed, Released, Settled, Granted, Turned, Rated, NoDeed, account_deed, asked_deed, deed_of, device_deed, moment_of}
-use Rattle.room_laws.specs.JobsTold.{JobTold, Stage, Waits, IsFree, Prints, HasEnded, need_told}
+use Rattle.room_laws.specs.JobsTold.{JobTold, Stage, Waits, need_told}
 use Rattle.room_laws.specs.Lives.{Exchange, IsLife, Life}
 use Rattle.room_laws.specs.StandsAsTold.{IsAsTold, IsAt, device_told}
 use Rattle.room_laws.specs.StationAnswers.{need_at}
@@ -29,7 +26,6 @@ use Rattle.room_laws.specs.Told.{is_ok}
 use Rattle.room_rules.specs.Acts.{Act, ReleaseJob, StationRelease}
 use Rattle.room_rules.specs.Devices.{Devices}
 use Rattle.room_rules.specs.Effects.{impressions_of}
-use Rattle.room_rules.specs.JobStates.{has_ended}
 use Rattle.room_rules.specs.Moves.{move}
 use Rattle.room_rules.specs.declared.job.Job.{Job}
 use Rattle.room_rules.specs.declared.job.JobState.TheVariants.{Held}
@@ -70,24 +66,9 @@ freed_left has_password left s next held goes = grind arith
 released_left : (kept device given : List ℕ) (handed_in rate : ℕ) (left : ℤ) (s next : Standing) → move (StationRelease kept device given handed_in rate left) s ≡ Ok next → pos (impressions_of s handed_in * s.copies * rate) ≤ℤ left
 released_left kept device given handed_in rate left s next goes = grind arith
 
-waits_first : (kept device given : List ℕ) (handed_in rate : ℕ) (left : ℤ) (stage : Stage) (s next : Standing) → IsAt stage s → move (StationRelease kept device given handed_in rate left) s ≡ Ok next → IsWaits stage
-waits_first kept device given handed_in rate left Waits s next at goes = tt
-waits_first kept device given handed_in rate left (IsFree for at_rate units) s next at goes = grind (arith, common_steps)
-waits_first kept device given handed_in rate left (Prints by at_rate units since is_canceled) s next at goes = grind (arith, common_steps)
-waits_first kept device given handed_in rate left (HasEnded how count units since ended) s next at goes = none_ended (StationRelease kept device given handed_in rate left) s next goes (ap has_ended at.state ∙ at.is_end)
-
-left_so : (need : ℕ) (left : ℤ) (stage : Stage) → pos need ≤ℤ left → HasLeft need left stage
-left_so need left Waits is = is
-left_so need left (IsFree for rate units) is = tt
-left_so need left (Prints by rate units since is_canceled) is = tt
-left_so need left (HasEnded how count units since at) is = tt
-
 -- ---- of an account that is open
 
 module _ (told : AccountTold) (room : RoomValue) (devices : Devices) (known : (name : List ℕ) → get devices name ≡ device_told told name) (keeps : Keeps told room) (now : ℕ) (account : List ℕ) where
-  left_is : left_in room now ≡ left_told told now
-  left_is = left_as_told told room keeps.stands now
-
   freed_fit : (number : ℕ) (job : Job) (standing : Standing) → get room.jobs number ≡ Some job → move (ReleaseJob (has_password job) (left_in room now)) job.standing ≡ Ok standing → IsFit told now (Freed number)
   freed_fit number job standing there goes =
       let at = found number told room job keeps.stands there in
@@ -95,16 +76,14 @@ module _ (told : AccountTold) (room : RoomValue) (devices : Devices) (known : (n
     where
       by : (ticket : JobTold) (stage : Stage) → IsAt stage job.standing → IsAsTold number ticket room job → HasLeft (need_told ticket.impressions 1 ticket) (left_told told now) stage
       by ticket Waits it is =
-          subst (λ (left : ℤ). pos (need_told ticket.impressions 1 ticket) ≤ℤ left) left_is
+          subst (λ (left : ℤ). pos (need_told ticket.impressions 1 ticket) ≤ℤ left) (left_as_told told room keeps.stands now)
           (subst (λ (need : ℕ). pos need ≤ℤ left_in room now) (λ i. is.impressions i * is.copies i * 1) (freed_left (has_password job) (left_in room now) job.standing standing it.state goes))
-      by ticket (IsFree for rate units) it is = tt
-      by ticket (Prints printer rate units since is_canceled) it is = tt
-      by ticket (HasEnded how count units since at) it is = tt
+      by ticket _ it is = tt
 
   asked_fit : (ask : PlainAsk) (job : Job) (it : Act) (standing : Standing) → get room.jobs ask.job ≡ Some job → (operation : Operation) → act_asked room now job operation ≡ Some it → move it job.standing ≡ Ok standing → IsFit told now (asked_deed ask operation)
   asked_fit ask job it standing there asks.CancelJob is goes = tt
   asked_fit ask job it standing there asks.HoldJob is goes = tt
-  asked_fit ask job it standing there asks.ReleaseJob is goes = freed_fit ask.job job standing there (ap (λ (a : Act). move a job.standing) (same_Some (ReleaseJob (has_password job) (left_in room now)) it is) ∙ goes)
+  asked_fit ask job it standing there asks.ReleaseJob is goes = freed_fit ask.job job standing there (same_act (ReleaseJob (has_password job) (left_in room now)) it job.standing standing is goes)
   asked_fit ask job it standing there _ is goes = absurd (none-some it is)
 
   fit_if_made : (event : AccountEvent) (said : Reply) (after : RoomValue) → Makes room devices now account event said after → IsFit told now (account_deed account event said)
@@ -117,14 +96,14 @@ module _ (told : AccountTold) (room : RoomValue) (devices : Devices) (known : (n
       let at = found number told room job keeps.stands there in
       let rate : ready.rate ≡ rate_told told device = rate_is_told told device ready (sym (known device) ∙ ready_is (get devices device) ready is_ready) in
       let needs : impressions_of job.standing impressions * job.standing.copies * ready.rate ≡ need_at told device impressions at.ticket = λ i. counts_alike job.standing impressions at.ticket at.is.impressions i * at.is.copies i * rate i in
+      let waits = waits_if_released job.password device password impressions ready.rate (left_in room now) at.ticket.stage job.standing standing at.is.stage goes in
       record {
         job = at.ticket;
         is_told = at.is_told;
-        is = (
-          waits_first job.password device password impressions ready.rate (left_in room now) at.ticket.stage job.standing standing at.is.stage goes,
-          left_so (need_at told device impressions at.ticket) (left_told told now) at.ticket.stage
-              (subst (λ (left : ℤ). pos (need_at told device impressions at.ticket) ≤ℤ left) left_is
-              (subst (λ (need : ℕ). pos need ≤ℤ left_in room now) needs (released_left job.password device password impressions ready.rate (left_in room now) job.standing standing goes))),
+        is = subst (λ (stage : Stage). IsWaits stage × HasLeft (need_at told device impressions at.ticket) (left_told told now) stage) (sym waits) (
+          tt,
+          subst (λ (left : ℤ). pos (need_at told device impressions at.ticket) ≤ℤ left) (left_as_told told room keeps.stands now)
+              (subst (λ (need : ℕ). pos need ≤ℤ left_in room now) needs (released_left job.password device password impressions ready.rate (left_in room now) job.standing standing goes)),
         );
       }
   fit_if_made _ _ _ (starts device number ready job standing is_ready there goes) = tt

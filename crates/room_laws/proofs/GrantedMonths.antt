@@ -17,7 +17,7 @@ use Rattle.room_laws.proofs.JobSums.{same_grants}
 use Rattle.room_laws.proofs.LifeLemmas.{front_of_life}
 use Rattle.room_laws.proofs.OperatorsAnswered.{grants_are_answered}
 use Rattle.room_laws.specs.AccountsTold.{AccountTold, account_told, after_deed, rate_told}
-use Rattle.room_laws.specs.Deeds.{Deed, Opened, Made, Brought, Canceled, HeldBack, Freed, Released, Started, Settled, Granted, Turned, Rated, NoDeed, deed_of, moment_of}
+use Rattle.room_laws.specs.Deeds.{Deed, Brought, Canceled, HeldBack, Freed, Released, Started, Settled, Granted, NoDeed, deed_of, moment_of}
 use Rattle.room_laws.specs.JobsTold.{job_brought, job_canceled, job_freed, job_held, job_released, job_settled, job_started}
 use Rattle.room_laws.specs.Lives.{Exchange, IsLife, Life}
 use Rattle.room_laws.specs.MonthsGrantedOnce.{GrantsSentAgain, IsConflict, IsGranted, IsToldAgain, IsToldHeld, MonthsGrantedOnce, NoMonthTwice, grant_told, grants_month}
@@ -34,8 +34,6 @@ grants_by (Granted month pages) grants = insert grants month pages
 grants_by _ grants = grants
 
 grants_then : (now : ℕ) (told : AccountTold) (deed : Deed) → (after_deed now told deed).grants ≡ grants_by deed told.grants
-grants_then now told Opened = refl
-grants_then now told (Made ask) = refl
 grants_then now told (Brought ask) = same_grants told ask.job (job_brought ask)
 grants_then now told (Canceled number) = same_grants told number (job_canceled now)
 grants_then now told (HeldBack number) = same_grants told number job_held
@@ -43,10 +41,7 @@ grants_then now told (Freed number) = same_grants told number job_freed
 grants_then now told (Released device number handed_in) = same_grants told number (job_released device (rate_told told device) handed_in)
 grants_then now told (Started device number) = same_grants told number (job_started device now)
 grants_then now told (Settled device number count failed) = same_grants told number (job_settled count failed now)
-grants_then now told (Granted month pages) = refl
-grants_then now told (Turned device on) = refl
-grants_then now told (Rated device units) = refl
-grants_then now told NoDeed = refl
+grants_then now told _ = refl
 
 -- a month that has pages keeps them
 stays_by : (now : ℕ) (told : AccountTold) (deed : Deed) → IsFit told now deed → (month held : ℕ) → get told.grants month ≡ Some held → get (grants_by deed told.grants) month ≡ Some held
@@ -55,18 +50,7 @@ stays_by now told (Granted of pages) fit month held has = inserted told.grants o
     by : (b : Bool) → (month == of) ≡ b → cond b (Some pages) (get told.grants month) ≡ Some held
     by true same = absurd (none-some held (sym (ap (get told.grants) (eqb-true month of same) ∙ fit) ∙ has))
     by false other = has
-stays_by now told Opened fit month held has = has
-stays_by now told (Made ask) fit month held has = has
-stays_by now told (Brought ask) fit month held has = has
-stays_by now told (Canceled number) fit month held has = has
-stays_by now told (HeldBack number) fit month held has = has
-stays_by now told (Freed number) fit month held has = has
-stays_by now told (Released device number handed_in) fit month held has = has
-stays_by now told (Started device number) fit month held has = has
-stays_by now told (Settled device number count failed) fit month held has = has
-stays_by now told (Turned device on) fit month held has = has
-stays_by now told (Rated device units) fit month held has = has
-stays_by now told NoDeed fit month held has = has
+stays_by now told _ fit month held has = has
 
 grants_after : (past : Life) (x : Exchange) (month : ℕ) → get (account_told (past ++ x ∷ [])).grants month ≡ get (grants_by (deed_of x) (account_told past).grants) month
 grants_after past x month = ap (λ (told : AccountTold). get told.grants month) (told_more past x) ∙ ap (λ (grants : FinMap nat_cmp ℕ). get grants month) (grants_then (moment_of x) (account_told past) (deed_of x))
@@ -148,18 +132,7 @@ deed_grants now told (Granted of pages) fit month = by (month == of) refl ∙ sy
     by : (b : Bool) → (month == of) ≡ b → has_pages (get told.grants month) + cond b 1 0 ≡ has_pages (cond b (Some pages) (get told.grants month))
     by true same = ap (λ (o : Option ℕ). has_pages o + 1) (ap (get told.grants) (eqb-true month of same) ∙ fit)
     by false other = nothing_more (has_pages (get told.grants month))
-deed_grants now told Opened fit month = nothing_more (has_pages (get told.grants month))
-deed_grants now told (Made ask) fit month = nothing_more (has_pages (get told.grants month))
-deed_grants now told (Brought ask) fit month = nothing_more (has_pages (get told.grants month))
-deed_grants now told (Canceled number) fit month = nothing_more (has_pages (get told.grants month))
-deed_grants now told (HeldBack number) fit month = nothing_more (has_pages (get told.grants month))
-deed_grants now told (Freed number) fit month = nothing_more (has_pages (get told.grants month))
-deed_grants now told (Released device number handed_in) fit month = nothing_more (has_pages (get told.grants month))
-deed_grants now told (Started device number) fit month = nothing_more (has_pages (get told.grants month))
-deed_grants now told (Settled device number count failed) fit month = nothing_more (has_pages (get told.grants month))
-deed_grants now told (Turned device on) fit month = nothing_more (has_pages (get told.grants month))
-deed_grants now told (Rated device units) fit month = nothing_more (has_pages (get told.grants month))
-deed_grants now told NoDeed fit month = nothing_more (has_pages (get told.grants month))
+deed_grants now told _ fit month = nothing_more (has_pages (get told.grants month))
 
 abbrev IsCounted : Life → Type 0
 IsCounted life = (month : ℕ) → count_by (λ (x : Exchange). grants_month month (deed_of x)) life ≡ has_pages (get (account_told life).grants month)

@@ -4,11 +4,11 @@ use Rattle.std.specs.FinMap.{contains_key}
 use Rattle.std.proofs.lemmas.Bool.{true≢false}
 use Rattle.ipp_coding.specs.Limits.{header_length}
 use Rattle.room_core.specs.DeviceEvents.{device_answered}
-use Rattle.room_core.specs.Events.{AccountEvent, DeviceEvent, OfAccount, OfDevice, Open, Ipp, Release, Start, Settle, Grant, Turn, Rate}
+use Rattle.room_core.specs.Events.{AccountEvent, DeviceEvent, OfAccount, OfDevice, Ipp, Turn, Rate}
 use Rattle.room_core.specs.Machine.{answered, answered_unopened}
 use Rattle.room_core.specs.declared.event.Reply.{Reply}
 use Rattle.room_core.specs.declared.event.Reply.TheVariants as reply
-use Rattle.room_laws.proofs.Changes.{Makes, refuses, reads, makes, takes, acts, releases, starts, settles, grants, makes_one}
+use Rattle.room_laws.proofs.Changes.{Makes, refuses, starts, makes_one}
 use Rattle.room_laws.proofs.AsTold.{rated_by}
 use Rattle.room_laws.proofs.LifeLemmas.{front_of_life}
 use Rattle.room_laws.specs.HandedAsSent.{HandedAtStarts, IsStart}
@@ -18,22 +18,12 @@ use Rattle.room_state.specs.Rooms.{RoomValue}
 
 by_open : (room : RoomValue) (devices : Devices) (now : ℕ) (account : List ℕ) (event : AccountEvent) (said : Reply) (after : RoomValue) → Makes room devices now account event said after → is_documents said ≡ true → IsStart ((now, OfAccount account event), said)
 by_open room devices now account _ _ _ (refuses event said undone isnt none) is = absurd (true≢false (sym is ∙ none))
-by_open room devices now account _ _ _ (reads body ask text read only) is = absurd (true≢false (sym is))
-by_open room devices now account _ _ _ (makes body ask text read a_job accepted done) is = absurd (true≢false (sym is))
-by_open room devices now account _ _ _ (takes body ask text job standing read sends there goes done) is = absurd (true≢false (sym is))
-by_open room devices now account _ _ _ (acts body ask text job it standing read there is_act goes done) is = absurd (true≢false (sym is))
-by_open room devices now account _ _ _ (releases device number password impressions ready job standing is_ready there goes) is = absurd (true≢false (sym is))
 by_open room devices now account _ _ _ (starts device number ready job standing is_ready there goes) is = record { device = device; number = number; starts = refl }
-by_open room devices now account _ _ _ (settles device number impressions failed known job standing is_known there goes) is = absurd (true≢false (sym is))
-by_open room devices now account _ _ _ (grants month pages new) is = absurd (true≢false (sym is))
+by_open room devices now account _ _ _ _ is = absurd (true≢false (sym is))
 
 none_unopened : (now : ℕ) (account : List ℕ) (it : AccountEvent) → is_documents (answered_unopened now (OfAccount account it)).reply ≡ false
-none_unopened now account Open = refl
 none_unopened now account (Ipp body) = elim (nat_lt (length body) header_length) as (λ (b : Bool). is_documents (cond b reply.Short reply.NoAccount) ≡ false) [ true ↦ refl | false ↦ refl ]
-none_unopened now account (Release device number password impressions) = refl
-none_unopened now account (Start device number) = refl
-none_unopened now account (Settle device number impressions failed) = refl
-none_unopened now account (Grant month pages) = refl
+none_unopened now account _ = refl
 
 by_account : (room : Option RoomValue) (devices : Devices) (now : ℕ) (account : List ℕ) (it : AccountEvent) → let said = (answered room devices now (OfAccount account it)).reply in is_documents said ≡ true → IsStart ((now, OfAccount account it), said)
 by_account None devices now account it is = absurd (true≢false (sym is ∙ none_unopened now account it))

@@ -3,7 +3,7 @@ use Rattle.std.proofs.Common.{◌≡◌, ◌⊎◌, ℕ, ◌+◌, Bool, true, fa
 use Rattle.std.specs.FinMap.{get, get-empty}
 use Rattle.std.specs.List.{flat_map}
 use Rattle.std.specs.Ordering.{nat_cmp}
-use Rattle.std.proofs.lemmas.Bool.{true≢false}
+use Rattle.std.proofs.lemmas.Bool.{eqb-true, true≢false}
 use Rattle.std.proofs.lemmas.Grind.{flat_map-append}
 use Rattle.std.proofs.lemmas.List.Elements.{All-nil, All-push}
 use Rattle.std.proofs.lemmas.Option.{none-some, same_Some}
@@ -12,14 +12,14 @@ use Rattle.room_core.specs.Events.{OfAccount, Start}
 use Rattle.room_core.specs.declared.event.Reply.{Reply}
 use Rattle.room_core.specs.declared.event.Reply.TheVariants as reply
 use Rattle.room_laws.proofs.AsTold.{told_more}
-use Rattle.room_laws.proofs.DeedFinds.{CanBeFreed, CanBeReleased, CanBeStarted, FindAll, Finds, IsFreeFor, TakesDocuments, found_at, grows_to}
-use Rattle.room_laws.proofs.DeedTurns.{next_more, others_same, same_number, turned, turned_so}
+use Rattle.room_laws.proofs.DeedFinds.{CanBeFreed, CanBeReleased, CanBeStarted, FindAll, Finds, IsFreeFor, TakesDocuments, found_at, found_it, grows_to}
+use Rattle.room_laws.proofs.DeedTurns.{next_is, others_same, turned, turned_so}
 use Rattle.room_laws.specs.AccountsTold.{AccountTold, account_told, after_deed, nothing_told, rate_told}
-use Rattle.room_laws.specs.Deeds.{Deed, Opened, Made, Brought, Canceled, HeldBack, Freed, Released, Started, Settled, Granted, Turned, Rated, NoDeed, deed_of, moment_of}
+use Rattle.room_laws.specs.Deeds.{Deed, Made, Brought, Canceled, HeldBack, Freed, Released, Started, Settled, deed_of, moment_of}
 use Rattle.room_laws.specs.HandedAsSent as sent
-use Rattle.room_laws.specs.HandedAsSent.{IsAllSent, brought_to, sent_for}
+use Rattle.room_laws.specs.HandedAsSent.{brought_to, sent_for}
 use Rattle.room_laws.specs.HandedByLeave as leave
-use Rattle.room_laws.specs.HandedByLeave.{GivesLeave, HasLeave, HasWaiting, IsOnIn, given_in, takes_back}
+use Rattle.room_laws.specs.HandedByLeave.{GivesLeave, HasLeave, given_in, takes_back}
 use Rattle.room_laws.specs.ItsOwnJob.{is_on}
 use Rattle.room_laws.specs.JobsMade.{IsMadeBy, jobs_made}
 use Rattle.room_laws.specs.JobsTold.{JobTold, Sent, Stage, Waits, IsFree, Prints, HasEnded, brought_first, brought_next, job_brought, job_canceled, job_freed, job_held, job_made, job_released, job_settled, job_started, stage_canceled, stage_held, stage_released, stage_settled, stage_started}
@@ -72,33 +72,12 @@ JobIsByItsMaker number (Some job) past = IsByItsMaker number job past
 -- a deed that is not on the job leaves it so
 not_brought : (number made : ℕ) (deed : Deed) → is_on number made deed ≡ false → brought_to number deed ≡ []
 not_brought number made (Brought ask) isnt = ap (λ (b : Bool). cond b (brought_next ask) []) isnt
-not_brought number made Opened isnt = refl
-not_brought number made (Made ask) isnt = refl
-not_brought number made (Canceled job) isnt = refl
-not_brought number made (HeldBack job) isnt = refl
-not_brought number made (Freed job) isnt = refl
-not_brought number made (Released device job impressions) isnt = refl
-not_brought number made (Started device job) isnt = refl
-not_brought number made (Settled device job impressions failed) isnt = refl
-not_brought number made (Granted month pages) isnt = refl
-not_brought number made (Turned device on) isnt = refl
-not_brought number made (Rated device units) isnt = refl
-not_brought number made NoDeed isnt = refl
+not_brought number made _ isnt = refl
 
 not_taken_back : (number made : ℕ) (deed : Deed) → is_on number made deed ≡ false → takes_back number deed ≡ false
 not_taken_back number made (Canceled job) isnt = isnt
 not_taken_back number made (HeldBack job) isnt = isnt
-not_taken_back number made Opened isnt = refl
-not_taken_back number made (Made ask) isnt = refl
-not_taken_back number made (Brought ask) isnt = refl
-not_taken_back number made (Freed job) isnt = refl
-not_taken_back number made (Released device job impressions) isnt = refl
-not_taken_back number made (Started device job) isnt = refl
-not_taken_back number made (Settled device job impressions failed) isnt = refl
-not_taken_back number made (Granted month pages) isnt = refl
-not_taken_back number made (Turned device on) isnt = refl
-not_taken_back number made (Rated device units) isnt = refl
-not_taken_back number made NoDeed isnt = refl
+not_taken_back number made _ isnt = refl
 
 module _ (number : ℕ) (past : Life) (x : Exchange) where
   abbrev more : Life
@@ -149,10 +128,8 @@ started_not_free device by now (Prints other rate units since is_canceled) free 
 started_not_free device by now (HasEnded how count units since at) free = absurd free
 
 pub settled_was_free : (device : List ℕ) (count : ℕ) (failed : Bool) (now : ℕ) (stage : Stage) → IsFreeFor device (stage_settled count failed now stage) → IsFreeFor device stage
-settled_was_free device count failed now Waits free = absurd free
 settled_was_free device count failed now (IsFree for rate units) free = free
-settled_was_free device count failed now (Prints by rate units since is_canceled) free = absurd free
-settled_was_free device count failed now (HasEnded how counted units since at) free = absurd free
+settled_was_free device count failed now _ free = absurd free
 
 -- one that is released was so before, or it waited
 pub released_was : (device : List ℕ) (for : Option (List ℕ)) (rate units : ℕ) (stage : Stage) → IsFreeFor device (stage_released for rate units stage) → IsFreeFor device stage ⊎ ((stage ≡ Waits) × ((for ≡ None) ⊎ (for ≡ Some device)))
@@ -161,9 +138,14 @@ released_was device for rate units (IsFree other at_rate reserved) free = inl fr
 released_was device for rate units (Prints by at_rate reserved since is_canceled) free = absurd free
 released_was device for rate units (HasEnded how count charged since at) free = absurd free
 
+-- what is released at a device is free for that one alone
+pub bound : (at device : List ℕ) → (Some at ≡ None) ⊎ (Some at ≡ Some device) → at ≡ device
+bound at device (inl none) = absurd (none-some at (sym none))
+bound at device (inr same) = same_Some at device same
+
 -- ---- each deed
 
-module _ (past : Life) (x : Exchange) (number : ℕ) (next : (account_told past).next ≡ jobs_made past + 1) where
+module _ (past : Life) (x : Exchange) (number : ℕ) where
   abbrev told : AccountTold
   told = account_told past
 
@@ -187,16 +169,13 @@ module _ (past : Life) (x : Exchange) (number : ℕ) (next : (account_told past)
     stays = All-nil (λ (y : Exchange). takes_back number (deed_of y) ≡ false);
   }
 
-  its_own : (o : Option JobTold) (q : ℕ) (Is : JobTold → Type 0) (job : JobTold) → number ≡ q → IsSomeAnd (get told.jobs q) Is → there ≡ Some job → Is job
-  its_own o q Is job same is here = subst (λ (o : Option JobTold). IsSomeAnd o Is) (ap (get told.jobs) (sym same) ∙ here) is
-
   -- where the deed is on the job
   on_it : (deed : Deed) → deed_of x ≡ deed → Finds told x deed → is_on number (jobs_made past) deed ≡ true → JobIsByItsMaker number there past → JobIsByItsMaker number (turned (moment_of x) told number deed) after
   on_it (Made ask) is finds on by =
-      let numbered = same_number number (jobs_made past + 1) on in
-      let none : there ≡ None = ap (get told.jobs) (numbered ∙ sym next) ∙ finds in
+      let numbered = eqb-true number (jobs_made past + 1) on in
+      let none : there ≡ None = ap (get told.jobs) (numbered ∙ sym (next_is past)) ∙ finds in
       let unsent : brought_in number past ≡ [] = subst (λ (o : Option JobTold). JobIsByItsMaker number o past) none by in
-      subst (λ (b : Bool). JobIsByItsMaker number (cond b (Some (job_made (moment_of x) ask)) there) after) (sym (ap (λ (n : ℕ). number == n) next ∙ on))
+      subst (λ (b : Bool). JobIsByItsMaker number (cond b (Some (job_made (moment_of x) ask)) there) after) (sym (ap (λ (n : ℕ). number == n) (next_is past) ∙ on))
       (record {
         made = record { before = past; making = x; behind = []; are_these = refl; makes = is; numbered = numbered };
         sent =
@@ -212,9 +191,9 @@ module _ (past : Life) (x : Exchange) (number : ℕ) (next : (account_told past)
       brings = ap (brought_to number) is ∙ ap (λ (b : Bool). cond b (brought_next ask) []) on
 
       brought : (o : Option JobTold) → there ≡ o → JobIsByItsMaker number o past → JobIsByItsMaker number (option_map (job_brought ask) o) after
-      brought None none by = absurd (subst (λ (o : Option JobTold). IsSomeAnd o TakesDocuments) (ap (get told.jobs) (sym (same_number number ask.job on)) ∙ none) finds)
+      brought None none by = absurd (subst (λ (o : Option JobTold). IsSomeAnd o TakesDocuments) (ap (get told.jobs) (sym (eqb-true number ask.job on)) ∙ none) finds)
       brought (Some job) here by =
-          let takes = its_own there ask.job TakesDocuments job (same_number number ask.job on) finds here in
+          let takes = found_it told number ask.job TakesDocuments job here on finds in
           record {
             made = made_still number job.maker past x by.made;
             sent =
@@ -234,7 +213,7 @@ module _ (past : Life) (x : Exchange) (number : ℕ) (next : (account_told past)
       (acted number past x job_freed (λ job. refl) (λ job. refl) (ap (brought_to number) is) there by (λ job here its device free.
       elim (released_was device None _ _ job.stage free) [
         | inl was ↦ leave_still device number past x (ap (takes_back number) is) (its.leave device was)
-        | inr new ↦ new_leave device job here its new.0 (subst (GivesLeave device number job.maker.password (given_in x.0.1)) (sym is) (sym (same_number number q on), (its_own there q CanBeFreed job (same_number number q on) finds here).no_password new.0))
+        | inr new ↦ new_leave device job here its new.0 (subst (GivesLeave device number job.maker.password (given_in x.0.1)) (sym is) (sym (eqb-true number q on), (found_it told number q CanBeFreed job here on finds).no_password new.0))
       ]))
   on_it (Released at q impressions) is finds on by =
       subst (λ (b : Bool). JobIsByItsMaker number (cond b (option_map (job_released at (rate_told told at) impressions) there) there) after) (sym on)
@@ -242,12 +221,8 @@ module _ (past : Life) (x : Exchange) (number : ℕ) (next : (account_told past)
       elim (released_was device (Some at) _ _ job.stage free) [
         | inl was ↦ leave_still device number past x (ap (takes_back number) is) (its.leave device was)
         | inr new ↦ new_leave device job here its new.0 (subst (GivesLeave device number job.maker.password (given_in x.0.1)) (sym is)
-            (bound at device new.1, sym (same_number number q on), (its_own there q (CanBeReleased (given_in x.0.1)) job (same_number number q on) finds here).password_met))
+            (bound at device new.1, sym (eqb-true number q on), (found_it told number q (CanBeReleased (given_in x.0.1)) job here on finds).password_met))
       ]))
-    where
-      bound : (at device : List ℕ) → (Some at ≡ None) ⊎ (Some at ≡ Some device) → at ≡ device
-      bound at device (inl none) = absurd (none-some at (sym none))
-      bound at device (inr same) = same_Some at device same
   on_it (Started at q) is finds on by =
       subst (λ (b : Bool). JobIsByItsMaker number (cond b (option_map (job_started at (moment_of x)) there) there) after) (sym on)
       (acted number past x (job_started at (moment_of x)) (λ job. refl) (λ job. refl) (ap (brought_to number) is) there by (λ job here its device free. started_not_free device at (moment_of x) job.stage free))
@@ -255,35 +230,27 @@ module _ (past : Life) (x : Exchange) (number : ℕ) (next : (account_told past)
       subst (λ (b : Bool). JobIsByItsMaker number (cond b (option_map (job_settled impressions failed (moment_of x)) there) there) after) (sym on)
       (acted number past x (job_settled impressions failed (moment_of x)) (λ job. refl) (λ job. refl) (ap (brought_to number) is) there by
       (λ job here its device free. leave_still device number past x (ap (takes_back number) is) (its.leave device (settled_was_free device impressions failed (moment_of x) job.stage free))))
-  on_it Opened is finds on by = absurd (true≢false (sym on))
-  on_it (Granted month pages) is finds on by = absurd (true≢false (sym on))
-  on_it (Turned device flag) is finds on by = absurd (true≢false (sym on))
-  on_it (Rated device units) is finds on by = absurd (true≢false (sym on))
-  on_it NoDeed is finds on by = absurd (true≢false (sym on))
+  on_it _ is finds on by = absurd (true≢false (sym on))
 
   -- and where it is on another
   more_on : (b : Bool) → is_on number (jobs_made past) (deed_of x) ≡ b → Finds told x (deed_of x) → JobIsByItsMaker number there past → JobIsByItsMaker number (get (after_deed (moment_of x) told (deed_of x)).jobs number) after
   more_on true on finds by = subst (λ (o : Option JobTold). JobIsByItsMaker number o after) (sym (turned_so (moment_of x) told number (deed_of x))) (on_it (deed_of x) refl finds on by)
   more_on false isnt finds by =
-      subst (λ (o : Option JobTold). JobIsByItsMaker number o after) (sym (others_same (moment_of x) told (jobs_made past) number (deed_of x) next isnt))
+      subst (λ (o : Option JobTold). JobIsByItsMaker number o after) (sym (others_same (moment_of x) told (jobs_made past) number (deed_of x) (next_is past) isnt))
       (stays_so number past x there (not_brought number (jobs_made past) (deed_of x) isnt) (not_taken_back number (jobs_made past) (deed_of x) isnt) by)
 
 -- ---- over a life
 
-pub record AreByTheirMakers (past : Life) : Type 0 where
-  pub next : (account_told past).next ≡ jobs_made past + 1
-  pub jobs : (number : ℕ) → JobIsByItsMaker number (get (account_told past).jobs number) past
+abbrev pub AreByTheirMakers : Life → Type 0
+AreByTheirMakers past = (number : ℕ) → JobIsByItsMaker number (get (account_told past).jobs number) past
 
 by_makers_more : (past : Life) (x : Exchange) → Finds (account_told past) x (deed_of x) → AreByTheirMakers past → AreByTheirMakers (past ++ x ∷ [])
-by_makers_more past x finds by = record {
-  next = next_more past x by.next;
-  jobs = λ number.
-      subst (λ (told : AccountTold). JobIsByItsMaker number (get told.jobs number) (past ++ x ∷ [])) (sym (told_more past x))
-      (more_on past x number by.next (is_on number (jobs_made past) (deed_of x)) refl finds (by.jobs number));
-}
+by_makers_more past x finds by number =
+    subst (λ (told : AccountTold). JobIsByItsMaker number (get told.jobs number) (past ++ x ∷ [])) (sym (told_more past x))
+    (more_on past x number (is_on number (jobs_made past) (deed_of x)) refl finds (by number))
 
 by_makers_first : AreByTheirMakers []
-by_makers_first = record { next = refl; jobs = λ number. subst (λ (o : Option JobTold). JobIsByItsMaker number o []) (sym (get-empty nat_cmp number)) refl }
+by_makers_first number = subst (λ (o : Option JobTold). JobIsByItsMaker number o []) (sym (get-empty nat_cmp number)) refl
 
 pub by_makers : (past : Life) → FindAll nothing_told past → AreByTheirMakers past
 by_makers past all = grows_to AreByTheirMakers by_makers_more by_makers_first past all
@@ -304,14 +271,14 @@ pub handed_by_leave : leave.HandedByLeave
 handed_by_leave life room devices is past later x device number here starts =
     let at = found_at life past later x room devices is here in
     let finds : Finds (account_told past) x (Started device number) = subst (Finds (account_told past) x) starts at.finds in
-    let job = started_job device number x.1 past (get (account_told past).jobs number) finds.1 ((by_makers past at.first).jobs number) in
+    let job = started_job device number x.1 past (get (account_told past).jobs number) finds.1 (by_makers past at.first number) in
     (job.by.leave device job.can.is_free, finds.0)
 
 pub handed_as_sent : sent.HandedAsSent
 handed_as_sent life room devices is past later now account device number parts here =
     let x : Exchange = ((now, OfAccount account (Start device number)), reply.Documents parts) in
     let at = found_at life past later x room devices is here in
-    let job = started_job device number (reply.Documents parts) past (get (account_told past).jobs number) at.finds.1 ((by_makers past at.first).jobs number) in
+    let job = started_job device number (reply.Documents parts) past (get (account_told past).jobs number) at.finds.1 (by_makers past at.first number) in
     let handed = job.can.handed in
     let same : parts ≡ map (part_told number job.job.maker.copies) job.job.documents = cc in
     record { maker = job.job.maker; made = job.by.made; are_these = same ∙ ap (map (part_told number job.job.maker.copies)) job.by.sent }

@@ -2,12 +2,12 @@
 use Rattle.std.proofs.Common.{◌≡◌, ℕ, ◌+◌, ◌≤◌, Bool, true, false, cond, ◌==◌, List, [], ◌∷◌, ◌++◌, count_by, Option, Some, None, option_map, IsSomeAnd, refl, sym, ap, subst, ◌∙◌, arith}
 use Rattle.std.specs.FinMap.{get, get-empty}
 use Rattle.std.specs.Ordering.{nat_cmp}
-use Rattle.std.proofs.lemmas.Bool.{true≢false}
+use Rattle.std.proofs.lemmas.Bool.{eqb-true, true≢false}
 use Rattle.room_laws.proofs.AsTold.{told_more}
 use Rattle.room_laws.proofs.DeedFinds.{CanBeStarted, Finds, IsFreeFor, IsPrinted, grows}
-use Rattle.room_laws.proofs.DeedTurns.{count_push, same_number, turned, turned_so}
+use Rattle.room_laws.proofs.DeedTurns.{count_push, turned, turned_so}
 use Rattle.room_laws.specs.AccountsTold.{AccountTold, account_told}
-use Rattle.room_laws.specs.Deeds.{Deed, Opened, Made, Brought, Canceled, HeldBack, Freed, Released, Started, Settled, Granted, Turned, Rated, NoDeed, deed_of, moment_of}
+use Rattle.room_laws.specs.Deeds.{Deed, Made, Brought, Canceled, HeldBack, Freed, Released, Started, Settled, deed_of, moment_of}
 use Rattle.room_laws.specs.HandedOnce as law
 use Rattle.room_laws.specs.HandedOnce.{hands_out, settles, SettledOnceAtMost}
 use Rattle.room_laws.specs.JobsTold.{JobTold, Stage, Waits, IsFree, Prints, HasEnded, stage_canceled, stage_held, stage_released, stage_settled, stage_started}
@@ -37,10 +37,9 @@ module _ (left : Stage → ℕ) (never : NeverGrows left) (now : ℕ) (told : Ac
   changed_at_most false change o falls = omega arith
 
   none_new : get told.jobs told.next ≡ None → (q == told.next) ≡ true → get told.jobs q ≡ None
-  none_new none same = ap (get told.jobs) (same_number q told.next same) ∙ none
+  none_new none same = ap (get told.jobs) (eqb-true q told.next same) ∙ none
 
   turned_at_most : (deed : Deed) → Finds told x deed → left_to left (turned now told q deed) ≤ left_to left (get told.jobs q)
-  turned_at_most Opened finds = omega arith
   turned_at_most (Made ask) finds = new_at_most (q == told.next) _ (get told.jobs q) never.one (none_new finds)
   turned_at_most (Brought ask) finds = changed_at_most (q == ask.job) _ (get told.jobs q) (λ job. omega arith)
   turned_at_most (Canceled number) finds = changed_at_most (q == number) _ (get told.jobs q) (λ job. never.canceled now job.stage)
@@ -49,10 +48,7 @@ module _ (left : Stage → ℕ) (never : NeverGrows left) (now : ℕ) (told : Ac
   turned_at_most (Released device number impressions) finds = changed_at_most (q == number) _ (get told.jobs q) (λ job. never.released _ _ _ job.stage)
   turned_at_most (Started device number) finds = changed_at_most (q == number) _ (get told.jobs q) (λ job. never.started device now job.stage)
   turned_at_most (Settled device number impressions failed) finds = changed_at_most (q == number) _ (get told.jobs q) (λ job. never.settled impressions failed now job.stage)
-  turned_at_most (Granted month pages) finds = omega arith
-  turned_at_most (Turned device on) finds = omega arith
-  turned_at_most (Rated device units) finds = omega arith
-  turned_at_most NoDeed finds = omega arith
+  turned_at_most _ finds = omega arith
 
   -- it is one less where it happens
   abbrev FallsWhere : (Deed → Bool) → Deed → Type 0
@@ -99,15 +95,13 @@ starts_never_grow = record {
 }
 
 start_takes_one : (device : List ℕ) (now : ℕ) (stage : Stage) → IsFreeFor device stage → to_start (stage_started device now stage) + 1 ≤ to_start stage
-start_takes_one device now Waits free = absurd free
 start_takes_one device now (IsFree for rate units) free = omega arith
-start_takes_one device now (Prints by rate units since is_canceled) free = absurd free
-start_takes_one device now (HasEnded how count units since at) free = absurd free
+start_takes_one device now _ free = absurd free
 
 starts_fall : (now : ℕ) (told : AccountTold) (x : Exchange) (q : ℕ) (deed : Deed) → Finds told x deed → hands_out q deed ≡ true → left_to to_start (turned now told q deed) + 1 ≤ left_to to_start (get told.jobs q)
 starts_fall now told x q (Started device number) finds is =
     subst (λ (b : Bool). left_to to_start (cond b (option_map (λ (job : JobTold). record job { stage = stage_started device now job.stage }) (get told.jobs q)) (get told.jobs q)) + 1 ≤ left_to to_start (get told.jobs q)) (sym is)
-    (by (get told.jobs q) (subst (λ (n : ℕ). IsSomeAnd (get told.jobs n) (CanBeStarted device number x.1)) (sym (same_number q number is)) finds.1))
+    (by (get told.jobs q) (subst (λ (n : ℕ). IsSomeAnd (get told.jobs n) (CanBeStarted device number x.1)) (sym (eqb-true q number is)) finds.1))
   where
     by : (o : Option JobTold) → IsSomeAnd o (CanBeStarted device number x.1) → left_to to_start (option_map (λ (job : JobTold). record job { stage = stage_started device now job.stage }) o) + 1 ≤ left_to to_start o
     by None can = absurd can
@@ -136,15 +130,13 @@ settlements_never_grow = record {
 }
 
 settlement_takes_one : (count : ℕ) (failed : Bool) (now : ℕ) (stage : Stage) → IsPrinted stage → to_settle (stage_settled count failed now stage) + 1 ≤ to_settle stage
-settlement_takes_one count failed now Waits printed = absurd printed
-settlement_takes_one count failed now (IsFree for rate units) printed = absurd printed
 settlement_takes_one count failed now (Prints by rate units since is_canceled) printed = omega arith
-settlement_takes_one count failed now (HasEnded how counted units since at) printed = absurd printed
+settlement_takes_one count failed now _ printed = absurd printed
 
 settlements_fall : (now : ℕ) (told : AccountTold) (x : Exchange) (q : ℕ) (deed : Deed) → Finds told x deed → settles q deed ≡ true → left_to to_settle (turned now told q deed) + 1 ≤ left_to to_settle (get told.jobs q)
 settlements_fall now told x q (Settled device number impressions failed) finds is =
     subst (λ (b : Bool). left_to to_settle (cond b (option_map (λ (job : JobTold). record job { stage = stage_settled impressions failed now job.stage }) (get told.jobs q)) (get told.jobs q)) + 1 ≤ left_to to_settle (get told.jobs q)) (sym is)
-    (by (get told.jobs q) (subst (λ (n : ℕ). IsSomeAnd (get told.jobs n) (λ (job : JobTold). IsPrinted job.stage)) (sym (same_number q number is)) finds))
+    (by (get told.jobs q) (subst (λ (n : ℕ). IsSomeAnd (get told.jobs n) (λ (job : JobTold). IsPrinted job.stage)) (sym (eqb-true q number is)) finds))
   where
     by : (o : Option JobTold) → IsSomeAnd o (λ (job : JobTold). IsPrinted job.stage) → left_to to_settle (option_map (λ (job : JobTold). record job { stage = stage_settled impressions failed now job.stage }) o) + 1 ≤ left_to to_settle o
     by None can = absurd can

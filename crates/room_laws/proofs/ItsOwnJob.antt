@@ -5,17 +5,14 @@ use Rattle.std.proofs.lemmas.Bool.{true≢false}
 use Rattle.std.proofs.lemmas.Option.{none-some}
 use Rattle.room_asks.specs.Asks.{PlainAsk}
 use Rattle.room_asks.specs.declared.operation.Operation.{Operation}
-use Rattle.room_asks.specs.declared.operation.Operation.TheVariants.{PrintJob, ValidateJob, CreateJob, SendDocument, GetJobAttributes, GetJobs, GetPrinterAttributes}
 use Rattle.room_asks.specs.declared.operation.Operation.TheVariants as asks
 use Rattle.room_core.specs.DeviceEvents.{device_answered}
 use Rattle.room_core.specs.Events.{AccountEvent, DeviceEvent, OfAccount, OfDevice, Open, Ipp, Release, Start, Settle, Grant, Turn, Rate}
 use Rattle.room_core.specs.Machine.{answered}
 use Rattle.room_core.specs.declared.event.Reply.{Reply}
-use Rattle.room_laws.proofs.AsTold.{deed_done, makes_one_job, no_deed, rated_by, told_more}
+use Rattle.room_laws.proofs.AsTold.{deed_done, makes_one_job, no_deed, rated_by, reads_nothing, told_more}
 use Rattle.room_laws.proofs.Changes.{Makes, refuses, reads, makes, takes, acts, releases, starts, settles, grants, act_asked, makes_one}
-use Rattle.room_laws.proofs.DeedFinds.{found_at}
-use Rattle.room_laws.proofs.DeedTurns.{next_after, others_same}
-use Rattle.room_laws.proofs.HandedByLeave.{by_makers}
+use Rattle.room_laws.proofs.DeedTurns.{next_after, next_is, others_same}
 use Rattle.room_laws.proofs.LifeLemmas.{front_of_life, leads_on}
 use Rattle.room_laws.specs.AccountsTold.{AccountTold, account_told, after_deed}
 use Rattle.room_laws.specs.Deeds.{Deed, Opened, Made, Brought, Released, Started, Settled, Granted, Turned, Rated, NoDeed, account_deed, asked_deed, deed_of, deed_of_request, device_deed, moment_of}
@@ -29,13 +26,10 @@ use Rattle.room_rules.specs.declared.job.Job.{Job}
 use Rattle.room_state.specs.Rooms.{RoomValue}
 
 pub its_own_job_alone : ItsOwnJobAlone
-its_own_job_alone life room devices is past later x here =
-    let at = found_at life past later x room devices is here in
-    let next = (by_makers past at.first).next in
-    record {
-      others = λ number isnt. ap (λ (told : AccountTold). get told.jobs number) (told_more past x) ∙ others_same (moment_of x) (account_told past) (jobs_made past) number (deed_of x) next isnt;
-      next = ap (λ (told : AccountTold). told.next) (told_more past x) ∙ next_after (moment_of x) (account_told past) (deed_of x);
-    }
+its_own_job_alone life room devices is past later x here = record {
+  others = λ number isnt. ap (λ (told : AccountTold). get told.jobs number) (told_more past x) ∙ others_same (moment_of x) (account_told past) (jobs_made past) number (deed_of x) (next_is past) isnt;
+  next = ap (λ (told : AccountTold). told.next) (told_more past x) ∙ next_after (moment_of x) (account_told past) (deed_of x);
+}
 
 -- ---- what does nothing
 
@@ -91,25 +85,13 @@ without past later ((now, OfDevice device it), said) r left d known first rest n
     let same = same_devices d device it (ap (device_deed device it) (sym rest.0) ∙ none) in
     leads_on past later None r left empty d known first (subst (λ (devices : Devices). LeadsTo r devices later left known) same rest.1)
 
-only_asks_no_deed : (ask : PlainAsk) (operation : Operation) → only_asks operation ≡ true → asked_deed ask operation ≡ NoDeed
-only_asks_no_deed ask ValidateJob only = refl
-only_asks_no_deed ask GetJobAttributes only = refl
-only_asks_no_deed ask GetJobs only = refl
-only_asks_no_deed ask GetPrinterAttributes only = refl
-only_asks_no_deed ask PrintJob only = absurd (true≢false (sym only))
-only_asks_no_deed ask CreateJob only = absurd (true≢false (sym only))
-only_asks_no_deed ask SendDocument only = absurd (true≢false (sym only))
-only_asks_no_deed ask asks.CancelJob only = absurd (true≢false (sym only))
-only_asks_no_deed ask asks.HoldJob only = absurd (true≢false (sym only))
-only_asks_no_deed ask asks.ReleaseJob only = absurd (true≢false (sym only))
-
 asks_nothing : (x : Exchange) → OnlyAsks x.0.1 → deed_of x ≡ NoDeed
 asks_nothing ((now, OfAccount account (Ipp body)), said) only =
     elim (is_successful said) as (λ (b : Bool). cond b (deed_of_request (request_of account (Ipp body))) NoDeed ≡ NoDeed) [ true ↦ by (request_of account (Ipp body)) only | false ↦ refl ]
   where
     by : (o : Option PlainAsk) → IsSomeAnd o (λ (ask : PlainAsk). only_asks ask.operation ≡ true) → deed_of_request o ≡ NoDeed
     by None only = absurd only
-    by (Some ask) only = only_asks_no_deed ask ask.operation only
+    by (Some ask) only = reads_nothing ask ask.operation only
 asks_nothing ((now, OfAccount account Open), said) only = absurd only
 asks_nothing ((now, OfAccount account (Release device number password impressions)), said) only = absurd only
 asks_nothing ((now, OfAccount account (Start device number)), said) only = absurd only

@@ -1,10 +1,8 @@
 -- A map from numbers in which each value is changed, by its number.
 use Rattle.std.proofs.Common.{arith, ◌≡◌, ℕ, Bool, true, false, cond, ◌&&◌, T, List, [], ◌∷◌, map, Some, option_map, refl, sym, ap, subst, ◌∙◌}
 use Rattle.std.specs.Ordering.{nat_cmp, eq_by_cmp, is_lt}
-use Rattle.std.specs.Cmp.{nat_cmp_total}
-use Rattle.std.specs.FinMap.{FinMap, get, entries, entries_sorted, values, find, from_sorted, is_sorted, entries-from_sorted, get-from_sorted, get-entries, nat_cmp-IsAntisymmetric, same_map}
+use Rattle.std.specs.FinMap.{FinMap, get, entries, entries_sorted, values, find, from_sorted, is_sorted, entries-from_sorted, get-from_sorted, get-entries}
 use Rattle.std.specs.FinMap.Entries.{below_all}
-use Rattle.room_laws.proofs.MappedValues.{values-with_each, get-with_each, with_each}
 use Rattle.std.proofs.lemmas.Grind.{common_steps}
 
 same_number : (k q : ℕ) → eq_by_cmp nat_cmp k q ≡ true → q ≡ k
@@ -34,29 +32,21 @@ module _ {X Y : Type 0} (change : ℕ → X → Y) where
   second_keyed [] = refl
   second_keyed (e ∷ es) = ap (λ rest. change e.0 e.1 ∷ rest) (second_keyed es)
 
-  with_keyed : FinMap nat_cmp X → FinMap nat_cmp Y
+  pub with_keyed : FinMap nat_cmp X → FinMap nat_cmp Y
   with_keyed m = from_sorted (keyed_entries (entries m))
 
   still_sorted : (m : FinMap nat_cmp X) → T (is_sorted nat_cmp (keyed_entries (entries m)))
   still_sorted m = subst T (sym (sorted_keyed (entries m))) (entries_sorted m)
 
-  get-with_keyed : (m : FinMap nat_cmp X) (k : ℕ) → get (with_keyed m) k ≡ option_map (change k) (get m k)
+  pub get-with_keyed : (m : FinMap nat_cmp X) (k : ℕ) → get (with_keyed m) k ≡ option_map (change k) (get m k)
   unfolding with_keyed
   get-with_keyed m k =
       get-from_sorted nat_cmp (keyed_entries (entries m)) k (still_sorted m)
       ∙ find_keyed k (entries m)
       ∙ ap (option_map (change k)) (sym (get-entries m k))
 
-  values-with_keyed : (m : FinMap nat_cmp X) → values (with_keyed m) ≡ map (λ (e : ℕ × X). change e.0 e.1) (entries m)
+  pub values-with_keyed : (m : FinMap nat_cmp X) → values (with_keyed m) ≡ map (λ (e : ℕ × X). change e.0 e.1) (entries m)
   unfolding with_keyed
   values-with_keyed m =
       ap (map (λ (e : ℕ × Y). e.1)) (entries-from_sorted nat_cmp (keyed_entries (entries m)) (still_sorted m))
       ∙ second_keyed (entries m)
-
--- two maps that are alike at each number, but for changes, have values that are alike in their order
-pub same_in_order : {X Z Y : Type 0} (change : X → Y) (other : ℕ → Z → Y) (m : FinMap nat_cmp X) (n : FinMap nat_cmp Z) → ((k : ℕ) → option_map change (get m k) ≡ option_map (other k) (get n k))
-    → map change (values m) ≡ map (λ (e : ℕ × Z). other e.0 e.1) (entries n)
-same_in_order change other m n same =
-    sym (values-with_each change m)
-    ∙ ap values (same_map nat_cmp_total nat_cmp-IsAntisymmetric (with_each change m) (with_keyed other n) (λ q. get-with_each change m q ∙ same q ∙ sym (get-with_keyed other n q)))
-    ∙ values-with_keyed other n

@@ -1,16 +1,15 @@
--- A job stays for good, and one that has ended stays as it ended.
-use Rattle.std.proofs.Common.{◌≡◌, ◌≢◌, ℕ, ◌<◌, ◌==◌, Bool, true, false, cond, [], ◌∷◌, ◌++◌, append-nil, append_assoc, Option, Some, None, refl, sym, ap, subst, ◌∙◌, arith}
-use Rattle.std.specs.FinMap.{FinMap, get, get-empty, insert}
-use Rattle.std.specs.Option.{option_map_or}
+-- A job stays for good, with its maker and the moment that it was made at.
+use Rattle.std.proofs.Common.{◌≡◌, ◌≢◌, ℕ, ◌<◌, ◌==◌, Bool, true, false, cond, [], ◌∷◌, ◌++◌, append-nil, append_assoc, Option, Some, None, refl, sym, ap, subst, ◌∙◌, arith, option_map}
+use Rattle.std.specs.FinMap.{FinMap, get, get-empty}
 use Rattle.std.specs.Ordering.{nat_cmp}
-use Rattle.std.proofs.lemmas.Bool.Decides.{nat_tests}
+use Rattle.std.proofs.lemmas.Bool.{ne_eqb}
 use Rattle.std.proofs.lemmas.Option.{none-some}
-use Rattle.room_laws.proofs.Afterwards.{inserted}
-use Rattle.room_laws.proofs.AsTold.{AccountKeeps, Keeps, all_keep, told_more, with_job_there}
+use Rattle.room_laws.proofs.AsTold.{AccountKeeps, Keeps, all_keep, told_more}
+use Rattle.room_laws.proofs.DeedTurns.{turned, turned_so}
 use Rattle.room_laws.proofs.LifeLemmas.{front_of_life}
-use Rattle.room_laws.specs.AccountsTold.{AccountTold, account_told, after_deed, with_job}
-use Rattle.room_laws.specs.Deeds.{Deed, Opened, Made, Brought, Canceled, HeldBack, Freed, Released, Started, Settled, Granted, Turned, Rated, NoDeed, deed_of, moment_of}
-use Rattle.room_laws.specs.JobsTold.{JobTold}
+use Rattle.room_laws.specs.AccountsTold.{AccountTold, account_told, after_deed, rate_told}
+use Rattle.room_laws.specs.Deeds.{Deed, Made, Brought, Canceled, HeldBack, Freed, Released, Started, Settled, deed_of, moment_of}
+use Rattle.room_laws.specs.JobsTold.{JobTold, job_brought, job_canceled, job_freed, job_held, job_made, job_released, job_settled, job_started}
 use Rattle.room_laws.specs.LastingJobs.{HasLasted, JobsLast}
 use Rattle.room_laws.specs.Lives.{Exchange, IsLife, Life}
 use Rattle.room_laws.specs.StandsAsTold.{AreAsTold, WasNotOpened}
@@ -18,20 +17,7 @@ use Rattle.room_rules.specs.Devices.{Devices}
 use Rattle.room_rules.specs.declared.job.Job.{Job}
 use Rattle.room_state.specs.Rooms.{RoomValue}
 
--- ---- another number stays
-
-differs : (q n : ℕ) → q ≢ n → (q == n) ≡ false
-differs q n apart = grind (arith, nat_tests)
-
-put_elsewhere : {X : Type 0} (m : FinMap nat_cmp X) (n : ℕ) (x : X) (q : ℕ) → q ≢ n → get (insert m n x) q ≡ get m q
-put_elsewhere m n x q apart = inserted m n x q ∙ ap (λ (b : Bool). cond b (Some x) (get m q)) (differs q n apart)
-
-job_elsewhere : (told : AccountTold) (number : ℕ) (change : JobTold → JobTold) (q : ℕ) → q ≢ number → get (with_job told number change).jobs q ≡ get told.jobs q
-job_elsewhere told number change q apart = by (get told.jobs number)
-  where
-    by : (found : Option JobTold) → get (option_map_or (λ (job : JobTold). record told { jobs = insert told.jobs number (change job) }) found told).jobs q ≡ get told.jobs q
-    by None = refl
-    by (Some job) = put_elsewhere told.jobs number (change job) q apart
+-- ---- a job that was told of before
 
 -- a job that was told of is in the room, and has a number below the next
 is_below : (told : AccountTold) (room : RoomValue) → Keeps told room → (number : ℕ) (ticket : JobTold) → get told.jobs number ≡ Some ticket → number < told.next
@@ -52,44 +38,26 @@ has_lasted number ticket told is = record { later = ticket; is_there = is; maker
 goes_on : (number : ℕ) (ticket later : JobTold) (told : AccountTold) → HasLasted number later told → later.maker ≡ ticket.maker → later.made ≡ ticket.made → HasLasted number ticket told
 goes_on number ticket later told lasted maker made = record { later = lasted.later; is_there = lasted.is_there; maker = lasted.maker ∙ maker; made = lasted.made ∙ made }
 
-same_key : (n : ℕ) → (n == n) ≡ true
-same_key n = grind (arith, nat_tests)
-
-same_number : (q n : ℕ) → (q == n) ≡ true → q ≡ n
-same_number q n same = grind (arith, nat_tests)
-
-other_number : (q n : ℕ) → (q == n) ≡ false → q ≢ n
-other_number q n other = grind (arith, nat_tests)
-
 module _ (told : AccountTold) (number : ℕ) (ticket : JobTold) (is : get told.jobs number ≡ Some ticket) (old : number ≢ told.next) (now : ℕ) where
-  lasts_by : (moved : ℕ) (change : JobTold → JobTold) → ((job : JobTold) → ((change job).maker ≡ job.maker) × ((change job).made ≡ job.made)) → HasLasted number ticket (with_job told moved change)
-  lasts_by moved change same = by (number == moved) refl
-    where
-      by : (b : Bool) → (number == moved) ≡ b → HasLasted number ticket (with_job told moved change)
-      by true this =
-          let here : get told.jobs moved ≡ Some ticket = ap (λ (n : ℕ). get told.jobs n) (sym (same_number number moved this)) ∙ is in
-          record {
-            later = change ticket;
-            is_there = ap (λ (t : AccountTold). get t.jobs number) (with_job_there told moved change ticket here) ∙ inserted told.jobs moved (change ticket) number ∙ ap (λ (b : Bool). cond b (Some (change ticket)) (get told.jobs number)) this;
-            maker = (same ticket).0;
-            made = (same ticket).1;
-          }
-      by false other = has_lasted number ticket (with_job told moved change) (job_elsewhere told moved change number (other_number number moved other) ∙ is)
+  -- where a deed is on the job or is not
+  kept : (after : AccountTold) (on : Bool) (change : JobTold → JobTold) → ((job : JobTold) → ((change job).maker ≡ job.maker) × ((change job).made ≡ job.made))
+      → get after.jobs number ≡ cond on (option_map change (get told.jobs number)) (get told.jobs number) → HasLasted number ticket after
+  kept after true change same so = record { later = change ticket; is_there = so ∙ ap (option_map change) is; maker = (same ticket).0; made = (same ticket).1 }
+  kept after false change same so = has_lasted number ticket after (so ∙ is)
+
+  lasts_by : (deed : Deed) → get (after_deed now told deed).jobs number ≡ turned now told number deed → HasLasted number ticket (after_deed now told deed)
+  lasts_by (Made ask) so = has_lasted number ticket (after_deed now told (Made ask)) (so ∙ ap (λ (b : Bool). cond b (Some (job_made now ask)) (get told.jobs number)) (ne_eqb number told.next old) ∙ is)
+  lasts_by (Brought ask) so = kept (after_deed now told (Brought ask)) (number == ask.job) (job_brought ask) (λ job. (refl, refl)) so
+  lasts_by (Canceled moved) so = kept (after_deed now told (Canceled moved)) (number == moved) (job_canceled now) (λ job. (refl, refl)) so
+  lasts_by (HeldBack moved) so = kept (after_deed now told (HeldBack moved)) (number == moved) job_held (λ job. (refl, refl)) so
+  lasts_by (Freed moved) so = kept (after_deed now told (Freed moved)) (number == moved) job_freed (λ job. (refl, refl)) so
+  lasts_by (Released device moved impressions) so = kept (after_deed now told (Released device moved impressions)) (number == moved) (job_released device (rate_told told device) impressions) (λ job. (refl, refl)) so
+  lasts_by (Started device moved) so = kept (after_deed now told (Started device moved)) (number == moved) (job_started device now) (λ job. (refl, refl)) so
+  lasts_by (Settled device moved impressions failed) so = kept (after_deed now told (Settled device moved impressions failed)) (number == moved) (job_settled impressions failed now) (λ job. (refl, refl)) so
+  lasts_by deed so = has_lasted number ticket (after_deed now told deed) (so ∙ is)
 
   lasts : (deed : Deed) → HasLasted number ticket (after_deed now told deed)
-  lasts (Made ask) = has_lasted number ticket (after_deed now told (Made ask)) (put_elsewhere told.jobs told.next _ number old ∙ is)
-  lasts (Brought ask) = lasts_by ask.job _ (λ job. (refl, refl))
-  lasts (Canceled moved) = lasts_by moved _ (λ job. (refl, refl))
-  lasts (HeldBack moved) = lasts_by moved _ (λ job. (refl, refl))
-  lasts (Freed moved) = lasts_by moved _ (λ job. (refl, refl))
-  lasts (Released device moved impressions) = lasts_by moved _ (λ job. (refl, refl))
-  lasts (Started device moved) = lasts_by moved _ (λ job. (refl, refl))
-  lasts (Settled device moved impressions failed) = lasts_by moved _ (λ job. (refl, refl))
-  lasts Opened = has_lasted number ticket (after_deed now told Opened) is
-  lasts (Granted month pages) = has_lasted number ticket (after_deed now told (Granted month pages)) is
-  lasts (Turned device on) = has_lasted number ticket (after_deed now told (Turned device on)) is
-  lasts (Rated device units) = has_lasted number ticket (after_deed now told (Rated device units)) is
-  lasts NoDeed = has_lasted number ticket told is
+  lasts deed = lasts_by deed (turned_so now told number deed)
 
 is_old_in : (told : AccountTold) (room : Option RoomValue) → AccountKeeps told room → (number : ℕ) (ticket : JobTold) → get told.jobs number ≡ Some ticket → number ≢ told.next
 is_old_in told None was number ticket is same = none_told told was number ticket is

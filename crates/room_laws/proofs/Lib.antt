@@ -9,9 +9,6 @@ pub mod MappedValues
 pub mod HiddenPasswords
 pub mod HiddenRooms
 pub mod HiddenAnswers
-pub mod LikeRooms
-pub mod HiddenDifferences
-pub mod Guesses
 pub mod MovedStandings
 pub mod StepsKeepRooms
 pub mod DevicesStay

@@ -1,11 +1,11 @@
 -- A map from numbers in which each value is changed.
-use Rattle.std.proofs.Common.{◌≡◌, ℕ, Bool, true, false, cond, ◌&&◌, ◌||◌, T, List, [], ◌∷◌, map, filter, Option, Some, None, option_map, sum, refl, sym, ap, subst, ◌∙◌}
+use Rattle.std.proofs.Common.{◌≡◌, ℕ, Bool, true, false, cond, ◌||◌, List, [], ◌∷◌, map, filter, Option, Some, None, option_map, sum, refl, sym, ap, ◌∙◌}
 use Rattle.std.proofs.lemmas.List.Sums.{sum-map}
 use Rattle.std.specs.List.{list_any, sum_by}
-use Rattle.std.specs.Ordering.{nat_cmp, eq_by_cmp, is_lt}
+use Rattle.std.specs.Ordering.{nat_cmp, eq_by_cmp}
 use Rattle.std.specs.Cmp.{nat_cmp_total}
-use Rattle.std.specs.FinMap.{FinMap, get, insert, entries, entries_sorted, values, find, from_sorted, is_sorted, entries-from_sorted, get-from_sorted, get-entries, get-insert, nat_cmp-IsAntisymmetric, same_map}
-use Rattle.std.specs.FinMap.Entries.{below_all}
+use Rattle.std.specs.FinMap.{FinMap, get, insert, entries, values, get-insert, nat_cmp-IsAntisymmetric, same_map}
+use Rattle.room_laws.proofs.KeyedValues.{get-with_keyed, values-with_keyed, with_keyed}
 
 -- ---- lists
 
@@ -21,54 +21,23 @@ module _ {X Y : Type 0} (change : X → Y) where
       elim (test (change x)) as (λ b. cond b (change x ∷ filter test (map change xs)) (filter test (map change xs)) ≡ map change (cond b (x ∷ filter (λ x. test (change x)) xs) (filter (λ x. test (change x)) xs)))
       [ true ↦ ap (λ rest. change x ∷ rest) rest | false ↦ rest ]
 
-  pub map_changed : {Z : Type 0} (f : Y → Z) (xs : List X) → map f (map change xs) ≡ map (λ x. f (change x)) xs
-  map_changed f [] = refl
-  map_changed f (x ∷ xs) = ap (λ rest. f (change x) ∷ rest) (map_changed f xs)
-
--- ---- entries
+-- ---- maps
 
 module _ {X Y : Type 0} (change : X → Y) where
-  abbrev changed_entries : List (ℕ × X) → List (ℕ × Y)
-  changed_entries = map (λ (e : ℕ × X). (e.0, change e.1))
-
-  below_changed : (k : ℕ) (es : List (ℕ × X)) → below_all nat_cmp k (changed_entries es) ≡ below_all nat_cmp k es
-  below_changed k [] = refl
-  below_changed k (e ∷ es) = ap (λ b. is_lt (nat_cmp k e.0) && b) (below_changed k es)
-
-  sorted_changed : (es : List (ℕ × X)) → is_sorted nat_cmp (changed_entries es) ≡ is_sorted nat_cmp es
-  sorted_changed [] = refl
-  sorted_changed (e ∷ es) = λ i. below_changed e.0 es i && sorted_changed es i
-
-  find_changed : (k : ℕ) (es : List (ℕ × X)) → find nat_cmp k (changed_entries es) ≡ option_map change (find nat_cmp k es)
-  find_changed k [] = refl
-  find_changed k (e ∷ es) =
-      elim (eq_by_cmp nat_cmp k e.0) as (λ b. cond b (Some (change e.1)) (find nat_cmp k (changed_entries es)) ≡ option_map change (cond b (Some e.1) (find nat_cmp k es)))
-      [ true ↦ refl | false ↦ find_changed k es ]
-
-  second_changed : (es : List (ℕ × X)) → map (λ (e : ℕ × Y). e.1) (changed_entries es) ≡ map change (map (λ (e : ℕ × X). e.1) es)
-  second_changed [] = refl
-  second_changed (e ∷ es) = ap (λ rest. change e.1 ∷ rest) (second_changed es)
-
-  -- ---- maps
-
   pub with_each : FinMap nat_cmp X → FinMap nat_cmp Y
-  with_each m = from_sorted (changed_entries (entries m))
-
-  still_sorted : (m : FinMap nat_cmp X) → T (is_sorted nat_cmp (changed_entries (entries m)))
-  still_sorted m = subst T (sym (sorted_changed (entries m))) (entries_sorted m)
+  with_each m = with_keyed (λ _. change) m
 
   pub get-with_each : (m : FinMap nat_cmp X) (k : ℕ) → get (with_each m) k ≡ option_map change (get m k)
   unfolding with_each
-  get-with_each m k =
-      get-from_sorted nat_cmp (changed_entries (entries m)) k (still_sorted m)
-      ∙ find_changed k (entries m)
-      ∙ ap (option_map change) (sym (get-entries m k))
+  get-with_each m k = get-with_keyed (λ _. change) m k
+
+  second_changed : (es : List (ℕ × X)) → map (λ (e : ℕ × X). change e.1) es ≡ map change (map (λ (e : ℕ × X). e.1) es)
+  second_changed [] = refl
+  second_changed (e ∷ es) = ap (λ rest. change e.1 ∷ rest) (second_changed es)
 
   pub values-with_each : (m : FinMap nat_cmp X) → values (with_each m) ≡ map change (values m)
   unfolding with_each
-  values-with_each m =
-      ap (map (λ (e : ℕ × Y). e.1)) (entries-from_sorted nat_cmp (changed_entries (entries m)) (still_sorted m))
-      ∙ second_changed (entries m)
+  values-with_each m = values-with_keyed (λ _. change) m ∙ second_changed (entries m)
 
   change_chosen : (b : Bool) (v : X) (found : Option X) → option_map change (cond b (Some v) found) ≡ cond b (Some (change v)) (option_map change found)
   change_chosen true v found = refl
@@ -102,3 +71,11 @@ sum_with_each f g m n same =
     sym (sum-map f (values m))
     ∙ ap sum (sym (values-with_each f m) ∙ ap values (same_with_each f g m n same) ∙ values-with_each g n)
     ∙ sum-map g (values n)
+
+-- two maps that are alike at each number, but for changes, have values that are alike in their order
+pub same_in_order : {X Z Y : Type 0} (change : X → Y) (other : ℕ → Z → Y) (m : FinMap nat_cmp X) (n : FinMap nat_cmp Z) → ((k : ℕ) → option_map change (get m k) ≡ option_map (other k) (get n k))
+    → map change (values m) ≡ map (λ (e : ℕ × Z). other e.0 e.1) (entries n)
+same_in_order change other m n same =
+    sym (values-with_each change m)
+    ∙ ap values (same_map nat_cmp_total nat_cmp-IsAntisymmetric (with_each change m) (with_keyed other n) (λ q. get-with_each change m q ∙ same q ∙ sym (get-with_keyed other n q)))
+    ∙ values-with_keyed other n

@@ -1,13 +1,15 @@
 -- What an act leaves of a job's standing, and what it changes.
-use Rattle.std.proofs.Common.{◌≡◌, ◌+◌, ◌<◌, Bool, true, false, if◌then◌else◌, Ok, arith}
+use Rattle.std.proofs.Common.{◌≡◌, ◌+◌, ◌<◌, Bool, true, false, if◌then◌else◌, Ok, arith, refl, Result}
 use Rattle.std.proofs.lemmas.Bool.Decides.{nat_tests}
 use Rattle.std.proofs.lemmas.Grind.{common_steps}
 use Rattle.room_core.specs.Moving.{Keeps}
 use Rattle.room_rules.specs.Acts.{Act, SendDocument}
 use Rattle.room_rules.specs.JobStates.{has_ended, is_unfinished}
-use Rattle.room_rules.specs.Moves.{move}
-use Rattle.room_rules.specs.declared.job.JobState.TheVariants.{Held}
+use Rattle.room_rules.specs.Moves.{cell, move}
+use Rattle.room_rules.specs.declared.job.JobState.{JobState}
+use Rattle.room_rules.specs.declared.job.JobState.TheVariants.{Aborted, Canceled, Completed, Held}
 use Rattle.room_rules.specs.declared.job.Standing.{Standing}
+use Rattle.room_rules.specs.declared.refusal.Refusal.{Refusal}
 
 -- ---- whatever is done
 
@@ -22,6 +24,13 @@ same_created act s next moved = grind (arith, common_steps)
 -- a job that has ended is not moved
 pub none_ended : (act : Act) (s next : Standing) → move act s ≡ Ok next → has_ended s.state ≡ true → ⊥
 none_ended act s next moved ended = grind (arith, common_steps)
+
+-- of the cells of an act, that of a job that has ended
+pub ended_is : (how : JobState) → has_ended how ≡ true → (held pending processing ended : Result Standing Refusal) → cell how held pending processing ended ≡ ended
+ended_is Canceled is held pending processing ended = refl
+ended_is Aborted is held pending processing ended = refl
+ended_is Completed is held pending processing ended = refl
+ended_is _ is held pending processing ended = let no : ⊥ = cc in absurd no
 
 pub was_unfinished : (act : Act) (s next : Standing) → move act s ≡ Ok next → is_unfinished s.state ≡ true
 was_unfinished act s next moved = grind (arith, nat_tests)

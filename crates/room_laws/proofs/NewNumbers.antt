@@ -1,10 +1,9 @@
 -- The answer to a request that made a job tells its number.
 use Rattle.std.proofs.Common.{◌⊎◌, inl, inr, suc, ◌≡◌, ℕ, pos, negsuc, ◌+◌, ◌-◌, ◌^◌, ◌<◌, ◌≤◌, ◌==◌, ◌||◌, Bool, true, false, true≢false, cond, nat_le, nat_lt, length, length-append, append_assoc, codes, option_and_then, List, [], ◌∷◌, ◌++◌, Option, Some, None, Result, Ok, Err, refl, sym, ap, subst, ◌∙◌, arith}
 use mir.Val.{sel}
-use Rattle.std.specs.FinMap.{get, insert}
 use Rattle.std.specs.Fmt.{decimal}
 use Rattle.std.specs.Int.{cast_signed, to_be_bytes, w32}
-use Rattle.std.specs.List.{AllByRecursion, flat_map, fold}
+use Rattle.std.specs.List.{AllByRecursion, flat_map}
 use Rattle.std.specs.Option.{option_map_or}
 use Rattle.std.proofs.lemmas.Bool.Decides.{nat_tests}
 use Rattle.std.proofs.lemmas.Fmt.{length-decimal-le}
@@ -30,13 +29,15 @@ use Rattle.room_core.specs.declared.event.Reply.{Reply}
 use Rattle.room_core.specs.declared.event.Reply.TheVariants as reply
 use Rattle.room_laws.proofs.AsksLieWithin.{asks_lie_within}
 use Rattle.room_laws.proofs.AsksWithin.{message_passed}
+use Rattle.room_laws.proofs.DeedTurns.{made_in, next_is}
 use Rattle.room_laws.proofs.RequestsAnswered.{requests_are_answered}
+use Rattle.room_laws.proofs.SpelledAttributes.{number_again, number_in}
 use Rattle.room_laws.proofs.Tellings.{tells_error}
-use Rattle.room_laws.specs.AccountsTold.{AccountTold, account_told, after_deed, after_exchange, nothing_told, with_job}
+use Rattle.room_laws.specs.AccountsTold.{AccountTold, account_told}
 use Rattle.room_laws.specs.AsksLieWithin.{AreBytes}
-use Rattle.room_laws.specs.Deeds.{Deed, Opened, Made, Brought, Canceled, HeldBack, Freed, Released, Started, Settled, Granted, Turned, Rated, NoDeed, asked_deed, deed_of, deed_of_request, moment_of}
+use Rattle.room_laws.specs.Deeds.{Deed, Opened, Released, Started, Settled, Granted, Turned, Rated, NoDeed, asked_deed, deed_of, deed_of_request}
 use Rattle.room_laws.specs.DoneAnswers.{groups_told, job_shown, place_told}
-use Rattle.room_laws.specs.JobsTold.{JobTold, job_made}
+use Rattle.room_laws.specs.JobsTold.{job_made}
 use Rattle.room_laws.specs.Lives.{Exchange, IsLife, Life}
 use Rattle.room_laws.specs.JobsMade.{is_making, jobs_made}
 use Rattle.room_laws.specs.NewNumbers.{JobsAreCounted, NumbersAreKept, NumbersDiffer, number_told}
@@ -59,13 +60,6 @@ use Rattle.room_rules.specs.declared.refusal.Word.TheVariants.{NotAccepting}
 use Rattle.room_state.specs.Rooms.{RoomValue}
 
 -- ---- the job-id in a message
-
--- the number in four bytes
-abbrev number_in : List ℕ → ℕ
-number_in bytes = (header_in (0 ∷ 0 ∷ 0 ∷ 0 ∷ bytes)).request_id
-
-number_again : (n : ℕ) → n < 2 ^ 32 → number_in (to_be_bytes w32 n) ≡ n
-number_again n fits = omega (arith, fits)
 
 numbered : (n : ℕ) → n < 1000000 → job_numbered (cast_signed w32 n) ≡ n
 numbered n fits = by (nat_lt n (2 ^ 31)) (grind (arith, nat_tests, fits))
@@ -182,14 +176,7 @@ record HasMade (account body : List ℕ) (said : Reply) : Type 0 where
 makes_by : (ask : PlainAsk) (operation : Operation) → is_making (asked_deed ask operation) ≡ true → (operation ≡ asks.PrintJob) ⊎ (operation ≡ asks.CreateJob)
 makes_by ask asks.PrintJob made = inl refl
 makes_by ask asks.CreateJob made = inr refl
-makes_by ask asks.ValidateJob made = absurd (true≢false (sym made))
-makes_by ask asks.SendDocument made = absurd (true≢false (sym made))
-makes_by ask asks.CancelJob made = absurd (true≢false (sym made))
-makes_by ask asks.GetJobAttributes made = absurd (true≢false (sym made))
-makes_by ask asks.GetJobs made = absurd (true≢false (sym made))
-makes_by ask asks.GetPrinterAttributes made = absurd (true≢false (sym made))
-makes_by ask asks.HoldJob made = absurd (true≢false (sym made))
-makes_by ask asks.ReleaseJob made = absurd (true≢false (sym made))
+makes_by ask _ made = absurd (true≢false (sym made))
 
 has_made : (account body : List ℕ) (said : Reply) (read : Result PlainAsk PlainRefusal) → ask_of account body ≡ read → (done : Bool) → is_successful said ≡ done → is_making (cond done (deed_of_request (if_passed read)) NoDeed) ≡ true → HasMade account body said
 has_made account body said read is false undone made = absurd (true≢false (sym made))
@@ -261,44 +248,10 @@ tells_next life room devices is past later now account body said here made bytes
     (subst IsHeader (sym (header_asked account body ask made.reads)) (header_fits body bytes taken.long))
     within.unsupported_spelled it.few within.base_fits name
 
--- ---- how many were made
-
-next_of : (told : AccountTold) (number : ℕ) (change : JobTold → JobTold) → (with_job told number change).next ≡ told.next
-next_of told number change = elim (get told.jobs number) as (λ (o : Option JobTold). (option_map_or (λ (job : JobTold). record told { jobs = insert told.jobs number (change job) }) o told).next ≡ told.next) [ None ↦ refl | Some job ↦ refl ]
-
-abbrev one_if : Bool → ℕ
-one_if b = cond b 1 0
-
-next_after : (now : ℕ) (told : AccountTold) (deed : Deed) → (after_deed now told deed).next ≡ told.next + one_if (is_making deed)
-next_after now told (Made ask) = refl
-next_after now told (Brought ask) = next_of told ask.job _ ∙ omega arith
-next_after now told (Canceled number) = next_of told number _ ∙ omega arith
-next_after now told (HeldBack number) = next_of told number _ ∙ omega arith
-next_after now told (Freed number) = next_of told number _ ∙ omega arith
-next_after now told (Released device number impressions) = next_of told number _ ∙ omega arith
-next_after now told (Started device number) = next_of told number _ ∙ omega arith
-next_after now told (Settled device number impressions failed) = next_of told number _ ∙ omega arith
-next_after now told Opened = omega arith
-next_after now told (Granted month pages) = omega arith
-next_after now told (Turned device on) = omega arith
-next_after now told (Rated device units) = omega arith
-next_after now told NoDeed = omega arith
-
-abbrev made_in : Exchange → ℕ
-made_in x = one_if (is_making (deed_of x))
-
-next_counts : (told : AccountTold) (life : Life) → (fold after_exchange told life).next ≡ told.next + jobs_made life
-next_counts told [] = omega arith
-next_counts told (x ∷ life) =
-    let rest = next_counts (after_exchange told x) life in
-    let one = next_after (moment_of x) told (deed_of x) in
-    let counts = sum_by-cons made_in x life in
-    omega (arith, rest, one, counts)
+-- ---- the laws
 
 pub numbers_are_kept : NumbersAreKept
-numbers_are_kept past = let counts = next_counts nothing_told past in omega (arith, counts)
-
--- ---- the laws
+numbers_are_kept past = next_is past
 
 line_makes_none : (done : Bool) (deed : Deed) → is_making deed ≡ false → is_making (cond done deed NoDeed) ≡ true → ⊥
 line_makes_none true deed none made = true≢false (sym made ∙ none)
@@ -319,7 +272,7 @@ made_between : (past between : Life) (one : Exchange) → is_making (deed_of one
 made_between past between one made =
     let all = sum_by-append made_in past (one ∷ between) in
     let first = sum_by-cons made_in one between in
-    let is : made_in one ≡ 1 = ap one_if made in
+    let is : made_in one ≡ 1 = ap (λ (b : Bool). cond b 1 0) made in
     omega (arith, all, first, is)
 
 pub numbers_differ : NumbersDiffer

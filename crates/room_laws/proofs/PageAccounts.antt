@@ -5,6 +5,7 @@ use Rattle.std.specs.FinMap.{FinMap, empty, entries, get, get-empty, len-empty, 
 use Rattle.std.specs.List.{fold, sum_by}
 use Rattle.std.specs.Option.{option_map_or}
 use Rattle.std.specs.Ordering.{nat_cmp}
+use Rattle.std.proofs.lemmas.Bool.{eqb-true}
 use Rattle.std.proofs.lemmas.Int.{ints}
 use Rattle.std.proofs.lemmas.List.{nil_from_length}
 use Rattle.std.proofs.lemmas.List.Sums.{sum_by-cons, sum_by_push}
@@ -13,10 +14,10 @@ use Rattle.room_laws.proofs.AsTold.{told_more}
 use Rattle.room_laws.proofs.FitDeeds.{HasLeft, IsFit, IsWaits, by_deeds, deeds_fit}
 use Rattle.room_laws.proofs.LifeLemmas.{front_of_life}
 use Rattle.room_laws.proofs.DeedFinds.{IsPrinted}
-use Rattle.room_laws.proofs.DeedTurns.{same_number, turned, turned_so}
+use Rattle.room_laws.proofs.DeedTurns.{turned, turned_so}
 use Rattle.room_laws.proofs.JobSums.{changed_sum, same_grants, sum_of, sum_of_new, unchanged_sum}
 use Rattle.room_laws.specs.AccountsTold.{AccountTold, account_told, after_deed, after_exchange, charged_told, granted_told, left_told, nothing_told, pages_up_to, rate_told, reserved_told, with_job}
-use Rattle.room_laws.specs.Deeds.{Deed, Opened, Made, Brought, Canceled, HeldBack, Freed, Released, Started, Settled, Granted, Turned, Rated, NoDeed, deed_of, moment_of}
+use Rattle.room_laws.specs.Deeds.{Deed, Made, Brought, Canceled, HeldBack, Freed, Released, Started, Settled, Granted, deed_of, moment_of}
 use Rattle.room_laws.specs.JobsTold.{JobTold, Stage, Waits, IsFree, Prints, HasEnded, impressions_told, job_brought, job_canceled, job_freed, job_held, job_made, job_released, job_settled, job_started, need_told, stage_canceled, stage_held, stage_released, stage_settled, stage_started, units_charged, units_held, units_reserved, units_taken}
 use Rattle.room_laws.specs.Lives.{Exchange, IsLife, Life}
 use Rattle.room_laws.specs.PageAccount.{AccountsBalance, IsBalanced, IsSettledAt, ReleasesOweNothing, SettlementsCharge, charge_by, granted_in, granted_up_to, overrun_by, overruns_in, pages_by, pages_by_month, rate_by, rate_fixed, rate_from, releases_now, reserved_for, sum_from}
@@ -60,16 +61,12 @@ rates_kept fixed true change (Some job) keeps is = keeps job is
 rates_kept fixed false change found keeps is = is
 
 rated_canceled : (fixed : Option ℕ) (now : ℕ) (stage : Stage) → IsRated fixed stage → IsRated fixed (stage_canceled now stage)
-rated_canceled fixed now Waits is = tt
-rated_canceled fixed now (IsFree device rate units) is = tt
 rated_canceled fixed now (Prints device rate units since is_canceled) is = is
-rated_canceled fixed now (HasEnded how count units since at) is = tt
+rated_canceled fixed now _ is = tt
 
 rated_held : (fixed : Option ℕ) (stage : Stage) → IsRated fixed stage → IsRated fixed (stage_held stage)
-rated_held fixed Waits is = tt
-rated_held fixed (IsFree device rate units) is = tt
 rated_held fixed (Prints device rate units since is_canceled) is = is
-rated_held fixed (HasEnded how count units since at) is = tt
+rated_held fixed _ is = tt
 
 rated_started : (fixed : Option ℕ) (device : List ℕ) (now : ℕ) (stage : Stage) → IsRated fixed stage → IsRated fixed (stage_started device now stage)
 rated_started fixed device now Waits is = tt
@@ -78,10 +75,8 @@ rated_started fixed device now (Prints other rate units since is_canceled) is = 
 rated_started fixed device now (HasEnded how count units since at) is = tt
 
 rated_settled : (fixed : Option ℕ) (count : ℕ) (failed : Bool) (now : ℕ) (stage : Stage) → IsRated fixed stage → IsRated fixed (stage_settled count failed now stage)
-rated_settled fixed count failed now Waits is = tt
 rated_settled fixed count failed now (IsFree device rate units) is = is
-rated_settled fixed count failed now (Prints device rate units since is_canceled) is = tt
-rated_settled fixed count failed now (HasEnded how counted units since at) is = tt
+rated_settled fixed count failed now _ is = tt
 
 rated_freed : (fixed : Option ℕ) (units : ℕ) (stage : Stage) → IsRated fixed stage → IsRated (or_else (cond (is_waiting stage) (Some 1) None) fixed) (stage_released None 1 units stage)
 rated_freed fixed units Waits is = refl
@@ -91,9 +86,7 @@ rated_freed fixed units (HasEnded how count charged since at) is = tt
 
 rated_released : (device : List ℕ) (rate units : ℕ) (stage : Stage) → IsWaits stage → IsRated (Some rate) (stage_released (Some device) rate units stage)
 rated_released device rate units Waits waits = refl
-rated_released device rate units (IsFree other at_rate reserved) waits = absurd waits
-rated_released device rate units (Prints other at_rate reserved since is_canceled) waits = absurd waits
-rated_released device rate units (HasEnded how count charged since at) waits = absurd waits
+rated_released device rate units _ waits = absurd waits
 
 freed_rates : (fixed : Option ℕ) (b : Bool) (found : Option JobTold) → IsRatedJob fixed found → IsRatedJob (or_else (cond (b && option_map_or (λ (job : JobTold). is_waiting job.stage) found false) (Some 1) None) fixed) (cond b (option_map job_freed found) found)
 freed_rates fixed true None is = tt
@@ -101,7 +94,6 @@ freed_rates fixed true (Some job) is = rated_freed fixed (need_told job.impressi
 freed_rates fixed false found is = is
 
 deed_rates : (now : ℕ) (told : AccountTold) (deed : Deed) → IsFit told now deed → (number : ℕ) (fixed : Option ℕ) → IsRatedJob fixed (get told.jobs number) → IsRatedJob (or_else (rate_by number told deed) fixed) (turned now told number deed)
-deed_rates now told Opened fit number fixed is = is
 deed_rates now told (Made ask) fit number fixed is = elim (number == told.next) as (λ (b : Bool). IsRatedJob fixed (cond b (Some (job_made now ask)) (get told.jobs number))) [ true ↦ tt | false ↦ is ]
 deed_rates now told (Brought ask) fit number fixed is = rates_kept fixed (number == ask.job) (job_brought ask) (get told.jobs number) (λ job rated. rated) is
 deed_rates now told (Canceled at) fit number fixed is = rates_kept fixed (number == at) (job_canceled now) (get told.jobs number) (λ job rated. rated_canceled fixed now job.stage rated) is
@@ -111,15 +103,12 @@ deed_rates now told (Released device at handed_in) fit number fixed is = by (num
   where
     by : (b : Bool) → (number == at) ≡ b → IsRatedJob (or_else (cond b (Some (rate_told told device)) None) fixed) (cond b (option_map (job_released device (rate_told told device) handed_in) (get told.jobs number)) (get told.jobs number))
     by true same =
-        subst (λ (o : Option JobTold). IsRatedJob (Some (rate_told told device)) (option_map (job_released device (rate_told told device) handed_in) o)) (sym (ap (get told.jobs) (same_number number at same) ∙ fit.is_told))
+        subst (λ (o : Option JobTold). IsRatedJob (Some (rate_told told device)) (option_map (job_released device (rate_told told device) handed_in) o)) (sym (ap (get told.jobs) (eqb-true number at same) ∙ fit.is_told))
         (rated_released device (rate_told told device) (need_told (impressions_told handed_in fit.job) (rate_told told device) fit.job) fit.job.stage fit.is.0)
     by false other = is
 deed_rates now told (Started device at) fit number fixed is = rates_kept fixed (number == at) (job_started device now) (get told.jobs number) (λ job rated. rated_started fixed device now job.stage rated) is
 deed_rates now told (Settled device at count failed) fit number fixed is = rates_kept fixed (number == at) (job_settled count failed now) (get told.jobs number) (λ job rated. rated_settled fixed count failed now job.stage rated) is
-deed_rates now told (Granted month pages) fit number fixed is = is
-deed_rates now told (Turned device on) fit number fixed is = is
-deed_rates now told (Rated device units) fit number fixed is = is
-deed_rates now told NoDeed fit number fixed is = is
+deed_rates now told _ fit number fixed is = is
 
 abbrev AreRated : Life → Type 0
 AreRated life = (number : ℕ) → IsRatedJob (rate_fixed number life) (get (account_told life).jobs number)
@@ -197,34 +186,24 @@ none_owed granted reserved charged need granted_after reserved_after charged_aft
 -- by the stage of the job
 by_waiting : (need : ℕ) (device : Option (List ℕ)) (rate : ℕ) (stage : Stage) → IsWaits stage → (units_held stage ≡ 0) × (units_held (stage_released device rate need stage) ≡ need) × (units_taken (stage_released device rate need stage) ≡ units_taken stage)
 by_waiting need device rate Waits waits = (refl, refl, refl)
-by_waiting need device rate (IsFree other at_rate units) waits = absurd waits
-by_waiting need device rate (Prints other at_rate units since is_canceled) waits = absurd waits
-by_waiting need device rate (HasEnded how count units since at) waits = absurd waits
+by_waiting need device rate _ waits = absurd waits
 
 left_of_waiting : (need : ℕ) (left : ℤ) (stage : Stage) → IsWaits stage → HasLeft need left stage → pos need ≤ℤ left
 left_of_waiting need left Waits waits has = has
-left_of_waiting need left (IsFree other rate units) waits has = absurd waits
-left_of_waiting need left (Prints other rate units since is_canceled) waits has = absurd waits
-left_of_waiting need left (HasEnded how count units since at) waits has = absurd waits
+left_of_waiting need left _ waits has = absurd waits
 
 -- one that waits or does not
 waits_or : (stage : Stage) → IsWaits stage ⊎ (is_waiting stage ≡ false)
 waits_or Waits = inl tt
-waits_or (IsFree other rate units) = inr refl
-waits_or (Prints other rate units since is_canceled) = inr refl
-waits_or (HasEnded how count units since at) = inr refl
+waits_or _ = inr refl
 
 waits_so : (stage : Stage) → is_waiting stage ≡ true → IsWaits stage
 waits_so Waits is = tt
-waits_so (IsFree other rate units) is = let no : ⊥ = cc in absurd no
-waits_so (Prints other rate units since is_canceled) is = let no : ⊥ = cc in absurd no
-waits_so (HasEnded how count units since at) is = let no : ⊥ = cc in absurd no
+waits_so _ is = let no : ⊥ = cc in absurd no
 
 stays_so : (device : Option (List ℕ)) (rate units : ℕ) (stage : Stage) → is_waiting stage ≡ false → stage_released device rate units stage ≡ stage
 stays_so device rate units Waits is = let no : ⊥ = cc in absurd no
-stays_so device rate units (IsFree other at_rate reserved) is = refl
-stays_so device rate units (Prints other at_rate reserved since is_canceled) is = refl
-stays_so device rate units (HasEnded how count charged since at) is = refl
+stays_so device rate units _ is = refl
 
 -- a release by its deed
 released_then : (now : ℕ) (told : AccountTold) (deed : Deed) → IsFit told now deed → releases_now told deed ≡ true → (need : ℕ) × (pos need ≤ℤ left_told told now) × IsReserved told (after_deed now told deed) need
@@ -243,17 +222,7 @@ released_then now told (Freed number) fit is =
       left_of_waiting need (left_told told now) fit.job.stage waits fit.is,
       reserving told number job_freed fit.job need fit.is_told (record { had_none = by.0; has = by.1; charged = by.2 }),
     )
-released_then now told Opened fit is = let no : ⊥ = cc in absurd no
-released_then now told (Made ask) fit is = let no : ⊥ = cc in absurd no
-released_then now told (Brought ask) fit is = let no : ⊥ = cc in absurd no
-released_then now told (Canceled number) fit is = let no : ⊥ = cc in absurd no
-released_then now told (HeldBack number) fit is = let no : ⊥ = cc in absurd no
-released_then now told (Started device number) fit is = let no : ⊥ = cc in absurd no
-released_then now told (Settled device number count failed) fit is = let no : ⊥ = cc in absurd no
-released_then now told (Granted month pages) fit is = let no : ⊥ = cc in absurd no
-released_then now told (Turned device on) fit is = let no : ⊥ = cc in absurd no
-released_then now told (Rated device units) fit is = let no : ⊥ = cc in absurd no
-released_then now told NoDeed fit is = let no : ⊥ = cc in absurd no
+released_then now told _ fit is = let no : ⊥ = cc in absurd no
 
 pub releases_owe_nothing : ReleasesOweNothing
 releases_owe_nothing life room devices is past later x here releases =
@@ -265,15 +234,9 @@ releases_owe_nothing life room devices is past later x here releases =
 
 -- ---- a settlement
 
-record IsSettled (before after : AccountTold) (count rate units : ℕ) : Type 0 where
-  pub charged : charged_told after ≡ charged_told before + count * rate
-  pub reserved : reserved_told after + units ≡ reserved_told before
-
 by_printing : (count : ℕ) (failed : Bool) (now : ℕ) (stage : Stage) → IsPrinted stage → (units_held (stage_settled count failed now stage) ≡ 0) × (units_taken (stage_settled count failed now stage) ≡ charge_of count stage) × (units_taken stage ≡ 0)
-by_printing count failed now Waits prints = absurd prints
-by_printing count failed now (IsFree device rate units) prints = absurd prints
 by_printing count failed now (Prints device rate units since is_canceled) prints = (refl, refl, refl)
-by_printing count failed now (HasEnded how counted units since at) prints = absurd prints
+by_printing count failed now _ prints = absurd prints
 
 given_back : (after before was is : ℕ) → after + was ≡ before + is → is ≡ 0 → after + was ≡ before
 given_back after before was is sum none = omega arith
@@ -294,10 +257,8 @@ settled_then now told device number count failed fit =
     }
 
 rate_of_printing : (fixed : Option ℕ) (stage : Stage) → IsPrinted stage → IsRated fixed stage → (P : ℕ → Type 0) → ((rate : ℕ) → ((count : ℕ) → charge_of count stage ≡ count * rate) → P rate) → IsSomeAnd fixed P
-rate_of_printing fixed Waits prints rated P by = absurd prints
-rate_of_printing fixed (IsFree device rate units) prints rated P by = absurd prints
 rate_of_printing fixed (Prints device rate units since is_canceled) prints rated P by = subst (λ (o : Option ℕ). IsSomeAnd o P) (sym rated) (by rate (λ count. refl))
-rate_of_printing fixed (HasEnded how counted units since at) prints rated P by = absurd prints
+rate_of_printing fixed _ prints rated P by = absurd prints
 
 pub settlements_charge : SettlementsCharge
 settlements_charge life room devices is past later x device number count failed here settles =
@@ -384,7 +345,6 @@ turned_round : (a b c : ℕ) → a ≡ b + c → a ≡ c + b
 turned_round a b c same = omega arith
 
 deed_adds : (now : ℕ) (told : AccountTold) (deed : Deed) → IsFit told now deed → Adds now told deed
-deed_adds now told Opened fit = record { granted = λ month. none_added _ _ refl; charged = none_added _ _ refl; within = inl (quiet_adds (reserved_told told) (charged_told told) _) }
 deed_adds now told (Made ask) fit = record {
   granted = λ month. none_added _ _ refl;
   charged = turned_round _ 0 _ (sum_of_new units_charged told.jobs told.next (job_made now ask) fit);
@@ -402,9 +362,7 @@ deed_adds now told (Freed number) fit = elim (waits_or fit.job.stage) [
   where
     waiting : (stage : Stage) → IsWaits stage → is_waiting stage ≡ true
     waiting Waits is = refl
-    waiting (IsFree other rate units) is = absurd is
-    waiting (Prints other rate units since is_canceled) is = absurd is
-    waiting (HasEnded how count units since at) is = absurd is
+    waiting _ is = absurd is
 deed_adds now told (Released device number handed_in) fit = released_adds now told (Released device number handed_in) fit refl (λ month. refl) refl
 deed_adds now told (Started device number) fit = eased_adds now told (Started device number) number (job_started device now) refl (λ month. refl) refl (λ job _. let it = started_eases device now job.stage in record { reserved = it.0; charged = it.1 })
 deed_adds now told (Settled device number count failed) fit =
@@ -419,30 +377,17 @@ deed_adds now told (Granted month pages) fit = record {
   charged = none_added _ _ refl;
   within = inl (quiet_adds (reserved_told told) (charged_told told) _);
 }
-deed_adds now told (Turned device on) fit = record { granted = λ month. none_added _ _ refl; charged = none_added _ _ refl; within = inl (quiet_adds (reserved_told told) (charged_told told) _) }
-deed_adds now told (Rated device units) fit = record { granted = λ month. none_added _ _ refl; charged = none_added _ _ refl; within = inl (quiet_adds (reserved_told told) (charged_told told) _) }
-deed_adds now told NoDeed fit = record { granted = λ month. none_added _ _ refl; charged = none_added _ _ refl; within = inl (quiet_adds (reserved_told told) (charged_told told) _) }
+deed_adds now told _ fit = record { granted = λ month. none_added _ _ refl; charged = none_added _ _ refl; within = inl (quiet_adds (reserved_told told) (charged_told told) _) }
 
 -- ---- the balance
 
 by_month_within : (month : ℕ) (deed : Deed) → pages_by_month month deed ≤ pages_by deed
-by_month_within month Opened = omega arith
-by_month_within month (Made ask) = omega arith
-by_month_within month (Brought ask) = omega arith
-by_month_within month (Canceled number) = omega arith
-by_month_within month (HeldBack number) = omega arith
-by_month_within month (Freed number) = omega arith
-by_month_within month (Released device number handed_in) = omega arith
-by_month_within month (Started device number) = omega arith
-by_month_within month (Settled device number count failed) = omega arith
 by_month_within month (Granted from pages) = by (nat_le from month)
   where
     by : (b : Bool) → cond b pages 0 ≤ pages
     by true = omega arith
     by false = omega arith
-by_month_within month (Turned device on) = omega arith
-by_month_within month (Rated device units) = omega arith
-by_month_within month NoDeed = omega arith
+by_month_within month _ = omega arith
 
 months_within : (month : ℕ) (life : Life) → granted_up_to month life ≤ granted_in life
 months_within month [] = omega arith

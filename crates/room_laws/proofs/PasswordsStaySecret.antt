@@ -3,7 +3,7 @@ use Rattle.std.proofs.Common.{◌≡◌, ℕ, Bool, false, cond, List, [], ◌�
 use Rattle.std.specs.FinMap.{empty}
 use Rattle.std.proofs.lemmas.Bool.{true≢false}
 use Rattle.room_core.specs.DeviceEvents.{device_answered}
-use Rattle.room_core.specs.Events.{AccountEvent, PlainEvent, OfAccount, OfDevice, Open, Ipp, Release, Start, Settle, Grant}
+use Rattle.room_core.specs.Events.{AccountEvent, PlainEvent, OfAccount, OfDevice, Open, Ipp, Release}
 use Rattle.room_core.specs.Machine.{answered, answered_open}
 use Rattle.room_core.specs.Steps.{Step}
 use Rattle.room_core.specs.declared.event.Reply.{Reply}
@@ -11,8 +11,7 @@ use Rattle.room_core.specs.declared.event.Reply.TheVariants as reply
 use Rattle.room_laws.proofs.AlikeBodies.{bodies_alike}
 use Rattle.room_laws.proofs.AlikeGuesses.{guesses_alike}
 use Rattle.room_laws.proofs.AsTold.{told_more}
-use Rattle.room_laws.proofs.HiddenAnswers as hidden
-use Rattle.room_laws.proofs.HiddenAnswers.{answered_alike, is_release}
+use Rattle.room_laws.proofs.HiddenAnswers.{StepAlike, answered_alike, hidden_step, is_release}
 use Rattle.room_laws.proofs.HiddenRooms.{hidden_room}
 use Rattle.room_laws.proofs.LifeLemmas.{leads_on}
 use Rattle.room_laws.specs.AccountsTold.{AccountTold, account_told, after_exchange}
@@ -51,33 +50,25 @@ record GoesAlike (a b : Option RoomValue) (devices : Devices) (now : ℕ) (x y :
   pub known : devices_after devices x ≡ devices_after devices y
 
 -- by an open account
-by_steps : (a b : RoomValue) (devices : Devices) (now : ℕ) (account : List ℕ) (x y : AccountEvent) → hidden.GoAlike (answered_open a devices now (OfAccount account x)) (answered_open b devices now (OfAccount account y))
+by_steps : (a b : RoomValue) (devices : Devices) (now : ℕ) (account : List ℕ) (x y : AccountEvent) → StepAlike (answered_open a devices now (OfAccount account x)) (answered_open b devices now (OfAccount account y))
     → GoesAlike (Some a) (Some b) devices now (OfAccount account x) (OfAccount account y)
 by_steps a b devices now account x y alike = record { reply = ap (λ (step : Step). step.reply) alike; rooms = ap (λ (step : Step). step.room) alike; known = refl }
 
 same_event : (a b : RoomValue) (devices : Devices) (now : ℕ) (account : List ℕ) (event : AccountEvent) → is_release event ≡ false → hidden_room a ≡ hidden_room b
-    → hidden.GoAlike (answered_open a devices now (OfAccount account event)) (answered_open b devices now (OfAccount account event))
+    → StepAlike (answered_open a devices now (OfAccount account event)) (answered_open b devices now (OfAccount account event))
 same_event a b devices now account event other alike =
     sym (answered_alike a devices now account event other)
-    ∙ ap (λ (room : RoomValue). hidden.hidden_step (answered_open room devices now (OfAccount account event))) alike
+    ∙ ap (λ (room : RoomValue). hidden_step (answered_open room devices now (OfAccount account event))) alike
     ∙ answered_alike b devices now account event other
 
 -- by one that is not
 unopened_same : (devices : Devices) (now : ℕ) (account : List ℕ) (event : AccountEvent) → GoesAlike None None devices now (OfAccount account event) (OfAccount account event)
 unopened_same devices now account Open = record { reply = refl; rooms = refl; known = refl }
-unopened_same devices now account (Ipp body) = record { reply = refl; rooms = tt; known = refl }
-unopened_same devices now account (Release device number password impressions) = record { reply = refl; rooms = tt; known = refl }
-unopened_same devices now account (Start device number) = record { reply = refl; rooms = tt; known = refl }
-unopened_same devices now account (Settle device number impressions failed) = record { reply = refl; rooms = tt; known = refl }
-unopened_same devices now account (Grant month pages) = record { reply = refl; rooms = tt; known = refl }
+unopened_same devices now account _ = record { reply = refl; rooms = tt; known = refl }
 
 none_given : (account : List ℕ) (event : AccountEvent) → gives_password (OfAccount account event) ≡ false → is_release event ≡ false
-none_given account Open none = refl
-none_given account (Ipp body) none = refl
 none_given account (Release device number password impressions) none = absurd (true≢false none)
-none_given account (Start device number) none = refl
-none_given account (Settle device number impressions failed) none = refl
-none_given account (Grant month pages) none = refl
+none_given account _ none = refl
 
 each_alike : (told other : AccountTold) (a b : Option RoomValue) (devices : Devices) (now : ℕ) (x y : PlainEvent) → AccountStands told a → AccountStands other b → AreRoomsAlike a b → AreAlike told other x y → GoesAlike a b devices now x y
 each_alike told other None None devices now _ _ stands too alike (same (OfAccount account event) none) = unopened_same devices now account event

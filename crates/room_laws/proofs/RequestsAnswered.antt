@@ -1,8 +1,7 @@
 -- What each request is answered, by what was told before it.
-use Rattle.std.proofs.Common.{◌∙◌, ◌≡◌, ℕ, ℤ, pos, negsuc, Bool, true, false, cond, not, ◌==◌, ◌&&◌, ◌||◌, nat_le, nat_lt, List, [], ◌∷◌, length, Option, Some, None, Result, Ok, Err, ◌*◌, refl, sym, ap, subst, arith}
+use Rattle.std.proofs.Common.{◌∙◌, ◌≡◌, ℕ, ℤ, Bool, true, false, cond, not, ◌==◌, ◌&&◌, ◌||◌, nat_le, nat_lt, List, [], ◌∷◌, length, Option, Some, None, Result, Ok, Err, ◌*◌, refl, sym, ap, subst, arith}
 use Rattle.std.specs.FinMap.{get}
 use Rattle.std.specs.Option.{option_map_or}
-use Rattle.std.proofs.lemmas.Bool.{true≢false}
 use Rattle.std.proofs.lemmas.Bool.Decides.{nat_tests}
 use Rattle.ipp_coding.specs.Limits.{header_length}
 use Rattle.ipp_coding.specs.Plain.{PlainGroup}
@@ -26,6 +25,7 @@ use Rattle.room_core.specs.declared.event.Reply.TheVariants as reply
 use Rattle.room_laws.proofs.AsTold.{AccountKeeps, Keeps, all_keep}
 use Rattle.room_laws.proofs.AsToldSums.{left_as_told, unfinished_as_told}
 use Rattle.room_laws.proofs.LifeLemmas.{front_of_life}
+use Rattle.room_laws.proofs.Moved.{ended_is}
 use Rattle.room_laws.proofs.Tellings.{tells_success}
 use Rattle.room_laws.specs.AccountsTold.{AccountTold, account_told}
 use Rattle.room_laws.specs.JobsTold.{JobTold, Stage, Waits, IsFree, Prints, HasEnded, is_over}
@@ -50,7 +50,7 @@ use Rattle.room_rules.specs.Moves.{cell, move}
 use Rattle.room_rules.specs.Quota.{exceeds, need_of}
 use Rattle.room_rules.specs.declared.job.Job.{Job}
 use Rattle.room_rules.specs.declared.job.JobState.{JobState}
-use Rattle.room_rules.specs.declared.job.JobState.TheVariants.{Held, Pending, Processing, Canceled, Aborted, Completed}
+use Rattle.room_rules.specs.declared.job.JobState.TheVariants.{Held, Pending, Processing}
 use Rattle.room_rules.specs.declared.job.Standing.{Standing}
 use Rattle.room_rules.specs.declared.refusal.Refusal.{Refusal}
 use Rattle.room_rules.specs.declared.refusal.Word.TheVariants.{Closed, Ended, ImpressionsUnknown, Incomplete, NoJob, NotAccepting, Password, Printing, Quota, Stopping, TooManyDocuments}
@@ -96,12 +96,7 @@ module _ (held pending processing ended : Result Standing Refusal) where
   at_state s state found is = subst (λ (st : JobState). DecidedBy (cell st held pending processing ended) found) (sym is)
 
   at_end : (state : JobState) (found : Option Refusal) → has_ended state ≡ true → DecidedBy ended found → DecidedBy (cell state held pending processing ended) found
-  at_end Held found is d = absurd (true≢false (sym is))
-  at_end Pending found is d = absurd (true≢false (sym is))
-  at_end Processing found is d = absurd (true≢false (sym is))
-  at_end Canceled found is d = d
-  at_end Aborted found is d = d
-  at_end Completed found is d = d
+  at_end state found is d = subst (λ (decided : Result Standing Refusal). DecidedBy decided found) (sym (ended_is state is held pending processing ended)) d
 
 -- a document
 sends_or_not : (is_open some_data many : Bool) (closes takes : Standing)
@@ -170,10 +165,6 @@ releases_or_not false true unknown past need left released = refl
 releases_or_not false false true past need left released = refl
 releases_or_not false false false true need left released = refl
 releases_or_not false false false false need left released = refl
-
-same_past : (need : ℕ) (left : ℤ) → exceeds need left ≡ is_past need left
-same_past need (pos left) = refl
-same_past need (negsuc below) = refl
 
 release_at : (has_password : Bool) (left : ℤ) (stage : Stage) (s : Standing) (is_open : Bool) → IsAt stage s → (is_unfinished s.state ≡ true → s.is_open ≡ is_open)
     → DecidedBy (move (ReleaseJob has_password left) s) (release_refusal is_open (s.documents == 0) has_password s.impressions s.copies left stage)

@@ -5,7 +5,7 @@ use Rattle.std.specs.Prelude.{IfSome}
 use Rattle.std.proofs.lemmas.List.Elements.{All-cons, All-head, All-nil, All-tail}
 use Rattle.std.proofs.lemmas.Option.{none-some}
 use Rattle.room_core.specs.DeviceEvents.{device_answered}
-use Rattle.room_core.specs.Events.{AccountEvent, DeviceEvent, OfAccount, OfDevice, Open, Ipp, Release, Start, Settle, Grant}
+use Rattle.room_core.specs.Events.{AccountEvent, DeviceEvent, OfAccount, OfDevice, Open}
 use Rattle.room_core.specs.Machine.{answered, answered_unopened}
 use Rattle.room_laws.proofs.Changes.{makes_one}
 use Rattle.room_laws.proofs.DevicesStay.{AreDevices, devices_stay}
@@ -46,11 +46,7 @@ both (first ∷ past) x are =
 -- an account that is opened has a room
 opened : (now : ℕ) (account : List ℕ) (event : AccountEvent) → IsMoment now → IfSome (answered_unopened now (OfAccount account event)).room IsRoom
 opened now account Open moment = empty_room_keeps now moment
-opened now account (Ipp body) moment = tt
-opened now account (Release device job password impressions) moment = tt
-opened now account (Start device job) moment = tt
-opened now account (Settle device job impressions failed) moment = tt
-opened now account (Grant month pages) moment = tt
+opened now account _ moment = tt
 
 by_account : (past : Life) (room : Option RoomValue) (devices : Devices) (now : ℕ) (account : List ℕ) (it : AccountEvent) → StaysSo past room devices
     → StaysSo (past ++ account_exchange room devices now account it ∷ []) (answered room devices now (OfAccount account it)).room devices

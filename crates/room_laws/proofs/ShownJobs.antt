@@ -8,8 +8,7 @@ use Rattle.room_asks.specs.Asks.{PlainAsk}
 use Rattle.room_asks.specs.declared.ask.Which.{Which}
 use Rattle.room_asks.specs.declared.ask.Which.TheVariants as whiches
 use Rattle.room_core.specs.Queues.{asked_jobs, chosen}
-use Rattle.room_laws.proofs.KeyedValues.{same_in_order}
-use Rattle.room_laws.proofs.MappedValues.{filter_changed}
+use Rattle.room_laws.proofs.MappedValues.{filter_changed, same_in_order}
 use Rattle.room_laws.specs.AccountsTold.{AccountTold}
 use Rattle.room_laws.specs.DoneAnswers.{count_told, ended_told, job_shown, jobs_told, started_told, state_told}
 use Rattle.room_laws.specs.JobsTold.{JobTold, Stage, Waits, IsFree, Prints, HasEnded}
@@ -98,19 +97,11 @@ state_is (HasEnded how count units since ended) s at = at.state
 
 not_held : (how : JobState) → has_ended how ≡ true → is_held how ≡ false
 not_held Held over = sym over
-not_held Pending over = refl
-not_held Processing over = refl
-not_held Canceled over = refl
-not_held Aborted over = refl
-not_held Completed over = refl
+not_held _ over = refl
 
-not_processing : (how : JobState) → has_ended how ≡ true → is_processing how ≡ false
-not_processing Held over = refl
-not_processing Pending over = refl
+pub not_processing : (how : JobState) → has_ended how ≡ true → is_processing how ≡ false
 not_processing Processing over = sym over
-not_processing Canceled over = refl
-not_processing Aborted over = refl
-not_processing Completed over = refl
+not_processing _ over = refl
 
 open_is : (stage : Stage) (s : Standing) (is_open : Bool) → IsAt stage s → (is_unfinished s.state ≡ true → s.is_open ≡ is_open) → (is_held s.state && s.is_open) ≡ (is_waiting stage && is_open)
 open_is Waits s is_open at opens = ap (λ (state : JobState). is_held state && s.is_open) at.state ∙ opens (ap is_unfinished at.state)
@@ -223,8 +214,11 @@ groups_shown : (at : PlainPlace) (jobs : List Job) (wanted : Option (List (List 
 groups_shown at [] wanted = refl
 groups_shown at (job ∷ jobs) wanted = λ i. group_shown at job wanted i ∷ groups_shown at jobs wanted i
 
+pub queue_shown : (at : PlainPlace) (ask : PlainAsk) (jobs : List Job) (wanted : Option (List (List ℕ))) → job_groups at (asked_jobs ask jobs) wanted ≡ job_groups at (asked_jobs ask (map as_shown jobs)) wanted
+queue_shown at ask jobs wanted =
+    groups_shown at (asked_jobs ask jobs) wanted
+    ∙ ap (λ (jobs : List Job). job_groups at jobs wanted) (sym (ap (at_most ask.limit) (chosen_shown ask.which jobs) ∙ at_most_shown ask.limit (chosen ask.which jobs)))
+
 pub listed_as_told : (at : PlainPlace) (ask : PlainAsk) (told : AccountTold) (room : RoomValue) (wanted : Option (List (List ℕ))) → StandsAsTold told room
     → job_groups at (asked_jobs ask (values room.jobs)) wanted ≡ job_groups at (asked_jobs ask (jobs_told told)) wanted
-listed_as_told at ask told room wanted stands =
-    groups_shown at (asked_jobs ask (values room.jobs)) wanted
-    ∙ ap (λ (jobs : List Job). job_groups at jobs wanted) (sym (ap (at_most ask.limit) (chosen_shown ask.which (values room.jobs)) ∙ at_most_shown ask.limit (chosen ask.which (values room.jobs))) ∙ ap (asked_jobs ask) (all_as_told told room stands))
+listed_as_told at ask told room wanted stands = queue_shown at ask (values room.jobs) wanted ∙ ap (λ (jobs : List Job). job_groups at (asked_jobs ask jobs) wanted) (all_as_told told room stands)

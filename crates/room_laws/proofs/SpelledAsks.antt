@@ -1,7 +1,6 @@
 -- A request asks what its bytes spell.
-use Rattle.std.proofs.Common.{arith, ◌≡◌, ℕ, Bool, true, false, true≢false, cond, not, ◌==◌, List, [], ◌∷◌, ◌++◌, drop, length, nat_lt, Option, Some, None, is_none, is_some, unwrap_or, Ok, refl, sym, ap, subst, ◌∙◌}
-use Rattle.std.proofs.lemmas.Bool.{and_parts}
-use Rattle.std.proofs.lemmas.Bool.Decides.{nat_tests}
+use Rattle.std.proofs.Common.{◌≡◌, ℕ, Bool, true, false, true≢false, cond, ◌==◌, List, [], ◌∷◌, ◌++◌, drop, length, nat_lt, Option, Some, None, is_none, is_some, unwrap_or, Ok, refl, sym, ap, subst, ◌∙◌}
+use Rattle.std.proofs.lemmas.Bool.{and_parts, eqb-true, not-false}
 use Rattle.std.proofs.lemmas.Option.{none-some, same_Some}
 use Rattle.ipp_coding.proofs.Wholes.{message_again, message_spells}
 use Rattle.ipp_coding.specs.Plain.{PlainAttribute, PlainGroup, PlainMessage}
@@ -38,9 +37,6 @@ record Begins (groups : List PlainGroup) : Type 0 where
   pub are : groups ≡ record { tag = 0x01; attributes = first_attributes groups } ∷ further
   pub are_of : AreOf (first_attributes groups)
 
-same_tag : (tag : ℕ) → (tag == 1) ≡ true → tag ≡ 1
-same_tag tag is = grind (arith, nat_tests)
-
 begins : (groups : List PlainGroup) → AreGroupsOf groups → is_some (charset_first (first_attributes groups)) ≡ true → Begins groups
 begins [] are first = absurd (true≢false (sym first))
 begins (g ∷ further) are first = by (g.tag == 1) refl first
@@ -50,7 +46,7 @@ begins (g ∷ further) are first = by (g.tag == 1) refl first
         let same : first_attributes (g ∷ further) ≡ g.attributes = ap (λ (b : Bool). unwrap_or (cond b (Some g.attributes) None) []) is in
         record {
           further = further;
-          are = ap (λ (tag : ℕ). record { tag = tag; attributes = g.attributes } ∷ further) (same_tag g.tag is) ∙ ap (λ (attributes : List PlainAttribute). record { tag = 0x01; attributes = attributes } ∷ further) (sym same);
+          are = ap (λ (tag : ℕ). record { tag = tag; attributes = g.attributes } ∷ further) (eqb-true g.tag 1 is) ∙ ap (λ (attributes : List PlainAttribute). record { tag = 0x01; attributes = attributes } ∷ further) (sym same);
           are_of = subst AreOf (sym same) are.0;
         }
     by false isnt first = absurd (true≢false (sym first))
@@ -79,10 +75,6 @@ record Passes (account : List ℕ) (header : Header) (m : PlainMessage) : Type 0
   pub format : is_none (document_format (operation_of header) (operation_attributes m)) ≡ false
   pub which : is_none (which_jobs (operation_of header) (operation_attributes m)) ≡ false
 
-not_not : (b : Bool) → not b ≡ false → b ≡ true
-not_not true is = refl
-not_not false is = absurd (true≢false is)
-
 begins_there : (attributes : List PlainAttribute) → begins_well attributes ≡ true → is_some (charset_first attributes) ≡ true
 begins_there attributes well = (and_parts (is_some (charset_first attributes)) (is_some (language_second attributes)) well).0
 
@@ -92,7 +84,7 @@ opening_passes account operation m none =
     let attributes = operation_attributes m in
     let those = earlier_pass (attribute_checks account operation attributes) (document_checks operation (fidelity operation attributes) (unsupported (template_attributes operation m)) m.payload) none in
     let first = earlier_pass (opening_checks attributes) (target_checks account operation attributes ++ field_checks operation attributes) those in
-    not_not (begins_well attributes) (each_passes (opening_checks attributes) first).0
+    not-false (begins_well attributes) (each_passes (opening_checks attributes) first).0
 
 target_passes : (account : List ℕ) (operation : Operation) (attributes : List PlainAttribute) → first_refusal (target_checks account operation attributes) ≡ None → (is_none (target_in operation attributes) ≡ false) × (is_none (reached account (named_target operation attributes)) ≡ false)
 unfolding target_checks

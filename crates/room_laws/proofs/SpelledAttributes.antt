@@ -4,7 +4,7 @@ use mir.Val.{sel}
 use Rattle.std.specs.Int.{bytes_high_first, cast_signed, to_be_bytes, w32}
 use Rattle.std.specs.List.{AllByRecursion, flat_map}
 use Rattle.std.specs.Str.{bytes_eq}
-use Rattle.std.proofs.lemmas.Bool.Decides.{nat_tests}
+use Rattle.std.proofs.lemmas.Bool.{eqb-true, lt-ltb, ltb-true}
 use Rattle.std.proofs.lemmas.List.{drop_at, take_at}
 use Rattle.std.proofs.lemmas.Nat.{be_bytes_4}
 use Rattle.std.proofs.lemmas.Option.{none-some, same_Some}
@@ -71,7 +71,7 @@ abbrev pub Finds : (name : List ℕ) (attributes : List PlainAttribute) → Opti
 Finds name attributes None = HasNone name attributes
 Finds name attributes (Some a) = HasValues name attributes a.values × AllByRecursion IsOf a.values
 
-differ : (a b : List ℕ) → bytes_eq a b ≡ false → a ≢ b
+pub differ : (a b : List ℕ) → bytes_eq a b ≡ false → a ≢ b
 differ a b other same = true≢false (sym ((bytes_eq-Decides a b).1 same) ∙ other)
 
 pub finds : (name : List ℕ) (attributes : List PlainAttribute) → AreOf attributes → Finds name attributes (named name attributes)
@@ -98,10 +98,6 @@ found_again name attributes values has = ap (named name) has.stands ∙ again na
 
 -- ---- the one value of an attribute
 
-pub record IsOne (values : List PlainValue) : Type 0 where
-  pub value : PlainValue
-  pub is : values ≡ value ∷ []
-
 pub one_of : (values : List PlainValue) (value : PlainValue) → lone_value values ≡ Some value → values ≡ value ∷ []
 one_of [] value is = absurd (none-some value is)
 one_of (first ∷ []) value is = ap (λ (v : PlainValue). v ∷ []) (same_Some first value is)
@@ -109,23 +105,17 @@ one_of (first ∷ second ∷ more) value is = absurd (none-some value is)
 
 -- ---- what a value says
 
-same_tag : (a b : ℕ) → (a == b) ≡ true → a ≡ b
-same_tag a b same = grind (arith, nat_tests)
-
-same_test : (a b : ℕ) → a ≡ b → (a == b) ≡ true
-same_test a b same = grind (arith, nat_tests)
-
 pub is_under : (tag : ℕ) (value : PlainValue) → (value.tag == tag) ≡ true → IsUnder tag value value.bytes
-is_under tag value same = (same_tag value.tag tag same, refl)
+is_under tag value same = (eqb-true value.tag tag same, refl)
 
 -- a number of four bytes
-abbrev number_in : List ℕ → ℕ
+abbrev pub number_in : List ℕ → ℕ
 number_in bytes = (header_in (0 ∷ 0 ∷ 0 ∷ 0 ∷ bytes)).request_id
 
 four_again : (bytes : List ℕ) → IsBytes bytes → length bytes ≡ 4 → to_be_bytes w32 (number_in bytes) ≡ bytes
 four_again bytes are long = be_bytes_4 bytes (number_in bytes) long are (omega arith)
 
-number_again : (n : ℕ) → n < 2 ^ 32 → number_in (to_be_bytes w32 n) ≡ n
+pub number_again : (n : ℕ) → n < 2 ^ 32 → number_in (to_be_bytes w32 n) ≡ n
 number_again n fits = omega (arith, fits)
 
 record IsNumber (value : PlainValue) (z : ℤ) : Type 0 where
@@ -140,22 +130,16 @@ is_number value z said = by (value.tag == 0x21) refl (is_number_tag value.tag) (
     by false tag number long four said = absurd (none-some z said)
     by true tag false long four said = absurd (none-some z said)
     by true tag true false four said = absurd (none-some z said)
-    by true tag true true four said = record { tag = same_tag value.tag 0x21 tag; long = same_tag (length value.bytes) 4 four; is = same_Some (cast_signed w32 (number_in value.bytes)) z said }
+    by true tag true true four said = record { tag = eqb-true value.tag 0x21 tag; long = eqb-true (length value.bytes) 4 four; is = same_Some (cast_signed w32 (number_in value.bytes)) z said }
 
 pub integer_tag : (value : PlainValue) (z : ℤ) → integer_said value ≡ Some z → value.tag ≡ 0x21
 integer_tag value z said = (is_number value z said).tag
-
-below : (n : ℕ) → nat_lt n (2 ^ 31) ≡ true → n < 2 ^ 31
-below n low = grind (arith, nat_tests)
-
-low_test : (n : ℕ) → n < 2 ^ 31 → nat_lt n (2 ^ 31) ≡ true
-low_test n low = grind (arith, nat_tests)
 
 positive_is : (number n : ℕ) → cast_signed w32 number ≡ pos n → (number ≡ n) × (number < 2 ^ 31)
 positive_is number n is = by (nat_lt number (2 ^ 31)) refl is
   where
     by : (low : Bool) → nat_lt number (2 ^ 31) ≡ low → sel low (pos number) (negsuc (2 ^ 32 - suc number)) ≡ pos n → (number ≡ n) × (number < 2 ^ 31)
-    by true low is = (cc, below number low)
+    by true low is = (cc, ltb-true number (2 ^ 31) low)
     by false low is = absurd (let never : ⊥ = cc in never)
 
 pub integer_is : (value : PlainValue) (n : ℕ) → IsOf value → integer_said value ≡ Some (pos n) → IsInteger value n
@@ -164,16 +148,13 @@ integer_is value n are said =
     let same = positive_is (number_in value.bytes) n number.is in
     ((number.tag, sym (four_again value.bytes are number.long) ∙ ap (to_be_bytes w32) same.0), subst (λ (k : ℕ). k < 2 ^ 31) same.0 same.1)
 
-four_long : (n : ℕ) → length (to_be_bytes w32 n) ≡ 4
-four_long n = refl
-
 pub integer_again : (value : PlainValue) (n : ℕ) → IsInteger value n → integer_said value ≡ Some (pos n)
 integer_again value n is =
     let fits : n < 2 ^ 32 = omega (arith, is.1) in
     ap (λ (tag : ℕ). integer_said (record { tag = tag; bytes = value.bytes })) is.0.0
     ∙ ap (λ (bytes : List ℕ). integer_said (record { tag = 0x21; bytes = bytes })) is.0.1
     ∙ ap (λ (k : ℕ). Some (cast_signed w32 k)) (number_again n fits)
-    ∙ ap (λ (b : Bool). Some (sel b (pos n) (negsuc (2 ^ 32 - suc n)))) (low_test n is.1)
+    ∙ ap (λ (b : Bool). Some (sel b (pos n) (negsuc (2 ^ 32 - suc n)))) (lt-ltb n (2 ^ 31) is.1)
 
 pub count_is : (value : PlainValue) (n : ℕ) → IsOf value → count_said value ≡ Some n → IsInteger value n
 count_is value n are said = by (integer_said value) refl said
@@ -209,8 +190,8 @@ byte_is : (byte : ℕ) (b : Bool) → cond (byte == 0) (Some false) (cond (byte 
 byte_is byte b said = by (byte == 0) refl (byte == 1) refl said
   where
     by : (none : Bool) → (byte == 0) ≡ none → (one : Bool) → (byte == 1) ≡ one → cond none (Some false) (cond one (Some true) None) ≡ Some b → byte ≡ cond b 1 0
-    by true none one is said = same_tag byte 0 none ∙ ap (λ (b : Bool). cond b 1 0) (same_Some false b said)
-    by false none true is said = same_tag byte 1 is ∙ ap (λ (b : Bool). cond b 1 0) (same_Some true b said)
+    by true none one is said = eqb-true byte 0 none ∙ ap (λ (b : Bool). cond b 1 0) (same_Some false b said)
+    by false none true is said = eqb-true byte 1 is ∙ ap (λ (b : Bool). cond b 1 0) (same_Some true b said)
     by false none false is said = absurd (none-some b said)
 
 bool_bytes : (bytes : List ℕ) (b : Bool) → bool_in bytes ≡ Some b → bytes ≡ cond b 1 0 ∷ []
@@ -222,7 +203,7 @@ pub boolean_is : (value : PlainValue) (b : Bool) → bool_said value ≡ Some b 
 boolean_is value b said = by (value.tag == 0x22) refl said
   where
     by : (tag : Bool) → (value.tag == 0x22) ≡ tag → cond tag (bool_in value.bytes) None ≡ Some b → IsBoolean value b
-    by true tag said = (same_tag value.tag 0x22 tag, bool_bytes value.bytes b said)
+    by true tag said = (eqb-true value.tag 0x22 tag, bool_bytes value.bytes b said)
     by false tag said = absurd (none-some b said)
 
 -- a name
@@ -231,9 +212,9 @@ name_is value text are said = by (value.tag == 0x42) refl (value.tag == 0x36) re
   where
     by : (plain : Bool) → (value.tag == 0x42) ≡ plain → (with_language : Bool) → (value.tag == 0x36) ≡ with_language → IsName value text
     by true plain with_language tag =
-        let same = same_tag value.tag 0x42 plain in
+        let same = eqb-true value.tag 0x42 plain in
         inl (same, same_Some value.bytes text (sym (ap (λ (tag : ℕ). name_said (record { tag = tag; bytes = value.bytes })) same) ∙ said))
     by false plain true tag =
-        let same = same_tag value.tag 0x36 tag in
+        let same = eqb-true value.tag 0x36 tag in
         inr (same, text_found value.bytes text are (sym (ap (λ (tag : ℕ). name_said (record { tag = tag; bytes = value.bytes })) same) ∙ said))
     by false plain false tag = absurd (none-some text (sym (ap (λ (b : Bool). cond b (text_said value) None) (ap (λ (b : Bool). b || value.tag == 0x36) plain ∙ tag)) ∙ said))

@@ -1,9 +1,8 @@
 -- What the operation attributes say to an operation that reads them.
-use Rattle.std.proofs.Common.{◌≡◌, ◌≢◌, ◌⊎◌, inl, inr, ℕ, suc, ◌+◌, ◌≤◌, Bool, true, false, true≢false, cond, not, ◌&&◌, ◌||◌, ◌==◌, nat_le, nat_lt, codes, length, map, List, [], ◌∷◌, ◌++◌, Option, Some, None, is_none, is_some, option_and_then, option_map, unwrap_or, refl, sym, ap, subst, ◌∙◌, arith}
-use Rattle.std.specs.List.{AllByRecursion, find, list_all, list_any, position, prefix_len}
+use Rattle.std.proofs.Common.{◌≡◌, ◌≢◌, ◌⊎◌, inl, inr, ℕ, suc, ◌≤◌, Bool, true, false, true≢false, cond, not, ◌&&◌, ◌||◌, ◌==◌, nat_le, codes, map, List, [], ◌∷◌, ◌++◌, Option, Some, None, is_none, is_some, option_and_then, option_map, unwrap_or, refl, sym, ap, subst, ◌∙◌}
+use Rattle.std.specs.List.{AllByRecursion, find, list_all, list_any, position}
 use Rattle.std.specs.Str.{bytes_eq}
-use Rattle.std.proofs.lemmas.Bool.{and_parts}
-use Rattle.std.proofs.lemmas.Bool.Decides.{nat_tests}
+use Rattle.std.proofs.lemmas.Bool.{and_parts, eqb-false, eqb-true, le-leb, leb-true, not-false}
 use Rattle.std.proofs.lemmas.Option.{none-some, same_Some}
 use Rattle.std.proofs.lemmas.Slice.Eq.{bytes_eq-Decides}
 use Rattle.ipp_coding.specs.Plain.{PlainAttribute, PlainGroup, PlainMessage, PlainValue}
@@ -23,11 +22,9 @@ use Rattle.room_rules.specs.Formats.{format_named, formats, names_format}
 use Rattle.room_rules.specs.Limits.{most_copies}
 use Rattle.room_rules.specs.declared.format.Format.{Format}
 use Rattle.room_rules.specs.declared.format.Format.TheVariants.{OctetStream}
+use Rattle.room_asks.proofs.UriCuts.{place_of}
 
 -- ---- the value that an operation reads
-
-abbrev value_in : Option PlainAttribute → Option PlainValue
-value_in found = option_and_then lone_value (option_map (λ (a : PlainAttribute). a.values) found)
 
 abbrev value_read : (reads : Bool) (found : Option PlainAttribute) → Option PlainValue
 value_read reads found = option_and_then lone_value (cond reads (option_map (λ (a : PlainAttribute). a.values) found) None)
@@ -93,12 +90,8 @@ record Missing (may_lack : Bool) (name : List ℕ) (attributes : List PlainAttri
   pub may : may_lack ≡ true
   pub is_read : read ≡ None
 
-not_false : (b : Bool) → (true && not b) ≡ false → b ≡ true
-not_false true is = refl
-not_false false is = absurd (true≢false is)
-
 passes_so : (reads b : Bool) → reads ≡ true → (reads && not b) ≡ false → b ≡ true
-passes_so true b reads is = not_false b is
+passes_so true b reads is = not-false b is
 passes_so false b reads is = absurd (true≢false (sym reads))
 
 lone_one : (test : PlainValue → Bool) (values : List PlainValue) → lone_test test (lone_value values) ≡ true → (value : PlainValue) × ((lone_value values ≡ Some value) × (test value ≡ true))
@@ -130,7 +123,7 @@ some_of : {A : Type 0} (o : Option A) → is_some o ≡ true → (x : A) × (o �
 some_of None is = absurd (true≢false (sym is))
 some_of (Some x) is = (x, refl)
 
-not_none : {A : Type 0} (o : Option A) → is_none o ≡ false → (x : A) × (o ≡ Some x)
+pub not_none : {A : Type 0} (o : Option A) → is_none o ≡ false → (x : A) × (o ≡ Some x)
 not_none None is = absurd (true≢false is)
 not_none (Some x) is = (x, refl)
 
@@ -280,22 +273,6 @@ found_passes {X = X} test (y ∷ xs) x is = by (found_passes test xs x) (test y)
     by rest true passes is = ap test (sym (same_Some y x is)) ∙ passes
     by rest false passes is = rest is
 
-first_below : (n : ℕ) → nat_lt 0 (suc n) ≡ true
-first_below n = grind (arith, nat_tests)
-
-one_lower : (k n : ℕ) → nat_lt (1 + k) (suc n) ≡ nat_lt k n
-one_lower k n = grind (arith, nat_tests)
-
-place_from : (here : Bool) (k n : ℕ) →
-    cond (nat_lt (cond (not here) (1 + k) 0) (suc n)) (Some (cond (not here) (1 + k) 0)) None ≡ cond here (Some 0) (option_map (λ p. suc p) (cond (nat_lt k n) (Some k) None))
-place_from true k n = ap (λ (b : Bool). cond b (Some 0) None) (first_below n)
-place_from false k n =
-    ap (λ (b : Bool). cond b (Some (1 + k)) None) (one_lower k n)
-    ∙ elim (nat_lt k n) as (λ b. cond b (Some (1 + k)) None ≡ option_map (λ p. suc p) (cond b (Some k) None)) [ true ↦ ap (λ (m : ℕ). Some m) (omega arith) | false ↦ refl ]
-
-place_of : (test : ℕ → Bool) (c : ℕ) (bytes : List ℕ) → position test (c ∷ bytes) ≡ cond (test c) (Some 0) (option_map (λ p. suc p) (position test bytes))
-place_of test c bytes = place_from (test c) (prefix_len (λ x. not (test x)) bytes) (length bytes)
-
 -- the bytes up to the first ";", and from it on
 record IsCut (bytes : List ℕ) (named : List ℕ) : Type 0 where
   pub parameters : List ℕ
@@ -303,20 +280,14 @@ record IsCut (bytes : List ℕ) (named : List ℕ) : Type 0 where
   pub goes_on : AllByRecursion (λ (c : ℕ). c ≢ 59) named
   pub is_behind : (parameters ≡ []) ⊎ ((rest : List ℕ) × (parameters ≡ 59 ∷ rest))
 
-semicolon : (c : ℕ) → (c == 59) ≡ true → c ≡ 59
-semicolon c is = grind (arith, nat_tests)
-
-other_byte : (c : ℕ) → (c == 59) ≡ false → c ≢ 59
-other_byte c is same = grind (arith, nat_tests)
-
 cut_at : (bytes : List ℕ) → IsCut bytes (without_parameters bytes)
 cut_at [] = record { parameters = []; parts = refl; goes_on = tt; is_behind = inl refl }
 cut_at (c ∷ bytes) = subst (λ (o : Option ℕ). IsCut (c ∷ bytes) (up_to o (c ∷ bytes))) (sym (place_of (λ c. c == 59) c bytes)) (by (c == 59) refl (position (λ c. c == 59) bytes) (cut_at bytes))
   where
     by : (b : Bool) → (c == 59) ≡ b → (place : Option ℕ) → IsCut bytes (up_to place bytes) → IsCut (c ∷ bytes) (up_to (cond b (Some 0) (option_map (λ p. suc p) place)) (c ∷ bytes))
-    by true is place rest = record { parameters = c ∷ bytes; parts = refl; goes_on = tt; is_behind = inr (bytes, ap (λ (n : ℕ). n ∷ bytes) (semicolon c is)) }
-    by false is None rest = record { parameters = rest.parameters; parts = ap (λ (l : List ℕ). c ∷ l) rest.parts; goes_on = (other_byte c is, rest.goes_on); is_behind = rest.is_behind }
-    by false is (Some p) rest = record { parameters = rest.parameters; parts = ap (λ (l : List ℕ). c ∷ l) rest.parts; goes_on = (other_byte c is, rest.goes_on); is_behind = rest.is_behind }
+    by true is place rest = record { parameters = c ∷ bytes; parts = refl; goes_on = tt; is_behind = inr (bytes, ap (λ (n : ℕ). n ∷ bytes) (eqb-true c 59 is)) }
+    by false is None rest = record { parameters = rest.parameters; parts = ap (λ (l : List ℕ). c ∷ l) rest.parts; goes_on = (eqb-false c 59 is, rest.goes_on); is_behind = rest.is_behind }
+    by false is (Some p) rest = record { parameters = rest.parameters; parts = ap (λ (l : List ℕ). c ∷ l) rest.parts; goes_on = (eqb-false c 59 is, rest.goes_on); is_behind = rest.is_behind }
 
 media_type_is : (value : PlainValue) (format : Format) → (value.tag == 0x49) ≡ true → format_named (without_parameters value.bytes) ≡ Some format → IsMediaType value format
 media_type_is value format tag named =
@@ -377,9 +348,6 @@ which_said operation attributes are well known gets = by (there_or_not (is_get_j
 
 -- ---- requested-attributes
 
-same_tag : (a b : ℕ) → (a == b) ≡ true → a ≡ b
-same_tag a b same = grind (arith, nat_tests)
-
 abbrev keyword_of : List ℕ → PlainValue
 keyword_of name = record { tag = 0x44; bytes = name }
 
@@ -387,7 +355,7 @@ keywords_are : (values : List PlainValue) → list_all (λ (value : PlainValue).
 keywords_are [] all = refl
 keywords_are (value ∷ values) all =
     let both = and_parts (value.tag == 0x44) (list_all (λ (value : PlainValue). value.tag == 0x44) values) all in
-    let first = same_tag value.tag 0x44 both.0 in
+    let first = eqb-true value.tag 0x44 both.0 in
     let rest = keywords_are values both.1 in
     λ i. record { tag = first i; bytes = value.bytes } ∷ rest i
 
@@ -413,27 +381,26 @@ copies_read : (attributes : List PlainAttribute) → copies attributes ≡ unwra
 unfolding copies
 copies_read attributes = refl
 
-within : (n : ℕ) → nat_le n most_copies ≡ true → n ≤ most_copies
-within n is = grind (arith, nat_tests)
-
-pub within_test : (n : ℕ) → n ≤ most_copies → nat_le n most_copies ≡ true
-within_test n is = grind (arith, nat_tests)
-
 pub record AreSaid (values : List PlainValue) (n : ℕ) : Type 0 where
   pub value : PlainValue
   pub is : values ≡ value ∷ []
-  pub said : positive_said value ≡ Some n
-  pub at_most : n ≤ most_copies
+  pub are : AreCopies value n
 
-pub are_said : (a : PlainAttribute) (n : ℕ) → copies_said a ≡ Some n → AreSaid a.values n
-are_said a n said = by (lone_value a.values) refl said
+pub are_said : (a : PlainAttribute) (n : ℕ) → AllByRecursion IsOf a.values → copies_said a ≡ Some n → AreSaid a.values n
+are_said a n of said = by (lone_value a.values) refl said
   where
     up : (value : PlainValue) → lone_value a.values ≡ Some value → (k : Option ℕ) → positive_said value ≡ k → option_and_then up_to_most k ≡ Some n → AreSaid a.values n
     up value is None positive said = absurd (none-some n said)
     up value is (Some k) positive said = low (nat_le k most_copies) refl said
       where
+        one : a.values ≡ value ∷ []
+        one = one_of a.values value is
+
         low : (b : Bool) → nat_le k most_copies ≡ b → cond b (Some k) None ≡ Some n → AreSaid a.values n
-        low true few said = let same = same_Some k n said in record { value = value; is = one_of a.values value is; said = positive ∙ ap Some same; at_most = subst (λ (m : ℕ). m ≤ most_copies) same (within k few) }
+        low true few said =
+            let same = same_Some k n said in
+            let above = positive_said_is value n (subst (AllByRecursion IsOf) one of).0 (positive ∙ ap Some same) in
+            record { value = value; is = one; are = (above.0, above.1, subst (λ (m : ℕ). m ≤ most_copies) same (leb-true k most_copies few)) }
         low false few said = absurd (none-some n said)
 
     by : (o : Option PlainValue) → lone_value a.values ≡ o → option_and_then up_to_most (option_and_then positive_said o) ≡ Some n → AreSaid a.values n
@@ -444,7 +411,7 @@ said_again : (attributes : List PlainAttribute) (n : ℕ) → Says AreCopies (co
 said_again attributes n says =
     ap (option_and_then copies_said) (found_again (codes "copies") attributes (says.value ∷ []) says.is_there)
     ∙ ap (option_and_then up_to_most) (positive_again says.value n says.is_said.0 says.is_said.1)
-    ∙ ap (λ (b : Bool). cond b (Some n) None) (within_test n says.is_said.2)
+    ∙ ap (λ (b : Bool). cond b (Some n) None) (le-leb n most_copies says.is_said.2)
 
 pub copies_are_said : (attributes : List PlainAttribute) → AreOf attributes → SaysCopies attributes (copies attributes)
 copies_are_said attributes are = subst (SaysCopies attributes) (sym (copies_read attributes)) (by (option_and_then copies_said (named (codes "copies") attributes)) refl)
@@ -452,10 +419,8 @@ copies_are_said attributes are = subst (SaysCopies attributes) (sym (copies_read
     there : (found : Option PlainAttribute) → Finds (codes "copies") attributes found → (n : ℕ) → option_and_then copies_said found ≡ Some n → Says AreCopies (codes "copies") attributes n
     there None found n said = absurd (none-some n said)
     there (Some a) found n said =
-        let it = are_said a n said in
-        let of = (subst (AllByRecursion IsOf) it.is found.1).0 in
-        let positive = positive_said_is it.value n of it.said in
-        record { value = it.value; is_there = subst (HasValues (codes "copies") attributes) it.is found.0; is_said = (positive.0, positive.1, it.at_most) }
+        let it = are_said a n found.1 said in
+        record { value = it.value; is_there = subst (HasValues (codes "copies") attributes) it.is found.0; is_said = it.are }
 
     by : (o : Option ℕ) → option_and_then copies_said (named (codes "copies") attributes) ≡ o → SaysCopies attributes (unwrap_or o 1)
     by None is = inr (λ n says. none-some n (sym is ∙ said_again attributes n says), refl)
@@ -467,12 +432,6 @@ pub record Groups (groups : List PlainGroup) (attributes : List PlainAttribute) 
   pub are : AreOfJob groups attributes
   pub are_of : AreOf attributes
 
-same_group : (tag : ℕ) → (tag == 2) ≡ true → tag ≡ 2
-same_group tag is = grind (arith, nat_tests)
-
-other_group : (tag : ℕ) → (tag == 2) ≡ false → tag ≢ 2
-other_group tag is same = grind (arith, nat_tests)
-
 abbrev found_group : Option PlainGroup → List PlainAttribute
 found_group found = unwrap_or (option_map (λ (g : PlainGroup). g.attributes) found) []
 
@@ -481,12 +440,12 @@ job_group_is [] are = record { are = inr (tt, refl); are_of = tt }
 job_group_is (g ∷ groups) are = by (find (λ (group : PlainGroup). group.tag == 2) groups) (job_group_is groups are.1) (g.tag == 2) refl
   where
     by : (found : Option PlainGroup) → Groups groups (found_group found) → (b : Bool) → (g.tag == 2) ≡ b → Groups (g ∷ groups) (found_group (cond b (Some g) found))
-    by found rest true is = record { are = inl (record { earlier = []; later = groups; stands = ap (λ (tag : ℕ). record { tag = tag; attributes = g.attributes } ∷ groups) (same_group g.tag is); is_first = tt }); are_of = are.0 }
+    by found rest true is = record { are = inl (record { earlier = []; later = groups; stands = ap (λ (tag : ℕ). record { tag = tag; attributes = g.attributes } ∷ groups) (eqb-true g.tag 2 is); is_first = tt }); are_of = are.0 }
     by found rest false is = record { are = further rest.are; are_of = rest.are_of }
       where
         further : AreOfJob groups (found_group found) → AreOfJob (g ∷ groups) (found_group found)
-        further (inl one) = inl (record { earlier = g ∷ one.earlier; later = one.later; stands = ap (λ (l : List PlainGroup). g ∷ l) one.stands; is_first = (other_group g.tag is, one.is_first) })
-        further (inr none) = inr ((other_group g.tag is, none.0), none.1)
+        further (inl one) = inl (record { earlier = g ∷ one.earlier; later = one.later; stands = ap (λ (l : List PlainGroup). g ∷ l) one.stands; is_first = (eqb-false g.tag 2 is, one.is_first) })
+        further (inr none) = inr ((eqb-false g.tag 2 is, none.0), none.1)
 
 template_read : (operation : Operation) (m : PlainMessage) → makes_job operation ≡ true → template_attributes operation m ≡ unwrap_or (job_group_of m.groups) []
 unfolding template_attributes

@@ -5,8 +5,7 @@ use Rattle.std.specs.Fmt.{decimal}
 use Rattle.std.specs.List.{AllByRecursion, list_all}
 use Rattle.std.specs.Str.{bytes_eq}
 use Rattle.std.specs.Str.Parse.{AllDigits, digits_value}
-use Rattle.std.proofs.lemmas.Bool.{and_parts}
-use Rattle.std.proofs.lemmas.Bool.Decides.{nat_tests}
+use Rattle.std.proofs.lemmas.Bool.{and_parts, leb-true, lt-ltb, ltb-true}
 use Rattle.std.proofs.lemmas.Fmt.{decimal-digits_value}
 use Rattle.std.proofs.lemmas.List.{take-append-drop}
 use Rattle.std.proofs.lemmas.Option.{none-some, same_Some}
@@ -24,6 +23,7 @@ use Rattle.room_asks.specs.UriLaws.{IsMadeOf}
 use Rattle.room_asks.specs.Uris.{UriParts, parts_of}
 use Rattle.room_asks.specs.declared.operation.Operation.{Operation}
 use Rattle.room_laws.proofs.SpelledAttributes.{AreOf, Finds, IsOf, finds, integer_again, integer_is, integer_tag, is_under, one_of}
+use Rattle.room_laws.proofs.SpelledFields.{not_none}
 use Rattle.room_laws.specs.SpelledAsks.{IsByUri, IsFor, IsForQueue, IsJobId}
 use Rattle.room_laws.specs.SpelledAttributes.{HasNone, HasValues, IsInteger, IsUnder, Says}
 use Rattle.room_rules.specs.Limits.{last_next_job}
@@ -53,19 +53,16 @@ uri_is name tag attributes bytes are said = by (named name attributes) (finds na
 numbered_is : (n : ℕ) → nat_lt n last_next_job ≡ true → job_numbered (pos n) ≡ n
 numbered_is n is = ap (λ (b : Bool). cond b n 0) is
 
-below_test : (n : ℕ) → n < last_next_job → nat_lt n last_next_job ≡ true
-below_test n is = grind (arith, nat_tests)
-
 job_id_of : (value : PlainValue) (z : ℤ) → IsOf value → integer_said value ≡ Some z → IsJobId value (job_numbered z)
 job_id_of value (pos k) are said = record {
   tag = integer_tag value (pos k) said;
   below = low (nat_lt k last_next_job) refl;
   numbers = numbers (nat_lt k last_next_job) refl;
-  in_range = λ n low is. ap job_numbered (same_Some (pos k) (pos n) (sym said ∙ integer_again value n is)) ∙ numbered_is n (below_test n low);
+  in_range = λ n low is. ap job_numbered (same_Some (pos k) (pos n) (sym said ∙ integer_again value n is)) ∙ numbered_is n (lt-ltb n last_next_job low);
 }
   where
     low : (b : Bool) → nat_lt k last_next_job ≡ b → cond b k 0 < last_next_job
-    low true is = grind (arith, nat_tests, is)
+    low true is = ltb-true k last_next_job is
     low false is = omega arith
 
     numbers : (b : Bool) → nat_lt k last_next_job ≡ b → cond b k 0 ≢ 0 → IsInteger value (cond b k 0)
@@ -75,7 +72,7 @@ job_id_of value (negsuc k) are said = record {
   tag = integer_tag value (negsuc k) said;
   below = omega arith;
   numbers = λ some. absurd (some refl);
-  in_range = λ n low is. ap job_numbered (same_Some (negsuc k) (pos n) (sym said ∙ integer_again value n is)) ∙ numbered_is n (below_test n low);
+  in_range = λ n low is. ap job_numbered (same_Some (negsuc k) (pos n) (sym said ∙ integer_again value n is)) ∙ numbered_is n (lt-ltb n last_next_job low);
 }
 
 record IsLoneInteger (values : List PlainValue) (z : ℤ) : Type 0 where
@@ -138,14 +135,11 @@ written : (digits : List ℕ) → is_job_number digits ≡ true → (decimal (di
 written digits is =
     let both = and_parts (starts_above_zero digits && list_all is_ascii_digit digits) (nat_le (length digits) 6) is in
     let front = and_parts (starts_above_zero digits) (list_all is_ascii_digit digits) both.0 in
-    let few : length digits ≤ 6 = short (length digits) both.1 in
+    let few : length digits ≤ 6 = leb-true (length digits) 6 both.1 in
     let low = few_below digits front.1 few in
     let same : decimal (digits_value 10 digits) ≡ digits = decimal-digits_value own digits (digits_from digits front.1) (some digits front.0) (λ is. absurd (begins digits front.0 is)) (omega (arith, low)) in
     (same, from_one (digits_value 10 digits) same front.0)
   where
-    short : (n : ℕ) → nat_le n 6 ≡ true → n ≤ 6
-    short n is = grind (arith, nat_tests)
-
     some : (ds : List ℕ) → starts_above_zero ds ≡ true → 0 < length ds
     some [] above = absurd (true≢false (sym above))
     some (c ∷ rest) above = omega arith
@@ -250,15 +244,11 @@ module _ (account : List ℕ) (attributes : List PlainAttribute) (are : AreOf at
       by true says leads = to_job t (named (codes "printer-uri") attributes) (finds (codes "printer-uri") attributes are) says leads
       by false says leads = to_queue t (printer_uri_said attributes) refl says leads
 
-some_of : {A : Type 0} (o : Option A) → is_none o ≡ false → (x : A) × (o ≡ Some x)
-some_of None is = absurd (true≢false is)
-some_of (Some x) is = (x, refl)
-
 pub is_for : (operation : Operation) (account : List ℕ) (attributes : List PlainAttribute) → AreOf attributes → is_none (target_in operation attributes) ≡ false → is_none (reached account (named_target operation attributes)) ≡ false
     → IsFor operation account attributes (target_of account operation attributes).base (target_of account operation attributes).job
 unfolding target_of
 is_for operation account attributes are named_so leads =
-    let t = some_of (target_in operation attributes) named_so in
-    let target = some_of (reached account (named_target operation attributes)) leads in
+    let t = not_none (target_in operation attributes) named_so in
+    let target = not_none (reached account (named_target operation attributes)) leads in
     let reaches : reached account t.0 ≡ Some target.0 = ap (λ (o : Option NamedTarget). reached account (unwrap_or o (JobUri []))) (sym t.1) ∙ target.1 in
     subst (λ (p : PlainTarget). IsFor operation account attributes p.base p.job) (sym (ap (λ (o : Option PlainTarget). unwrap_or o (at_job [] 0)) target.1)) (leads_by account attributes are target.0 operation t.0 t.1 reaches)

@@ -1,19 +1,19 @@
 -- Which attributes of a job are not supported, and go back.
-use Rattle.std.proofs.Common.{◌≡◌, ◌≢◌, inl, inr, ℕ, Bool, true, false, true≢false, cond, not, ◌||◌, ◌==◌, codes, filter, map, List, [], ◌∷◌, Option, Some, None, is_some, option_and_then, unwrap_or, refl, sym, ap, subst, ◌∙◌, arith}
+use Rattle.std.proofs.Common.{◌≡◌, inl, inr, ℕ, Bool, true, false, true≢false, cond, not, ◌||◌, ◌==◌, codes, filter, map, List, [], ◌∷◌, Option, Some, None, is_some, option_and_then, unwrap_or, refl, sym, ap, subst, ◌∙◌}
 use Rattle.std.specs.List.{AllByRecursion}
 use Rattle.std.specs.Str.{bytes_eq}
-use Rattle.std.proofs.lemmas.Bool.{and_parts}
-use Rattle.std.proofs.lemmas.Bool.Decides.{nat_tests}
+use Rattle.std.proofs.lemmas.Bool.{and_parts, eqb-true, le-leb}
 use Rattle.std.proofs.lemmas.Slice.Eq.{bytes_eq-Decides}
 use Rattle.ipp_coding.specs.Plain.{PlainAttribute, PlainMessage, PlainValue}
 use Rattle.room_asks.specs.Operations.{makes_job}
 use Rattle.room_asks.specs.Requests.{is_named, job_group_of, lone_value}
 use Rattle.room_asks.specs.Templates.{copies_said, firsts, holds_for_good, is_indefinite, is_known, is_supported, returned, template_attributes, unsupported, up_to_most}
 use Rattle.room_asks.specs.declared.operation.Operation.{Operation}
-use Rattle.room_laws.proofs.SpelledAttributes.{AreOf, IsOf, one_of, positive_again, positive_said_is}
-use Rattle.room_laws.proofs.SpelledFields.{are_said, within_test}
+use Rattle.room_laws.proofs.SpelledAttributes.{AreOf, IsOf, differ, one_of, positive_again}
+use Rattle.room_laws.proofs.SpelledFields.{are_said}
 use Rattle.room_laws.specs.SpelledAsks.{AreCopies, GoBack, HoldsForGood, IsKnown, IsReturned, IsSupported}
 use Rattle.room_laws.specs.SpelledAttributes.{HasNone}
+use Rattle.room_rules.specs.Limits.{most_copies}
 
 same_name : (a b : List ℕ) → bytes_eq a b ≡ true → a ≡ b
 same_name a b = (bytes_eq-Decides a b).0
@@ -21,16 +21,7 @@ same_name a b = (bytes_eq-Decides a b).0
 name_test : (a b : List ℕ) → a ≡ b → bytes_eq a b ≡ true
 name_test a b = (bytes_eq-Decides a b).1
 
-differ : (a b : List ℕ) → bytes_eq a b ≡ false → a ≢ b
-differ a b other same = true≢false (sym (name_test a b same) ∙ other)
-
 -- ---- which is supported
-
-same_tag : (a b : ℕ) → (a == b) ≡ true → a ≡ b
-same_tag a b same = grind (arith, nat_tests)
-
-tag_test : (a b : ℕ) → a ≡ b → (a == b) ≡ true
-tag_test a b same = grind (arith, nat_tests)
 
 holds_is : (value : PlainValue) → is_indefinite value ≡ true → HoldsForGood value
 holds_is value is =
@@ -38,8 +29,8 @@ holds_is value is =
     by (same_name value.bytes (codes "indefinite") both.1) (value.tag == 0x44) refl (value.tag == 0x42) refl both.0
   where
     by : value.bytes ≡ codes "indefinite" → (keyword : Bool) → (value.tag == 0x44) ≡ keyword → (name : Bool) → (value.tag == 0x42) ≡ name → (keyword || name) ≡ true → HoldsForGood value
-    by bytes true tag name other is = inl (same_tag value.tag 0x44 tag, bytes)
-    by bytes false tag true other is = inr (same_tag value.tag 0x42 other, bytes)
+    by bytes true tag name other is = inl (eqb-true value.tag 0x44 tag, bytes)
+    by bytes false tag true other is = inr (eqb-true value.tag 0x42 other, bytes)
     by bytes false tag false other is = absurd (true≢false (sym is))
 
 holds_again : (value : PlainValue) → HoldsForGood value → is_indefinite value ≡ true
@@ -56,10 +47,8 @@ lone_holds values is = by (lone_value values) refl is
 copies_there : (a : PlainAttribute) → AllByRecursion IsOf a.values → (o : Option ℕ) → copies_said a ≡ o → is_some o ≡ true → (value : PlainValue) × (n : ℕ) × (a.values ≡ value ∷ []) × AreCopies value n
 copies_there a are None said is = absurd (true≢false (sym is))
 copies_there a are (Some n) said is =
-    let it = are_said a n said in
-    let of = (subst (AllByRecursion IsOf) it.is are).0 in
-    let positive = positive_said_is it.value n of it.said in
-    (it.value, n, it.is, (positive.0, positive.1, it.at_most))
+    let it = are_said a n are said in
+    (it.value, n, it.is, it.are)
 
 supported_is : (a : PlainAttribute) → AllByRecursion IsOf a.values → is_supported a ≡ true → IsSupported a
 supported_is a are is = by (bytes_eq a.name (codes "copies")) refl (bytes_eq a.name (codes "job-hold-until")) refl is
@@ -73,7 +62,7 @@ copies_again : (a : PlainAttribute) (value : PlainValue) (n : ℕ) → a.values 
 copies_again a value n one are =
     ap (λ (values : List PlainValue). is_some (copies_said (record { name = a.name; values = values }))) one
     ∙ ap (λ (o : Option ℕ). is_some (option_and_then up_to_most o)) (positive_again value n are.0 are.1)
-    ∙ ap (λ (b : Bool). is_some (cond b (Some n) None)) (within_test n are.2)
+    ∙ ap (λ (b : Bool). is_some (cond b (Some n) None)) (le-leb n most_copies are.2)
 
 supported_again : (a : PlainAttribute) → IsSupported a → is_supported a ≡ true
 supported_again a (inl is) =

@@ -2,7 +2,6 @@
 use Rattle.std.proofs.Common.{◌≡◌, ◌*◌, ℕ, ℤ, pos, negsuc, Bool, true, false, cond, ◌==◌, ◌||◌, ◌&&◌, is_none, not, List, [], ◌∷◌, ◌++◌, map, length, bytes_eq, codes, Option, Some, None, Result, Ok, refl, sym, ap, ◌∙◌, arith}
 use Rattle.std.specs.FinMap.{get}
 use Rattle.std.specs.Fmt.{decimal, signed_decimal}
-use Rattle.std.proofs.lemmas.Bool.Decides.{nat_tests}
 use Rattle.std.proofs.lemmas.Grind.{common_steps}
 use Rattle.room_core.specs.Events.{OfAccount, Release, Start, Settle}
 use Rattle.room_core.specs.Machine.{answered}
@@ -10,16 +9,16 @@ use Rattle.room_core.specs.Stations.{by_word}
 use Rattle.room_core.specs.Steps.{Step, refusing_or, telling, with_moved}
 use Rattle.room_core.specs.declared.event.Reply.{Reply}
 use Rattle.room_core.specs.declared.event.Reply.TheVariants as reply
-use Rattle.room_laws.proofs.AsTold.{AccountKeeps, Keeps, all_keep, each_keeps}
+use Rattle.room_laws.proofs.AsTold.{AccountKeeps, Keeps, all_keep, counts_alike, each_keeps}
 use Rattle.room_laws.proofs.AsToldSums.{left_as_told}
 use Rattle.room_laws.proofs.Changes.{releases, settles}
 use Rattle.room_laws.proofs.DocumentsOfJobs.{AreOfJobs, RoomHasOfJobs, handed_as_sent, has_of_jobs}
 use Rattle.room_laws.proofs.LifeLemmas.{front_of_life}
 use Rattle.room_laws.proofs.LineChecks.{acted_on, job_stands, known_stands, opened_stands, ready_stands, refusal_in, told_by, unopened_stands}
-use Rattle.room_laws.proofs.Moved.{none_ended, same_copies, was_unfinished}
+use Rattle.room_laws.proofs.Moved.{ended_is, none_ended, same_copies, was_unfinished}
 use Rattle.room_laws.specs.AccountsTold.{AccountTold, account_told, after_deed, left_told, rate_told}
 use Rattle.room_laws.specs.Deeds.{Released, Settled}
-use Rattle.room_laws.specs.JobsTold.{JobTold, Sent, Stage, Waits, IsFree, Prints, HasEnded, impressions_told}
+use Rattle.room_laws.specs.JobsTold.{JobTold, Sent, Stage, Waits, IsFree, Prints, HasEnded}
 use Rattle.room_laws.specs.Refusals.{Check, first_refusal}
 use Rattle.room_laws.specs.StandsAsTold.{IsAsTold, IsAt, device_told}
 use Rattle.room_laws.specs.StationAnswers.{ReleasesAreAnswered, SettlementsAreAnswered, StartsAreAnswered, charge_of, device_checks, is_past, is_waiting, is_wrong, line_of, job_checks, need_at, part_told, ready_checks, release_answer, release_checks, settle_answer, settle_checks, start_answer, start_checks, with_its_job}
@@ -37,7 +36,7 @@ use Rattle.room_rules.specs.Quota.{exceeds}
 use Rattle.room_rules.specs.declared.device.Device.{Device}
 use Rattle.room_rules.specs.declared.job.Job.{Job}
 use Rattle.room_rules.specs.declared.job.JobState.{JobState}
-use Rattle.room_rules.specs.declared.job.JobState.TheVariants.{Held, Pending, Processing, Canceled, Aborted, Completed}
+use Rattle.room_rules.specs.declared.job.JobState.TheVariants.{Held, Pending, Processing}
 use Rattle.room_rules.specs.declared.job.Standing.{Standing}
 use Rattle.room_rules.specs.declared.refusal.Refusal.{Refusal}
 use Rattle.room_rules.specs.declared.refusal.Word.{Word}
@@ -45,17 +44,6 @@ use Rattle.room_rules.specs.declared.refusal.Word.TheVariants.{ImpressionsUnknow
 use Rattle.room_state.specs.Documents.{documents_of}
 use Rattle.room_state.specs.Rooms.{RoomValue}
 use Rattle.room_state.specs.Sums.{left_in}
-
--- ---- a job that has ended
-
--- an act that is refused so in each state but one is refused so once the job has ended
-ended_is : (how : JobState) → has_ended how ≡ true → (held pending processing ended : Result Standing Refusal) → cell how held pending processing ended ≡ ended
-ended_is Canceled is held pending processing ended = refl
-ended_is Aborted is held pending processing ended = refl
-ended_is Completed is held pending processing ended = refl
-ended_is Held is held pending processing ended = let no : ⊥ = cc in absurd no
-ended_is Pending is held pending processing ended = let no : ⊥ = cc in absurd no
-ended_is Processing is held pending processing ended = let no : ⊥ = cc in absurd no
 
 -- ---- a release
 
@@ -83,9 +71,6 @@ waiting_release s kept device given handed_in rate left =
     let need = impressions_of s handed_in * s.copies * rate in
     first_of_five (is_incomplete s) (is_wrong_password kept given) (impressions_of s handed_in == 0) (exceeds need left) need left _
     ∙ ap (λ (past : Bool). first_refusal ((false, NotHeld) ∷ (is_incomplete s, Incomplete) ∷ (is_wrong kept given, Password) ∷ (impressions_of s handed_in == 0, ImpressionsUnknown) ∷ (past, Quota need left) ∷ [])) (same_past need left)
-
-pub counts_alike : (s : Standing) (handed_in : ℕ) (ticket : JobTold) → s.impressions ≡ ticket.impressions → impressions_of s handed_in ≡ impressions_told handed_in ticket
-counts_alike s handed_in ticket same = grind (arith, nat_tests)
 
 reserved_by : (kept device given : List ℕ) (handed_in rate : ℕ) (left : ℤ) (s next : Standing) → move (StationRelease kept device given handed_in rate left) s ≡ Ok next → next.reserved ≡ impressions_of s handed_in * s.copies * rate
 reserved_by kept device given handed_in rate left s next goes = grind (arith, common_steps)
@@ -120,9 +105,6 @@ charged_by device count failed now (Prints by at_rate units since is_canceled) s
 charged_by device count failed now (HasEnded how counted units since ended) s next at goes = absurd (none_ended (StationSettle device count failed now) s next goes (ap has_ended at.state ∙ at.is_end))
 
 module _ (told : AccountTold) (room : RoomValue) (devices : Devices) (known : (name : List ℕ) → get devices name ≡ device_told told name) (keeps : Keeps told room) (now : ℕ) (account device : List ℕ) (number : ℕ) where
-  left_is : left_in room now ≡ left_told told now
-  left_is = left_as_told told room keeps.stands now
-
   module _ (password : List ℕ) (handed_in : ℕ) where
     abbrev release_of : Device → Job → Act
     release_of ready job = StationRelease job.password device password handed_in ready.rate (left_in room now)
@@ -143,7 +125,7 @@ module _ (told : AccountTold) (room : RoomValue) (devices : Devices) (known : (n
 
       told_alike : (stage : Stage) → ticket.stage ≡ stage → (incomplete : Bool) → incomplete ≡ (ticket.is_open || length ticket.documents == 0)
           → told_checks stage incomplete job.password password (impressions_of job.standing handed_in) (impressions_of job.standing handed_in * job.standing.copies * ready.rate) (left_in room now) ≡ first_refusal (release_checks told now device password handed_in ticket)
-      told_alike stage at incomplete whole = λ i. told_checks (sym at i) (whole i) (is.password i) password (counts_alike job.standing handed_in ticket is.impressions i) (needs i) (left_is i)
+      told_alike stage at incomplete whole = λ i. told_checks (sym at i) (whole i) (is.password i) password (counts_alike job.standing handed_in ticket is.impressions i) (needs i) (left_as_told told room keeps.stands now i)
 
       at_state : (state : JobState) → job.standing.state ≡ state
           → refusal_in (by_word (move release job.standing)) ≡ refusal_in (by_word (cell state (after_station_release job.standing job.password device password handed_in ready.rate (left_in room now)) (refused NotHeld) (refused NotHeld) (refused NotHeld)))

@@ -1,5 +1,5 @@
 -- What an event makes of a room is a room.
-use Rattle.std.proofs.Common.{◌≡◌, ℕ, ◌+◌, ◌<◌, ◌≤◌, Bool, true, false, if◌then◌else◌, List, length, Option, Some, None, Ok, Err, IsTrue, refl, sym, ap, subst, arith}
+use Rattle.std.proofs.Common.{◌≡◌, ℕ, ◌+◌, ◌<◌, ◌≤◌, Bool, true, false, if◌then◌else◌, List, length, Option, Some, None, Ok, IsTrue, refl, sym, ap, subst, arith}
 use Rattle.std.specs.Prelude.{IfSome, is_some}
 use Rattle.std.specs.FinMap.{get}
 use Rattle.std.proofs.lemmas.Bool.Decides.{nat_tests}
@@ -17,7 +17,6 @@ use Rattle.room_core.specs.Steps.{with_moved}
 use Rattle.room_core.specs.declared.event.Reply.{Reply}
 use Rattle.room_laws.specs.RoomsStay.{AreNamed}
 use Rattle.room_replies.specs.Queues.{accepting_refusal}
-use Rattle.room_replies.specs.Stations.{ready_device}
 use Rattle.room_rules.specs.Acts.{Act, CancelJob, HoldJob, ReleaseJob, SendDocument, StationRelease, StationSettle, StationStart}
 use Rattle.room_rules.specs.Devices.{Devices}
 use Rattle.room_rules.specs.JobStates.{is_unfinished}
@@ -25,10 +24,8 @@ use Rattle.room_rules.specs.Limits.{last_next_job, longest_document, most_copies
 use Rattle.room_rules.specs.Moves.{move}
 use Rattle.room_rules.specs.NewJobs.{fresh}
 use Rattle.room_rules.specs.Standings.{IsStanding}
-use Rattle.room_rules.specs.declared.device.Device.{Device}
 use Rattle.room_rules.specs.declared.job.Job.{Job}
 use Rattle.room_rules.specs.declared.job.Standing.{Standing}
-use Rattle.room_rules.specs.declared.refusal.Word.TheVariants.{DeviceOff}
 use Rattle.room_state.specs.Changes.{with_ended, with_new_job, with_standing}
 use Rattle.room_state.specs.Conditions.{GoesOn}
 use Rattle.room_state.specs.RoomRules.{IsGrant, IsRoom, unfinished_count}
@@ -37,7 +34,7 @@ use Rattle.room_state.specs.Sums.{left_in}
 use Rattle.room_state.proofs.KeptRooms.{add_grant_keeps, add_job_keeps, finish_keeps, restand_keeps}
 use Rattle.room_laws.proofs.Moved.{brings_document, document_taken, moved_keeps}
 use Rattle.room_laws.proofs.AsksWithin.{IsWithin, ask_within}
-use Rattle.room_laws.proofs.Changes.{Makes, act_asked, refuses, reads, makes, takes, acts, releases, starts, settles, grants}
+use Rattle.room_laws.proofs.Changes.{Makes, act_asked, refuses, reads, makes, takes, acts, releases, starts, settles, grants, ready_is}
 use Rattle.room_laws.proofs.MovedStandings.{IsActWithin, moved_stands}
 
 -- ---- an act on a job
@@ -147,15 +144,6 @@ new_job_keeps room ask now rules within moment accepting =
 
 -- ---- what a station or an operator brings
 
--- a device that is ready is known
-ready_known : (found : Option Device) (ready : Device) → ready_device found ≡ Ok ready → found ≡ Some ready
-ready_known None ready is = absurd (let no : ⊥ = cc in no)
-ready_known (Some device) ready is = if_on device.on is
-  where
-    if_on : (on : Bool) → (if on then Ok device else Err DeviceOff) ≡ Ok ready → Some device ≡ Some ready
-    if_on true same = cc
-    if_on false same = absurd (let no : ⊥ = cc in no)
-
 -- what an event brings that lies within its limits
 few_released : (account device : List ℕ) (number : ℕ) (password : List ℕ) (impressions : ℕ) → IsTrue (fits (OfAccount account (Release device number password impressions))) → impressions ≤ most_impressions
 few_released account device number password impressions fit = grind (arith, nat_tests)
@@ -178,10 +166,10 @@ event_keeps room devices now account event told after rules named rated moment f
     let within = asked_within room now job ask.operation act moment is in
     act_keeps room ask.job job standing act rules here within.0 within.1 moved
 event_keeps room devices now account event told after rules named rated moment fit (releases device number password impressions ready job standing is here moved) =
-    let known = ready_known (get devices device) ready is in
+    let known = ready_is (get devices device) ready is in
     act_keeps room number job standing (StationRelease job.password device password impressions ready.rate _) rules here (named device ready known, few_released account device number password impressions fit, rated device ready known) refl moved
 event_keeps room devices now account event told after rules named rated moment fit (starts device number ready job standing is here moved) =
-    act_keeps room number job standing (StationStart device ready.rate now) rules here (named device ready (ready_known (get devices device) ready is), moment) refl moved
+    act_keeps room number job standing (StationStart device ready.rate now) rules here (named device ready (ready_is (get devices device) ready is), moment) refl moved
 event_keeps room devices now account event told after rules named rated moment fit (settles device number impressions failed known job standing is here moved) =
     act_keeps room number job standing (StationSettle device impressions failed now) rules here (few_settled account device number impressions failed fit, moment) refl moved
 event_keeps room devices now account event told after rules named rated moment fit (grants month pages none) = add_grant_keeps room month pages rules (record { is_new = none; in_range = grant_within account month pages fit })

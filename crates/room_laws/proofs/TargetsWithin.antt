@@ -4,8 +4,7 @@ use Rattle.std.specs.Prelude.{IfSome, bytes_eq, codes, is_some, option_and_then,
 use Rattle.std.specs.Char.{is_ascii_digit}
 use Rattle.std.specs.List.{list_all}
 use Rattle.std.specs.Str.Parse.{digits_value}
-use Rattle.std.proofs.lemmas.Bool.{and_parts}
-use Rattle.std.proofs.lemmas.Bool.Decides.{nat_tests}
+use Rattle.std.proofs.lemmas.Bool.{and_parts, leb-true, ltb-true}
 use Rattle.ipp_coding.specs.Plain.{PlainAttribute}
 use Rattle.room_asks.specs.Checks.{named_target, target_of}
 use Rattle.room_asks.specs.Operations.{is_for_job}
@@ -26,11 +25,8 @@ number_within : (fits : Bool) (n : ℕ) → (fits ≡ true → n < last_next_job
 number_within true n below = below refl
 number_within false n below = omega arith
 
-is_below : (n : ℕ) → nat_lt n last_next_job ≡ true → n < last_next_job
-is_below n is = grind (arith, nat_tests)
-
 numbered_within : (id : ℤ) → job_numbered id < last_next_job
-numbered_within (pos n) = number_within (nat_lt n last_next_job) n (is_below n)
+numbered_within (pos n) = number_within (nat_lt n last_next_job) n (ltb-true n last_next_job)
 numbered_within (negsuc n) = omega arith
 
 id_within : (uri : List ℕ) (id : Option ℤ) → IfSome (option_map (λ job. PrinterUri uri job) (option_map job_numbered id)) HasNumber
@@ -71,13 +67,10 @@ digits_within : (is_number : Bool) (digits : List ℕ) → (is_number ≡ true �
 digits_within true digits below = below refl
 digits_within false digits below = tt
 
-few : (digits : List ℕ) → nat_le (length digits) 6 ≡ true → length digits ≤ 6
-few digits is = grind (arith, nat_tests)
-
 written_within : (digits : List ℕ) → is_job_number digits ≡ true → digits_value 10 digits < last_next_job
 written_within digits is =
     let both = and_parts (starts_above_zero digits && list_all is_ascii_digit digits) (nat_le (length digits) 6) is in
-    few_below digits (and_parts (starts_above_zero digits) (list_all is_ascii_digit digits) both.0).1 (few digits both.1)
+    few_below digits (and_parts (starts_above_zero digits) (list_all is_ascii_digit digits) both.0).1 (leb-true (length digits) 6 both.1)
 
 behind_within : (digits : Option (List ℕ)) → IfSome (option_and_then job_number digits) (λ job. job < last_next_job)
 behind_within None = tt
