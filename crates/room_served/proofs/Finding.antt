@@ -18,7 +18,8 @@ use Rattle.room_tables.specs.Crashes.{CrashesFindLastCommit, IsOnDisk}
 use Rattle.room_tables.specs.Keyed.{HasSchema}
 use Rattle.room_served.proofs.Running.{IsGone, StillGoes, entry_keeps, entry_leaves_no_more, leads_keep, leads_leave, leads_leave_no_more, leads_on, round_shown, runs, was_clean}
 use Rattle.room_served.specs.Entries.{timed}
-use Rattle.room_served.specs.Journals.{AllSettle, AloneIsFound, AlwaysFound, AlwaysLives, AppliesEntry, Begins, FindsLife, FindsRound, IsOver, IsRound, KeptIsFound, Leads, Round, RoundIsFound, RoundIsNotFound, Settles, Told, events_of, kept_in, outcomes_of, told_to}
+use Rattle.room_served.specs.Journals.{AllSettle, AppliesEntry, Begins, IsOver, IsRound, Leads, Round, Settles, Told, events_of, kept_in, outcomes_of}
+use Rattle.room_served.specs.ServedLives.{AloneIsFound, AlwaysFound, AlwaysLives, FindsLife, FindsRound, KeptIsFound, RoundIsFound, RoundIsNotFound, told_to}
 
 module _ {S : Type 0} (store : Ghosts S) where
   -- ---- lives
@@ -50,11 +51,11 @@ module _ {S : Type 0} (store : Ghosts S) where
       pub still_or_gone : StillGoes store (state store mid).now (state store ended) ⊎ IsGone store (state store mid).now (state store ended)
       still_or_gone = leads_leave store (state store mid).now more begun ended clean (inl goes_at_first) leads
 
-      pub whole_life : IsTrue (state store ended).in_transaction → (name : List _) (before : Life) → IsLifeIn (state store mid).now true name before → IsLifeIn (state store ended).now (state store ended).is_open name (before ++ told_to store name more)
+      pub whole_life : IsTrue (state store ended).in_transaction → (name : List _) (before : Life) → IsLifeIn (state store mid).now true name before → IsLifeIn (state store ended).now (state store ended).is_open name (before ++ told_to name more)
       whole_life inside name before lived =
           let first = still_shown [] [] (state store mid) (state store mid) (state store begun) (begins (state store mid)).shows starts.survives.clean (λ _ _. has_begun.opened.0) (λ _ _ _. has_begun.now) in
           let shows = round_shown store more [] [] mid begun ended first leads clean inside in
-          lives_go_on_in_runs (events_of store more) (outcomes_of store more) (state store mid).now (state store ended).is_open (state store ended).now (shows.alone clean has) (shows.devices clean has) name before lived
+          lives_go_on_in_runs (events_of more) (outcomes_of more) (state store mid).now (state store ended).is_open (state store ended).now (shows.alone clean has) (shows.devices clean has) name before lived
 
     -- ---- a round that is over
 
@@ -100,8 +101,8 @@ module _ {S : Type 0} (store : Ghosts S) where
       pub schema_there : HasSchema (state store mid).now
       schema_there = (runs store rounds old mid settles).schema clean has shown
 
-      pub life_there : IsLifeIn (state store mid).now true name (life ++ told_to store name (kept_in rounds))
-      life_there = subst (λ (b : Bool). IsLifeIn (state store mid).now b name (life ++ told_to store name (kept_in rounds))) shown (always_lives rounds old mid settles clean has name life lived)
+      pub life_there : IsLifeIn (state store mid).now true name (life ++ told_to name (kept_in rounds))
+      life_there = subst (λ (b : Bool). IsLifeIn (state store mid).now b name (life ++ told_to name (kept_in rounds))) shown (always_lives rounds old mid settles clean has name life lived)
 
     pub round_is_not_found : RoundIsNotFound store
     round_is_not_found rounds old mid begun last new settles starts more leads shown next clean has name life lived found may =
@@ -111,7 +112,7 @@ module _ {S : Type 0} (store : Ghosts S) where
         let mid_shown = (starts.begun begun_is).opened.0 in
         let schema = schema_there rounds old mid settles mid_is has mid_shown name life lived in
         let there = still_or_gone mid begun starts more last leads last_is schema in
-        found_of name (life ++ told_to store name (kept_in rounds)) (state store mid).now true refl schema (life_there rounds old mid settles mid_is has mid_shown name life lived) found
+        found_of name (life ++ told_to name (kept_in rounds)) (state store mid).now true refl schema (life_there rounds old mid settles mid_is has mid_shown name life lived) found
         (none_found mid begun starts more last leads last_is schema shown found (no_more next clean there found may))
       where
         cleaner : (new ≡ last) ⊎ ((next : Told) × AppliesEntry store true next.0 last new next.1) → HasCleanDisk (state store new) → HasCleanDisk (state store last)
@@ -132,9 +133,9 @@ module _ {S : Type 0} (store : Ghosts S) where
       of_before : found ≡ (state store mid).now.trees → IsFound name before found
       of_before same = found_of name before (state store mid).now true refl has lived found same
 
-      of_whole : IsTrue (state store is.ended).in_transaction → HasSchema (state store is.ended).now → found ≡ (state store is.ended).now.trees → IsFound name (before ++ told_to store name round.0) found
+      of_whole : IsTrue (state store is.ended).in_transaction → HasSchema (state store is.ended).now → found ≡ (state store is.ended).now.trees → IsFound name (before ++ told_to name round.0) found
       of_whole inside schema same =
-          found_of name (before ++ told_to store name round.0) (state store is.ended).now (state store is.ended).is_open shown schema (whole_life mid is.begun is.begins round.0 is.ended is.leads ended_is has inside name before lived) found same
+          found_of name (before ++ told_to name round.0) (state store is.ended).now (state store is.ended).is_open shown schema (whole_life mid is.begun is.begins round.0 is.ended is.leads ended_is has inside name before lived) found same
 
       pub finds_life : FindsLife store round name before (state store new).is_open found
       finds_life = record {
@@ -158,7 +159,7 @@ module _ {S : Type 0} (store : Ghosts S) where
         let begun_clean = was_clean store is.begun is.ended (leads_keep store round.0 is.begun is.ended is.leads) ended_clean in
         let mid_clean : HasCleanDisk (state store mid) = omega (arith, is.begins.survives.clean, begun_clean) in
         let mid_shown = (is.begins.begun begun_clean).opened.0 in
-        finds_life round mid new is clean (schema_there rounds old mid settles mid_clean has mid_shown name life lived) shown name (life ++ told_to store name (kept_in rounds)) (life_there rounds old mid settles mid_clean has mid_shown name life lived) found may
+        finds_life round mid new is clean (schema_there rounds old mid settles mid_clean has mid_shown name life lived) shown name (life ++ told_to name (kept_in rounds)) (life_there rounds old mid settles mid_clean has mid_shown name life lived) found may
 
     -- ---- between rounds
 
@@ -208,13 +209,13 @@ module _ {S : Type 0} (store : Ghosts S) where
 
     pub kept_is_found : KeptIsFound store
     kept_is_found rounds old new settled settles clean has shown name life lived found may =
-        found_of name (life ++ told_to store name (kept_in rounds)) (state store new).now true refl (schema_there rounds old new settles clean has shown name life lived) (life_there rounds old new settles clean has shown name life lived) found
+        found_of name (life ++ told_to name (kept_in rounds)) (state store new).now true refl (schema_there rounds old new settles clean has shown name life lived) (life_there rounds old new settles clean has shown name life lived) found
         ((all_settled rounds old new settled settles clean has shown).found shown found may)
 
     pub alone_is_found : AloneIsFound store
     alone_is_found rounds old mid new settled settles shown entry told applied clean has name life lived found may =
         let mid_clean : HasCleanDisk (state store mid) = omega (arith, applied.connection.clean, clean) in
-        let before = life ++ told_to store name (kept_in rounds) in
+        let before = life ++ told_to name (kept_in rounds) in
         subst (λ (l : Life). IsFoundAfter name l (timed entry) told (state store new).is_open found) (append-nil before)
         (under_way_is_found store [] [] mid mid new (all_settled rounds old mid settled settles mid_clean has shown) refl shown (timed entry) told applied clean (schema_there rounds old mid settles mid_clean has shown name life lived) name before (life_there rounds old mid settles mid_clean has shown name life lived) found may)
 

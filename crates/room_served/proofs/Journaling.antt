@@ -22,11 +22,11 @@ grown : {X : Type 0} (a b c first more : List X) → b ≡ a ++ first → c ≡ 
 grown a b c first more one two = two ∙ ap (λ x. x ++ more) one ∙ append_assoc a first more
 
 module _ {S : Type 0} where
-  nothing : (shares : Bool) (served : Served S) → Notes shares [] served served
+  pub nothing : (shares : Bool) (served : Served S) → Notes shares [] served served
   nothing false served = (sym (append-nil (rounds_of served)), refl, refl)
   nothing true served = (refl, sym (append-nil (open_of served)), sym (append-nil (asked_of served)))
 
-  notes_then : (shares : Bool) (first more : List Told) (old mid new : Served S) → Notes shares first old mid → Notes shares more mid new → Notes shares (first ++ more) old new
+  pub notes_then : (shares : Bool) (first more : List Told) (old mid new : Served S) → Notes shares first old mid → Notes shares more mid new → Notes shares (first ++ more) old new
   notes_then false first more old mid new one two = (
     grown (rounds_of old) (rounds_of mid) (rounds_of new) (by_themselves first) (by_themselves more) one.0 two.0 ∙ ap (λ x. rounds_of old ++ x) (sym (map-append (λ (told : Told). (told ∷ [], true)) first more)),
     two.1 ∙ one.1,
@@ -39,17 +39,17 @@ module _ {S : Type 0} where
   )
 
 module _ {S : Type 0} (store : Ghosts S) where
-  pub stays : (served : Served S) → Continues store served served
+  unfoldable pub stays : (served : Served S) → Continues store served served
   stays served = record { more = []; notes = nothing (shares_of served) served; leads = refl; shares = refl; is_lost = refl }
 
-  pub one_more : (entry : Entry) (told : Result Reply StoreFault) (old new : Served S) → AppliesNext store entry told old new → Continues store old new
+  unfoldable pub one_more : (entry : Entry) (told : Result Reply StoreFault) (old new : Served S) → AppliesNext store entry told old new → Continues store old new
   one_more entry told old new next = record { more = (entry, told) ∷ []; notes = next.notes; leads = (store_of new, next.applies, refl); shares = next.shares; is_lost = next.is_lost }
 
   pub leads_then : (shares : Bool) (first more : List Told) (old mid new : Held S) → Leads store shares old first mid → Leads store shares mid more new → Leads store shares old (first ++ more) new
   leads_then shares [] more old mid new is later = subst (λ (held : Held S). Leads store shares held more new) is later
   leads_then shares (told ∷ first) more old mid new leads later = (leads.0, leads.1, leads_then shares first more leads.0 mid new leads.2 later)
 
-  pub then : (old mid new : Served S) → Continues store old mid → Continues store mid new → Continues store old new
+  unfoldable pub then : (old mid new : Served S) → Continues store old mid → Continues store mid new → Continues store old new
   then old mid new first later = record {
     more = first.more ++ later.more;
     notes = notes_then (shares_of old) first.more later.more old mid new first.notes (subst (λ b. Notes b later.more mid new) first.shares later.notes);

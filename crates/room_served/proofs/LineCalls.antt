@@ -5,7 +5,7 @@ use Rattle.std.proofs.lemmas.List.{take-append-drop}
 use Rattle.std.proofs.KnownBytes.{Appends-nil, Consumes-nil}
 use Rattle.sqlite_trees.specs.declared.store.Store.{Ghosts}
 use Rattle.room_served.proofs.Ends.{carry_then, no_bytes}
-use Rattle.room_served.specs.Lines.{AnswersLine, Comes, IsWaiting, Leaves, LosesAnswer, TakesLine, input_of, output_of, side_of}
+use Rattle.room_served.specs.Lines.{AnswersLine, IsQuiet, IsWaiting, Leaves, LosesAnswer, TakesLine, input_of, output_of, received_of, sent_of, side_of}
 use Rattle.room_served.specs.declared.line_connection.LineConnection.{LineConnection}
 use Rattle.room_served.specs.declared.line_connection.Side.{Side}
 use Rattle.room_served.specs.declared.served.Served.{Served}
@@ -20,23 +20,24 @@ joins : (a b c p q s t : List ℕ) → a ++ p ≡ s ++ b → b ++ q ≡ t ++ c �
 joins a b c p q s t first later =
     sym (append_assoc a p q) ∙ ap (λ x. x ++ q) first ∙ append_assoc s b q ∙ ap (λ x. s ++ x) later ∙ sym (append_assoc s t c)
 
-pub gone : (given given2 : Option (List ℕ)) (before after : LineConnection) (n : ℕ) → Leaves given given2 before after n → input_of after ≡ input_of before → side_of after ≡ side_of before → SendsBytes given given2 before after
-gone given given2 before after n is input side = record {
+pub gone : (given given2 : Option (List ℕ)) (before after : LineConnection) (n : ℕ) → Leaves given given2 before after n → input_of after ≡ input_of before → received_of after ≡ received_of before → side_of after ≡ side_of before → SendsBytes given given2 before after
+gone given given2 before after n is input received side = record {
   went = take n (output_of before);
   writes = is.0;
   input = input;
   output = sym (take-append-drop n (output_of before)) ∙ ap (λ x. take n (output_of before) ++ x) (sym is.1);
   side = side;
+  received = received;
+  sent = is.2;
 }
 
-pub come : (left left2 : Option (List ℕ)) (before after : LineConnection) (n : ℕ) → Comes left left2 before after n → output_of after ≡ output_of before → side_of after ≡ side_of before → ReceivesBytes left left2 before after
-come left left2 before after n is output side = record {
-  came = is.0;
-  reads = is.2;
-  input = is.3;
-  output = output;
-  side = side;
-}
+-- what came joins what came before, and what went joins what went before
+grown : (a b c more later : List ℕ) → b ≡ a ++ more → c ≡ b ++ later → c ≡ a ++ (more ++ later)
+grown a b c more later one two = two ∙ ap (λ x. x ++ later) one ∙ append_assoc a more later
+
+-- nothing came, or nothing went
+none_more : (before after : List ℕ) → after ≡ before → after ≡ before ++ []
+none_more before after same = same ∙ sym (append-nil before)
 
 module _ {S : Type 0} (store : Ghosts S) where
   chain_then : (side : Side) (first more : List LineCall) (old mid new : Served S) → Chain store side old first mid → Chain store side mid more new → Chain store side old (first ++ more) new
@@ -53,6 +54,8 @@ module _ {S : Type 0} (store : Ghosts S) where
     output = append-nil _;
     chain = refl;
     side = refl;
+    received = none_more _ _ refl;
+    sent = none_more _ _ refl;
   }
 
   then : (e f h : Ends) (a b c : LineConnection) (waits : List ℕ) (old mid new : Served S) → TakesLines store e f a b (output_of b) old mid → TakesLines store f h b c waits mid new → TakesLines store e h a c waits old new
@@ -65,11 +68,13 @@ module _ {S : Type 0} (store : Ghosts S) where
     output = ap (λ x. output_of a ++ x) (flat_map-append (λ (call : LineCall). call.1) first.calls later.calls) ∙ joins (output_of a) (output_of b) waits (bytes_told first.calls) (bytes_told later.calls) first.went later.went first.output later.output;
     chain = chain_then (side_of a) first.calls later.calls old mid new first.chain (subst (λ (side : Side). Chain store side mid later.calls new) first.side later.chain);
     side = later.side ∙ first.side;
+    received = grown (received_of a) (received_of b) (received_of c) first.came later.came first.received later.received;
+    sent = grown (sent_of a) (sent_of b) (sent_of c) first.went later.went first.sent later.sent;
   }
 
   -- one line was taken, and this is to be told of it
-  line_taken : (ends : Ends) (before after : LineConnection) (old : Served S) (text : List ℕ) (new : Served S) → TakesLine store before after old text new → side_of after ≡ side_of before → TakesLines store ends ends before after (output_of before ++ text) old new
-  line_taken ends before after old text new is side = record {
+  line_taken : (ends : Ends) (before after : LineConnection) (old : Served S) (text : List ℕ) (new : Served S) → TakesLine store before after old text new → side_of after ≡ side_of before → IsQuiet before after → TakesLines store ends ends before after (output_of before ++ text) old new
+  line_taken ends before after old text new is side quiet = record {
     carry = no_bytes ends;
     came = [];
     calls = (take (is.end + 1) (input_of before), text) ∷ [];
@@ -78,11 +83,13 @@ module _ {S : Type 0} (store : Ghosts S) where
     output = ap (λ x. output_of before ++ x) (append-nil text);
     chain = (new, is.gives, refl);
     side = side;
+    received = none_more _ _ quiet.0;
+    sent = none_more _ _ quiet.1;
   }
 
   -- nothing came, went or was taken
-  unmoved : (ends : Ends) (before after : LineConnection) (old : Served S) → input_of after ≡ input_of before → side_of after ≡ side_of before → TakesLines store ends ends before after (output_of before) old old
-  unmoved ends before after old input side = record {
+  unmoved : (ends : Ends) (before after : LineConnection) (old : Served S) → input_of after ≡ input_of before → side_of after ≡ side_of before → IsQuiet before after → TakesLines store ends ends before after (output_of before) old old
+  unmoved ends before after old input side quiet = record {
     carry = no_bytes ends;
     came = [];
     calls = [];
@@ -91,6 +98,8 @@ module _ {S : Type 0} (store : Ghosts S) where
     output = append-nil (output_of before);
     chain = refl;
     side = side;
+    received = none_more _ _ quiet.0;
+    sent = none_more _ _ quiet.1;
   }
 
   -- ---- steps
@@ -106,14 +115,14 @@ module _ {S : Type 0} (store : Ghosts S) where
   pub kept : (e f : Ends) (next : Option Next) (before after : LineConnection) (old new : Served S) → next ≢ Some Close → TakesStep store e f next before after old new → TakesLines store e f before after (output_of after) old new
   kept e f next before after old new goes is = subst (λ (waits : List ℕ). TakesLines store e f before after waits old new) (is.2 goes) is.1
 
-  pub took : (ends : Ends) (next : Option Next) (before after : LineConnection) (old new : Served S) → AnswersLine store before after old new → side_of after ≡ side_of before → TakesStep store ends ends next before after old new
-  took ends next before after old new is side = (output_of before ++ is.0, line_taken ends before after old is.0 new is.1 side, λ goes. sym is.2)
+  pub took : (ends : Ends) (next : Option Next) (before after : LineConnection) (old new : Served S) → AnswersLine store before after old new → side_of after ≡ side_of before → IsQuiet before after → TakesStep store ends ends next before after old new
+  took ends next before after old new is side quiet = (output_of before ++ is.0, line_taken ends before after old is.0 new is.1 side quiet, λ goes. sym is.2)
 
-  pub lost : (ends : Ends) (next : Option Next) (before after : LineConnection) (old new : Served S) → LosesAnswer store before after old new → side_of after ≡ side_of before → next ≡ Some Close → TakesStep store ends ends next before after old new
-  lost ends next before after old new is side over =
+  pub lost : (ends : Ends) (next : Option Next) (before after : LineConnection) (old new : Served S) → LosesAnswer store before after old new → side_of after ≡ side_of before → IsQuiet before after → next ≡ Some Close → TakesStep store ends ends next before after old new
+  lost ends next before after old new is side quiet over =
       elim is [
-        | inl left ↦ (output_of before, subst (λ (served : Served S). TakesLines store ends ends before after (output_of before) old served) (sym left.1) (unmoved ends before after old left.0 side), λ goes. absurd (goes over))
-        | inr line ↦ (output_of before ++ line.0, line_taken ends before after old line.0 new line.1 side, λ goes. absurd (goes over))
+        | inl left ↦ (output_of before, subst (λ (served : Served S). TakesLines store ends ends before after (output_of before) old served) (sym left.1) (unmoved ends before after old left.0 side quiet), λ goes. absurd (goes over))
+        | inr line ↦ (output_of before ++ line.0, line_taken ends before after old line.0 new line.1 side quiet, λ goes. absurd (goes over))
       ]
 
   pub received : (left left2 given : Option (List ℕ)) (next : Option Next) (before after : LineConnection) (old : Served S) → ReceivesBytes left left2 before after → TakesStep store (left, given) (left2, given) next before after old old
@@ -128,6 +137,8 @@ module _ {S : Type 0} (store : Ghosts S) where
       output = append-nil (output_of before);
       chain = refl;
       side = is.side;
+      received = is.received;
+      sent = none_more _ _ is.sent;
     },
     λ goes. sym is.output,
   )
@@ -144,6 +155,8 @@ module _ {S : Type 0} (store : Ghosts S) where
       output = append-nil (output_of before) ∙ is.output;
       chain = refl;
       side = is.side;
+      received = none_more _ _ is.received;
+      sent = is.sent;
     },
     λ goes. refl,
   )
@@ -160,6 +173,8 @@ module _ {S : Type 0} (store : Ghosts S) where
       output = ap (λ x. output_of before ++ x) (append-nil (codes "bad-line\n"));
       chain = (old, inr (refl, refl), refl);
       side = is.side;
+      received = none_more _ _ is.quiet.0;
+      sent = none_more _ _ is.quiet.1;
     },
     λ goes. sym (is.output goes),
   )

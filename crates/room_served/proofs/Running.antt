@@ -26,21 +26,21 @@ keeps_outside : (old new : State) → KeepsConnection old new → KeepsConnectio
 keeps_outside old new keeps = record { clean = keeps.clean; back = keeps.back; mode = λ _ _. refl; shield = keeps.shield; counts = keeps.counts; limit = keeps.limit; closes = keeps.closes }
 
 module _ {S : Type 0} (store : Ghosts S) where
-  pub lengths : (more : List Told) → length (outcomes_of store more) ≡ length (events_of store more)
+  pub lengths : (more : List Told) → length (outcomes_of more) ≡ length (events_of more)
   lengths [] = refl
   lengths (told ∷ more) = ap suc (lengths more)
 
   -- ---- each by itself
 
   pub leads_on : (more : List Told) (events : List Timed) (outcomes : List Outcome) (old mid new : Held S) → SoFar events outcomes (state store old) (state store mid) → Leads store false mid more new
-      → SoFar (events ++ events_of store more) (outcomes ++ outcomes_of store more) (state store old) (state store new)
+      → SoFar (events ++ events_of more) (outcomes ++ outcomes_of more) (state store old) (state store new)
   leads_on [] events outcomes old mid new so_far is = rw (append-nil events, append-nil outcomes) (subst (λ (held : Held S). SoFar events outcomes (state store old) (state store held)) (sym is) so_far)
   leads_on (told ∷ more) events outcomes old mid new so_far leads =
       let e = timed told.0 in
       let o = outcome_of told.1 in
       let next = one_more events outcomes e (state store old) (state store mid) (state store leads.0) told.1 so_far leads.1 in
       let on = leads_on more (events ++ e ∷ []) (outcomes ++ o ∷ []) old leads.0 new next leads.2 in
-      rw (append_assoc events (e ∷ []) (events_of store more), append_assoc outcomes (o ∷ []) (outcomes_of store more)) at on
+      rw (append_assoc events (e ∷ []) (events_of more), append_assoc outcomes (o ∷ []) (outcomes_of more)) at on
 
   -- ---- in a round
 
@@ -64,7 +64,7 @@ module _ {S : Type 0} (store : Ghosts S) where
 
   pub round_shown : (more : List Told) (events : List Timed) (outcomes : List Outcome) (old mid new : Held S) → Shows events outcomes (state store old) (state store mid) → Leads store true mid more new
       → HasCleanDisk (state store new) → IsTrue (state store new).in_transaction
-      → Shows (events ++ events_of store more) (outcomes ++ outcomes_of store more) (state store old) (state store new)
+      → Shows (events ++ events_of more) (outcomes ++ outcomes_of more) (state store old) (state store new)
   round_shown [] events outcomes old mid new shown is clean inside = rw (append-nil events, append-nil outcomes) (subst (λ (held : Held S). Shows events outcomes (state store old) (state store held)) (sym is) shown)
   round_shown (told ∷ more) events outcomes old mid new shown (next, applies, leads) clean inside =
       let e = timed told.0 in
@@ -78,7 +78,7 @@ module _ {S : Type 0} (store : Ghosts S) where
         | inr late ↦ absurd (true≢false (sym mid_inside ∙ late.lost))
       ] in
       let on = round_shown more (events ++ e ∷ []) (outcomes ++ o ∷ []) old next new there leads clean inside in
-      rw (append_assoc events (e ∷ []) (events_of store more), append_assoc outcomes (o ∷ []) (outcomes_of store more)) at on
+      rw (append_assoc events (e ∷ []) (events_of more), append_assoc outcomes (o ∷ []) (outcomes_of more)) at on
 
   -- ---- a round that was kept
 
@@ -108,7 +108,7 @@ module _ {S : Type 0} (store : Ghosts S) where
 
   module _ (events : List Timed) (outcomes : List Outcome) (a old new : Held S) where
     kept_shown : (more : List Told) → SoFar events outcomes (state store a) (state store old) → IsRound store (more, true) old new → HasCleanDisk (state store new)
-        → Shows (events ++ events_of store more) (outcomes ++ outcomes_of store more) (state store a) (state store new)
+        → Shows (events ++ events_of more) (outcomes ++ outcomes_of more) (state store a) (state store new)
     kept_shown more so_far is clean =
         let ends = is.ends.over clean in
         let ended_clean = was_clean is.ended new is.ends.connection clean in
@@ -116,14 +116,14 @@ module _ {S : Type 0} (store : Ghosts S) where
         let begun : BeginsRound (state store old) (state store is.begun) = is.begins.begun begun_clean in
         let first = still_shown events outcomes (state store a) (state store old) (state store is.begun) so_far.shows is.begins.survives.clean (λ _ _. begun.opened.0) (λ _ _ _. begun.now) in
         let in_round = round_shown more events outcomes a is.begun is.ended first is.leads ended_clean ends.was_under_way in
-        still_shown (events ++ events_of store more) (outcomes ++ outcomes_of store more) (state store a) (state store is.ended) (state store new) in_round is.ends.connection.clean (λ _ _. ends.opened.0) (λ _ _ _. ends.now)
+        still_shown (events ++ events_of more) (outcomes ++ outcomes_of more) (state store a) (state store is.ended) (state store new) in_round is.ends.connection.clean (λ _ _. ends.opened.0) (λ _ _ _. ends.now)
 
-    kept : (more : List Told) → SoFar events outcomes (state store a) (state store old) → IsRound store (more, true) old new → SoFar (events ++ events_of store more) (outcomes ++ outcomes_of store more) (state store a) (state store new)
+    kept : (more : List Told) → SoFar events outcomes (state store a) (state store old) → IsRound store (more, true) old new → SoFar (events ++ events_of more) (outcomes ++ outcomes_of more) (state store a) (state store new)
     kept more so_far is =
         let shown = kept_shown more so_far is in
         record {
           shows = record {
-            each = length-append outcomes (outcomes_of store more) ∙ rw (so_far.shows.each, lengths more) (sym (length-append events (events_of store more)));
+            each = length-append outcomes (outcomes_of more) ∙ rw (so_far.shows.each, lengths more) (sym (length-append events (events_of more)));
             schema = λ clean. (shown clean).schema clean;
             alone = λ clean. (shown clean).alone clean;
             devices = λ clean. (shown clean).devices clean;
@@ -223,7 +223,7 @@ module _ {S : Type 0} (store : Ghosts S) where
   -- ---- one round after another
 
   abbrev pub RunsOn : (events : List Timed) (outcomes : List Outcome) (old : Held S) (more : List Told) (new : Held S) → Type 0
-  RunsOn events outcomes old more new = SoFar (events ++ events_of store more) (outcomes ++ outcomes_of store more) (state store old) (state store new)
+  RunsOn events outcomes old more new = SoFar (events ++ events_of more) (outcomes ++ outcomes_of more) (state store old) (state store new)
 
   none_more : (events : List Timed) (outcomes : List Outcome) (old new : Held S) → SoFar events outcomes (state store old) (state store new) → RunsOn events outcomes old [] new
   none_more events outcomes old new so_far = rw (append-nil events, append-nil outcomes) so_far
@@ -244,11 +244,11 @@ module _ {S : Type 0} (store : Ghosts S) where
   settle_on (round ∷ more) events outcomes a mid new so_far (next, settles, later) =
       let these = if round.1 then round.0 else [] in
       let first = settle_one round events outcomes a mid next so_far settles in
-      let on = settle_on more (events ++ events_of store these) (outcomes ++ outcomes_of store these) a next new first later in
-      let all_events : (events ++ events_of store these) ++ events_of store (kept_in more) ≡ events ++ events_of store (these ++ kept_in more) =
-      append_assoc events (events_of store these) (events_of store (kept_in more)) ∙ ap (λ x. events ++ x) (sym (map-append (λ (told : Told). timed told.0) these (kept_in more))) in
-      let all_outcomes : (outcomes ++ outcomes_of store these) ++ outcomes_of store (kept_in more) ≡ outcomes ++ outcomes_of store (these ++ kept_in more) =
-      append_assoc outcomes (outcomes_of store these) (outcomes_of store (kept_in more)) ∙ ap (λ x. outcomes ++ x) (sym (map-append (λ (told : Told). outcome_of told.1) these (kept_in more))) in
+      let on = settle_on more (events ++ events_of these) (outcomes ++ outcomes_of these) a next new first later in
+      let all_events : (events ++ events_of these) ++ events_of (kept_in more) ≡ events ++ events_of (these ++ kept_in more) =
+      append_assoc events (events_of these) (events_of (kept_in more)) ∙ ap (λ x. events ++ x) (sym (map-append (λ (told : Told). timed told.0) these (kept_in more))) in
+      let all_outcomes : (outcomes ++ outcomes_of these) ++ outcomes_of (kept_in more) ≡ outcomes ++ outcomes_of (these ++ kept_in more) =
+      append_assoc outcomes (outcomes_of these) (outcomes_of (kept_in more)) ∙ ap (λ x. outcomes ++ x) (sym (map-append (λ (told : Told). outcome_of told.1) these (kept_in more))) in
       rw (all_events, all_outcomes) at on
 
   pub runs : AlwaysRuns store

@@ -1,5 +1,6 @@
 pub mod Entries
 pub mod Journals
+pub mod ServedLives
 pub mod Requests
 pub mod Answers
 pub mod LineTexts

@@ -2,7 +2,7 @@
 use Rattle.std.specs.Prelude.{◌≡◌, ◌≢◌, ◌⊎◌, ℕ, Bool, List, [], ◌∷◌, ◌++◌, None, IsTrue}
 use Rattle.std.specs.List.{flat_map}
 use Rattle.sqlite_trees.specs.declared.store.Store.{Ghosts}
-use Rattle.room_served.specs.Lines.{Asks, IsBad, input_of, line_end, output_of, side_of}
+use Rattle.room_served.specs.Lines.{Asks, IsBad, input_of, line_end, output_of, received_of, sent_of, side_of}
 use Rattle.room_served.specs.declared.line_connection.LineConnection.{LineConnection}
 use Rattle.room_served.specs.declared.line_connection.Side.{Side}
 use Rattle.room_served.specs.declared.served.Served.{Served}
@@ -54,6 +54,8 @@ module _ {S : Type 0} (store : Ghosts S) where
     pub output : output_of before ++ bytes_told calls ≡ went ++ waits
     pub chain : Chain store (side_of before) old calls new
     pub side : side_of after ≡ side_of before
+    pub received : received_of after ≡ received_of before ++ came
+    pub sent : sent_of after ≡ sent_of before ++ went
 
   -- what still comes where all was said is dropped
   abbrev pub DropsBytes : (ends ends2 : Ends) (before after : LinePeer) (old new : Served S) → Type 0

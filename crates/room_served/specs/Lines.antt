@@ -1,7 +1,7 @@
 -- What a line is answered, and what it does to the rooms (all this project's own).
 use Rattle.std.specs.Prelude.{◌≡◌, ◌⊎◌, ◌==◌, ◌+◌, ℕ, Bool, List, ◌∷◌, ◌++◌, [], codes, drop, length, take, Option, None, Some, Result}
 use Rattle.std.specs.Io.KnownBytes.{Appends, Consumes}
-use Rattle.std.specs.List.{position, starts_with}
+use Rattle.std.specs.List.{flat_map, position, starts_with}
 use Rattle.sqlite_trees.specs.declared.store.Store.{Ghosts}
 use Rattle.room_core.specs.declared.event.Reply.{Reply}
 use Rattle.room_lines.specs.Lines.{IsAllowed}
@@ -32,6 +32,19 @@ input_of connection = connection.input.items
 abbrev pub output_of : LineConnection → List ℕ
 output_of connection = connection.output.items
 
+-- all that was read on it
+abbrev pub received_of : LineConnection → List ℕ
+received_of connection = flat_map (λ read. drop read.1 read.0.items) connection.reads.items
+
+-- all that was written to it
+abbrev pub sent_of : LineConnection → List ℕ
+sent_of connection = flat_map (λ write. take write.1 write.0.items) connection.writes.items
+
+-- nothing was read on it, and nothing written to it
+abbrev pub IsQuiet : (before after : LineConnection) → Type 0
+IsQuiet before after =
+    (received_of after ≡ received_of before) × (sent_of after ≡ sent_of before)
+
 abbrev pub grammar_of : (side : Side) (moment : ℕ) → Grammar
 grammar_of Station moment = grammar_is.Station moment
 grammar_of Operator moment = grammar_is.Operator moment
@@ -52,12 +65,14 @@ begins_start input = starts_with (λ a b. a == b) input (codes "start ")
 abbrev pub Comes : (left left2 : Option (List ℕ)) (before after : LineConnection) (n : ℕ) → Type 0
 Comes left left2 before after n = (more : List ℕ) × (length more ≡ n) × Consumes left left2 more
     × (input_of after ≡ input_of before ++ more)
+    × (received_of after ≡ received_of before ++ more)
 
 -- so many of the bytes that waited went to a writer
 abbrev pub Leaves : (given given2 : Option (List ℕ)) (before after : LineConnection) (n : ℕ)
     → Type 0
 Leaves given given2 before after n =
     Appends given given2 (take n (output_of before)) × (output_of after ≡ drop n (output_of before))
+    × (sent_of after ≡ sent_of before ++ take n (output_of before))
 
 -- it is the line that the text says, and one of those of the grammar
 abbrev pub IsEntryOf : (grammar : Grammar) (text : List ℕ) (entry : Entry) → Type 0

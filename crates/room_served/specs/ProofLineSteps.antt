@@ -3,7 +3,7 @@
 use Rattle.std.specs.Prelude.{◌≡◌, ◌≢◌, ◌⊎◌, ℕ, List, [], ◌++◌, Option, Some}
 use Rattle.std.specs.Io.KnownBytes.{Appends, Consumes}
 use Rattle.sqlite_trees.specs.declared.store.Store.{Ghosts}
-use Rattle.room_served.specs.Lines.{input_of, output_of, side_of}
+use Rattle.room_served.specs.Lines.{IsQuiet, input_of, output_of, received_of, sent_of, side_of}
 use Rattle.room_served.specs.LineTexts.{bad_line_text}
 use Rattle.room_served.specs.declared.line_connection.LineConnection.{LineConnection}
 use Rattle.room_served.specs.declared.served.Served.{Served}
@@ -20,6 +20,8 @@ pub record ReceivesBytes (left left2 : Option (List ℕ)) (before after : LineCo
   pub input : input_of after ≡ input_of before ++ came
   pub output : output_of after ≡ output_of before
   pub side : side_of after ≡ side_of before
+  pub received : received_of after ≡ received_of before ++ came
+  pub sent : sent_of after ≡ sent_of before
 
 -- bytes went
 pub record SendsBytes (given given2 : Option (List ℕ)) (before after : LineConnection)
@@ -29,12 +31,15 @@ pub record SendsBytes (given given2 : Option (List ℕ)) (before after : LineCon
   pub input : input_of after ≡ input_of before
   pub output : output_of before ≡ went ++ output_of after
   pub side : side_of after ≡ side_of before
+  pub received : received_of after ≡ received_of before
+  pub sent : sent_of after ≡ sent_of before ++ went
 
 -- what is left is no line; a connection that is over may have lost what tells so
 pub record RefusesRest (next : Option Next) (before after : LineConnection) : Type 0 where
   pub input : input_of after ≡ []
   pub output : next ≢ Some Close → output_of after ≡ output_of before ++ bad_line_text
   pub side : side_of after ≡ side_of before
+  pub quiet : IsQuiet before after
 
 -- no more comes: all was said, or what is left is told to be no line
 abbrev pub IsEnded : (next : Option Next) (before after : LineConnection) → Type 0

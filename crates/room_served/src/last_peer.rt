@@ -1,6 +1,6 @@
 //! A connection whose round was lost: what it is told last, and its end.
 
-ghost use Rattle.std.specs.Prelude.{◌≡◌, ◌≢◌, [], false, IfOk, OnErr, Some};
+ghost use Rattle.std.specs.Prelude.{◌≡◌, ◌≢◌, [], length, false, IfOk, OnErr, Some};
 ghost use Rattle.std.specs.Io.KnownBytes.{Keeps};
 ghost use Rattle.room_served.specs.Journals.{shares_of};
 
@@ -115,8 +115,10 @@ impl LastPeer {
         self.progress.patience
     }
 
-    /// How many bytes it holds.
-    pub fn held(&self) -> usize {
+    /// How many bytes are still to go.
+    pub fn held(&self) -> usize
+        ensures { result ≡ length (left_of self.now) }
+    {
         self.output.len()
     }
 }

@@ -3,13 +3,13 @@ ghost use Rattle.std.specs.Prelude.{◌≡◌, ◌<◌, ◌≤◌, ◌+◌, ◌+
 ghost use Rattle.std.specs.Io.KnownBytes.{Keeps};
 ghost use Rattle.room_served.specs.LineTexts.{bad_line_text};
 ghost use Rattle.room_served.specs.Journals.{Continues};
-ghost use Rattle.room_served.specs.Lines.{AnswersLine, Comes, IsEntryOf, IsWaiting, Leaves, LosesAnswer, begins_start, grammar_of, input_of, line_end, output_of, side_of, longest_line};
+ghost use Rattle.room_served.specs.Lines.{AnswersLine, Comes, IsEntryOf, IsQuiet, IsWaiting, Leaves, LosesAnswer, begins_start, grammar_of, input_of, line_end, output_of, received_of, sent_of, side_of, longest_line};
 
 use crate::entry::Entry;
 use crate::line_text::{put_bad, put_told};
 use crate::served::Served;
 use bytes::{Buf, BufMut, BytesMut};
-use http_server::Rope;
+use http_server::{Log, Rope};
 use room_input::FieldFault;
 use room_lines::Grammar;
 use sqlite::Alter;
@@ -50,6 +50,11 @@ pub struct LineConnection {
     pub(crate) side: Side,
     pub(crate) input: BytesMut,
     pub(crate) output: Rope,
+    /// Each read: what waited after it, and how much of that had waited before. Only proofs read it,
+    /// and what was written.
+    pub(crate) reads: Log<BytesMut, usize>,
+    /// Each write: what waited, and how much of it went.
+    pub(crate) writes: Log<Rope, usize>,
 }
 
 // It is written out, so that a caller does not prove again how each part is dropped.
@@ -60,6 +65,8 @@ impl Drop for LineConnection {
             side: _,
             input: _,
             output: _,
+            reads: _,
+            writes: _,
         } = self;
     }
 }
@@ -70,12 +77,16 @@ impl LineConnection {
         ensures side { side_of result ≡ side }
         ensures input { input_of result ≡ [] }
         ensures output { output_of result ≡ [] }
+        ensures received { received_of result ≡ [] }
+        ensures sent { sent_of result ≡ [] }
     {
         LineConnection {
             alloc,
             side,
             input: BytesMut::new(alloc),
             output: Rope::new(alloc),
+            reads: Log::new(),
+            writes: Log::new(),
         }
     }
 
@@ -85,11 +96,16 @@ impl LineConnection {
             (Comes (R.remaining reader.old) (R.remaining reader.new) self.old self.new) }
         ensures nothing { OnErr result (input_of self.new ≡ input_of self.old) }
         ensures left { OnErr result (Keeps (R.remaining reader.old) (R.remaining reader.new)) }
+        ensures quiet { OnErr result (IsQuiet self.old self.new) }
         ensures output { output_of self.new ≡ output_of self.old }
+        ensures sent { sent_of self.new ≡ sent_of self.old }
         ensures side { side_of self.new ≡ side_of self.old }
     {
         self.input.reserve(ROOM)?;
-        self.input.read_from(reader)
+        let waited = self.input.len();
+        let count = self.input.read_from(reader)?;
+        self.reads = self.reads.and(&self.input, &waited);
+        Ok(count)
     }
 
     /// Answers the line at the front of what came, at the moment of what is served: what it asks
@@ -103,6 +119,7 @@ impl LineConnection {
         ensures lost { OnErr result
             (LosesAnswer S.Store self.old self.new served.old served.new) }
         ensures continues { Continues S.Store served.old served.new }
+        ensures quiet { IsQuiet self.old self.new }
         ensures side { side_of self.new ≡ side_of self.old }
     {
         let Some(end) = line_end(self.input.as_slice()) else {
@@ -135,6 +152,7 @@ impl LineConnection {
         ensures input { input_of self.new ≡ [] }
         ensures output { OnOk result
             (output_of self.new ≡ output_of self.old ++ bad_line_text) }
+        ensures quiet { IsQuiet self.old self.new }
         ensures side { side_of self.new ≡ side_of self.old }
     {
         self.input.clear();
@@ -176,9 +194,11 @@ impl LineConnection {
         ensures nothing { OnErr result (self.new ≡ self.old) }
         ensures left { OnErr result (Keeps (W.contents writer.old) (W.contents writer.new)) }
         ensures input { input_of self.new ≡ input_of self.old }
+        ensures received { received_of self.new ≡ received_of self.old }
         ensures side { side_of self.new ≡ side_of self.old }
     {
         let count = writer.write(self.output.chunk())?;
+        self.writes = self.writes.and(&self.output, &count);
         self.output.advance(count);
         Ok(count)
     }

@@ -1,8 +1,8 @@
 //! A connection of lines: where it stands, and how long it may take.
 
-ghost use Rattle.std.specs.Prelude.{◌≡◌, ◌≢◌, [], IsFalse, Some};
+ghost use Rattle.std.specs.Prelude.{◌≡◌, ◌≢◌, ◌≤◌, ◌+◌, [], length, IsFalse, Some};
 ghost use Rattle.room_served.specs.Journals.{Continues};
-ghost use Rattle.room_served.specs.Lines.{input_of, output_of, side_of};
+ghost use Rattle.room_served.specs.Lines.{input_of, output_of, received_of, sent_of, side_of};
 
 use crate::patience::Patience;
 use crate::progress::Progress;
@@ -30,6 +30,8 @@ impl LinePeer {
         ensures side { side_of (lines_of result) ≡ side }
         ensures input { input_of (lines_of result) ≡ [] }
         ensures output { output_of (lines_of result) ≡ [] }
+        ensures received { received_of (lines_of result) ≡ [] }
+        ensures sent { sent_of (lines_of result) ≡ [] }
     {
         LinePeer {
             connection: LineConnection::new(alloc, side),
@@ -162,8 +164,11 @@ impl LinePeer {
         self.progress.patience
     }
 
-    /// How many bytes it holds.
-    pub fn held(&self) -> usize {
+    /// How many bytes wait: those that came, and those that are to go.
+    pub fn held(&self) -> usize
+        ensures { result ≤ length (input_of (lines_of self.now))
+            + length (output_of (lines_of self.now)) }
+    {
         self.connection.held()
     }
 }

@@ -226,7 +226,9 @@ module _ {S : Type 0} (store : Ghosts S) where
   follows_if_alone old new (inl is) alone = is.follows
   follows_if_alone old new (inr is) alone = absurd (true≢false (sym is.shared ∙ alone))
 
+  pub served_by : (steps : List Step) (a b : Slab Guest) (old new : Served S) → DoesAll store steps a b old new → shares_of old ≡ false → open_of old ≡ [] → IsServed old new
+  served_by steps a b old new does alone none =
+      all_served steps a b old old new (inl (record { alone = alone; none_left = none; follows = record { more = []; over = sym (append-nil (rounds_of old)); settles = refl } })) does
+
   pub follows : (a b : Slab Guest) (old new : Served S) → GoesOn store a b old new → shares_of old ≡ false → open_of old ≡ [] → Follows store old new
-  follows a b old new goes alone none =
-      let first : IsServed old old = inl (record { alone = alone; none_left = none; follows = record { more = []; over = sym (append-nil (rounds_of old)); settles = refl } }) in
-      follows_if_alone old new (all_served goes.0 a b old old new first goes.1) (goes.2 alone)
+  follows a b old new goes alone none = follows_if_alone old new (served_by goes.0 a b old new goes.1 alone none) (goes.2 alone)

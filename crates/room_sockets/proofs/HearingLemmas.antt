@@ -19,7 +19,7 @@ use Rattle.room_sockets.specs.Halls.{Ask, Begin, Does, DoesAll, Drop, Enter, IsA
 use Rattle.room_sockets.specs.Hearing.{AlwaysHear, StandsInRound, entries_of}
 use Rattle.room_sockets.specs.declared.guest.Guest.{Guest}
 
-none_asked : (asked : Option Entry) → is_some asked ≡ false → list_of asked ≡ []
+pub none_asked : (asked : Option Entry) → is_some asked ≡ false → list_of asked ≡ []
 none_asked None none = refl
 none_asked (Some entry) none = absurd (true≢false none)
 

@@ -1,3 +1,5 @@
 pub mod HallSteps
 pub mod Drives
 mod HearingLemmas
+mod Answering
+mod WholeRuns

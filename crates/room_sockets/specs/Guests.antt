@@ -9,7 +9,7 @@ use Rattle.room_served.specs.Journals.{is_lost_of, list_of}
 use Rattle.room_served.specs.LastPeers as last
 use Rattle.room_served.specs.LinePeers as lines
 use Rattle.room_served.specs.Streams.{Ends}
-use Rattle.room_served.specs.Lines.{input_of, output_of, side_of}
+use Rattle.room_served.specs.Lines.{input_of, output_of, received_of, sent_of, side_of}
 use Rattle.room_served.specs.declared.entry.Entry.{Entry}
 use Rattle.room_served.specs.declared.line_connection.Side.{Side}
 use Rattle.room_served.specs.declared.line_connection.Side.TheVariants as side_is
@@ -44,11 +44,13 @@ NobodyWaits guests = (key : ℕ) → is_waiting (get guests key) ≡ false
 abbrev pub turns_of : Guest → List (Turn × Next)
 turns_of guest = guest.turns.items
 
--- no line came yet, and it is the one side's
+-- nothing came yet, and nothing went, and it is the one side's
 pub record IsNewOf (whose : Side) (peer : LinePeer) : Type 0 where
   pub side : side_of (lines.lines_of peer) ≡ whose
   pub input : input_of (lines.lines_of peer) ≡ []
   pub output : output_of (lines.lines_of peer) ≡ []
+  pub received : received_of (lines.lines_of peer) ≡ []
+  pub sent : sent_of (lines.lines_of peer) ≡ []
 
 -- who came in by a door speaks what that door is for, and nothing came of it yet
 abbrev pub CameBy : Kind → Peer → Type 0

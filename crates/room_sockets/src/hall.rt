@@ -53,6 +53,7 @@ pub(crate) struct Peers {
 }
 
 impl Hall {
+    ghost use Rattle.room_sockets.specs.EndToEnd.{IsFresh, IsWhole};
     ghost use Rattle.room_sockets.specs.Halls.{GoesOn, IsEmpty, ServesThose, guests_of, told_by};
 
     /// A hall with nobody in it. `keys` are secret, since peers choose the names of fields.
@@ -98,6 +99,8 @@ impl Hall {
             served.old served.new }
         ensures follows { shares_of served.old ≡ false → open_of served.old ≡ []
             → Follows S.Store served.old served.new }
+        ensures whole { IsEmpty self.old → IsFresh served.old
+            → IsWhole S.Store (guests_of self.new) served.old served.new }
     {
         for _ in 0..u64::MAX {
             self.turn(clock, served)?;

@@ -1,4 +1,5 @@
 //! What holds of all that goes on in a hall.
+ghost use Rattle.room_sockets.specs.EndToEnd.{FromEndToEnd};
 ghost use Rattle.room_sockets.specs.Hearing.{AlwaysHear};
 
 use sqlite::Alter;
@@ -7,4 +8,12 @@ use sqlite::Alter;
 /// under way, or in the one that was settled last, by whose end it is told.
 pub fn always_hear<S: Alter>()
     ensures { AlwaysHear S.Store }
+{}
+
+/// From one end to the other, of whatever goes on in a hall that began with nobody in it over rooms
+/// where nothing was asked: what goes out on each connection answers, in order, what came on it; each
+/// answer stands in the journal, which each account's own machine alone gives; the tables are what
+/// the journal leaves, and a crash finds that.
+pub fn from_end_to_end<S: Alter>()
+    ensures { FromEndToEnd S.Store }
 {}

@@ -19,4 +19,4 @@ pub use clock::moment;
 pub use door::Door;
 pub use doors::Doors;
 pub use hall::Hall;
-pub use laws::always_hear;
+pub use laws::{always_hear, from_end_to_end};

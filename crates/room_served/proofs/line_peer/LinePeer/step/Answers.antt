@@ -9,7 +9,7 @@ pub returns-then-begins_start-clause-takes : goal.returns-then-begins_start-clau
 returns-then-begins_start-clause-takes g c = stood g.S.Store _ _ _ _
 
 pub returns-in-Ok-true-clause-takes : goal.returns-in-Ok-true-clause-takes
-returns-in-Ok-true-clause-takes g c = took g.S.Store _ _ _ _ _ _ (c.in-Ok-true.ensures.taken (ap Ok c.in-Ok-true.field-0-test)) c.in-Ok-true.ensures.side
+returns-in-Ok-true-clause-takes g c = took g.S.Store _ _ _ _ _ _ (c.in-Ok-true.ensures.taken (ap Ok c.in-Ok-true.field-0-test)) c.in-Ok-true.ensures.side c.in-Ok-true.ensures.quiet
 
 pub returns-in-Ok-false-clause-takes : goal.returns-in-Ok-false-clause-takes
 returns-in-Ok-false-clause-takes g c = waited_then g.S.Store _ _ _ _ _ _ _ _ _ (c.in-Ok-false.ensures.none (ap Ok c.in-Ok-false.field-0-test)) (ended g.S.Store _ _ _ _ _ c.end.ensures.ended)
@@ -24,4 +24,4 @@ pub returns-in-Ok-false-4-clause-takes : goal.returns-in-Ok-false-4-clause-takes
 returns-in-Ok-false-4-clause-takes g c = waited_then g.S.Store _ _ _ _ _ _ _ _ _ (c.in-Ok-false.ensures.none (ap Ok c.in-Ok-false.field-0-test)) (received g.S.Store _ _ _ _ _ _ _ c.receive.ensures.receives)
 
 pub returns-in-Err-clause-takes : goal.returns-in-Err-clause-takes
-returns-in-Err-clause-takes g c = lost g.S.Store _ _ _ _ _ _ c.in-Err.ensures.lost c.in-Err.ensures.side refl
+returns-in-Err-clause-takes g c = lost g.S.Store _ _ _ _ _ _ c.in-Err.ensures.lost c.in-Err.ensures.side c.in-Err.ensures.quiet refl

@@ -1,6 +1,8 @@
 use Rattle.std.proofs.Common.{refl}
+use Rattle.room_served.proofs.Finding.{lasts_by}
 use Rattle.room_sockets.proofs.Drives.{follows}
 use Rattle.room_sockets.proofs.HallSteps.{same, then}
+use Rattle.room_sockets.proofs.WholeRuns.{from_end_to_end}
 use Rattle.room_sockets.specs.Halls.{guests_of}
 use Rattle.room_sockets.proofs.hall.Hall.run.Goals as goal
 
@@ -18,3 +20,13 @@ returns-in_err-turn-clause-follows g c = follows g.S.Store (guests_of c.args.sel
 
 pub returns-clause-follows : goal.returns-clause-follows
 returns-clause-follows g c = follows g.S.Store (guests_of c.args.self.now) (guests_of c.loop.self) c.args.served.now c.loop.served c.loop.invariant
+
+pub returns-in_err-turn-clause-whole : goal.returns-in_err-turn-clause-whole
+returns-in_err-turn-clause-whole g c empty fresh =
+    let goes = returns-in_err-turn-clause-goes_on g c in
+    from_end_to_end g.S.Store (lasts_by g.S.Store g.met.S.Store.settled g.met.S.Store.stays) goes.0 (guests_of c.args.self.now) (guests_of c.turn.new.self) c.args.served.now c.turn.new.served empty fresh goes.1
+
+pub returns-clause-whole : goal.returns-clause-whole
+returns-clause-whole g c empty fresh =
+    let goes = c.loop.invariant in
+    from_end_to_end g.S.Store (lasts_by g.S.Store g.met.S.Store.settled g.met.S.Store.stays) goes.0 (guests_of c.args.self.now) (guests_of c.loop.self) c.args.served.now c.loop.served empty fresh goes.1

@@ -1,0 +1,169 @@
+-- From one end to the other: what came on each connection, what goes out on it, and what became of
+-- the tables (all this project's own).
+use Rattle.std.specs.Prelude.{◌≡◌, ◌⊎◌, ⊤, ℕ, true, false, IsTrue, List, [], ◌∷◌, ◌++◌, Some, None, Result, Ok, Err}
+use Rattle.std.specs.List.{Contains}
+use Rattle.http.specs.Request.{body_of}
+use Rattle.http_server.specs.Connection.{config_of, history}
+use Rattle.http_server.specs.Exchange.{Call}
+use Rattle.http_server.specs.History as http
+use Rattle.slab.specs.Slab.{Slab, get}
+use Rattle.sqlite.specs.Held.{state}
+use Rattle.sqlite_trees.specs.Tree.{Trees}
+use Rattle.sqlite_trees.specs.declared.store.Store.{Ghosts}
+use Rattle.ipp_coding.specs.Reading.{header_in}
+use Rattle.room_http.specs.declared.refusal.Refusal.{Refusal}
+use Rattle.room_laws.specs.Lives.{Life}
+use Rattle.room_tables.specs.Calls.{IfOurTables}
+use Rattle.room_tables.specs.Crashes.{IsOnDisk}
+use Rattle.room_serve.specs.Crashes.{IsFound}
+use Rattle.room_serve.specs.LivesInFiles.{IsLifeIn}
+use Rattle.room_served.specs.Answers.{IsLost, IsRefusal, IsTold}
+use Rattle.room_served.specs.HttpPeers.{calls_of, connection_of}
+use Rattle.room_served.specs.Journals.{IsRunOf, Told, journal_of, open_of, rounds_of, shares_of, store_of}
+use Rattle.room_served.specs.LastPeers.{left_of}
+use Rattle.room_served.specs.LastTexts.{last_text}
+use Rattle.room_served.specs.LinePeers.{LineCall, bytes_told, lines_of, taken}
+use Rattle.room_served.specs.Lines.{IsEntryOf, grammar_of, input_of, output_of, received_of, sent_of, side_of}
+use Rattle.room_served.specs.LineTexts.{bad_line_text, line_text}
+use Rattle.room_served.specs.Requests.{asked, has_long_body}
+use Rattle.room_served.specs.ServedLives.{told_to}
+use Rattle.room_served.specs.declared.entry.Entry.TheVariants as entry
+use Rattle.room_served.specs.declared.http_peer.HttpPeer.{HttpPeer}
+use Rattle.room_served.specs.declared.last_peer.LastPeer.{LastPeer}
+use Rattle.room_served.specs.declared.line_connection.LineConnection.{LineConnection}
+use Rattle.room_served.specs.declared.line_connection.Side.{Side}
+use Rattle.room_served.specs.declared.served.Served.{Served}
+use Rattle.room_sockets.specs.Guests.{asked_in, peer_of}
+use Rattle.room_sockets.specs.Halls.{DoesAll, Step}
+use Rattle.room_sockets.specs.declared.guest.Guest.{Guest}
+use Rattle.room_sockets.specs.declared.guest.Peer.{Peer}
+use Rattle.room_sockets.specs.declared.guest.Peer.TheVariants.{Http, Last, Lines}
+
+-- these stand in the list in this order, each at a place of its own
+abbrev pub StandIn : {X : Type 0} (some all : List X) → Type 0
+StandIn [] all = ⊤
+StandIn (x ∷ some) [] = ⊥
+StandIn (x ∷ some) (y ∷ all) = ((x ≡ y) × StandIn some all) ⊎ StandIn (x ∷ some) all
+
+-- ---- HTTP
+
+-- the account's message is what was asked there, and the response tells what that came to
+pub record TellsCall (account : List ℕ) (call : Call) (told : Told) : Type 0 where
+  pub moment : ℕ
+  pub asked : told.0 ≡ entry.Message moment account (body_of call.0)
+  pub tells : IsTold (header_in (body_of call.0)) (has_long_body call.0) told.1 call.1
+      ⊎ IsLost call.1
+
+-- a request is refused and asks nothing, or it is answered by the first of these
+abbrev pub AnswersCall : (wants : Result (List ℕ) Refusal) (call : Call) (mine rest : List Told)
+    → Type 0
+AnswersCall (Err why) call mine rest =
+    IsRefusal why (has_long_body call.0) call.1 × (mine ≡ rest)
+AnswersCall (Ok account) call mine rest =
+    (told : Told) × TellsCall account call told × (mine ≡ told ∷ rest)
+
+-- the requests are answered by these, in order
+abbrev pub AnswersCalls : List Call → (mine : List Told) → Type 0
+AnswersCalls [] mine = mine ≡ []
+AnswersCalls (call ∷ calls) mine = (rest : List Told)
+    × AnswersCall (asked call.0) call mine rest × AnswersCalls calls rest
+
+-- What came are these requests, and what goes out are their responses, in order. What they tell stands
+-- in the journal, in the same order.
+pub record HasAnsweredRequests (peer : HttpPeer) (journal : List Told) : Type 0 where
+  pub served : ∥ http.IsServed (config_of (connection_of peer)) (history (connection_of peer)) ∥₁
+  pub mine : List Told
+  pub answered : AnswersCalls (calls_of peer) mine
+  pub stand : StandIn mine journal
+
+-- ---- lines
+
+-- the line is what was asked there, and what is told of it is what that came to
+pub record TellsLine (side : Side) (call : LineCall) (told : Told) : Type 0 where
+  pub line : List ℕ
+  pub ended : call.0 ≡ line ++ 10 ∷ []
+  pub moment : ℕ
+  pub said : IsEntryOf (grammar_of side moment) line told.0
+  pub says : call.1 ≡ line_text told.1
+
+-- a line is told to be a bad one and asks nothing, or it is answered by the first of these
+abbrev pub AnswersLineCall : (side : Side) (call : LineCall) (mine rest : List Told) → Type 0
+AnswersLineCall side call mine rest = ((call.1 ≡ bad_line_text) × (mine ≡ rest))
+    ⊎ ((told : Told) × TellsLine side call told × (mine ≡ told ∷ rest))
+
+-- the lines are answered by these, in order
+abbrev pub AnswersLineCalls : (side : Side) → List LineCall → (mine : List Told) → Type 0
+AnswersLineCalls side [] mine = mine ≡ []
+AnswersLineCalls side (call ∷ calls) mine = (rest : List Told)
+    × AnswersLineCall side call mine rest × AnswersLineCalls side calls rest
+
+-- All that came are these lines, and what is no whole line yet; all that went, and what waits to go, is
+-- what is told of them, in order. It stands in the journal, in the same order.
+pub record HasAnsweredLines (connection : LineConnection) (journal : List Told) : Type 0 where
+  pub calls : List LineCall
+  pub came : received_of connection ≡ taken calls ++ input_of connection
+  pub goes : bytes_told calls ≡ sent_of connection ++ output_of connection
+  pub mine : List Told
+  pub answered : AnswersLineCalls (side_of connection) calls mine
+  pub stand : StandIn mine journal
+
+-- ---- what goes last
+
+-- what is still to go is the end of what tells what stands in the journal
+pub record TellsLast (peer : LastPeer) (journal : List Told) : Type 0 where
+  pub told : Told
+  pub stands : Contains journal told
+  pub went : List ℕ
+  pub text : last_text told.0 told.1 ≡ went ++ left_of peer
+
+-- ---- everybody
+
+abbrev pub IsAnswered : Peer → (journal : List Told) → Type 0
+IsAnswered (Http peer) journal = HasAnsweredRequests peer journal
+IsAnswered (Lines peer) journal = HasAnsweredLines (lines_of peer) journal
+IsAnswered (Last peer) journal = TellsLast peer journal
+
+-- nothing was asked yet, and no round is under way
+pub record IsFresh {S : Type 0} (served : Served S) : Type 0 where
+  pub none_over : rounds_of served ≡ []
+  pub none_asked : open_of served ≡ []
+  pub alone : shares_of served ≡ false
+
+module _ {S : Type 0} (store : Ghosts S) where
+  -- ---- what became of the tables
+
+  -- An account's life goes on with what the journal tells it and the devices, and its rows are what
+  -- that has left.
+  abbrev pub LivesOn : (before after : Served S) → Type 0
+  LivesOn before after = IfOurTables store (store_of before) (store_of after) (λ db.
+      (name : List ℕ) (life : Life) → IsLifeIn db true name life
+      → IsLifeIn (state store (store_of after)).now (state store (store_of after)).is_open name
+      (life ++ told_to name (journal_of after)))
+
+  -- an open after a crash finds that life, and nothing behind it
+  abbrev pub IsFoundAgain : (before after : Served S) → Type 0
+  IsFoundAgain before after = IsOnDisk (state store (store_of before))
+      → IfOurTables store (store_of before) (store_of after) (λ db.
+      IsTrue (state store (store_of after)).is_open
+      → (name : List ℕ) (life : Life) → IsLifeIn db true name life
+      → (found : Trees) → (state store (store_of after)).may_leave found
+      → IsFound name (life ++ told_to name (journal_of after)) found)
+
+  -- ---- from one end to the other
+
+  -- Whoever is there and waits for no round gets what the journal has, in answer to what came.
+  -- Where no round is under way the tables are what the journal leaves, as one list of events. A
+  -- crash finds what the journal has.
+  pub record IsWhole (guests : Slab Guest) (before after : Served S) : Type 0 where
+    pub answered : (key : ℕ) (guest : Guest) → get guests key ≡ Some guest → asked_in guest ≡ []
+        → IsAnswered (peer_of guest) (journal_of after)
+    pub runs : shares_of after ≡ false
+        → IsRunOf store (journal_of after) (store_of before) (store_of after)
+    pub lives : shares_of after ≡ false → LivesOn before after
+    pub found : IsFoundAgain before after
+
+  -- whatever goes on in a hall that began with nobody in it
+  abbrev pub FromEndToEnd : Type 0
+  FromEndToEnd = (steps : List Step) (old new : Slab Guest) (before after : Served S)
+      → ((key : ℕ) → get old key ≡ None) → IsFresh before
+      → DoesAll store steps old new before after → IsWhole new before after
