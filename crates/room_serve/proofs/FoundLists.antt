@@ -1,27 +1,25 @@
 -- What an open after a crash finds of lists in which a fault may have shut the connection.
-use Rattle.std.proofs.Common.{◌≡◌, ◌⊎◌, ℕ, Bool, true, false, ◌||◌, cond, bytes_eq, List, [], ◌∷◌, ◌++◌, Result, Ok, Err, IsTrue, refl, sym, ap, subst, ◌∙◌, append-nil, append_assoc, inl, inr, arith}
+use Rattle.std.proofs.Common.{◌≡◌, ◌⊎◌, ℕ, Bool, true, false, ◌||◌, cond, bytes_eq, List, [], ◌∷◌, ◌++◌, IsTrue, refl, sym, ap, subst, ◌∙◌, append-nil, append_assoc, inl, inr, arith}
 use Rattle.std.specs.List.{AllByRecursion}
 use Rattle.std.proofs.lemmas.Bool.{cases_Bool, true≢false}
-use Rattle.std.proofs.lemmas.Slice.Eq.{bytes_eq-Decides}
 use Rattle.sqlite.specs.Effect.{Database}
 use Rattle.sqlite.specs.Held.{Held, state}
 use Rattle.sqlite.specs.State.{HasCleanDisk}
 use Rattle.sqlite_trees.specs.Tree.{Trees}
 use Rattle.sqlite_trees.specs.declared.store.Store.{Ghosts}
-use Rattle.room_core.specs.Events.{PlainEvent, Timed, OfAccount, OfDevice}
+use Rattle.room_core.specs.Events.{Timed, OfAccount, OfDevice}
 use Rattle.room_core.specs.declared.event.Reply.{Reply}
 use Rattle.room_core.specs.declared.event.Reply.TheVariants.{Short}
 use Rattle.room_laws.proofs.LifeLemmas.{lives_go_on}
 use Rattle.room_laws.specs.Lives.{Exchange, Life}
 use Rattle.room_store.specs.Applied.{Applies}
 use Rattle.room_store.specs.Events.{IsShort}
-use Rattle.room_store.specs.declared.fault.StoreFault.{StoreFault}
-use Rattle.room_tables.specs.Calls.{KeepsConnection, LeavesNoMore}
+use Rattle.room_tables.specs.Calls.{LeavesNoMore}
 use Rattle.room_tables.specs.Crashes.{IsOnDisk}
 use Rattle.room_tables.specs.Keyed.{HasSchema}
 use Rattle.room_serve.specs.Crashes.{HasOneDone, IsFound, IsUndone, ListsAreFound, with_event}
 use Rattle.room_serve.specs.LivesInFiles.{IsLifeIn, exchanges_of}
-use Rattle.room_serve.specs.Outcomes.{outcome_of, result_of}
+use Rattle.room_serve.specs.Outcomes.{result_of}
 use Rattle.room_serve.specs.Runs.{AreApplied}
 use Rattle.room_serve.specs.declared.outcome.Outcome.{Outcome}
 use Rattle.room_serve.specs.declared.outcome.Outcome.TheVariants.{Answered, Failed}

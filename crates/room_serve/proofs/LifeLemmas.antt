@@ -1,22 +1,20 @@
 -- An account's machine goes on from event to event, and runs in a row are one.
-use Rattle.std.proofs.Common.{◌≡◌, ℕ, ◌+◌, Bool, true, false, ◌||◌, cond, bytes_eq, List, [], ◌∷◌, ◌++◌, map, length, Option, Some, None, IsSome, refl, sym, ap, subst, ◌∙◌}
+use Rattle.std.proofs.Common.{◌≡◌, ℕ, ◌+◌, Bool, true, false, cond, List, [], ◌∷◌, ◌++◌, length, Option, refl, sym, ap, subst, ◌∙◌}
 use Rattle.std.proofs.lemmas.List.{append-nil, append_assoc, length-append}
 use Rattle.std.proofs.lemmas.List.Elements.{filter-append}
 use Rattle.sqlite.specs.Effect.{Database}
 use Rattle.room_core.specs.DeviceEvents.{device_answered}
 use Rattle.room_core.specs.Events.{AccountEvent, PlainEvent, Timed, OfAccount, OfDevice}
-use Rattle.room_core.specs.Machine.{answered, answered_unopened}
+use Rattle.room_core.specs.Machine.{answered}
 use Rattle.room_core.specs.declared.event.Reply.{Reply}
 use Rattle.room_rules.specs.Devices.{Devices}
 use Rattle.room_state.specs.Rooms.{RoomValue}
-use Rattle.room_tables.specs.Accounts.{Holds}
-use Rattle.room_tables.specs.Devices.{HoldsDevices}
 use Rattle.room_serve.specs.declared.outcome.Outcome.{Outcome}
 use Rattle.room_serve.specs.declared.outcome.Outcome.TheVariants.{Answered, Failed}
 use Rattle.room_serve.specs.Own.{is_of, own}
 use Rattle.room_serve.specs.Alone.{Alone, alone, answer_on}
 use Rattle.room_serve.specs.Outcomes.{answered_of, replies_to}
-use Rattle.room_serve.specs.Runs.{IsAlone, RunsAlone}
+use Rattle.room_serve.specs.Runs.{IsAlone}
 use Rattle.room_serve.specs.Isolation.{IsRun}
 use Rattle.room_serve.proofs.Grown.{answer_both, shorter}
 

@@ -1,7 +1,6 @@
 -- An account's life goes on with what is told, and stays where the file is opened.
-use Rattle.std.proofs.Common.{◌≡◌, ℕ, Bool, true, false, ◌||◌, cond, bytes_eq, List, [], ◌∷◌, ◌++◌, Option, None, Result, Ok, Err, IsTrue, refl, sym, ap, subst, ◌∙◌, append-nil, append_assoc}
+use Rattle.std.proofs.Common.{◌≡◌, ℕ, Bool, true, false, ◌||◌, cond, bytes_eq, List, [], ◌∷◌, ◌++◌, Option, None, Result, Ok, Err, refl, sym, ap, subst, ◌∙◌, append-nil, append_assoc}
 use Rattle.std.specs.FinMap.{empty}
-use Rattle.sqlite.specs.Effect.{Database}
 use Rattle.sqlite.specs.Held.{Held, state}
 use Rattle.sqlite_trees.specs.declared.store.Store.{Ghosts}
 use Rattle.room_core.specs.DeviceEvents.{device_answered}
@@ -18,7 +17,7 @@ use Rattle.room_tables.proofs.AgreedRows.{still_holds}
 use Rattle.room_serve.specs.declared.outcome.Outcome.{Outcome}
 use Rattle.room_serve.specs.declared.outcome.Outcome.TheVariants.{Answered, Failed}
 use Rattle.room_serve.specs.Alone.{Alone, DevicesAlone, alone, change_on, devices_alone}
-use Rattle.room_serve.specs.LivesInFiles.{IsLifeIn, ListsJoin, LivesAreMigrated, LivesAreOpened, LivesBegin, LivesGoOnInLists, LivesGoOnInRuns, MessagesAreEvents, exchanges_of}
+use Rattle.room_serve.specs.LivesInFiles.{ListsJoin, LivesAreMigrated, LivesAreOpened, LivesBegin, LivesGoOnInLists, LivesGoOnInRuns, MessagesAreEvents, exchanges_of}
 use Rattle.room_serve.specs.Outcomes.{answered_of, outcome_of, replies_to, result_of}
 use Rattle.room_serve.specs.Own.{is_of, is_of_device, of_devices, own}
 use Rattle.room_serve.specs.Runs.{AreApplied}

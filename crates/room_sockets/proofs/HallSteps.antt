@@ -139,9 +139,6 @@ nobody_left a b leave nobody key =
       | inr gone ↦ ap is_waiting gone
     ]
 
-pub nobody_there : (a : Slab Guest) → ((key : ℕ) → get a key ≡ None) → NobodyWaits a
-nobody_there a empty key = ap is_waiting (empty key)
-
 not_true : (b : Bool) → (IsTrue b → ⊥) → b ≡ false
 not_true b never =
     elim (cases_Bool b) [
