@@ -1,6 +1,6 @@
 -- From one end to the other: what came on each connection, what goes out on it, and what became of
 -- the tables (all this project's own).
-use Rattle.std.specs.Prelude.{◌≡◌, ◌⊎◌, ⊤, ℕ, true, false, IsTrue, List, [], ◌∷◌, ◌++◌, Some, None, Result, Ok, Err}
+use Rattle.std.specs.Prelude.{◌≡◌, ◌≢◌, ◌≤◌, ◌⊎◌, ⊤, ℕ, suc, true, false, slice_get, IsTrue, List, [], ◌∷◌, ◌++◌, Some, None, Result, Ok, Err}
 use Rattle.std.specs.List.{Contains}
 use Rattle.http.specs.Request.{body_of}
 use Rattle.http_server.specs.Connection.{config_of, history}
@@ -39,11 +39,12 @@ use Rattle.room_sockets.specs.declared.guest.Guest.{Guest}
 use Rattle.room_sockets.specs.declared.guest.Peer.{Peer}
 use Rattle.room_sockets.specs.declared.guest.Peer.TheVariants.{Http, Last, Lines}
 
--- these stand in the list in this order, each at a place of its own
-abbrev pub StandIn : {X : Type 0} (some all : List X) → Type 0
-StandIn [] all = ⊤
-StandIn (x ∷ some) [] = ⊥
-StandIn (x ∷ some) (y ∷ all) = ((x ≡ y) × StandIn some all) ⊎ StandIn (x ∷ some) all
+-- these stand in the list at these places, which rise from the least on
+abbrev pub StandAt : {X : Type 0} (least : ℕ) (places : List ℕ) (some all : List X) → Type 0
+StandAt least [] [] all = ⊤
+StandAt least (place ∷ places) (x ∷ some) all = (least ≤ place)
+    × (slice_get all place ≡ Some x) × StandAt (suc place) places some all
+StandAt least _ _ all = ⊥
 
 -- ---- HTTP
 
@@ -69,12 +70,13 @@ AnswersCalls (call ∷ calls) mine = (rest : List Told)
     × AnswersCall (asked call.0) call mine rest × AnswersCalls calls rest
 
 -- What came are these requests, and what goes out are their responses, in order. What they tell stands
--- in the journal, in the same order.
-pub record HasAnsweredRequests (peer : HttpPeer) (journal : List Told) : Type 0 where
+-- in the journal at these places, in the same order.
+pub record HasAnsweredRequests (peer : HttpPeer) (places : List ℕ) (journal : List Told)
+    : Type 0 where
   pub served : ∥ http.IsServed (config_of (connection_of peer)) (history (connection_of peer)) ∥₁
   pub mine : List Told
   pub answered : AnswersCalls (calls_of peer) mine
-  pub stand : StandIn mine journal
+  pub stand : StandAt 0 places mine journal
 
 -- ---- lines
 
@@ -98,30 +100,35 @@ AnswersLineCalls side (call ∷ calls) mine = (rest : List Told)
     × AnswersLineCall side call mine rest × AnswersLineCalls side calls rest
 
 -- All that came are these lines, and what is no whole line yet; all that went, and what waits to go, is
--- what is told of them, in order. It stands in the journal, in the same order.
-pub record HasAnsweredLines (connection : LineConnection) (journal : List Told) : Type 0 where
+-- what is told of them, in order. It stands in the journal at these places, in the same order.
+pub record HasAnsweredLines (connection : LineConnection) (places : List ℕ) (journal : List Told)
+    : Type 0 where
   pub calls : List LineCall
   pub came : received_of connection ≡ taken calls ++ input_of connection
   pub goes : bytes_told calls ≡ sent_of connection ++ output_of connection
   pub mine : List Told
   pub answered : AnswersLineCalls (side_of connection) calls mine
-  pub stand : StandIn mine journal
+  pub stand : StandAt 0 places mine journal
 
 -- ---- what goes last
 
--- what is still to go is the end of what tells what stands in the journal
-pub record TellsLast (peer : LastPeer) (journal : List Told) : Type 0 where
+-- what is still to go is the end of what tells what stands in the journal at this one place
+pub record TellsLast (peer : LastPeer) (places : List ℕ) (journal : List Told) : Type 0 where
   pub told : Told
-  pub stands : Contains journal told
+  pub stands : StandAt 0 places (told ∷ []) journal
   pub went : List ℕ
   pub text : last_text told.0 told.1 ≡ went ++ left_of peer
 
 -- ---- everybody
 
-abbrev pub IsAnswered : Peer → (journal : List Told) → Type 0
-IsAnswered (Http peer) journal = HasAnsweredRequests peer journal
-IsAnswered (Lines peer) journal = HasAnsweredLines (lines_of peer) journal
-IsAnswered (Last peer) journal = TellsLast peer journal
+abbrev pub IsAnswered : Peer → (places : List ℕ) (journal : List Told) → Type 0
+IsAnswered (Http peer) places journal = HasAnsweredRequests peer places journal
+IsAnswered (Lines peer) places journal = HasAnsweredLines (lines_of peer) places journal
+IsAnswered (Last peer) places journal = TellsLast peer places journal
+
+-- no place is in both
+abbrev pub AreApart : (first second : List ℕ) → Type 0
+AreApart first second = (place : ℕ) → Contains first place → Contains second place → ⊥
 
 -- nothing was asked yet, and no round is under way
 pub record IsFresh {S : Type 0} (served : Served S) : Type 0 where
@@ -151,12 +158,15 @@ module _ {S : Type 0} (store : Ghosts S) where
 
   -- ---- from one end to the other
 
-  -- Whoever is there and waits for no round gets what the journal has, in answer to what came.
+  -- Whoever is there and waits for no round gets what the journal has, in answer to what came, at
+  -- places of its own: what was applied once is told to one peer.
   -- Where no round is under way the tables are what the journal leaves, as one list of events. A
   -- crash finds what the journal has.
   pub record IsWhole (guests : Slab Guest) (before after : Served S) : Type 0 where
+    pub places : (key : ℕ) → List ℕ
+    pub apart : (key other : ℕ) → key ≢ other → AreApart (places key) (places other)
     pub answered : (key : ℕ) (guest : Guest) → get guests key ≡ Some guest → asked_in guest ≡ []
-        → IsAnswered (peer_of guest) (journal_of after)
+        → IsAnswered (peer_of guest) (places key) (journal_of after)
     pub runs : shares_of after ≡ false
         → IsRunOf store (journal_of after) (store_of before) (store_of after)
     pub lives : shares_of after ≡ false → LivesOn before after
