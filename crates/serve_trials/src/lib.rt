@@ -1,6 +1,7 @@
 //! Trials of what one process serves, over memory: requests of HTTP and lines, whole, in pieces and
-//! in turns, and over sockets of this machine; of the client of lines; and of the program over
-//! readers and writers that fail. Each says whether what is found is what is due.
+//! in turns, and over sockets of this machine, also where a round is lost; of the client of lines;
+//! and of the program over readers and writers that fail. Each says whether what is found is what is
+//! due.
 #![tactic(auto)]
 
 mod answers;
@@ -8,9 +9,11 @@ mod cases;
 mod due;
 mod ends;
 mod fault;
+mod faulty;
 mod limits;
 mod lines;
 mod loopback;
+mod lost;
 mod refusals;
 mod report;
 mod requests;
@@ -41,6 +44,7 @@ pub fn hold<W: Write>(rt: &HostRuntime, output: &mut W) -> bool {
     lines::hold(rt, &mut report);
     turns::hold(rt, &mut report);
     loopback::hold(rt, &mut report);
+    lost::hold(rt, &mut report);
     sends::hold(rt, &mut report);
     answers::hold(rt, &mut report);
     ends::hold(rt, &mut report);

@@ -8,7 +8,7 @@ use crate::report::Report;
 use crate::rooms::rooms;
 use room_served::Served;
 use room_sockets::{Door, Doors, Hall};
-use sqlite::MemStore;
+use sqlite::Alter;
 use std::hash::RandomState;
 use std::io;
 use std::io::{ErrorKind, Read, Write};
@@ -68,15 +68,15 @@ pub fn hold<W: Write>(rt: &HostRuntime, report: &mut Report<'_, W>) {
 
 /// The ports of the three doors.
 #[derive(Clone, Copy)]
-struct Ports {
-    http: u16,
-    stations: u16,
-    operators: u16,
+pub struct Ports {
+    pub http: u16,
+    pub stations: u16,
+    pub operators: u16,
 }
 
 /// Somebody who came in by a door: what is still to be sent, what is due, and what was told.
 #[derive(Drop)]
-struct Visitor<'a> {
+pub struct Visitor<'a> {
     stream: TcpStream,
     sends: &'a [u8],
     due: &'a [u8],
@@ -85,7 +85,7 @@ struct Visitor<'a> {
 }
 
 impl<'a> Visitor<'a> {
-    fn enter(
+    pub fn enter(
         rt: &HostRuntime,
         port: u16,
         sends: &'a [u8],
@@ -100,6 +100,13 @@ impl<'a> Visitor<'a> {
             told: Vec::new(rt.alloc()),
             has_ended: false,
         })
+    }
+
+    /// Sends this as one piece, and is due to be told that from now on.
+    pub fn go_on_with(&mut self, sends: &'a [u8], due: &'a [u8]) -> io::Result<()> {
+        self.told.clear();
+        self.due = due;
+        self.stream.write_all(sends)
     }
 
     /// Sends a piece, and hears what was told meanwhile.
@@ -142,18 +149,24 @@ fn unless_it_waits(count: io::Result<usize>) -> io::Result<Option<usize>> {
 /// An operator opens accounts; two people print at once, each request cut into pieces; a station
 /// hands one job out. Each is told its own, and whoever ends is let go.
 fn visitors_over_sockets(rt: &HostRuntime) -> Result<(), Fault> {
-    let doors = Doors {
-        http: Door::at_port(rt, 0)?,
-        stations: Door::at_port(rt, 0)?,
-        operators: Door::at_port(rt, 0)?,
-    };
+    let doors = doors_at_free_ports(rt)?;
     let ports = ports_of(&doors)?;
     let mut rooms = rooms(rt)?;
     let mut hall = Hall::open(rt, doors, RandomState::new(rt)?)?;
     visit(rt, &mut hall, &mut rooms, ports)
 }
 
-fn ports_of(doors: &Doors) -> Result<Ports, Fault> {
+/// Doors on ports that the system chose.
+pub fn doors_at_free_ports(rt: &HostRuntime) -> Result<Doors, Fault> {
+    Ok(Doors {
+        http: Door::at_port(rt, 0)?,
+        stations: Door::at_port(rt, 0)?,
+        operators: Door::at_port(rt, 0)?,
+    })
+}
+
+/// The ports of the doors.
+pub fn ports_of(doors: &Doors) -> Result<Ports, Fault> {
     Ok(Ports {
         http: doors.http.port().ok_or(Fault::Io)?,
         stations: doors.stations.port().ok_or(Fault::Io)?,
@@ -161,10 +174,10 @@ fn ports_of(doors: &Doors) -> Result<Ports, Fault> {
     })
 }
 
-fn visit(
+fn visit<S: Alter>(
     rt: &HostRuntime,
     hall: &mut Hall,
-    rooms: &mut Served<MemStore>,
+    rooms: &mut Served<S>,
     ports: Ports,
 ) -> Result<(), Fault> {
     let mut visitors = Vec::new(rt.alloc());
@@ -179,10 +192,10 @@ fn visit(
 }
 
 /// Turns until all were told what is due.
-fn until_told(
+pub fn until_told<S: Alter>(
     rt: &HostRuntime,
     hall: &mut Hall,
-    rooms: &mut Served<MemStore>,
+    rooms: &mut Served<S>,
     visitors: &mut [Visitor<'_>],
 ) -> Result<(), Fault> {
     for _ in 0..TURNS {
@@ -200,28 +213,44 @@ fn until_told(
     Ok(())
 }
 
-/// All but the operator end; turns until they hear the end too.
-fn until_let_go(
+/// All but the operator end, and hear the end too.
+fn until_let_go<S: Alter>(
     rt: &HostRuntime,
     hall: &mut Hall,
-    rooms: &mut Served<MemStore>,
+    rooms: &mut Served<S>,
     visitors: &mut [Visitor<'_>],
 ) -> Result<(), Fault> {
-    for visitor in visitors.iter().skip(1) {
+    let Some((operator, others)) = visitors.split_first_mut() else {
+        return Err(Fault::Io);
+    };
+    for visitor in others.iter() {
         visitor.stream.shutdown(Shutdown::Write)?;
     }
+    until_ended(rt, hall, rooms, others)?;
+    operator.hear()?;
+    operator.is_told_what_is_due(rt)?;
+    holds(rt, !operator.has_ended, "the operator stays")
+}
+
+/// Turns until all hear the end, and were told what is due and no more.
+pub fn until_ended<S: Alter>(
+    rt: &HostRuntime,
+    hall: &mut Hall,
+    rooms: &mut Served<S>,
+    visitors: &mut [Visitor<'_>],
+) -> Result<(), Fault> {
     for _ in 0..TURNS {
         for visitor in visitors.iter_mut() {
             visitor.hear()?;
         }
-        if visitors.iter().skip(1).all(|visitor| visitor.has_ended) {
+        if visitors.iter().all(|visitor| visitor.has_ended) {
             break;
         }
         hall.turn(rt, rooms)?;
     }
     for visitor in visitors.iter() {
         visitor.is_told_what_is_due(rt)?;
+        holds(rt, visitor.has_ended, "it hears the end")?;
     }
-    let left = visitors.iter().filter(|visitor| !visitor.has_ended).count();
-    holds(rt, left == 1, "all but the operator are let go")
+    Ok(())
 }

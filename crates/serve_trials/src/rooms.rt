@@ -4,7 +4,7 @@ use crate::fault::Fault;
 use http_server::Connection;
 use room_served::{LineConnection, Served, Side, answer_requests, connection_config};
 use room_store::Store;
-use sqlite::MemStore;
+use sqlite::{Alter, MemStore};
 use std::alloc::Global;
 use std::hash::RandomState;
 
@@ -12,7 +12,14 @@ const NOW: u64 = 1_788_220_800;
 
 /// Rooms of which none is open yet.
 pub fn rooms(rt: &HostRuntime) -> Result<Served<MemStore>, Fault> {
-    let connection = sqlite::Connection::open_in_memory(rt.alloc())?;
+    rooms_over(rt, sqlite::Connection::open_in_memory(rt.alloc())?)
+}
+
+/// The same over a connection to an empty database.
+pub fn rooms_over<S: Alter + Drop>(
+    rt: &HostRuntime,
+    connection: sqlite::Connection<S>,
+) -> Result<Served<S>, Fault> {
     match Store::create(connection) {
         Ok(store) => Ok(Served::new(rt.alloc(), store, NOW)),
         Err(refused) => Err(Fault::from(refused.fault)),

@@ -1,0 +1,161 @@
+//! A round whose commit fails: each who asked in it is told once what it came to by itself, and is
+//! then let go, and so is one who ended before it could be told.
+
+use crate::due::holds;
+use crate::fault::Fault;
+use crate::faulty::{MARK, connect};
+use crate::lines::PRINT;
+use crate::loopback::{Ports, Visitor, doors_at_free_ports, ports_of, until_ended, until_told};
+use crate::report::Report;
+use crate::rooms::rooms_over;
+use room_served::Served;
+use room_sockets::Hall;
+use room_store::OpenFault;
+use sqlite::{Alter, Connection};
+use std::alloc::Global;
+use std::hash::RandomState;
+use std::io::Write;
+
+/// A request that is refused: who is told so is in the hall.
+const GREETS: &[u8] = b"GET / HTTP/1.1\r\nHost: localhost\r\n\r\n";
+
+const GREETED: &[u8] =
+    b"HTTP/1.1 405 Method Not Allowed\r\nallow: POST\r\ncontent-length: 0\r\n\r\n";
+
+/// The answer to `PRINT` where its round was lost: the connection ends with it.
+const PRINTED_ALONE: &[u8] =
+    b"HTTP/1.1 200 OK\r\nContent-Type: application/ipp\r\nContent-Length: 197\r\nConnection: close\r\n\r\n\
+    \x01\x01\x00\x00\x00\x00\x00\x02\x01\
+    \x47\x00\x12attributes-charset\x00\x05utf-8\
+    \x48\x00\x1battributes-natural-language\x00\x02en\x02\
+    \x45\x00\x07job-uri\x00\x21ipp://localhost/ipp/print/alice/1\
+    \x21\x00\x06job-id\x00\x04\x00\x00\x00\x01\
+    \x23\x00\x09job-state\x00\x04\x00\x00\x00\x04\
+    \x44\x00\x11job-state-reasons\x00\x18job-hold-until-specified\x03";
+
+/// Get-Jobs for the queue of alice: 119 bytes.
+const ASKS_JOBS: &[u8] =
+    b"POST /ipp/print/alice HTTP/1.1\r\nHost: localhost\r\nContent-Type: application/ipp\r\nContent-Length: 119\r\n\r\n\
+    \x01\x01\x00\x0a\x00\x00\x00\x03\x01\
+    \x47\x00\x12attributes-charset\x00\x05utf-8\
+    \x48\x00\x1battributes-natural-language\x00\x02en\
+    \x45\x00\x0bprinter-uri\x00\x1fipp://localhost/ipp/print/alice\x03";
+
+/// One job, the first.
+const ONE_JOB: &[u8] =
+    b"HTTP/1.1 200 OK\r\ncontent-type: application/ipp\r\ncontent-length: 133\r\n\r\n\
+    \x01\x01\x00\x00\x00\x00\x00\x03\x01\
+    \x47\x00\x12attributes-charset\x00\x05utf-8\
+    \x48\x00\x1battributes-natural-language\x00\x02en\x02\
+    \x45\x00\x07job-uri\x00\x21ipp://localhost/ipp/print/alice/1\
+    \x21\x00\x06job-id\x00\x04\x00\x00\x00\x01\x03";
+
+pub fn hold<W: Write>(rt: &HostRuntime, report: &mut Report<'_, W>) {
+    report.tell("a lost round", a_lost_round(rt));
+}
+
+fn a_lost_round(rt: &HostRuntime) -> Result<(), Fault> {
+    match connect(rt.alloc()) {
+        Ok(connection) => lose(rt, connection),
+        Err(error) => Err(Fault::from(OpenFault::from(error))),
+    }
+}
+
+fn lose<S: Alter + Drop>(rt: &HostRuntime, connection: Connection<S>) -> Result<(), Fault> {
+    let doors = doors_at_free_ports(rt)?;
+    let ports = ports_of(&doors)?;
+    let mut rooms = rooms_over(rt, connection)?;
+    let mut hall = Hall::open(rt, doors, RandomState::new(rt)?)?;
+    lose_in(rt, &mut hall, &mut rooms, ports)
+}
+
+fn lose_in<S: Alter>(
+    rt: &HostRuntime,
+    hall: &mut Hall,
+    rooms: &mut Served<S>,
+    ports: Ports,
+) -> Result<(), Fault> {
+    let alices = Texts::of(rt.alloc(), "alice", "Hello")?;
+    let brians = Texts::of(rt.alloc(), "brian", "Hello")?;
+    let carols = Texts::of(rt.alloc(), "carol", MARK)?;
+    let all = [&alices, &brians, &carols];
+    ask_in_one(rt, hall, rooms, ports, all)?;
+    each_is_there_once(rt, hall, rooms, ports, all)
+}
+
+/// What is sent and told of one account.
+#[derive(Drop)]
+struct Texts {
+    print: Vec<u8>,
+    printed_alone: Vec<u8>,
+    asks_jobs: Vec<u8>,
+    one_job: Vec<u8>,
+}
+
+impl Texts {
+    /// Those of an account whose name is as long as alice's, which prints this document.
+    fn of(alloc: Global, account: &str, document: &str) -> Result<Texts, Fault> {
+        Ok(Texts {
+            print: changed(alloc, PRINT, account, document)?,
+            printed_alone: changed(alloc, PRINTED_ALONE, account, document)?,
+            asks_jobs: changed(alloc, ASKS_JOBS, account, document)?,
+            one_job: changed(alloc, ONE_JOB, account, document)?,
+        })
+    }
+}
+
+/// The text with the account in the place of alice's and the document in that of `Hello`.
+fn changed(alloc: Global, text: &[u8], account: &str, document: &str) -> Result<Vec<u8>, Fault> {
+    let Ok(text) = str::from_utf8(text) else {
+        return Err(Fault::Io);
+    };
+    let text = text.replace(alloc, "alice", account)?;
+    Ok(text.replace(alloc, "Hello", document)?.into_bytes())
+}
+
+/// Four who are in the hall ask at once. The last of them, of whose document the round is lost, ends
+/// before it is told.
+fn ask_in_one<S: Alter>(
+    rt: &HostRuntime,
+    hall: &mut Hall,
+    rooms: &mut Served<S>,
+    ports: Ports,
+    [alices, brians, carols]: [&Texts; 3],
+) -> Result<(), Fault> {
+    let opens = b"open alice\nopen brian\nopen carol\n";
+    let mut visitors = Vec::new(rt.alloc());
+    visitors.push(Visitor::enter(rt, ports.operators, opens, b"ok\nok\nok\n")?)?;
+    for _ in 0..3 {
+        visitors.push(Visitor::enter(rt, ports.http, GREETS, GREETED)?)?;
+    }
+    until_told(rt, hall, rooms, &mut visitors)?;
+    let asked = [
+        (b"open diane\n".as_slice(), b"ok\n".as_slice()),
+        (alices.print.as_slice(), alices.printed_alone.as_slice()),
+        (brians.print.as_slice(), brians.printed_alone.as_slice()),
+        (carols.print.as_slice(), b"".as_slice()),
+    ];
+    for (visitor, (sends, due)) in visitors.iter_mut().zip(asked) {
+        visitor.go_on_with(sends, due)?;
+    }
+    holds(rt, visitors.pop().is_some(), "the last ends")?;
+    until_ended(rt, hall, rooms, &mut visitors)
+}
+
+/// What each asked was done once: others who come then find one job of each, also of the one that
+/// was told nothing, and the account opened.
+fn each_is_there_once<S: Alter>(
+    rt: &HostRuntime,
+    hall: &mut Hall,
+    rooms: &mut Served<S>,
+    ports: Ports,
+    all: [&Texts; 3],
+) -> Result<(), Fault> {
+    let mut visitors = Vec::new(rt.alloc());
+    for texts in all {
+        let asks = texts.asks_jobs.as_slice();
+        visitors.push(Visitor::enter(rt, ports.http, asks, texts.one_job.as_slice())?)?;
+    }
+    visitors.push(Visitor::enter(rt, ports.operators, b"open diane\n", b"exists\n")?)?;
+    until_told(rt, hall, rooms, &mut visitors)
+}
