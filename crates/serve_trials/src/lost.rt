@@ -115,15 +115,15 @@ fn changed(alloc: Global, text: &[u8], account: &str, document: &str) -> Result<
 
 /// Four who are in the hall ask at once. The last of them, of whose document the round is lost, ends
 /// before it is told.
-fn ask_in_one<S: Alter>(
+fn ask_in_one<'a, S: Alter>(
     rt: &HostRuntime,
     hall: &mut Hall,
     rooms: &mut Served<S>,
     ports: Ports,
-    [alices, brians, carols]: [&Texts; 3],
+    [alices, brians, carols]: [&'a Texts; 3],
 ) -> Result<(), Fault> {
     let opens = b"open alice\nopen brian\nopen carol\n";
-    let mut visitors = Vec::new(rt.alloc());
+    let mut visitors: Vec<Visitor<'a>> = Vec::new(rt.alloc());
     visitors.push(Visitor::enter(rt, ports.operators, opens, b"ok\nok\nok\n")?)?;
     for _ in 0..3 {
         visitors.push(Visitor::enter(rt, ports.http, GREETS, GREETED)?)?;
