@@ -159,9 +159,8 @@ module _ {S : Type 0} (store : Ghosts S) where
   -- ---- from one end to the other
 
   -- Whoever is there and waits for no round gets what the journal has, in answer to what came, at
-  -- places of its own: what was applied once is told to one peer.
-  -- Where no round is under way the tables are what the journal leaves, as one list of events. A
-  -- crash finds what the journal has.
+  -- places that nobody else has who is there. Where no round is under way the tables are what the
+  -- journal leaves, as one list of events. A crash finds what the journal has.
   pub record IsWhole (guests : Slab Guest) (before after : Served S) : Type 0 where
     pub places : (key : ℕ) → List ℕ
     pub apart : (key other : ℕ) → key ≢ other → AreApart (places key) (places other)

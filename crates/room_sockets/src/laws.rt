@@ -10,10 +10,10 @@ pub fn always_hear<S: Alter>()
     ensures { AlwaysHear S.Store }
 {}
 
-/// From one end to the other, of whatever goes on in a hall that began with nobody in it over rooms
-/// where nothing was asked: what goes out on each connection answers, in order, what came on it; each
-/// answer stands in the journal, which each account's own machine alone gives; the tables are what
-/// the journal leaves, and a crash finds that.
+/// Whatever goes on in a hall that began with nobody in it, over rooms where nothing was asked: what
+/// goes out on each connection answers, in order, what came on it. Each answer stands in the journal,
+/// and is what the account's own machine gives. The tables are what the journal leaves, and a crash
+/// finds that.
 pub fn from_end_to_end<S: Alter>()
     ensures { FromEndToEnd S.Store }
 {}
