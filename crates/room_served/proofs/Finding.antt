@@ -1,6 +1,6 @@
 -- What a crash finds of what is applied in rounds, and of an account's life.
 use Rattle.std.proofs.Common.{◌≡◌, ◌⊎◌, Bool, true, false, List, [], ◌∷◌, ◌++◌, IsTrue, refl, sym, ap, subst, ◌∙◌, inl, inr, append-nil, arith}
-use Rattle.std.proofs.lemmas.Bool.{true≢false}
+use Rattle.std.proofs.lemmas.Bool.{cases_Bool, true≢false}
 use Rattle.sqlite.specs.Effect.{Database}
 use Rattle.sqlite.specs.Held.{Held, state}
 use Rattle.sqlite.specs.State.{HasCleanDisk}
@@ -43,9 +43,9 @@ module _ {S : Type 0} (store : Ghosts S) where
       goes_at_first = record { inside = has_begun.mode; schema = λ _. subst HasSchema (sym has_begun.now) has; committed = λ _. has_begun.committed }
 
       -- before its commit nothing of it is found
-      pub none_found : IsTrue (state store ended).is_open → (found : Trees) → (state store ended).may_leave found → found ≡ (state store mid).now.trees
-      none_found shown found may =
-          (lasts begun has_begun.opened.1 found).0 (leads_leave_no_more store (state store mid).now more begun ended clean (inl goes_at_first) leads shown found may) ∙ ap (λ (db : Database). db.trees) has_begun.committed
+      pub none_found : (found : Trees) → (state store ended).may_leave found → found ≡ (state store mid).now.trees
+      none_found found may =
+          (lasts begun has_begun.opened.1 found).0 (leads_leave_no_more store (state store mid).now more begun ended clean (inl goes_at_first) leads found may) ∙ ap (λ (db : Database). db.trees) has_begun.committed
 
       -- what is seen at its end is the whole, or, where it is no more under way, what was there before
       pub still_or_gone : StillGoes store (state store mid).now (state store ended) ⊎ IsGone store (state store mid).now (state store ended)
@@ -59,7 +59,7 @@ module _ {S : Type 0} (store : Ghosts S) where
 
     -- ---- a round that is over
 
-    module _ (round : Round) (old new : Held S) (is : IsRound store round old new) (clean : HasCleanDisk (state store new)) (has : HasSchema (state store old).now) (shown : IsTrue (state store is.ended).is_open) (found : Trees) (may : (state store new).may_leave found) where
+    module _ (round : Round) (old new : Held S) (is : IsRound store round old new) (clean : HasCleanDisk (state store new)) (has : HasSchema (state store old).now) (found : Trees) (may : (state store new).may_leave found) where
       ended_clean : HasCleanDisk (state store is.ended)
       ended_clean = was_clean store is.ended new is.ends.connection clean
 
@@ -75,14 +75,19 @@ module _ {S : Type 0} (store : Ghosts S) where
       committed_before (inl same) open_yet = same.committed
       committed_before (inr undone) open_yet = undone.committed open_yet
 
+      -- where a fault has shut the connection in it, nothing of it
+      pub none_shut : (state store is.ended).is_open ≡ false → found ≡ (state store old).now.trees
+      none_shut shut = none_found old is.begun is.begins round.0 is.ended is.leads ended_clean has found (is.ends.shut clean (λ shown. true≢false (sym shown ∙ shut)) found may)
+
       pub finds_round : FindsRound store round (state store old).now.trees (state store is.ended).now.trees (state store new).is_open found
       finds_round = record {
         either = elim (is.ends.survives.crash clean found may) [
-          | inl before ↦ inl (none_found old is.begun is.begins round.0 is.ended is.leads ended_clean has shown found before)
+          | inl before ↦ inl (none_found old is.begun is.begins round.0 is.ended is.leads ended_clean has found before)
           | inr whole ↦ inr whole
         ];
         kept = finds_kept;
         lost = λ gone open_yet.
+            let shown = is.ends.connection.back clean open_yet in
             let over : UnchangedOrUndone (state store is.ended) (state store new) = (subst (λ (b : Bool). IsOver store b is.ended new) gone is.ends.over clean).0 in
             let committed : (state store is.ended).committed ≡ (state store old).now = elim (still_or_gone old is.begun is.begins round.0 is.ended is.leads ended_clean has) [
               | inl goes ↦ goes.committed shown
@@ -92,7 +97,7 @@ module _ {S : Type 0} (store : Ghosts S) where
       }
 
     pub always_found : AlwaysFound store
-    always_found round old new is clean has shown found may = finds_round round old new is clean has shown found may
+    always_found round old new is clean has found may = finds_round round old new is clean has found may
 
     -- ---- behind the rounds that were kept
 
@@ -105,7 +110,7 @@ module _ {S : Type 0} (store : Ghosts S) where
       life_there = subst (λ (b : Bool). IsLifeIn (state store mid).now b name (life ++ told_to name (kept_in rounds))) shown (always_lives rounds old mid settles clean has name life lived)
 
     pub round_is_not_found : RoundIsNotFound store
-    round_is_not_found rounds old mid begun last new settles starts more leads shown next clean has name life lived found may =
+    round_is_not_found rounds old mid begun last new settles starts more leads next clean has name life lived found may =
         let last_is : HasCleanDisk (state store last) = cleaner next clean in
         let begun_is = was_clean store begun last (leads_keep store more begun last leads) last_is in
         let mid_is : HasCleanDisk (state store mid) = omega (arith, starts.survives.clean, begun_is) in
@@ -113,7 +118,7 @@ module _ {S : Type 0} (store : Ghosts S) where
         let schema = schema_there rounds old mid settles mid_is has mid_shown name life lived in
         let there = still_or_gone mid begun starts more last leads last_is schema in
         found_of name (life ++ told_to name (kept_in rounds)) (state store mid).now true refl schema (life_there rounds old mid settles mid_is has mid_shown name life lived) found
-        (none_found mid begun starts more last leads last_is schema shown found (no_more next clean there found may))
+        (none_found mid begun starts more last leads last_is schema found (no_more next clean there found may))
       where
         cleaner : (new ≡ last) ⊎ ((next : Told) × AppliesEntry store true next.0 last new next.1) → HasCleanDisk (state store new) → HasCleanDisk (state store last)
         cleaner (inl same) is = subst (λ (held : Held S). HasCleanDisk (state store held)) same is
@@ -121,45 +126,50 @@ module _ {S : Type 0} (store : Ghosts S) where
 
         no_more : (new ≡ last) ⊎ ((next : Told) × AppliesEntry store true next.0 last new next.1) → HasCleanDisk (state store new) → StillGoes store (state store mid).now (state store last) ⊎ IsGone store (state store mid).now (state store last) → LeavesNoMore (state store last) (state store new)
         no_more (inl same) is there = subst (λ (held : Held S). LeavesNoMore (state store last) (state store held)) (sym same) (λ found may. may)
-        no_more (inr (next, applies)) is there = entry_leaves_no_more store (state store mid).now next last new is there applies shown
+        no_more (inr (next, applies)) is there = entry_leaves_no_more store (state store mid).now next last new is there applies
 
-    module _ (round : Round) (mid new : Held S) (is : IsRound store round mid new) (clean : HasCleanDisk (state store new)) (has : HasSchema (state store mid).now) (shown : IsTrue (state store is.ended).is_open) (name : List _) (before : Life) (lived : IsLifeIn (state store mid).now true name before) (found : Trees) (may : (state store new).may_leave found) where
+    module _ (round : Round) (mid new : Held S) (is : IsRound store round mid new) (clean : HasCleanDisk (state store new)) (has : HasSchema (state store mid).now) (name : List _) (before : Life) (lived : IsLifeIn (state store mid).now true name before) (found : Trees) (may : (state store new).may_leave found) where
       ended_is : HasCleanDisk (state store is.ended)
       ended_is = was_clean store is.ended new is.ends.connection clean
 
       finds : FindsRound store round (state store mid).now.trees (state store is.ended).now.trees (state store new).is_open found
-      finds = finds_round round mid new is clean has shown found may
+      finds = finds_round round mid new is clean has found may
 
       of_before : found ≡ (state store mid).now.trees → IsFound name before found
       of_before same = found_of name before (state store mid).now true refl has lived found same
 
-      of_whole : IsTrue (state store is.ended).in_transaction → HasSchema (state store is.ended).now → found ≡ (state store is.ended).now.trees → IsFound name (before ++ told_to name round.0) found
-      of_whole inside schema same =
+      of_whole : IsTrue (state store is.ended).is_open → IsTrue (state store is.ended).in_transaction → HasSchema (state store is.ended).now → found ≡ (state store is.ended).now.trees → IsFound name (before ++ told_to name round.0) found
+      of_whole shown inside schema same =
           found_of name (before ++ told_to name round.0) (state store is.ended).now (state store is.ended).is_open shown schema (whole_life mid is.begun is.begins round.0 is.ended is.leads ended_is has inside name before lived) found same
 
       pub finds_life : FindsLife store round name before (state store new).is_open found
       finds_life = record {
-        either = elim finds.either [
-          | inl same ↦ inl (of_before same)
-          | inr whole ↦ elim (still_or_gone mid is.begun is.begins round.0 is.ended is.leads ended_is has) [
-            | inl goes ↦ inr (of_whole goes.inside (goes.schema shown) whole)
-            | inr gone ↦ inl (of_before (whole ∙ ap (λ (db : Database). db.trees) (gone.now shown)))
+        either = elim (cases_Bool (state store is.ended).is_open) [
+          | inl shown ↦ elim finds.either [
+            | inl same ↦ inl (of_before same)
+            | inr whole ↦ elim (still_or_gone mid is.begun is.begins round.0 is.ended is.leads ended_is has) [
+              | inl goes ↦ inr (of_whole shown goes.inside (goes.schema shown) whole)
+              | inr gone ↦ inl (of_before (whole ∙ ap (λ (db : Database). db.trees) (gone.now shown)))
+            ]
           ]
+          | inr shut ↦ inl (of_before (none_shut round mid new is clean has found may shut))
         ];
-        kept = λ kept. elim (still_or_gone mid is.begun is.begins round.0 is.ended is.leads ended_is has) [
-          | inl goes ↦ of_whole goes.inside (goes.schema shown) (finds.kept kept)
-          | inr gone ↦ absurd (true≢false (sym (kept_whole round mid new is clean has shown found may kept).was_under_way ∙ gone.mode))
-        ];
+        kept = λ kept.
+            let ends = kept_whole round mid new is clean has found may kept in
+            elim (still_or_gone mid is.begun is.begins round.0 is.ended is.leads ended_is has) [
+              | inl goes ↦ of_whole ends.opened.0 goes.inside (goes.schema ends.opened.0) (finds.kept kept)
+              | inr gone ↦ absurd (true≢false (sym ends.was_under_way ∙ gone.mode))
+            ];
         lost = λ gone open_yet. of_before (finds.lost gone open_yet);
       }
 
     pub round_is_found : RoundIsFound store
-    round_is_found rounds old mid new settles round is clean has shown name life lived found may =
+    round_is_found rounds old mid new settles round is clean has name life lived found may =
         let ended_clean = was_clean store is.ended new is.ends.connection clean in
         let begun_clean = was_clean store is.begun is.ended (leads_keep store round.0 is.begun is.ended is.leads) ended_clean in
         let mid_clean : HasCleanDisk (state store mid) = omega (arith, is.begins.survives.clean, begun_clean) in
         let mid_shown = (is.begins.begun begun_clean).opened.0 in
-        finds_life round mid new is clean (schema_there rounds old mid settles mid_clean has mid_shown name life lived) shown name (life ++ told_to name (kept_in rounds)) (life_there rounds old mid settles mid_clean has mid_shown name life lived) found may
+        finds_life round mid new is clean (schema_there rounds old mid settles mid_clean has mid_shown name life lived) name (life ++ told_to name (kept_in rounds)) (life_there rounds old mid settles mid_clean has mid_shown name life lived) found may
 
     -- ---- between rounds
 

@@ -174,19 +174,22 @@ module _ {S : Type 0} (store : Ghosts S) where
   -- ---- what a crash finds
 
   pub entry_leaves_no_more : (db : Database) (told : Told) (old new : Held S) → HasCleanDisk (state store new) → StillGoes db (state store old) ⊎ IsGone db (state store old) → AppliesEntry store true told.0 old new told.1
-      → IsTrue (state store old).is_open → LeavesNoMore (state store old) (state store new)
-  entry_leaves_no_more db told old new clean (inr gone) (inl shared) shown = absurd (true≢false (sym shared.inside ∙ gone.mode))
-  entry_leaves_no_more db told old new clean (inl goes) (inl shared) shown = (shared.within clean (goes.schema shown)).crash goes.inside
-  entry_leaves_no_more db told old new clean was (inr late) shown = subst (λ (held : Held S). LeavesNoMore (state store old) (state store held)) (sym late.same) (λ found may. may)
+      → LeavesNoMore (state store old) (state store new)
+  entry_leaves_no_more db told old new clean (inr gone) (inl shared) = absurd (true≢false (sym shared.inside ∙ gone.mode))
+  entry_leaves_no_more db told old new clean (inl goes) (inl shared) =
+      elim (cases_Bool (state store old).is_open) [
+        | inl shown ↦ (shared.within clean (goes.schema shown)).crash goes.inside
+        | inr shut ↦ shared.shut clean (λ shown. true≢false (sym shown ∙ shut))
+      ]
+  entry_leaves_no_more db told old new clean was (inr late) = subst (λ (held : Held S). LeavesNoMore (state store old) (state store held)) (sym late.same) (λ found may. may)
 
   pub leads_leave_no_more : (db : Database) (more : List Told) (old new : Held S) → HasCleanDisk (state store new) → StillGoes db (state store old) ⊎ IsGone db (state store old) → Leads store true old more new
-      → IsTrue (state store new).is_open → LeavesNoMore (state store old) (state store new)
-  leads_leave_no_more db [] old new clean was is shown = subst (λ (held : Held S). LeavesNoMore (state store old) (state store held)) (sym is) (λ found may. may)
-  leads_leave_no_more db (told ∷ more) old new clean was (next, applies, leads) shown = λ found may.
+      → LeavesNoMore (state store old) (state store new)
+  leads_leave_no_more db [] old new clean was is = subst (λ (held : Held S). LeavesNoMore (state store old) (state store held)) (sym is) (λ found may. may)
+  leads_leave_no_more db (told ∷ more) old new clean was (next, applies, leads) = λ found may.
       let later = leads_keep more next new leads in
       let next_clean = was_clean next new later clean in
-      entry_leaves_no_more db told old next next_clean was applies ((entry_keeps told old next applies).back next_clean (later.back clean shown)) found
-      (leads_leave_no_more db more next new clean (entry_leaves db told old next next_clean was applies) leads shown found may)
+      entry_leaves_no_more db told old next next_clean was applies found (leads_leave_no_more db more next new clean (entry_leaves db told old next next_clean was applies) leads found may)
 
   module _ (more : List Told) (old new : Held S) (is : IsRound store (more, false) old new) (clean : HasCleanDisk (state store new)) where
     lost_mode : (state store new).in_transaction ≡ false

@@ -11,6 +11,7 @@ use Rattle.room_core.specs.declared.event.Reply.{Reply}
 use Rattle.room_statements.specs.Rounds.{BeginsRound, EndsRound}
 use Rattle.room_store.specs.Applied.{Applies}
 use Rattle.room_store.specs.Rounds.{IsLost, StaysInRound}
+use Rattle.room_store.specs.Shut.{LeavesIfShut}
 use Rattle.room_store.specs.declared.fault.StoreFault.{StoreFault}
 use Rattle.room_store.specs.declared.fault.StoreFault.TheVariants.{Storage}
 use Rattle.room_tables.specs.Calls.{IfOurTables, IsUnchanged, IsUndone, KeepsConnection, UnchangedOrUndone}
@@ -118,6 +119,7 @@ module _ {S : Type 0} (store : Ghosts S) where
     pub within : IfOurTables store old new
         (λ _. StaysInRound (state store old) (state store new) told)
     pub lost : IfOurTables store old new (λ _. IsLost (state store old) (state store new) told)
+    pub shut : LeavesIfShut (state store old) (state store new)
     pub connection : KeepsConnection (state store old) (state store new)
 
   -- once the round is lost nothing is applied in it
@@ -164,7 +166,7 @@ module _ {S : Type 0} (store : Ghosts S) where
     pub survives : Survives (state store old) (state store new) (λ _. ⊥)
 
   -- It is over: what was seen in it is committed, or it is undone. A crash finds all of it, or
-  -- nothing.
+  -- nothing; and nothing where a fault has shut the connection before.
   abbrev pub IsOver : (kept : Bool) (old new : Held S) → Type 0
   IsOver true old new =
       HasCleanDisk (state store new) → EndsRound (state store old) (state store new)
@@ -178,6 +180,7 @@ module _ {S : Type 0} (store : Ghosts S) where
     pub connection : KeepsConnection (state store old) (state store new)
     pub survives : Survives (state store old) (state store new)
         (λ found. found ≡ (state store old).now.trees)
+    pub shut : LeavesIfShut (state store old) (state store new)
 
   -- it could not begin, and nothing has changed
   pub record IsRefused (old new : Held S) : Type 0 where

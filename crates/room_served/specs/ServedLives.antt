@@ -36,11 +36,9 @@ module _ {S : Type 0} (store : Ghosts S) where
     pub kept : IsTrue round.1 → found ≡ whole
     pub lost : round.1 ≡ false → IsTrue is_open → found ≡ before
 
-  -- of each round in which no fault has shut the connection before its commit
   abbrev pub AlwaysFound : Type 0
   AlwaysFound = (round : Round) (old new : Held S) (is : IsRound store round old new)
-      → IfOurTables store old new (λ db. IsTrue (state store is.ended).is_open
-      → (found : Trees) → (state store new).may_leave found
+      → IfOurTables store old new (λ db. (found : Trees) → (state store new).may_leave found
       → FindsRound round db.trees (state store is.ended).now.trees (state store new).is_open
       found)
 
@@ -59,7 +57,6 @@ module _ {S : Type 0} (store : Ghosts S) where
   RoundIsNotFound = (rounds : List Round) (old mid begun last new : Held S)
       → AllSettle store old rounds mid → Begins store mid begun
       → (more : List Told) → Leads store true begun more last
-      → IsTrue (state store last).is_open
       → (new ≡ last) ⊎ ((next : Told) × AppliesEntry store true next.0 last new next.1)
       → IfOurTables store old new (λ db. (name : List ℕ) (life : Life) → IsLifeIn db true name life
       → (found : Trees) → (state store new).may_leave found
@@ -76,8 +73,8 @@ module _ {S : Type 0} (store : Ghosts S) where
   abbrev pub RoundIsFound : Type 0
   RoundIsFound = (rounds : List Round) (old mid new : Held S) → AllSettle store old rounds mid
       → (round : Round) (is : IsRound store round mid new)
-      → IfOurTables store old new (λ db. IsTrue (state store is.ended).is_open
-      → (name : List ℕ) (life : Life) → IsLifeIn db true name life
+      → IfOurTables store old new (λ db.
+      (name : List ℕ) (life : Life) → IsLifeIn db true name life
       → (found : Trees) → (state store new).may_leave found
       → FindsLife round name (life ++ told_to name (kept_in rounds)) (state store new).is_open
       found)

@@ -483,7 +483,7 @@ module _ {S : Type 0} (store : Ghosts S) where
     found_again lasts (inl is) on_disk clean has shown name life lived found may =
         subst (λ (journal : List Told). IsFound name (life ++ told_to name journal) found) (sym (journal_is is.follows.more is.follows.over)) (finding.kept_is_found store lasts is.follows.more (store_of before) (store_of after) on_disk is.follows.settles clean has shown name life lived found may)
     found_again lasts (inr is) on_disk clean has shown name life lived found may =
-        subst (λ (journal : List Told). IsFound name (life ++ told_to name journal) found) (sym (journal_is is.more is.over)) (finding.round_is_not_found store lasts is.more (store_of before) is.was is.begun (store_of after) (store_of after) is.settles is.begins (open_of after) is.leads shown (inl refl) clean has name life lived found may)
+        subst (λ (journal : List Told). IsFound name (life ++ told_to name journal) found) (sym (journal_is is.more is.over)) (finding.round_is_not_found store lasts is.more (store_of before) is.was is.begun (store_of after) (store_of after) is.settles is.begins (open_of after) is.leads (inl refl) clean has name life lived found may)
 
   pub from_end_to_end : CrashesFindLastCommit store → FromEndToEnd store
   from_end_to_end lasts steps old new before after empty fresh does =

@@ -1,5 +1,5 @@
 -- A connection that is asked whether it is open, before an event.
-use Rattle.std.proofs.Common.{◌≡◌, ℕ, List, Option, Result, Err, IsTrue, inl, inr}
+use Rattle.std.proofs.Common.{◌≡◌, ℕ, List, [], Option, Result, Err, IsTrue, inl, inr}
 use Rattle.sqlite_value.specs.Order.{Row}
 use Rattle.sqlite_trees.specs.declared.store.Store.{Ghosts}
 use Rattle.sqlite.specs.Held.{Held, state}
@@ -11,13 +11,14 @@ use Rattle.room_core.specs.Machine.{answered}
 use Rattle.room_core.specs.declared.event.Reply.{Reply}
 use Rattle.room_rules.specs.Devices.{Devices}
 use Rattle.room_state.specs.Rooms.{RoomValue}
+use Rattle.room_statements.proofs.RoundTexts.{empty_is_one}
 use Rattle.room_statements.specs.Alone.{OnlyAccount, OnlyDevices}
 use Rattle.room_store.proofs.ServingLemmas.{Passed, look_failed_as, serves_after}
 use Rattle.room_store.specs.Reading.{IsReadable}
 use Rattle.room_store.specs.Serving.{DoesEvent, LooksUp, MayBeHeld}
 use Rattle.room_tables.proofs.Savepoints.{undone_by}
 use Rattle.room_tables.specs.Accounts.{Holds}
-use Rattle.room_tables.specs.Calls.{IsUnchanged, UnchangedOrUndone}
+use Rattle.room_tables.specs.Calls.{IsUnchanged, IsUndone}
 use Rattle.room_tables.specs.Devices.{HoldsDevices}
 use Rattle.room_tables.specs.declared.fault.TableFault.{TableFault}
 use Rattle.room_tables.specs.declared.fault.TableFault.TheVariants as table
@@ -25,12 +26,13 @@ use Rattle.room_tables.specs.declared.fault.TableFault.TheVariants as table
 pub unchanged_by : (old new : State) → IsLeftSame old new → IsUnchanged old new
 unchanged_by old new same = record { now = same.0.now_is; committed = same.0.committed_is; mode = same.0.mode }
 
--- a text that was not run
-pub not_run : (text : List ℕ) (params : Row) (old new : State) (error : Error) → IsNotRun old new text params error → UnchangedOrUndone old new
+-- where it is not run the transaction is undone
+pub empty_fails : (old new : State) (error : Error) → IsNotRun old new [] [] error → IsUndone old new
 unfolding IsNotRun
-not_run text params old new error (inl refused) = inl (unchanged_by old new refused.1)
-not_run text params old new error (inr fails) = inr (undone_by old new fails.3)
+empty_fails old new error (inl refused) = absurd (empty_is_one old error refused.0)
+empty_fails old new error (inr fails) = undone_by old new fails.3
 
+-- a text that was not run
 pub not_run_back : (text : List ℕ) (params : Row) (old new : State) (error : Error) → IsNotRun old new text params error → IsTrue new.is_open → IsTrue old.is_open
 unfolding IsNotRun
 not_run_back text params old new error (inl refused) is_open = refused.1.0.was_open

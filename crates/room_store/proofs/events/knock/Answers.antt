@@ -1,5 +1,7 @@
-use Rattle.std.proofs.Common.{Result, [], inl, inr, subst, sym}
-use Rattle.room_store.proofs.Knocking.{not_run, not_run_back, unchanged_by}
+use Rattle.std.proofs.Common.{Result, OnErr, [], inl, inr, subst, sym}
+use Rattle.sqlite.specs.Held.{state}
+use Rattle.room_tables.specs.Calls.{IsUndone}
+use Rattle.room_store.proofs.Knocking.{empty_fails, not_run_back, unchanged_by}
 use Rattle.room_store.specs.Serving.{LooksUp}
 use Rattle.room_tables.proofs.Going.{goes_by}
 use Rattle.room_tables.specs.declared.fault.TableFault.{TableFault}
@@ -23,7 +25,13 @@ returns-clause-looks g c = elim c.match-prepare.branch [
       opened = λ clean. tt;
     };
     same = λ clean has. tt;
-    undone = λ clean has. not_run [] [] _ _ _ (w.in-Err.ensures.err clean []);
+    undone = λ clean has. inr (empty_fails _ _ _ (w.in-Err.ensures.err clean []));
     crash = λ clean has found may. elim (c.prepare.ensures.survives.crash clean found may) [ inl before ↦ before | inr none ↦ absurd none ];
   })
+]
+
+pub returns-clause-undone : goal.returns-clause-undone
+returns-clause-undone g c clean = elim c.match-prepare.branch [
+  | in-Ok w ↦ subst (λ (r : Result (Unit {0}) TableFault). OnErr r (IsUndone (state g.S.Store c.args.connection.now) (state g.S.Store c.prepare.new.self))) (sym w.result-is) tt
+  | in-Err w ↦ subst (λ (r : Result (Unit {0}) TableFault). OnErr r (IsUndone (state g.S.Store c.args.connection.now) (state g.S.Store c.prepare.new.self))) (sym w.result-is) (empty_fails _ _ _ (w.in-Err.ensures.err clean []))
 ]

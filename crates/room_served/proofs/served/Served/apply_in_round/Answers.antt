@@ -16,5 +16,6 @@ returns-clause-applies g c =
       applies = λ same. subst (λ (e : PlainEvent). Applies (moment_at c.args.entry.now) e old new told) c.event.ensures.same (subst (λ (now : ℕ). Applies now (plain_event c.event.result) old new told) c.moment.ensures (c.apply.ensures.applies same));
       within = c.apply.ensures.within;
       lost = c.apply.ensures.lost;
+      shut = c.apply.ensures.shut;
       connection = c.apply.ensures.connection;
     })
