@@ -20,7 +20,7 @@ use Rattle.room_laws.specs.AccountsTold.{AccountTold, account_told, after_deed, 
 use Rattle.room_laws.specs.Deeds.{Deed, Made, Brought, Canceled, HeldBack, Freed, Released, Started, Settled, Granted, deed_of, moment_of}
 use Rattle.room_laws.specs.JobsTold.{JobTold, Stage, Waits, IsFree, Prints, HasEnded, impressions_told, job_brought, job_canceled, job_freed, job_held, job_made, job_released, job_settled, job_started, need_told, stage_canceled, stage_held, stage_released, stage_settled, stage_started, units_charged, units_held, units_reserved, units_taken}
 use Rattle.room_laws.specs.Lives.{Exchange, IsLife, Life}
-use Rattle.room_laws.specs.PageAccount.{AccountsBalance, IsBalanced, IsSettledAt, ReleasesOweNothing, SettlementsCharge, charge_by, granted_in, granted_up_to, overrun_by, overruns_in, pages_by, pages_by_month, rate_by, rate_fixed, rate_from, releases_now, reserved_for, sum_from}
+use Rattle.room_laws.specs.PageAccount.{AccountsBalance, IsBalanced, IsSettledAt, ReleasesOweNothing, SettlementsCharge, charge_by, given_back_by, given_back_in, granted_in, granted_up_to, overrun_by, overruns_in, pages_by, pages_by_month, rate_by, rate_fixed, rate_from, releases_now, reserve_by, reserved_for, reserves_in, sum_from, units_taken_back}
 use Rattle.room_laws.specs.StationAnswers.{charge_of, is_waiting, need_at}
 use Rattle.room_laws.specs.PageAccount.{or_else}
 use Rattle.room_rules.specs.Devices.{Devices}
@@ -344,6 +344,102 @@ new_within reserved charged reserved_after charged_after own_reserved own_charge
 turned_round : (a b c : ℕ) → a ≡ b + c → a ≡ c + b
 turned_round a b c same = omega arith
 
+-- ---- what is reserved and what is given back
+
+-- what was reserved before and is now reserved is given back and is still reserved
+abbrev MovesReserved : (now : ℕ) (told : AccountTold) (deed : Deed) → Type 0
+MovesReserved now told deed =
+    reserved_told (after_deed now told deed) + given_back_by told deed ≡ reserved_told told + reserve_by told deed
+
+both_sides : (after before was is back reserve : ℕ) → after + was ≡ before + is → is + back ≡ was + reserve → after + back ≡ before + reserve
+both_sides after before was is back reserve sum one = omega arith
+
+neither_side : (after before : ℕ) → after ≡ before → after + 0 ≡ before + 0
+neither_side after before same = omega arith
+
+-- where the job of the number alone changes
+moves_one : (told : AccountTold) (number : ℕ) (change : JobTold → JobTold) (back reserve : JobTold → ℕ)
+    → ((job : JobTold) → get told.jobs number ≡ Some job → units_reserved (change job) + back job ≡ units_reserved job + reserve job)
+    → reserved_told (with_job told number change) + option_map_or back (get told.jobs number) 0 ≡ reserved_told told + option_map_or reserve (get told.jobs number) 0
+moves_one told number change back reserve one = by (get told.jobs number) refl
+  where
+    by : (found : Option JobTold) → get told.jobs number ≡ found → reserved_told (with_job told number change) + option_map_or back found 0 ≡ reserved_told told + option_map_or reserve found 0
+    by None none = neither_side _ _ (unchanged_sum units_reserved told number change none)
+    by (Some job) is = both_sides _ _ (units_reserved job) (units_reserved (change job)) (back job) (reserve job) (changed_sum units_reserved told number change job is) (one job is)
+
+abbrev no_units : JobTold → ℕ
+no_units job = 0
+
+always_none : (found : Option JobTold) → option_map_or no_units found 0 ≡ 0
+always_none None = refl
+always_none (Some job) = refl
+
+-- a deed that changes one job, and reserves nothing
+moves_back : (told : AccountTold) (number : ℕ) (change : JobTold → JobTold) (back : JobTold → ℕ) → ((job : JobTold) → get told.jobs number ≡ Some job → units_reserved (change job) + back job ≡ units_reserved job + 0)
+    → reserved_told (with_job told number change) + option_map_or back (get told.jobs number) 0 ≡ reserved_told told + 0
+moves_back told number change back one =
+    moves_one told number change back no_units one ∙ ap (λ (n : ℕ). reserved_told told + n) (always_none (get told.jobs number))
+
+-- or gives nothing back
+moves_on : (told : AccountTold) (number : ℕ) (change : JobTold → JobTold) (reserve : JobTold → ℕ) → ((job : JobTold) → get told.jobs number ≡ Some job → units_reserved (change job) + 0 ≡ units_reserved job + reserve job)
+    → reserved_told (with_job told number change) + 0 ≡ reserved_told told + option_map_or reserve (get told.jobs number) 0
+moves_on told number change reserve one =
+    sym (ap (λ (n : ℕ). reserved_told (with_job told number change) + n) (always_none (get told.jobs number))) ∙ moves_one told number change no_units reserve one
+
+-- or neither
+moves_neither : (told : AccountTold) (number : ℕ) (change : JobTold → JobTold) → ((job : JobTold) → units_reserved (change job) + 0 ≡ units_reserved job + 0) → reserved_told (with_job told number change) + 0 ≡ reserved_told told + 0
+moves_neither told number change one = sym (ap (λ (n : ℕ). reserved_told (with_job told number change) + n) (always_none (get told.jobs number))) ∙ moves_back told number change no_units (λ job _. one job)
+
+canceled_back : (now : ℕ) (stage : Stage) → units_held (stage_canceled now stage) + units_taken_back stage ≡ units_held stage + 0
+canceled_back now Waits = omega arith
+canceled_back now (IsFree device rate units) = omega arith
+canceled_back now (Prints device rate units since is_canceled) = omega arith
+canceled_back now (HasEnded how count units since at) = omega arith
+
+held_back : (stage : Stage) → units_held (stage_held stage) + units_taken_back stage ≡ units_held stage + 0
+held_back Waits = omega arith
+held_back (IsFree device rate units) = omega arith
+held_back (Prints device rate units since is_canceled) = omega arith
+held_back (HasEnded how count units since at) = omega arith
+
+started_on : (device : List ℕ) (now : ℕ) (stage : Stage) → units_held (stage_started device now stage) + 0 ≡ units_held stage + 0
+started_on device now Waits = refl
+started_on device now (IsFree other rate units) = refl
+started_on device now (Prints other rate units since is_canceled) = refl
+started_on device now (HasEnded how count units since at) = refl
+
+freed_on : (need : ℕ) (stage : Stage) → units_held (stage_released None 1 need stage) + 0 ≡ units_held stage + cond (is_waiting stage) need 0
+freed_on need Waits = omega arith
+freed_on need (IsFree device rate units) = refl
+freed_on need (Prints device rate units since is_canceled) = refl
+freed_on need (HasEnded how count units since at) = refl
+
+released_on : (device : Option (List ℕ)) (rate need : ℕ) (stage : Stage) → IsWaits stage → units_held (stage_released device rate need stage) + 0 ≡ units_held stage + need
+released_on device rate need Waits waits = omega arith
+released_on device rate need _ waits = absurd waits
+
+settled_back : (count : ℕ) (failed : Bool) (now : ℕ) (stage : Stage) → IsPrinted stage → units_held (stage_settled count failed now stage) + units_held stage ≡ units_held stage + 0
+settled_back count failed now (Prints device rate units since is_canceled) prints = omega arith
+settled_back count failed now _ prints = absurd prints
+
+none_new : (after before own : ℕ) → after ≡ own + before → own ≡ 0 → after + 0 ≡ before + 0
+none_new after before own sum none = omega arith
+
+moves_reserved : (now : ℕ) (told : AccountTold) (deed : Deed) → IsFit told now deed → MovesReserved now told deed
+moves_reserved now told (Made ask) fit = none_new _ _ 0 (sum_of_new units_reserved told.jobs told.next (job_made now ask) fit) refl
+moves_reserved now told (Brought ask) fit = moves_neither told ask.job (job_brought ask) (λ job. refl)
+moves_reserved now told (Canceled number) fit = moves_back told number (job_canceled now) (λ job. units_taken_back job.stage) (λ job _. canceled_back now job.stage)
+moves_reserved now told (HeldBack number) fit = moves_back told number job_held (λ job. units_taken_back job.stage) (λ job _. held_back job.stage)
+moves_reserved now told (Freed number) fit = moves_on told number job_freed _ (λ job _. freed_on (need_told job.impressions 1 job) job.stage)
+moves_reserved now told (Released device number handed_in) fit =
+    moves_on told number (job_released device (rate_told told device) handed_in) (need_at told device handed_in)
+    (λ job is. released_on (Some device) (rate_told told device) (need_at told device handed_in job) job.stage (subst (λ (j : JobTold). IsWaits j.stage) (same_Some fit.job job (sym fit.is_told ∙ is)) fit.is.0))
+moves_reserved now told (Started device number) fit = moves_neither told number (job_started device now) (λ job. started_on device now job.stage)
+moves_reserved now told (Settled device number count failed) fit =
+    moves_back told number (job_settled count failed now) units_reserved
+    (λ job is. settled_back count failed now job.stage (subst (λ (j : JobTold). IsPrinted j.stage) (same_Some fit.job job (sym fit.is_told ∙ is)) fit.is))
+moves_reserved now told _ fit = refl
+
 deed_adds : (now : ℕ) (told : AccountTold) (deed : Deed) → IsFit told now deed → Adds now told deed
 deed_adds now told (Made ask) fit = record {
   granted = λ month. none_added _ _ refl;
@@ -400,6 +496,10 @@ months_within month (x ∷ life) =
       months_within month life,
     )
 
+-- what a deed adds to both sides
+still_even : (before after backs back reserves reserve : ℕ) → before + backs ≡ reserves → after + back ≡ before + reserve → after + (backs + back) ≡ reserves + reserve
+still_even before after backs back reserves reserve even one = omega arith
+
 more_within : (before after granted overruns pages overrun : ℕ) → before ≤ granted + overruns → after ≤ before + (pages + overrun) → after ≤ granted + pages + (overruns + overrun)
 more_within before after granted overruns pages overrun b a = omega arith
 
@@ -416,6 +516,7 @@ balanced_first : IsBalanced []
 balanced_first = record {
   granted = λ month. ap (sum_by (pages_up_to month)) no_entries;
   charged = none_told units_charged;
+  reserved = let r = none_told units_reserved in omega (arith, r);
   within = let r = none_told units_reserved in let c = none_told units_charged in omega (arith, r, c);
 }
 
@@ -432,6 +533,10 @@ balanced_then past x fit is =
           ∙ ap (λ (n : ℕ). n + pages_by_month month (deed_of x)) (is.granted month)
           ∙ sym (sum_by_push (λ (x : Exchange). pages_by_month month (deed_of x)) past x);
       charged = ap charged_told more ∙ adds.charged ∙ ap (λ (n : ℕ). n + charge_by told (deed_of x)) is.charged ∙ sym (sum_more charge_by nothing_told past x);
+      reserved = ap (λ (after : AccountTold). reserved_told after + given_back_in (past ++ x ∷ [])) more
+          ∙ ap (λ (n : ℕ). reserved_told after + n) (sum_more given_back_by nothing_told past x)
+          ∙ still_even (reserved_told told) (reserved_told after) (given_back_in past) (given_back_by told (deed_of x)) (reserves_in past) (reserve_by told (deed_of x)) is.reserved (moves_reserved (moment_of x) told (deed_of x) fit)
+          ∙ sym (sum_more reserve_by nothing_told past x);
       within = subst (λ (t : AccountTold). reserved_told t + charged_told t ≤ granted_in (past ++ x ∷ []) + overruns_in (past ++ x ∷ [])) (sym more)
           (subst (λ (n : ℕ). reserved_told after + charged_told after ≤ n + overruns_in (past ++ x ∷ [])) (sym (sum_by_push (λ (x : Exchange). pages_by (deed_of x)) past x))
           (subst (λ (n : ℕ). reserved_told after + charged_told after ≤ granted_in past + pages_by (deed_of x) + n) (sym (sum_more overrun_by nothing_told past x))

@@ -4,10 +4,10 @@ use Rattle.std.specs.FinMap.{get}
 use Rattle.std.specs.List.{sum_by}
 use Rattle.std.specs.Option.{option_map_or}
 use Rattle.room_laws.specs.AccountsTold.{AccountTold, account_told, after_exchange, charged_told, granted_told, left_told, nothing_told, rate_told, reserved_told}
-use Rattle.room_laws.specs.Deeds.{Deed, Freed, Granted, Released, Settled, deed_of, moment_of}
-use Rattle.room_laws.specs.JobsTold.{JobTold, units_reserved}
+use Rattle.room_laws.specs.Deeds.{Deed, Canceled, Freed, Granted, HeldBack, Released, Settled, deed_of, moment_of}
+use Rattle.room_laws.specs.JobsTold.{JobTold, Stage, IsFree, need_told, units_reserved}
 use Rattle.room_laws.specs.Lives.{Exchange, Life, OfLives}
-use Rattle.room_laws.specs.StationAnswers.{charge_of, is_waiting}
+use Rattle.room_laws.specs.StationAnswers.{charge_of, is_waiting, need_at}
 
 -- ---- what each deed comes to
 
@@ -27,7 +27,37 @@ charge_by told (Settled device number count failed) =
     option_map_or (λ (job : JobTold). charge_of count job.stage) (get told.jobs number) 0
 charge_by told _ = 0
 
--- and what its job had reserved was reserved for that
+-- what a release reserves: at a station what its job needs there, by a request what one that waits
+-- needs at rate 1
+abbrev pub reserve_by : (told : AccountTold) → Deed → ℕ
+reserve_by told (Released device number handed_in) =
+    option_map_or (need_at told device handed_in) (get told.jobs number) 0
+reserve_by told (Freed number) =
+    option_map_or
+    (λ (job : JobTold). if is_waiting job.stage then need_told job.impressions 1 job else 0)
+    (get told.jobs number)
+    0
+reserve_by told _ = 0
+
+-- what a hold or a cancel gives back: of a job that is released and not begun all that it had
+-- reserved
+abbrev pub units_taken_back : Stage → ℕ
+units_taken_back (IsFree device rate units) = units
+units_taken_back _ = 0
+
+abbrev pub taken_back_of : (told : AccountTold) (number : ℕ) → ℕ
+taken_back_of told number =
+    option_map_or (λ (job : JobTold). units_taken_back job.stage) (get told.jobs number) 0
+
+-- and a settlement, of the job that it ends
+abbrev pub given_back_by : (told : AccountTold) → Deed → ℕ
+given_back_by told (HeldBack number) = taken_back_of told number
+given_back_by told (Canceled number) = taken_back_of told number
+given_back_by told (Settled device number count failed) =
+    option_map_or units_reserved (get told.jobs number) 0
+given_back_by told _ = 0
+
+-- what the job had reserved that a settlement charges for
 abbrev pub reserved_for : (told : AccountTold) → Deed → ℕ
 reserved_for told (Settled device number count failed) =
     option_map_or units_reserved (get told.jobs number) 0
@@ -58,14 +88,21 @@ charges_in life = sum_from charge_by nothing_told life
 abbrev pub overruns_in : Life → ℕ
 overruns_in life = sum_from overrun_by nothing_told life
 
+abbrev pub reserves_in : Life → ℕ
+reserves_in life = sum_from reserve_by nothing_told life
+
+abbrev pub given_back_in : Life → ℕ
+given_back_in life = sum_from given_back_by nothing_told life
+
 -- ---- the balance
 
 -- Up to each month the account was granted what the grants up to it granted; it was charged what
--- its settlements charged; and what is reserved and what was charged come to no more than all that
--- was granted and the overruns.
+-- its settlements charged; what its releases reserved is reserved still or was given back; and what
+-- is reserved and what was charged come to no more than all that was granted and the overruns.
 pub record IsBalanced (life : Life) : Type 0 where
   pub granted : (month : ℕ) → granted_told (account_told life) month ≡ granted_up_to month life
   pub charged : charged_told (account_told life) ≡ charges_in life
+  pub reserved : reserved_told (account_told life) + given_back_in life ≡ reserves_in life
   pub within : reserved_told (account_told life) + charged_told (account_told life)
       ≤ granted_in life + overruns_in life
 

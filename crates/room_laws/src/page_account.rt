@@ -3,8 +3,9 @@
 ghost use Rattle.room_laws.specs.PageAccount.{AccountsBalance, ReleasesOweNothing, SettlementsCharge};
 
 /// Your page account balances: it was granted what the grants up to a month granted, and charged what
-/// your settlements charged. What is reserved and what was charged is at most all that was granted
-/// and what devices counted beyond what was reserved for it.
+/// your settlements charged. What releases of your jobs reserved is reserved still, or a hold, a
+/// cancel or a settlement gave it back. What is reserved and what was charged is at most all that was
+/// granted and what devices counted beyond what was reserved for it.
 #[tactic(auto, using(crate::proofs::PageAccounts::accounts_balance))]
 pub fn accounts_balance()
     ensures { AccountsBalance }
