@@ -1,10 +1,13 @@
 //! `listen`: connections on a port of this machine, served one after another.
+ghost use Rattle.std.specs.Prelude.{◌≡◌, false};
+ghost use Rattle.room_serve.specs.Connections.{CarriesOutAll, TakesLivesOn};
+ghost use Rattle.room_serve.specs.Wires.{reader_of, wire_has_ended, writer_of};
 
 use crate::database::serve_over;
 use crate::front::Front;
 use room_commands::{Fault, Listening};
 use room_input::Counted;
-use room_serve::{After, Wire, serve_one};
+use room_serve::{After, Sink, Source, Wire, serve_one};
 use room_sockets::moment;
 use room_store::Store;
 use sqlite::{Alter, Connection};
@@ -58,16 +61,20 @@ impl Front for Listening<'_> {
     }
 }
 
+/// Serves the connections, one after another. What an account was told before, and behind it what it
+/// is told here, is a life, and its rows are what that left.
 fn serve_all<S: Alter, W: Write>(
     rt: &HostRuntime,
     store: &mut Store<S>,
     asked: &Listening<'_>,
     output: &mut W,
-) -> Result<(), Fault> {
+) -> Result<(), Fault>
+    ensures lives { TakesLivesOn S.Store store.old store.new }
+{
     let listener = TcpListener::bind(rt, (Ipv4Addr::LOCALHOST, asked.port))?;
     writeln!(output, "listening {}", asked.port)?;
     output.flush()?;
-    for _ in 0..asked.connections {
+    'connections: for _ in 0..asked.connections {
         let stream = accept(rt, &listener)?;
         // What goes wrong in one connection ends it, and is nothing to the next.
         let _ = serve_connection(rt, store, &stream);
@@ -86,28 +93,50 @@ fn accept(rt: &HostRuntime, listener: &TcpListener) -> Result<TcpStream, Fault> 
     Err(Fault::Io)
 }
 
-/// Serves one connection to its end, each message at the clock's moment.
+/// Serves one connection to its end.
 fn serve_connection<S: Alter>(
     rt: &HostRuntime,
     store: &mut Store<S>,
     stream: &TcpStream,
-) -> io::Result<()> {
+) -> io::Result<()>
+    ensures lives { TakesLivesOn S.Store store.old store.new }
+{
     stream.set_nodelay(true)?;
     stream.set_read_timeout(Some(Duration::from_secs(PATIENCE)))?;
     stream.set_write_timeout(Some(Duration::from_secs(PATIENCE)))?;
     let reader = BufReader::with_capacity(rt.alloc(), BUFFER, stream)?;
     let mut wire = Wire::new(Counted::new(reader), Counted::new(stream));
+    if serve_messages(rt, store, &mut wire) {
+        part(stream)
+    } else {
+        Ok(())
+    }
+}
+
+/// Serves the messages of a connection, each at the clock's moment: each that is applied was taken
+/// of what came, is applied once, and is answered. Whether its answers went out whole, so that it
+/// can part.
+fn serve_messages<S: Alter, R: Source, W: Sink>(
+    rt: &HostRuntime,
+    store: &mut Store<S>,
+    wire: &mut Wire<R, W>,
+) -> bool
+    requires going { wire_has_ended wire.old ≡ false }
+    requires reads { R.failures (reader_of wire.old) ≡ 0 }
+    requires writes { W.failures (writer_of wire.old) ≡ 0 }
+    ensures carried { CarriesOutAll S.Store R.left W.given wire.old store.old store.new }
+{
     'messages: for _ in 0..MOST_MESSAGES {
         let Some(now) = moment(rt) else {
-            return Ok(());
+            return false;
         };
-        match serve_one(rt.alloc(), store, now, &mut wire) {
+        match serve_one(rt.alloc(), store, now, wire) {
             Ok(After::Again) => {}
-            Ok(After::Close) => return part(stream),
-            Err(_) => return Ok(()),
+            Ok(After::Close) => return true,
+            Err(_) => return false,
         }
     }
-    part(stream)
+    true
 }
 
 /// Ends a connection so that its last answer arrives: were it closed over bytes that nobody read,

@@ -8,3 +8,4 @@ pub mod LifeLemmas
 pub mod LivesOn
 pub mod FoundLives
 pub mod FoundLists
+pub mod Carried

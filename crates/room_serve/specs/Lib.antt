@@ -7,4 +7,5 @@ pub mod Isolation
 pub mod Wires
 pub mod Exchanges
 pub mod LivesInFiles
+pub mod Connections
 pub mod Crashes
