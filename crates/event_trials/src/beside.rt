@@ -3,13 +3,16 @@
 //! its list whole, from one change by hand to the next, and in the end the account has to have been
 //! told the same, and to have the same rows.
 
-use room_core::Name;
+use room_events::Name;
 use room_lines::{Line, print_answer};
 use room_rows::{Conversation, Rooms, Step};
 use room_serve::Outcome;
 use sqlite::MemStore;
 use std::alloc::Global;
-use trials::{Fault, Tables, answered, differing, set_next_job, skip_to, text};
+use trials::{
+    Fault, Tables, answer_by_rooms, difference_text, set_next_job_in_rooms, set_next_job_in_tables,
+    text_of,
+};
 
 /// What the other asks first: fifty jobs, numbered as the account's will be.
 const FIFTY_JOBS: &str = "\
@@ -39,7 +42,7 @@ const ALL_OFF: &str = "\
 
 /// One of the databases, the lines that wait for it, each with whether it is the account's own, and
 /// what was printed of the own ones.
-struct Side<'a> {
+struct Database<'a> {
     tables: Tables<MemStore>,
     lines: Vec<&'a Line>,
     is_own: Vec<bool>,
@@ -47,9 +50,9 @@ struct Side<'a> {
 }
 
 // It is written out, so that no caller proves again how each part is dropped.
-impl Drop for Side<'_> {
+impl Drop for Database<'_> {
     fn drop(self) {
-        let Side {
+        let Database {
             tables: _,
             lines: _,
             is_own: _,
@@ -58,9 +61,10 @@ impl Drop for Side<'_> {
     }
 }
 
-impl<'a> Side<'a> {
-    fn new(rt: &HostRuntime) -> Result<Side<'a>, Fault> {
-        Ok(Side {
+impl<'a> Database<'a> {
+    /// Begins with empty tables in memory and no line that waits.
+    fn new(rt: &HostRuntime) -> Result<Database<'a>, Fault> {
+        Ok(Database {
             tables: Tables::in_memory(rt)?,
             lines: Vec::new(rt.alloc()),
             is_own: Vec::new(rt.alloc()),
@@ -68,7 +72,9 @@ impl<'a> Side<'a> {
         })
     }
 
-    fn take(&mut self, rt: &HostRuntime, step: &'a Step, is_own: bool) -> Result<(), Fault> {
+    /// Adds a step: the line of an event waits; the number of a next job is set, after all lines
+    /// that wait have run.
+    fn add_step(&mut self, rt: &HostRuntime, step: &'a Step, is_own: bool) -> Result<(), Fault> {
         match step {
             Step::Event(line) => {
                 self.lines.push(line)?;
@@ -76,40 +82,42 @@ impl<'a> Side<'a> {
                 Ok(())
             }
             Step::NextJob { account, number } => {
-                self.give(rt)?;
-                set_next_job(&mut self.tables, *account, *number)
+                self.run_waiting(rt)?;
+                set_next_job_in_tables(&mut self.tables, *account, *number)
             }
             Step::Sql(_) => Err(Fault::ByHand),
         }
     }
 
-    fn take_all(
+    /// Adds steps, which are all the account's own or all the other's.
+    fn add_steps(
         &mut self,
         rt: &HostRuntime,
         steps: &'a [Step],
         are_own: bool,
     ) -> Result<(), Fault> {
         for step in steps {
-            self.take(rt, step, are_own)?;
+            self.add_step(rt, step, are_own)?;
         }
         Ok(())
     }
 
-    /// Takes the account's last steps, and gives them.
-    fn take_last(&mut self, rt: &HostRuntime, steps: &'a [Step]) -> Result<(), Fault> {
-        self.take_all(rt, steps, true)?;
-        self.give(rt)
+    /// Adds the account's last steps, and runs all lines that wait.
+    fn add_last_steps(&mut self, rt: &HostRuntime, steps: &'a [Step]) -> Result<(), Fault> {
+        self.add_steps(rt, steps, true)?;
+        self.run_waiting(rt)
     }
 
-    /// Gives the lines that wait to the store as one list.
-    fn give(&mut self, rt: &HostRuntime) -> Result<(), Fault> {
-        let outcomes = self.tables.run(rt, self.lines.as_slice())?;
+    /// Runs the lines that wait as one list, and prints what the own ones are answered.
+    fn run_waiting(&mut self, rt: &HostRuntime) -> Result<(), Fault> {
+        let outcomes = self.tables.run_as_list(rt, self.lines.as_slice())?;
         self.print_own(outcomes.as_slice())?;
         self.lines = Vec::new(rt.alloc());
         self.is_own = Vec::new(rt.alloc());
         Ok(())
     }
 
+    /// Prints the outcomes of the lines that are the account's own.
     fn print_own(&mut self, outcomes: &[Outcome]) -> Result<(), Fault> {
         for (is_own, outcome) in self.is_own.iter().zip(outcomes.iter()) {
             if *is_own {
@@ -119,7 +127,7 @@ impl<'a> Side<'a> {
         Ok(())
     }
 
-    /// Whether what was printed ends so.
+    /// Answers whether what was printed ends with this text and a line feed.
     fn ends_with(&self, expected: &str) -> bool {
         match self.printed.as_slice().strip_suffix(b"\n") {
             Some(printed) => printed.ends_with(expected.as_bytes()),
@@ -127,9 +135,9 @@ impl<'a> Side<'a> {
         }
     }
 
-    /// What was printed of the own events, and the account's rows and those of devices.
-    fn whole(self, account: Name) -> Result<String, Fault> {
-        let Side {
+    /// Answers a text of what was printed, of the account's rows and of the devices' rows.
+    fn into_text(self, account: Name) -> Result<String, Fault> {
+        let Database {
             mut tables,
             mut printed,
             lines: _,
@@ -137,32 +145,33 @@ impl<'a> Side<'a> {
         } = self;
         tables.print_account(account, &mut printed)?;
         tables.print_devices(&mut printed)?;
-        text(printed)
+        text_of(printed)
     }
 }
 
-/// Where what the account was told, or has, differs beside another, what it was beside the other
-/// and alone.
-pub fn differs_beside(
+/// Runs the account's steps alone and beside the other's. Answers the first line of its answers or
+/// rows that differs, or `None`; also a text if its printer is not stopped in the end.
+pub fn difference_beside(
     rt: &HostRuntime,
     account: Name,
     steps: &[Step],
 ) -> Result<Option<String>, Fault> {
     let ending = Conversation::read(rt.alloc(), ALL_OFF)?;
     let last = ending.steps(rt.alloc())?;
-    let mut alone = Side::new(rt)?;
-    alone.take_all(rt, steps, true)?;
-    alone.take_last(rt, last.as_slice())?;
+    let mut alone = Database::new(rt)?;
+    alone.add_steps(rt, steps, true)?;
+    alone.add_last_steps(rt, last.as_slice())?;
     if !alone.ends_with(ending.expected()) {
         return Ok(Some(String::from_str(rt.alloc(), "the printer is not stopped")?));
     }
-    let due = alone.whole(account)?;
+    let due = alone.into_text(account)?;
     let between = asked_between(rt, account, steps)?;
     let found = told_beside(rt, account, steps, between.as_slice(), last.as_slice())?;
-    differing(rt.alloc(), found, due)
+    difference_text(rt.alloc(), found, due)
 }
 
-/// What the account was told beside the other, and its rows and those of devices.
+/// Runs the account's steps beside the other's. Answers what the account was told, its rows and the
+/// devices' rows.
 fn told_beside(
     rt: &HostRuntime,
     account: Name,
@@ -171,21 +180,23 @@ fn told_beside(
     last: &[Step],
 ) -> Result<String, Fault> {
     let fifty_jobs = steps_of(rt.alloc(), FIFTY_JOBS)?;
-    let mut beside = Side::new(rt)?;
-    beside.take_all(rt, fifty_jobs.as_slice(), false)?;
+    let mut beside = Database::new(rt)?;
+    beside.add_steps(rt, fifty_jobs.as_slice(), false)?;
     for (step, asked) in steps.iter().zip(between.iter()) {
-        beside.take(rt, step, true)?;
-        beside.take_all(rt, asked.as_slice(), false)?;
+        beside.add_step(rt, step, true)?;
+        beside.add_steps(rt, asked.as_slice(), false)?;
     }
-    beside.take_last(rt, last)?;
-    beside.whole(account)
+    beside.add_last_steps(rt, last)?;
+    beside.into_text(account)
 }
 
+/// Reads the steps of a conversation.
 fn steps_of(alloc: Global, asked: &str) -> Result<Vec<Step>, Fault> {
     Ok(Conversation::read(alloc, asked)?.steps(alloc)?)
 }
 
-/// What the other asks after each step of the account.
+/// Answers for each step of the account what the other asks after it, which names the account's
+/// next job.
 fn asked_between(rt: &HostRuntime, account: Name, steps: &[Step]) -> Result<Vec<Vec<Step>>, Fault> {
     let alloc = rt.alloc();
     let mut rooms = Rooms::new(alloc);
@@ -193,9 +204,11 @@ fn asked_between(rt: &HostRuntime, account: Name, steps: &[Step]) -> Result<Vec<
     for (at, step) in steps.iter().enumerate() {
         match step {
             Step::Event(line) => {
-                let _ = answered(rt, &mut rooms, line.moment, line);
+                let _ = answer_by_rooms(rt, &mut rooms, line.moment, line);
             }
-            Step::NextJob { account, number } => skip_to(&mut rooms, *account, *number)?,
+            Step::NextJob { account, number } => set_next_job_in_rooms(
+                &mut rooms, *account, *number,
+            )?,
             Step::Sql(_) => return Err(Fault::ByHand),
         }
         let next = match rooms.room(account) {
@@ -208,8 +221,8 @@ fn asked_between(rt: &HostRuntime, account: Name, steps: &[Step]) -> Result<Vec<
     Ok(all)
 }
 
-/// What the other asks between two events, in turns: a job, that the job of a number is canceled, a
-/// grant.
+/// Answers what the other asks after the account's step at this place, in turns: a new job, that
+/// the job of the number is canceled, a grant.
 fn between(alloc: Global, at: usize, number: u32) -> Result<String, Fault> {
     Ok(match at % 3 {
         0 => String::from_str(

@@ -2,7 +2,7 @@
 //! a connection of its own.
 
 use http_server::Connection;
-use room_core::Event;
+use room_events::Event;
 use room_lines::Line;
 use room_rows::line_text;
 use room_served::{LineConnection, Served, Side, answer_requests, connection_config};
@@ -14,12 +14,16 @@ use trials::{Fault, Tables};
 /// More than one connection needs of reads, of lines or of writes, one after another.
 const MANY: u32 = 10_000;
 
-/// Serves tables.
-pub fn serve(rt: &HostRuntime, mut tables: Tables<MemStore>) -> Result<Served<MemStore>, Fault> {
-    Ok(Served::new(rt.alloc(), tables.store(rt)?, 0))
+/// Makes the process that serves everybody over these tables.
+pub fn server_over(
+    rt: &HostRuntime,
+    mut tables: Tables<MemStore>,
+) -> Result<Served<MemStore>, Fault> {
+    Ok(Served::new(rt.alloc(), tables.open_store(rt)?, 0))
 }
 
-/// What goes out for a request over HTTP at the moment.
+/// Sends a request over HTTP at the moment, on a connection of its own. Answers what goes out for
+/// it.
 pub fn answer_request(
     rt: &HostRuntime,
     served: &mut Served<MemStore>,
@@ -33,6 +37,7 @@ pub fn answer_request(
 }
 
 // The connection is the caller's: this has many exits, at which it would be dropped.
+/// Sends the request over the connection. Answers what goes out for it.
 fn carry_request(
     alloc: Global,
     connection: &mut Connection,
@@ -57,7 +62,8 @@ fn carry_request(
     Ok(output)
 }
 
-/// What goes out for a line of a station or an operator at its moment.
+/// Sends a line of a station or an operator at its moment, on a connection of its own. Answers what
+/// goes out for it.
 pub fn answer_line(
     rt: &HostRuntime,
     served: &mut Served<MemStore>,
@@ -69,6 +75,7 @@ pub fn answer_line(
     carry_line(rt.alloc(), &mut connection, served, text.as_slice())
 }
 
+/// Sends the text of a line over the connection. Answers what goes out for it.
 fn carry_line(
     alloc: Global,
     connection: &mut LineConnection,
@@ -93,7 +100,7 @@ fn carry_line(
     Ok(output)
 }
 
-/// Whose lines ask for it.
+/// Answers whose lines ask for the event, a station's or an operator's.
 fn side_of(event: &Event<'_>) -> Side {
     match event {
         Event::Release { .. } | Event::Start { .. } | Event::Settle { .. } => Side::Station,

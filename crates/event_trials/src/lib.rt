@@ -3,10 +3,10 @@
 
 mod beside;
 mod cells;
+mod connections;
 mod front;
 mod players;
 mod trial;
 mod whole;
-mod wired;
 
-pub use cells::hold_events;
+pub use cells::list_holds;

@@ -1,6 +1,6 @@
 //! The steps of both accounts of a list of events.
 
-use room_core::Name;
+use room_events::Name;
 use room_rows::{Conversation, Step};
 use std::alloc::Global;
 use trials::{Fault, account_of};
@@ -16,7 +16,8 @@ pub struct Player {
 }
 
 impl Player {
-    pub fn of(alloc: Global, list: &str, name: &str) -> Result<Player, Fault> {
+    /// Reads the steps of a list for the account of this name, which stands for each `@`.
+    pub fn read(alloc: Global, list: &str, name: &str) -> Result<Player, Fault> {
         let list = list.replace(alloc, "@", name)?;
         Ok(Player {
             account: account_of(name)?,
@@ -25,7 +26,7 @@ impl Player {
     }
 }
 
-/// The steps of both accounts in turns, those of the second after.
+/// Answers the steps of both accounts in turns; the second account's come `BEHIND` steps later.
 pub fn in_turns<'a>(
     alloc: Global,
     firsts: &'a [Step],

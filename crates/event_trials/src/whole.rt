@@ -1,12 +1,15 @@
-//! A list of events of both accounts that is given to the store whole, from one change by hand to
-//! the next.
+//! Gives a list of events of both accounts to the store whole, from one change by hand to the next;
+//! rooms in memory have to answer the same.
 
 use crate::players::in_turns;
 use room_lines::{Line, print_answer};
 use room_rows::{Rooms, Step};
 use room_serve::Outcome;
 use sqlite::Alter;
-use trials::{Fault, Tables, answered, differing, rows_differ, set_next_job, skip_to, text};
+use trials::{
+    Fault, Tables, answer_by_rooms, difference_text, first_other_row, set_next_job_in_rooms,
+    set_next_job_in_tables, text_of,
+};
 
 /// How the store is given a list.
 #[derive(Clone, Copy)]
@@ -38,6 +41,7 @@ impl<S: Alter + Drop> Drop for Whole<'_, S> {
 }
 
 impl<'a, S: Alter + Drop> Whole<'a, S> {
+    /// Begins with new rooms, these tables, and no line that waits.
     pub fn new(rt: &HostRuntime, tables: Tables<S>, way: Way) -> Whole<'a, S> {
         Whole {
             rooms: Rooms::new(rt.alloc()),
@@ -47,9 +51,9 @@ impl<'a, S: Alter + Drop> Whole<'a, S> {
         }
     }
 
-    /// Where the tables answer another than the rooms, or hold other rows in the end, what is found
-    /// and what is due.
-    pub fn run(
+    /// Runs the steps of both accounts in turns, and compares the rows at the end. Answers the
+    /// first line of answers or rows that differs, or `None`.
+    pub fn difference(
         mut self,
         rt: &HostRuntime,
         firsts: &'a [Step],
@@ -57,49 +61,54 @@ impl<'a, S: Alter + Drop> Whole<'a, S> {
     ) -> Result<Option<String>, Fault> {
         let steps = in_turns(rt.alloc(), firsts, seconds)?;
         for step in steps.as_slice() {
-            if let Some(differs) = self.take(rt, step)? {
+            if let Some(differs) = self.add_step(rt, step)? {
                 return Ok(Some(differs));
             }
         }
-        match self.give(rt)? {
+        match self.run_waiting(rt)? {
             Some(differs) => Ok(Some(differs)),
-            None => self.rows_differ(rt),
+            None => self.first_other_row(rt),
         }
     }
 
-    fn rows_differ(&mut self, rt: &HostRuntime) -> Result<Option<String>, Fault> {
-        rows_differ(rt, &mut self.tables, &self.rooms)
+    /// Answers the first row of the tables that is not as the rooms have it, or `None`.
+    fn first_other_row(&mut self, rt: &HostRuntime) -> Result<Option<String>, Fault> {
+        first_other_row(rt, &mut self.tables, &self.rooms)
     }
 
-    fn take(&mut self, rt: &HostRuntime, step: &'a Step) -> Result<Option<String>, Fault> {
+    /// Adds a step: the line of an event waits; the number of a next job is set, after all lines
+    /// that wait have run. Answers what differs in their answers, or `None`.
+    fn add_step(&mut self, rt: &HostRuntime, step: &'a Step) -> Result<Option<String>, Fault> {
         match step {
             Step::Event(line) => {
                 self.waiting.push(line)?;
                 Ok(None)
             }
             Step::NextJob { account, number } => {
-                let differs = self.give(rt)?;
-                skip_to(&mut self.rooms, *account, *number)?;
-                set_next_job(&mut self.tables, *account, *number)?;
+                let differs = self.run_waiting(rt)?;
+                set_next_job_in_rooms(&mut self.rooms, *account, *number)?;
+                set_next_job_in_tables(&mut self.tables, *account, *number)?;
                 Ok(differs)
             }
             Step::Sql(_) => Err(Fault::ByHand),
         }
     }
 
-    /// Gives the lines that wait to the store, as one list or in one round, and to the rooms one by
-    /// one. No event may fail.
-    fn give(&mut self, rt: &HostRuntime) -> Result<Option<String>, Fault> {
+    /// Runs the lines that wait on the tables, as one list or in one round, and on the rooms one by
+    /// one. Answers the first line of the answers that differs, or `None`. No event may fail.
+    fn run_waiting(&mut self, rt: &HostRuntime) -> Result<Option<String>, Fault> {
         let outcomes = match self.way {
-            Way::List => self.tables.run(rt, self.waiting.as_slice())?,
+            Way::List => self.tables.run_as_list(rt, self.waiting.as_slice())?,
             Way::Round => self.tables.run_in_a_round(rt, self.waiting.as_slice())?,
         };
-        let differs = self.answers_differ(rt, outcomes.as_slice())?;
+        let differs = self.first_other_answer(rt, outcomes.as_slice())?;
         self.waiting = Vec::new(rt.alloc());
         Ok(differs)
     }
 
-    fn answers_differ(
+    /// Asks the rooms the lines that wait, and compares their answers with the tables' outcomes.
+    /// Answers the first line that differs, or `None`.
+    fn first_other_answer(
         &mut self,
         rt: &HostRuntime,
         outcomes: &[Outcome],
@@ -109,12 +118,12 @@ impl<'a, S: Alter + Drop> Whole<'a, S> {
             match outcome {
                 Outcome::Answered(reply) => {
                     print_answer(&mut found, Some(reply))?;
-                    let by_rooms = answered(rt, &mut self.rooms, line.moment, line);
+                    let by_rooms = answer_by_rooms(rt, &mut self.rooms, line.moment, line);
                     print_answer(&mut due, by_rooms.as_ref().ok())?;
                 }
                 Outcome::Failed(fault) => return Err(Fault::Tables(*fault)),
             }
         }
-        differing(rt.alloc(), text(found)?, text(due)?)
+        difference_text(rt.alloc(), text_of(found)?, text_of(due)?)
     }
 }

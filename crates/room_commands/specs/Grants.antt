@@ -1,7 +1,7 @@
 -- Records of grants as events (this project's own).
 use Rattle.std.specs.Prelude.{ℕ, Option, None, Some}
-use Rattle.room_core.specs.declared.event.Event.{Event}
-use Rattle.room_core.specs.declared.event.Event.TheVariants.{Grant}
+use Rattle.room_events.specs.declared.event.Event.{Event}
+use Rattle.room_events.specs.declared.event.Event.TheVariants.{Grant}
 use Rattle.room_input.specs.declared.grant_line.GrantLine.{GrantLine}
 use Rattle.room_input.specs.declared.grant_line.GrantLine.TheVariants.{Good, Bad}
 

@@ -16,7 +16,7 @@ use crate::words::{
 };
 use clap::ArgMatches;
 use clap::error::ErrorKind;
-use room_core::{MOST_RATE, Name};
+use room_events::{MOST_RATE, Name};
 use std::alloc::Global;
 
 /// The database that lives in memory for one run.

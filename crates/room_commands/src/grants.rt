@@ -1,12 +1,12 @@
 //! Records of grants as events.
 ghost use Rattle.std.specs.Prelude.{◌≡◌, All, IfOk, IsTrue};
 ghost use Rattle.std.specs.List.{filter_map};
-ghost use Rattle.room_core.specs.Events.{plain_event};
-ghost use Rattle.room_core.specs.Fits.{fits};
+ghost use Rattle.room_events.specs.Events.{plain_event};
+ghost use Rattle.room_events.specs.Fits.{fits};
 ghost use Rattle.room_input.specs.GrantLines.{IsInRange};
 ghost use Rattle.room_commands.specs.Grants.{grant_event};
 
-use room_core::Event;
+use room_events::Event;
 use room_input::GrantLine;
 use std::alloc::{AllocError, Global};
 

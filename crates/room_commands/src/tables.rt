@@ -1,14 +1,14 @@
 //! The tables of a run's database, and the events that come to them.
 ghost use Rattle.std.specs.Prelude.{◌≡◌, All, IfOk, IsTrue, length, map};
 ghost use Rattle.sqlite.specs.Held.{Held};
-ghost use Rattle.room_core.specs.Events.{plain_event, plain_timed};
-ghost use Rattle.room_core.specs.Fits.{fits};
+ghost use Rattle.room_events.specs.Events.{plain_event, plain_timed};
+ghost use Rattle.room_events.specs.Fits.{fits};
 ghost use Rattle.room_serve.specs.Runs.{AreApplied};
 
 use crate::command::MEMORY;
 use crate::fault::Fault;
 use crate::opener::Opener;
-use room_core::Event;
+use room_events::Event;
 use room_serve::{Outcome, run_events};
 use room_store::{Refused, Store};
 use sqlite::{Alter, Connection};

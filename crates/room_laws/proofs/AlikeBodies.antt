@@ -6,11 +6,11 @@ use Rattle.ipp_coding.specs.declared.message.Header.{Header}
 use Rattle.room_asks.specs.Asks.{PlainAsk, PlainRefusal, ask_of}
 use Rattle.room_asks.specs.declared.operation.Operation.{Operation}
 use Rattle.room_asks.specs.declared.operation.Operation.TheVariants.{PrintJob, CreateJob}
-use Rattle.room_core.specs.Events.{OfAccount, Ipp}
-use Rattle.room_core.specs.Machine.{answered_open, responded, responded_to}
-use Rattle.room_core.specs.NewJobs.{accepts, made, made_names, new_document, new_job}
-use Rattle.room_core.specs.Requests.{Response, asked_at, doing_ask, refusing_ask_or}
-use Rattle.room_core.specs.declared.event.Reply.TheVariants as reply
+use Rattle.room_events.specs.Events.{OfAccount, Ipp}
+use Rattle.room_events.specs.Machine.{answered_open, responded, responded_to}
+use Rattle.room_events.specs.NewJobs.{accepts, made, made_names, new_document, new_job}
+use Rattle.room_events.specs.Requests.{Response, asked_at, doing_ask, refusing_ask_or}
+use Rattle.room_events.specs.declared.event.Reply.TheVariants as reply
 use Rattle.room_laws.proofs.HiddenAnswers.{AnswerAlike, StepAlike, hidden_response, hidden_step}
 use Rattle.room_laws.proofs.HiddenPasswords.{group_hidden, hidden, same_secrets, secret}
 use Rattle.room_laws.proofs.HiddenRooms.{hidden_room}

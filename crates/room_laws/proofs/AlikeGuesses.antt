@@ -2,12 +2,12 @@
 use Rattle.std.proofs.Common.{◌≡◌, ℕ, ℤ, Bool, false, cond, List, Option, Some, None, Result, refl, sym, ap, ◌∙◌, Ok, Err, option_map, unwrap_or}
 use Rattle.std.specs.FinMap.{get}
 use Rattle.std.specs.Option.{option_map_or}
-use Rattle.room_core.specs.Events.{OfAccount, Release}
-use Rattle.room_core.specs.JobActs.{job_or_refusal}
-use Rattle.room_core.specs.Machine.{answered_open}
-use Rattle.room_core.specs.Stations.{by_word, release_told, station, station_release}
-use Rattle.room_core.specs.Steps.{and_then, refusing, with_moved}
-use Rattle.room_core.specs.declared.event.Reply.TheVariants as reply
+use Rattle.room_events.specs.Events.{OfAccount, Release}
+use Rattle.room_events.specs.JobActs.{job_or_refusal}
+use Rattle.room_events.specs.Machine.{answered_open}
+use Rattle.room_events.specs.Stations.{by_word, release_told, station, station_release}
+use Rattle.room_events.specs.Steps.{and_then, refusing, with_moved}
+use Rattle.room_events.specs.declared.event.Reply.TheVariants as reply
 use Rattle.room_laws.proofs.AsTold.{found}
 use Rattle.room_laws.proofs.HiddenAnswers.{StepAlike, found_hidden, hidden_step}
 use Rattle.room_laws.proofs.HiddenPasswords.{hidden}

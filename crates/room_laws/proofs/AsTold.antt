@@ -16,14 +16,14 @@ use Rattle.room_asks.specs.Operations.{is_print_job}
 use Rattle.room_asks.specs.declared.operation.Operation.{Operation}
 use Rattle.room_asks.specs.declared.operation.Operation.TheVariants.{PrintJob, ValidateJob, CreateJob, SendDocument, GetJobAttributes, GetJobs, GetPrinterAttributes}
 use Rattle.room_asks.specs.declared.operation.Operation.TheVariants as asks
-use Rattle.room_core.specs.DeviceEvents.{DeviceAnswer, device_answered}
-use Rattle.room_core.specs.Events.{AccountEvent, DeviceEvent, OfAccount, OfDevice, Open, Ipp, Release, Start, Settle, Grant, Turn, Rate}
-use Rattle.room_core.specs.JobRequests.{has_data, has_password, sent_document}
-use Rattle.room_core.specs.Machine.{answered}
-use Rattle.room_core.specs.NewJobs.{new_document, new_job}
-use Rattle.room_core.specs.Steps.{with_moved}
-use Rattle.room_core.specs.declared.event.Reply.{Reply}
-use Rattle.room_core.specs.declared.event.Reply.TheVariants as reply
+use Rattle.room_events.specs.DeviceEvents.{DeviceAnswer, device_answered}
+use Rattle.room_events.specs.Events.{AccountEvent, DeviceEvent, OfAccount, OfDevice, Open, Ipp, Release, Start, Settle, Grant, Turn, Rate}
+use Rattle.room_events.specs.JobRequests.{has_data, has_password, sent_document}
+use Rattle.room_events.specs.Machine.{answered}
+use Rattle.room_events.specs.NewJobs.{new_document, new_job}
+use Rattle.room_events.specs.Steps.{with_moved}
+use Rattle.room_events.specs.declared.event.Reply.{Reply}
+use Rattle.room_events.specs.declared.event.Reply.TheVariants as reply
 use Rattle.room_laws.proofs.Afterwards.{inserted}
 use Rattle.room_laws.proofs.Changes.{Makes, refuses, reads, makes, takes, acts, releases, starts, settles, grants, act_asked, makes_one, only_reads, makes_jobs, ready_is}
 use Rattle.room_laws.proofs.DevicesStay.{same_name}

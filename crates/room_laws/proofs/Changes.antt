@@ -8,16 +8,16 @@ use Rattle.room_asks.specs.Asks.{PlainAsk, PlainRefusal, ask_of}
 use Rattle.room_asks.specs.declared.operation.Operation.{Operation}
 use Rattle.room_asks.specs.declared.operation.Operation.TheVariants.{PrintJob, ValidateJob, CreateJob, SendDocument, GetJobAttributes, GetJobs, GetPrinterAttributes}
 use Rattle.room_asks.specs.declared.operation.Operation.TheVariants as asks
-use Rattle.room_core.specs.Events.{AccountEvent, OfAccount, Open, Ipp, Release, Start, Settle, Grant}
-use Rattle.room_core.specs.JobActs.{act_on, job_in, job_or_refusal}
-use Rattle.room_core.specs.JobRequests.{acted, document_taken, has_data, has_password, sent_document}
-use Rattle.room_core.specs.Machine.{answered_open, requested, responded, responded_to}
-use Rattle.room_core.specs.NewJobs.{accepts, made, made_names, new_job, new_document}
-use Rattle.room_core.specs.Requests.{Response, asked_at, doing_ask, refusing_ask, refusing_ask_or}
-use Rattle.room_core.specs.Stations.{by_word, release_told, settling_told, start_told}
-use Rattle.room_core.specs.Steps.{Step, and_then, refusing, refusing_or, telling, with_moved}
-use Rattle.room_core.specs.declared.event.Reply.{Reply}
-use Rattle.room_core.specs.declared.event.Reply.TheVariants as reply
+use Rattle.room_events.specs.Events.{AccountEvent, OfAccount, Open, Ipp, Release, Start, Settle, Grant}
+use Rattle.room_events.specs.JobActs.{act_on, job_in, job_or_refusal}
+use Rattle.room_events.specs.JobRequests.{acted, document_taken, has_data, has_password, sent_document}
+use Rattle.room_events.specs.Machine.{answered_open, requested, responded, responded_to}
+use Rattle.room_events.specs.NewJobs.{accepts, made, made_names, new_job, new_document}
+use Rattle.room_events.specs.Requests.{Response, asked_at, doing_ask, refusing_ask, refusing_ask_or}
+use Rattle.room_events.specs.Stations.{by_word, release_told, settling_told, start_told}
+use Rattle.room_events.specs.Steps.{Step, and_then, refusing, refusing_or, telling, with_moved}
+use Rattle.room_events.specs.declared.event.Reply.{Reply}
+use Rattle.room_events.specs.declared.event.Reply.TheVariants as reply
 use Rattle.room_laws.specs.Told.{is_documents, is_ok, is_successful}
 use Rattle.room_laws.proofs.Statuses.{IsError, RefusesByError, accepting_errs, ask_errs, move_errs}
 use Rattle.room_laws.proofs.Tellings.{tells_error, tells_success, tells_word}

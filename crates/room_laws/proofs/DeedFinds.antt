@@ -12,12 +12,12 @@ use Rattle.room_asks.specs.Asks.{PlainAsk}
 use Rattle.room_asks.specs.declared.operation.Operation.{Operation}
 use Rattle.room_asks.specs.declared.operation.Operation.TheVariants.{SendDocument}
 use Rattle.room_asks.specs.declared.operation.Operation.TheVariants as asks
-use Rattle.room_core.specs.DeviceEvents.{device_answered}
-use Rattle.room_core.specs.Events.{AccountEvent, DeviceEvent, OfAccount, OfDevice, Ipp, Turn, Rate}
-use Rattle.room_core.specs.JobRequests.{has_data, has_password}
-use Rattle.room_core.specs.Machine.{answered, answered_unopened}
-use Rattle.room_core.specs.declared.event.Reply.{Reply}
-use Rattle.room_core.specs.declared.event.Reply.TheVariants as reply
+use Rattle.room_events.specs.DeviceEvents.{device_answered}
+use Rattle.room_events.specs.Events.{AccountEvent, DeviceEvent, OfAccount, OfDevice, Ipp, Turn, Rate}
+use Rattle.room_events.specs.JobRequests.{has_data, has_password}
+use Rattle.room_events.specs.Machine.{answered, answered_unopened}
+use Rattle.room_events.specs.declared.event.Reply.{Reply}
+use Rattle.room_events.specs.declared.event.Reply.TheVariants as reply
 use Rattle.room_laws.proofs.AsTold.{Keeps, all_keep, deed_done, found, makes_one_job, no_deed, reads_no_deed, told_more}
 use Rattle.room_laws.proofs.Changes.{Makes, refuses, reads, makes, takes, acts, releases, starts, settles, grants, act_asked, makes_one, ready_is}
 use Rattle.room_laws.proofs.DocumentsOfJobs as documents

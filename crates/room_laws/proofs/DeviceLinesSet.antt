@@ -4,9 +4,9 @@ use Rattle.std.specs.Prelude.{MatchBool}
 use Rattle.std.specs.Cmp.Lexicographic.{bytes_decides, nat_list_cmp_total}
 use Rattle.std.specs.FinMap.{FinMap, get, get-insert, insert}
 use Rattle.std.specs.Ordering.{eq_by_cmp}
-use Rattle.room_core.specs.Events.{OfAccount, OfDevice, Turn, Rate}
-use Rattle.room_core.specs.declared.event.Reply.{Reply}
-use Rattle.room_core.specs.declared.event.Reply.TheVariants as reply
+use Rattle.room_events.specs.Events.{OfAccount, OfDevice, Turn, Rate}
+use Rattle.room_events.specs.declared.event.Reply.{Reply}
+use Rattle.room_events.specs.declared.event.Reply.TheVariants as reply
 use Rattle.room_laws.proofs.AsTold.{of_an_account, told_more}
 use Rattle.room_laws.proofs.DevicesStay.{same_name}
 use Rattle.room_laws.proofs.OperatorsAnswered.{rates_are_answered, turns_are_answered}

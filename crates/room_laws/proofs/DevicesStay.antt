@@ -5,10 +5,10 @@ use Rattle.std.specs.FinMap.{contains_key, get, get-insert, insert}
 use Rattle.std.specs.Option.{option_map_or}
 use Rattle.std.specs.Ordering.{eq_by_cmp}
 use Rattle.std.proofs.lemmas.Bool.Decides.{nat_tests}
-use Rattle.room_core.specs.DeviceEvents.{DeviceAnswer, device_answered}
-use Rattle.room_core.specs.Events.{DeviceEvent, OfDevice, Rate, Turn}
-use Rattle.room_core.specs.Fits.{fits}
-use Rattle.room_core.specs.Rates.{AreRated}
+use Rattle.room_events.specs.DeviceEvents.{DeviceAnswer, device_answered}
+use Rattle.room_events.specs.Events.{DeviceEvent, OfDevice, Rate, Turn}
+use Rattle.room_events.specs.Fits.{fits}
+use Rattle.room_events.specs.Rates.{AreRated}
 use Rattle.room_laws.specs.RoomsStay.{AreNamed}
 use Rattle.room_rules.specs.Devices.{Devices, is_on_in, name_cmp, rate_of, rated}
 use Rattle.room_rules.specs.Limits.{IsRate}

@@ -5,12 +5,12 @@ use Rattle.std.specs.List.{flat_map}
 use Rattle.std.specs.Option.{option_to_list}
 use Rattle.std.proofs.lemmas.Bool.Decides.{nat_tests}
 use Rattle.std.proofs.lemmas.Option.{none-some, same_Some}
-use Rattle.room_core.specs.Events.{AccountEvent, OfAccount, Open}
-use Rattle.room_core.specs.JobRequests.{sent_document}
-use Rattle.room_core.specs.Machine.{answered}
-use Rattle.room_core.specs.NewJobs.{new_document}
-use Rattle.room_core.specs.Steps.{with_moved}
-use Rattle.room_core.specs.declared.event.Reply.{Reply}
+use Rattle.room_events.specs.Events.{AccountEvent, OfAccount, Open}
+use Rattle.room_events.specs.JobRequests.{sent_document}
+use Rattle.room_events.specs.Machine.{answered}
+use Rattle.room_events.specs.NewJobs.{new_document}
+use Rattle.room_events.specs.Steps.{with_moved}
+use Rattle.room_events.specs.declared.event.Reply.{Reply}
 use Rattle.room_laws.proofs.Changes.{Makes, refuses, reads, makes, takes, acts, releases, starts, settles, grants, makes_one}
 use Rattle.room_laws.proofs.LifeLemmas.{of_each_life}
 use Rattle.room_laws.specs.Lives.{IsLife, Life}

@@ -12,15 +12,15 @@ use Rattle.room_asks.specs.Asks.{PlainAsk}
 use Rattle.room_asks.specs.declared.operation.Operation.{Operation}
 use Rattle.room_asks.specs.declared.operation.Operation.TheVariants.{PrintJob, ValidateJob, CreateJob, GetJobAttributes, GetJobs, GetPrinterAttributes}
 use Rattle.room_asks.specs.declared.operation.Operation.TheVariants as asks
-use Rattle.room_core.specs.JobActs.{job_or_refusal}
-use Rattle.room_core.specs.JobRequests.{has_data, has_password, document_taken, sent_document}
-use Rattle.room_core.specs.Machine.{responded}
-use Rattle.room_core.specs.NewJobs.{accepts, made_names, new_document, new_job}
-use Rattle.room_core.specs.Printers.{printer_of}
-use Rattle.room_core.specs.Queues.{asked_jobs, listed_names}
-use Rattle.room_core.specs.Requests.{Response, answer_to, asked_at, doing_ask, refusing_ask_or}
-use Rattle.room_core.specs.Steps.{and_then, with_moved}
-use Rattle.room_core.specs.declared.event.Reply.TheVariants as reply
+use Rattle.room_events.specs.JobActs.{job_or_refusal}
+use Rattle.room_events.specs.JobRequests.{has_data, has_password, document_taken, sent_document}
+use Rattle.room_events.specs.Machine.{responded}
+use Rattle.room_events.specs.NewJobs.{accepts, made_names, new_document, new_job}
+use Rattle.room_events.specs.Printers.{printer_of}
+use Rattle.room_events.specs.Queues.{asked_jobs, listed_names}
+use Rattle.room_events.specs.Requests.{Response, answer_to, asked_at, doing_ask, refusing_ask_or}
+use Rattle.room_events.specs.Steps.{and_then, with_moved}
+use Rattle.room_events.specs.declared.event.Reply.TheVariants as reply
 use Rattle.room_laws.proofs.Afterwards.{inserted}
 use Rattle.room_laws.proofs.AsTold.{Keeps, made_one, took, with_job_there}
 use Rattle.room_laws.proofs.AsToldSums.{unfinished_as_told}

@@ -6,11 +6,11 @@ use Rattle.ipp_coding.specs.Limits.{header_length}
 use Rattle.room_asks.specs.Asks.{PlainAsk}
 use Rattle.room_asks.specs.declared.operation.Operation.{Operation}
 use Rattle.room_asks.specs.declared.operation.Operation.TheVariants as asks
-use Rattle.room_core.specs.Events.{AccountEvent, DeviceEvent, OfAccount, OfDevice, Open, Ipp, Release, Start, Settle, Grant, Turn, Rate}
-use Rattle.room_core.specs.JobRequests.{has_password}
-use Rattle.room_core.specs.Machine.{answered}
-use Rattle.room_core.specs.declared.event.Reply.{Reply}
-use Rattle.room_core.specs.declared.event.Reply.TheVariants as reply
+use Rattle.room_events.specs.Events.{AccountEvent, DeviceEvent, OfAccount, OfDevice, Open, Ipp, Release, Start, Settle, Grant, Turn, Rate}
+use Rattle.room_events.specs.JobRequests.{has_password}
+use Rattle.room_events.specs.Machine.{answered}
+use Rattle.room_events.specs.declared.event.Reply.{Reply}
+use Rattle.room_events.specs.declared.event.Reply.TheVariants as reply
 use Rattle.room_laws.proofs.AsTold.{AccountKeeps, Keeps, all_keep, counts_alike, deed_done, found, makes_one_job, no_deed, rate_is_told, reads_no_deed}
 use Rattle.room_laws.proofs.AsToldSums.{left_as_told}
 use Rattle.room_laws.proofs.Changes.{Makes, refuses, reads, makes, takes, acts, releases, starts, settles, grants, act_asked, makes_one, ready_is}

@@ -7,9 +7,9 @@ use Rattle.std.specs.List.{starts_with}
 use Rattle.std.proofs.lemmas.Bool.{eq-eqb, eqb-true, true≢false}
 use Rattle.std.proofs.lemmas.List.Sums.{sum_by_push}
 use Rattle.std.proofs.lemmas.Option.{none-some}
-use Rattle.room_core.specs.Events.{OfAccount, Grant}
-use Rattle.room_core.specs.declared.event.Reply.{Reply}
-use Rattle.room_core.specs.declared.event.Reply.TheVariants as reply
+use Rattle.room_events.specs.Events.{OfAccount, Grant}
+use Rattle.room_events.specs.declared.event.Reply.{Reply}
+use Rattle.room_events.specs.declared.event.Reply.TheVariants as reply
 use Rattle.room_laws.proofs.Afterwards.{inserted}
 use Rattle.room_laws.proofs.AsTold.{AccountKeeps, all_keep, told_more}
 use Rattle.room_laws.proofs.FitDeeds.{IsFit, by_deeds, deeds_fit}

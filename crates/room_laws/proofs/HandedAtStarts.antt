@@ -3,11 +3,11 @@ use Rattle.std.proofs.Common.{◌≡◌, ℕ, Bool, true, false, cond, List, len
 use Rattle.std.specs.FinMap.{contains_key}
 use Rattle.std.proofs.lemmas.Bool.{true≢false}
 use Rattle.ipp_coding.specs.Limits.{header_length}
-use Rattle.room_core.specs.DeviceEvents.{device_answered}
-use Rattle.room_core.specs.Events.{AccountEvent, DeviceEvent, OfAccount, OfDevice, Ipp, Turn, Rate}
-use Rattle.room_core.specs.Machine.{answered, answered_unopened}
-use Rattle.room_core.specs.declared.event.Reply.{Reply}
-use Rattle.room_core.specs.declared.event.Reply.TheVariants as reply
+use Rattle.room_events.specs.DeviceEvents.{device_answered}
+use Rattle.room_events.specs.Events.{AccountEvent, DeviceEvent, OfAccount, OfDevice, Ipp, Turn, Rate}
+use Rattle.room_events.specs.Machine.{answered, answered_unopened}
+use Rattle.room_events.specs.declared.event.Reply.{Reply}
+use Rattle.room_events.specs.declared.event.Reply.TheVariants as reply
 use Rattle.room_laws.proofs.Changes.{Makes, refuses, starts, makes_one}
 use Rattle.room_laws.proofs.AsTold.{rated_by}
 use Rattle.room_laws.proofs.LifeLemmas.{front_of_life}

@@ -8,9 +8,9 @@ use Rattle.std.proofs.lemmas.Grind.{flat_map-append}
 use Rattle.std.proofs.lemmas.List.Elements.{All-nil, All-push}
 use Rattle.std.proofs.lemmas.Option.{none-some, same_Some}
 use Rattle.room_asks.specs.Asks.{PlainAsk}
-use Rattle.room_core.specs.Events.{OfAccount, Start}
-use Rattle.room_core.specs.declared.event.Reply.{Reply}
-use Rattle.room_core.specs.declared.event.Reply.TheVariants as reply
+use Rattle.room_events.specs.Events.{OfAccount, Start}
+use Rattle.room_events.specs.declared.event.Reply.{Reply}
+use Rattle.room_events.specs.declared.event.Reply.TheVariants as reply
 use Rattle.room_laws.proofs.AsTold.{told_more}
 use Rattle.room_laws.proofs.DeedFinds.{CanBeFreed, CanBeReleased, CanBeStarted, FindAll, Finds, IsFreeFor, TakesDocuments, found_at, found_it, grows_to}
 use Rattle.room_laws.proofs.DeedTurns.{next_is, others_same, turned, turned_so}

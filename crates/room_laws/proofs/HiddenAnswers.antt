@@ -8,19 +8,19 @@ use Rattle.ipp_coding.specs.Reading.{header_in}
 use Rattle.room_asks.specs.Asks.{PlainAsk, PlainRefusal, ask_of}
 use Rattle.room_asks.specs.declared.operation.Operation.{Operation}
 use Rattle.room_asks.specs.declared.operation.Operation.TheVariants.{PrintJob, ValidateJob, CreateJob, SendDocument, CancelJob, GetJobAttributes, GetJobs, GetPrinterAttributes, HoldJob, ReleaseJob}
-use Rattle.room_core.specs.Events.{AccountEvent, OfAccount, Open, Ipp, Release, Start, Settle, Grant}
-use Rattle.room_core.specs.Grants.{granted}
-use Rattle.room_core.specs.JobActs.{act_on, job_or_refusal}
-use Rattle.room_core.specs.JobRequests.{acted, cancel_of, document_taken, has_data, has_password, hold_of, job_shown, release_of, sent, sent_document}
-use Rattle.room_core.specs.Machine.{answered_open, responded, responded_to}
-use Rattle.room_core.specs.NewJobs.{made, made_names, new_document, new_job, validated}
-use Rattle.room_core.specs.Printers.{printer_shown}
-use Rattle.room_core.specs.Queues.{asked_jobs, listed, listed_names}
-use Rattle.room_core.specs.Requests.{Response, asked_at, doing_ask, refusing_ask, refusing_ask_or}
-use Rattle.room_core.specs.Stations.{PlainStation, by_word, settling_told, start_told, station, station_settle, station_start}
-use Rattle.room_core.specs.Steps.{Step, and_then, refusing, refusing_or, telling, with_moved}
-use Rattle.room_core.specs.declared.event.Reply.{Reply}
-use Rattle.room_core.specs.declared.event.Reply.TheVariants as reply
+use Rattle.room_events.specs.Events.{AccountEvent, OfAccount, Open, Ipp, Release, Start, Settle, Grant}
+use Rattle.room_events.specs.Grants.{granted}
+use Rattle.room_events.specs.JobActs.{act_on, job_or_refusal}
+use Rattle.room_events.specs.JobRequests.{acted, cancel_of, document_taken, has_data, has_password, hold_of, job_shown, release_of, sent, sent_document}
+use Rattle.room_events.specs.Machine.{answered_open, responded, responded_to}
+use Rattle.room_events.specs.NewJobs.{made, made_names, new_document, new_job, validated}
+use Rattle.room_events.specs.Printers.{printer_shown}
+use Rattle.room_events.specs.Queues.{asked_jobs, listed, listed_names}
+use Rattle.room_events.specs.Requests.{Response, asked_at, doing_ask, refusing_ask, refusing_ask_or}
+use Rattle.room_events.specs.Stations.{PlainStation, by_word, settling_told, start_told, station, station_settle, station_start}
+use Rattle.room_events.specs.Steps.{Step, and_then, refusing, refusing_or, telling, with_moved}
+use Rattle.room_events.specs.declared.event.Reply.{Reply}
+use Rattle.room_events.specs.declared.event.Reply.TheVariants as reply
 use Rattle.room_replies.specs.Grants.{grant_refusal}
 use Rattle.room_replies.specs.JobAttributes.{job_group}
 use Rattle.room_replies.specs.Lines.{success_text}

@@ -1,8 +1,8 @@
 -- Jobs of which each password is hidden: one that there is becomes the same for all.
 use Rattle.std.proofs.Common.{◌≡◌, ℕ, true, not, ◌==◌, List, [], ◌∷◌, map, length, Option, refl, sym, ap, ◌∙◌, rules}
 use Rattle.room_asks.specs.Asks.{PlainAsk}
-use Rattle.room_core.specs.JobRequests.{has_password}
-use Rattle.room_core.specs.Queues.{asked_jobs}
+use Rattle.room_events.specs.JobRequests.{has_password}
+use Rattle.room_events.specs.Queues.{asked_jobs}
 use Rattle.room_replies.specs.JobAttributes.{job_group}
 use Rattle.room_replies.specs.Places.{PlainPlace}
 use Rattle.room_replies.specs.Responses.{job_groups}

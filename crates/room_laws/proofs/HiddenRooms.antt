@@ -5,7 +5,7 @@ use Rattle.std.specs.Option.{option_map_or}
 use Rattle.std.specs.Ordering.{nat_cmp}
 use Rattle.std.specs.FinMap.{FinMap, get, insert, values}
 use Rattle.std.proofs.lemmas.List.Folds.{fold-map}
-use Rattle.room_core.specs.Steps.{with_moved}
+use Rattle.room_events.specs.Steps.{with_moved}
 use Rattle.room_rules.specs.JobStates.{is_unfinished, is_processing}
 use Rattle.room_rules.specs.Months.{month_at}
 use Rattle.room_rules.specs.Quota.{left_of}

@@ -1,10 +1,10 @@
 -- Lives, taken apart and put together, and what each exchange of a life keeps.
 use Rattle.std.proofs.Common.{◌≡◌, ℕ, List, [], ◌∷◌, ◌++◌, Option, None, append-nil, append_assoc, refl, sym, subst, ◌∙◌}
 use Rattle.std.specs.FinMap.{empty}
-use Rattle.room_core.specs.DeviceEvents.{device_answered}
-use Rattle.room_core.specs.Events.{AccountEvent, DeviceEvent, OfAccount, OfDevice}
-use Rattle.room_core.specs.Machine.{answered}
-use Rattle.room_core.specs.declared.event.Reply.{Reply}
+use Rattle.room_events.specs.DeviceEvents.{device_answered}
+use Rattle.room_events.specs.Events.{AccountEvent, DeviceEvent, OfAccount, OfDevice}
+use Rattle.room_events.specs.Machine.{answered}
+use Rattle.room_events.specs.declared.event.Reply.{Reply}
 use Rattle.room_laws.specs.Lives.{Exchange, IsLife, LeadsTo, Life, LivesGoOn, LivesLeaveOne}
 use Rattle.room_rules.specs.Devices.{Devices}
 use Rattle.room_state.specs.Rooms.{RoomValue}

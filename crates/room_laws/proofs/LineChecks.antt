@@ -3,11 +3,11 @@ use Rattle.std.proofs.Common.{◌≡◌, ℕ, Bool, true, false, not, List, [], 
 use Rattle.std.specs.FinMap.{get}
 use Rattle.std.specs.Option.{option_map_or}
 use Rattle.std.proofs.lemmas.Option.{none-some, same_Some}
-use Rattle.room_core.specs.JobActs.{job_or_refusal}
-use Rattle.room_core.specs.Stations.{by_word}
-use Rattle.room_core.specs.Steps.{Step, and_then, refusing_or}
-use Rattle.room_core.specs.declared.event.Reply.{Reply}
-use Rattle.room_core.specs.declared.event.Reply.TheVariants as reply
+use Rattle.room_events.specs.JobActs.{job_or_refusal}
+use Rattle.room_events.specs.Stations.{by_word}
+use Rattle.room_events.specs.Steps.{Step, and_then, refusing_or}
+use Rattle.room_events.specs.declared.event.Reply.{Reply}
+use Rattle.room_events.specs.declared.event.Reply.TheVariants as reply
 use Rattle.room_laws.specs.AccountsTold.{AccountTold, rate_told}
 use Rattle.room_laws.specs.JobsTold.{JobTold}
 use Rattle.room_laws.specs.Refusals.{Check, first_refusal}

@@ -23,10 +23,10 @@ use Rattle.room_asks.specs.Requests.{job_group_of}
 use Rattle.room_asks.specs.Targets.{job_id, job_numbered}
 use Rattle.room_asks.specs.declared.operation.Operation.{Operation}
 use Rattle.room_asks.specs.declared.operation.Operation.TheVariants as asks
-use Rattle.room_core.specs.Events.{OfAccount, OfDevice, Open, Ipp, Release, Start, Settle, Grant, Turn, Rate}
-use Rattle.room_core.specs.NewJobs.{made_names}
-use Rattle.room_core.specs.declared.event.Reply.{Reply}
-use Rattle.room_core.specs.declared.event.Reply.TheVariants as reply
+use Rattle.room_events.specs.Events.{OfAccount, OfDevice, Open, Ipp, Release, Start, Settle, Grant, Turn, Rate}
+use Rattle.room_events.specs.NewJobs.{made_names}
+use Rattle.room_events.specs.declared.event.Reply.{Reply}
+use Rattle.room_events.specs.declared.event.Reply.TheVariants as reply
 use Rattle.room_laws.proofs.AsksLieWithin.{asks_lie_within}
 use Rattle.room_laws.proofs.AsksWithin.{message_passed}
 use Rattle.room_laws.proofs.DeedTurns.{made_in, next_is}

@@ -2,11 +2,11 @@
 use Rattle.std.proofs.Common.{◌≡◌, ℕ, Bool, true, false, cond, ◌==◌, List, ◌++◌, Option, Some, None, option_map, Result, Err, is_none, is_some, codes, refl, sym, ap, ◌∙◌}
 use Rattle.std.specs.FinMap.{get}
 use Rattle.std.specs.Fmt.{decimal}
-use Rattle.room_core.specs.DeviceEvents.{DeviceAnswer, device_answered}
-use Rattle.room_core.specs.Events.{OfAccount, OfDevice, Open, Grant, Turn, Rate}
-use Rattle.room_core.specs.Machine.{answered}
-use Rattle.room_core.specs.Steps.{refusing_or, telling}
-use Rattle.room_core.specs.declared.event.Reply.TheVariants as reply
+use Rattle.room_events.specs.DeviceEvents.{DeviceAnswer, device_answered}
+use Rattle.room_events.specs.Events.{OfAccount, OfDevice, Open, Grant, Turn, Rate}
+use Rattle.room_events.specs.Machine.{answered}
+use Rattle.room_events.specs.Steps.{refusing_or, telling}
+use Rattle.room_events.specs.declared.event.Reply.TheVariants as reply
 use Rattle.room_laws.proofs.AsTold.{AccountKeeps, all_keep}
 use Rattle.room_laws.proofs.LifeLemmas.{front_of_life}
 use Rattle.room_laws.specs.AccountsTold.{AccountTold, account_told, rate_told}

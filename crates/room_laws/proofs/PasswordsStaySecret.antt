@@ -2,12 +2,12 @@
 use Rattle.std.proofs.Common.{◌≡◌, ℕ, Bool, false, cond, List, [], ◌∷◌, ◌++◌, Option, Some, None, refl, sym, ap, subst, ◌∙◌}
 use Rattle.std.specs.FinMap.{empty}
 use Rattle.std.proofs.lemmas.Bool.{true≢false}
-use Rattle.room_core.specs.DeviceEvents.{device_answered}
-use Rattle.room_core.specs.Events.{AccountEvent, PlainEvent, OfAccount, OfDevice, Open, Ipp, Release}
-use Rattle.room_core.specs.Machine.{answered, answered_open}
-use Rattle.room_core.specs.Steps.{Step}
-use Rattle.room_core.specs.declared.event.Reply.{Reply}
-use Rattle.room_core.specs.declared.event.Reply.TheVariants as reply
+use Rattle.room_events.specs.DeviceEvents.{device_answered}
+use Rattle.room_events.specs.Events.{AccountEvent, PlainEvent, OfAccount, OfDevice, Open, Ipp, Release}
+use Rattle.room_events.specs.Machine.{answered, answered_open}
+use Rattle.room_events.specs.Steps.{Step}
+use Rattle.room_events.specs.declared.event.Reply.{Reply}
+use Rattle.room_events.specs.declared.event.Reply.TheVariants as reply
 use Rattle.room_laws.proofs.AlikeBodies.{bodies_alike}
 use Rattle.room_laws.proofs.AlikeGuesses.{guesses_alike}
 use Rattle.room_laws.proofs.AsTold.{told_more}

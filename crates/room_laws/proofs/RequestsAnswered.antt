@@ -11,17 +11,17 @@ use Rattle.room_asks.specs.Asks.{PlainAsk, PlainRefusal, ask_of}
 use Rattle.room_asks.specs.declared.operation.Operation.{Operation}
 use Rattle.room_asks.specs.declared.operation.Operation.TheVariants.{PrintJob, ValidateJob, CreateJob, GetJobAttributes, GetJobs, GetPrinterAttributes}
 use Rattle.room_asks.specs.declared.operation.Operation.TheVariants as asks
-use Rattle.room_core.specs.Events.{OfAccount, Ipp}
-use Rattle.room_core.specs.JobActs.{job_or_refusal}
-use Rattle.room_core.specs.JobRequests.{has_data, has_password, document_taken}
-use Rattle.room_core.specs.Machine.{answered, responded, responded_to}
-use Rattle.room_core.specs.NewJobs.{accepts, made_names, new_job}
-use Rattle.room_core.specs.Printers.{printer_of}
-use Rattle.room_core.specs.Queues.{asked_jobs, listed_names}
-use Rattle.room_core.specs.Requests.{answer_to, Response, asked_at, doing_ask, refusing_ask_or}
-use Rattle.room_core.specs.Steps.{Step, and_then, with_moved}
-use Rattle.room_core.specs.declared.event.Reply.{Reply}
-use Rattle.room_core.specs.declared.event.Reply.TheVariants as reply
+use Rattle.room_events.specs.Events.{OfAccount, Ipp}
+use Rattle.room_events.specs.JobActs.{job_or_refusal}
+use Rattle.room_events.specs.JobRequests.{has_data, has_password, document_taken}
+use Rattle.room_events.specs.Machine.{answered, responded, responded_to}
+use Rattle.room_events.specs.NewJobs.{accepts, made_names, new_job}
+use Rattle.room_events.specs.Printers.{printer_of}
+use Rattle.room_events.specs.Queues.{asked_jobs, listed_names}
+use Rattle.room_events.specs.Requests.{answer_to, Response, asked_at, doing_ask, refusing_ask_or}
+use Rattle.room_events.specs.Steps.{Step, and_then, with_moved}
+use Rattle.room_events.specs.declared.event.Reply.{Reply}
+use Rattle.room_events.specs.declared.event.Reply.TheVariants as reply
 use Rattle.room_laws.proofs.AsTold.{AccountKeeps, Keeps, all_keep}
 use Rattle.room_laws.proofs.AsToldSums.{left_as_told, unfinished_as_told}
 use Rattle.room_laws.proofs.LifeLemmas.{front_of_life}

@@ -4,9 +4,9 @@ use Rattle.std.specs.FinMap.{get-empty}
 use Rattle.std.specs.Prelude.{IfSome}
 use Rattle.std.proofs.lemmas.List.Elements.{All-cons, All-head, All-nil, All-tail}
 use Rattle.std.proofs.lemmas.Option.{none-some}
-use Rattle.room_core.specs.DeviceEvents.{device_answered}
-use Rattle.room_core.specs.Events.{AccountEvent, DeviceEvent, OfAccount, OfDevice, Open}
-use Rattle.room_core.specs.Machine.{answered, answered_unopened}
+use Rattle.room_events.specs.DeviceEvents.{device_answered}
+use Rattle.room_events.specs.Events.{AccountEvent, DeviceEvent, OfAccount, OfDevice, Open}
+use Rattle.room_events.specs.Machine.{answered, answered_unopened}
 use Rattle.room_laws.proofs.Changes.{makes_one}
 use Rattle.room_laws.proofs.DevicesStay.{AreDevices, devices_stay}
 use Rattle.room_laws.proofs.LifeLemmas.{account_exchange, device_exchange, of_each_life}

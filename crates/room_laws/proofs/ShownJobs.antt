@@ -7,7 +7,7 @@ use Rattle.std.proofs.lemmas.Bool.Decides.{nat_tests}
 use Rattle.room_asks.specs.Asks.{PlainAsk}
 use Rattle.room_asks.specs.declared.ask.Which.{Which}
 use Rattle.room_asks.specs.declared.ask.Which.TheVariants as whiches
-use Rattle.room_core.specs.Queues.{asked_jobs, chosen}
+use Rattle.room_events.specs.Queues.{asked_jobs, chosen}
 use Rattle.room_laws.proofs.MappedValues.{filter_changed, same_in_order}
 use Rattle.room_laws.specs.AccountsTold.{AccountTold}
 use Rattle.room_laws.specs.DoneAnswers.{count_told, ended_told, job_shown, jobs_told, started_told, state_told}

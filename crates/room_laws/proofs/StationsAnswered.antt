@@ -3,12 +3,12 @@ use Rattle.std.proofs.Common.{◌≡◌, ◌*◌, ℕ, ℤ, pos, negsuc, Bool, t
 use Rattle.std.specs.FinMap.{get}
 use Rattle.std.specs.Fmt.{decimal, signed_decimal}
 use Rattle.std.proofs.lemmas.Grind.{common_steps}
-use Rattle.room_core.specs.Events.{OfAccount, Release, Start, Settle}
-use Rattle.room_core.specs.Machine.{answered}
-use Rattle.room_core.specs.Stations.{by_word}
-use Rattle.room_core.specs.Steps.{Step, refusing_or, telling, with_moved}
-use Rattle.room_core.specs.declared.event.Reply.{Reply}
-use Rattle.room_core.specs.declared.event.Reply.TheVariants as reply
+use Rattle.room_events.specs.Events.{OfAccount, Release, Start, Settle}
+use Rattle.room_events.specs.Machine.{answered}
+use Rattle.room_events.specs.Stations.{by_word}
+use Rattle.room_events.specs.Steps.{Step, refusing_or, telling, with_moved}
+use Rattle.room_events.specs.declared.event.Reply.{Reply}
+use Rattle.room_events.specs.declared.event.Reply.TheVariants as reply
 use Rattle.room_laws.proofs.AsTold.{AccountKeeps, Keeps, all_keep, counts_alike, each_keeps}
 use Rattle.room_laws.proofs.AsToldSums.{left_as_told}
 use Rattle.room_laws.proofs.Changes.{releases, settles}

@@ -7,14 +7,14 @@ use Rattle.room_asks.specs.Asks.{PlainAsk}
 use Rattle.room_asks.specs.Operations.{hands_in_document, is_print_job}
 use Rattle.room_asks.specs.declared.operation.Operation.{Operation}
 use Rattle.room_asks.specs.declared.operation.Operation.TheVariants as asks
-use Rattle.room_core.specs.Events.{AccountEvent, OfAccount, Release, Settle, Grant}
-use Rattle.room_core.specs.Fits.{fits}
-use Rattle.room_core.specs.JobRequests.{has_data, has_password, sent_document}
-use Rattle.room_core.specs.Moving.{Keeps}
-use Rattle.room_core.specs.NewJobs.{accepts, new_document, new_job}
-use Rattle.room_core.specs.Rates.{AreRated}
-use Rattle.room_core.specs.Steps.{with_moved}
-use Rattle.room_core.specs.declared.event.Reply.{Reply}
+use Rattle.room_events.specs.Events.{AccountEvent, OfAccount, Release, Settle, Grant}
+use Rattle.room_events.specs.Fits.{fits}
+use Rattle.room_events.specs.JobRequests.{has_data, has_password, sent_document}
+use Rattle.room_events.specs.Moving.{Keeps}
+use Rattle.room_events.specs.NewJobs.{accepts, new_document, new_job}
+use Rattle.room_events.specs.Rates.{AreRated}
+use Rattle.room_events.specs.Steps.{with_moved}
+use Rattle.room_events.specs.declared.event.Reply.{Reply}
 use Rattle.room_laws.specs.RoomsStay.{AreNamed}
 use Rattle.room_replies.specs.Queues.{accepting_refusal}
 use Rattle.room_rules.specs.Acts.{Act, CancelJob, HoldJob, ReleaseJob, SendDocument, StationRelease, StationSettle, StationStart}

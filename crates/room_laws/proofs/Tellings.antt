@@ -7,7 +7,7 @@ use Rattle.ipp_coding.specs.Plain.{PlainAttribute, PlainGroup}
 use Rattle.ipp_coding.specs.Reading.{header_in}
 use Rattle.ipp_coding.specs.Spelling.{group_spelling, header_spelling}
 use Rattle.ipp_coding.specs.declared.message.Header.{Header}
-use Rattle.room_core.specs.declared.event.Reply.TheVariants as reply
+use Rattle.room_events.specs.declared.event.Reply.TheVariants as reply
 use Rattle.room_laws.specs.Told.{is_ok, is_successful}
 use Rattle.room_laws.proofs.Statuses.{IsError}
 use Rattle.room_replies.specs.Replies.{operation_group, reply_header, unsupported_groups}

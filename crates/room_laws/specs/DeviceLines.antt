@@ -2,8 +2,8 @@
 -- this project's own).
 use Rattle.std.specs.Prelude.{◌≡◌, ◌≢◌, ℕ, Bool, List, [], ◌∷◌, ◌++◌, Some, is_none, MatchBool}
 use Rattle.std.specs.FinMap.{get}
-use Rattle.room_core.specs.Events.{AccountEvent, OfAccount, OfDevice, Turn, Rate}
-use Rattle.room_core.specs.declared.event.Reply.{Reply}
+use Rattle.room_events.specs.Events.{AccountEvent, OfAccount, OfDevice, Turn, Rate}
+use Rattle.room_events.specs.declared.event.Reply.{Reply}
 use Rattle.room_laws.specs.AccountsTold.{AccountTold, account_told}
 use Rattle.room_laws.specs.Lives.{Life, OfLives}
 

@@ -7,9 +7,9 @@ use Rattle.ipp_coding.specs.Plain.{PlainGroup}
 use Rattle.room_asks.specs.Asks.{PlainAsk}
 use Rattle.room_asks.specs.declared.operation.Operation.{Operation}
 use Rattle.room_asks.specs.declared.operation.Operation.TheVariants.{PrintJob, ValidateJob, CreateJob, SendDocument, CancelJob, GetJobAttributes, GetJobs, GetPrinterAttributes, HoldJob, ReleaseJob}
-use Rattle.room_core.specs.NewJobs.{made_names}
-use Rattle.room_core.specs.Queues.{asked_jobs, listed_names}
-use Rattle.room_core.specs.Requests.{asked_at}
+use Rattle.room_events.specs.NewJobs.{made_names}
+use Rattle.room_events.specs.Queues.{asked_jobs, listed_names}
+use Rattle.room_events.specs.Requests.{asked_at}
 use Rattle.room_laws.specs.AccountsTold.{AccountTold, unfinished_told}
 use Rattle.room_laws.specs.JobsTold.{JobTold, Stage, Waits, IsFree, Prints, HasEnded, is_printing, is_stopping, job_brought, job_made}
 use Rattle.room_laws.specs.StationAnswers.{is_waiting}

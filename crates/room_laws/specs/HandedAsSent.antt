@@ -2,8 +2,8 @@
 use Rattle.std.specs.Prelude.{◌≡◌, ℕ, ◌==◌, if◌then◌else◌, true, List, [], ◌∷◌, ◌++◌, map}
 use Rattle.std.specs.List.{flat_map}
 use Rattle.room_asks.specs.Asks.{PlainAsk}
-use Rattle.room_core.specs.Events.{OfAccount, Start}
-use Rattle.room_core.specs.declared.event.Reply.TheVariants as reply
+use Rattle.room_events.specs.Events.{OfAccount, Start}
+use Rattle.room_events.specs.declared.event.Reply.TheVariants as reply
 use Rattle.room_laws.specs.Deeds.{Deed, Brought, Started, deed_of}
 use Rattle.room_laws.specs.JobsMade.{IsMadeBy}
 use Rattle.room_laws.specs.JobsTold.{Sent, brought_first, brought_next}

@@ -2,7 +2,7 @@
 use Rattle.std.specs.Prelude.{◌≡◌, ◌⊎◌, ℕ, ◌==◌, Bool, true, false, List, [], ◌∷◌, ◌++◌, All, Some, IsSomeAnd}
 use Rattle.std.specs.FinMap.{get}
 use Rattle.room_asks.specs.Asks.{PlainAsk}
-use Rattle.room_core.specs.Events.{PlainEvent, OfAccount, Release}
+use Rattle.room_events.specs.Events.{PlainEvent, OfAccount, Release}
 use Rattle.room_laws.specs.AccountsTold.{account_told}
 use Rattle.room_laws.specs.Deeds.{Deed, Canceled, HeldBack, Freed, Released, Started, deed_of}
 use Rattle.room_laws.specs.JobsMade.{IsMadeBy}

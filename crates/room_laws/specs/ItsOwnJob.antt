@@ -4,8 +4,8 @@ use Rattle.std.specs.FinMap.{get}
 use Rattle.room_asks.specs.Asks.{PlainAsk}
 use Rattle.room_asks.specs.declared.operation.Operation.{Operation}
 use Rattle.room_asks.specs.declared.operation.Operation.TheVariants.{ValidateJob, GetJobAttributes, GetJobs, GetPrinterAttributes}
-use Rattle.room_core.specs.Events.{PlainEvent, OfAccount}
-use Rattle.room_core.specs.declared.event.Reply.{Reply}
+use Rattle.room_events.specs.Events.{PlainEvent, OfAccount}
+use Rattle.room_events.specs.declared.event.Reply.{Reply}
 use Rattle.room_laws.specs.AccountsTold.{AccountTold, account_told}
 use Rattle.room_laws.specs.Deeds.{Deed, Made, Brought, Canceled, HeldBack, Freed, Released, Started, Settled, deed_of}
 use Rattle.room_laws.specs.JobsMade.{is_making, jobs_made}

@@ -1,9 +1,9 @@
 -- A month is granted once (all this project's own).
 use Rattle.std.specs.Prelude.{◌≡◌, ◌⊎◌, ℕ, ◌≤◌, Bool, false, ◌==◌, codes, List, [], ◌∷◌, ◌++◌, count_by, Some}
 use Rattle.std.specs.Fmt.{decimal}
-use Rattle.room_core.specs.Events.{OfAccount, Grant}
-use Rattle.room_core.specs.declared.event.Reply.{Reply}
-use Rattle.room_core.specs.declared.event.Reply.TheVariants as reply
+use Rattle.room_events.specs.Events.{OfAccount, Grant}
+use Rattle.room_events.specs.declared.event.Reply.{Reply}
+use Rattle.room_events.specs.declared.event.Reply.TheVariants as reply
 use Rattle.room_laws.specs.AccountsTold.{AccountTold, account_told}
 use Rattle.room_laws.specs.Deeds.{Deed, Granted, deed_of}
 use Rattle.room_laws.specs.Lives.{Exchange, Life, OfLives}

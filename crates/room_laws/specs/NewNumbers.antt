@@ -5,9 +5,9 @@ use Rattle.ipp_coding.specs.Plain.{PlainMessage}
 use Rattle.ipp_coding.specs.Reading.{message_of}
 use Rattle.room_asks.specs.Requests.{job_group_of}
 use Rattle.room_asks.specs.Targets.{job_id}
-use Rattle.room_core.specs.Events.{OfAccount, Ipp}
-use Rattle.room_core.specs.declared.event.Reply.{Reply}
-use Rattle.room_core.specs.declared.event.Reply.TheVariants as reply
+use Rattle.room_events.specs.Events.{OfAccount, Ipp}
+use Rattle.room_events.specs.declared.event.Reply.{Reply}
+use Rattle.room_events.specs.declared.event.Reply.TheVariants as reply
 use Rattle.room_laws.specs.AccountsTold.{account_told}
 use Rattle.room_laws.specs.AsksLieWithin.{AreBytes}
 use Rattle.room_laws.specs.Deeds.{deed_of}

@@ -5,9 +5,9 @@ use Rattle.std.specs.Option.{option_map_or}
 use Rattle.ipp_coding.specs.Limits.{header_length}
 use Rattle.ipp_coding.specs.Reading.{header_in}
 use Rattle.room_asks.specs.Asks.{PlainAsk, PlainRefusal, ask_of}
-use Rattle.room_core.specs.Events.{PlainEvent, OfAccount, Ipp, Release}
-use Rattle.room_core.specs.declared.event.Reply.{Reply}
-use Rattle.room_core.specs.declared.event.Reply.TheVariants as reply
+use Rattle.room_events.specs.Events.{PlainEvent, OfAccount, Ipp, Release}
+use Rattle.room_events.specs.declared.event.Reply.{Reply}
+use Rattle.room_events.specs.declared.event.Reply.TheVariants as reply
 use Rattle.room_laws.specs.AccountsTold.{AccountTold, account_told, after_exchange, nothing_told}
 use Rattle.room_laws.specs.Deeds.{moment_of}
 use Rattle.room_laws.specs.JobsTold.{JobTold}

@@ -10,9 +10,9 @@ use Rattle.ipp_coding.specs.declared.message.Header.{Header}
 use Rattle.room_asks.specs.Asks.{PlainAsk, PlainRefusal, ask_of}
 use Rattle.room_asks.specs.declared.operation.Operation.{Operation}
 use Rattle.room_asks.specs.declared.operation.Operation.TheVariants.{PrintJob, ValidateJob, CreateJob, SendDocument, CancelJob, GetJobAttributes, GetJobs, GetPrinterAttributes, HoldJob, ReleaseJob}
-use Rattle.room_core.specs.Events.{OfAccount, Ipp}
-use Rattle.room_core.specs.declared.event.Reply.{Reply}
-use Rattle.room_core.specs.declared.event.Reply.TheVariants as reply
+use Rattle.room_events.specs.Events.{OfAccount, Ipp}
+use Rattle.room_events.specs.declared.event.Reply.{Reply}
+use Rattle.room_events.specs.declared.event.Reply.TheVariants as reply
 use Rattle.room_laws.specs.AccountsTold.{AccountTold, account_told, left_told, unfinished_told}
 use Rattle.room_laws.specs.DoneAnswers.{groups_told}
 use Rattle.room_laws.specs.JobsTold.{JobTold, is_over, is_printing, is_stopping, need_told}

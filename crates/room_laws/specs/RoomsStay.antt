@@ -1,9 +1,9 @@
 -- Rooms stay rooms (all this project's own).
 use Rattle.std.specs.Prelude.{◌≡◌, ℕ, List, All, Option, Some, IfSome, IsTrue}
 use Rattle.std.specs.FinMap.{get}
-use Rattle.room_core.specs.Events.{PlainEvent, Timed, OfAccount, OfDevice}
-use Rattle.room_core.specs.Fits.{fits}
-use Rattle.room_core.specs.Rates.{AreRated}
+use Rattle.room_events.specs.Events.{PlainEvent, Timed, OfAccount, OfDevice}
+use Rattle.room_events.specs.Fits.{fits}
+use Rattle.room_events.specs.Rates.{AreRated}
 use Rattle.room_laws.specs.Lives.{Exchange, IsLife, Life}
 use Rattle.room_rules.specs.Devices.{Devices}
 use Rattle.room_rules.specs.Limits.{IsMoment}

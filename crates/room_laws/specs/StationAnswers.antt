@@ -3,9 +3,9 @@ use Rattle.std.specs.Prelude.{◌≡◌, ℕ, ◌*◌, ◌==◌, ℤ, pos, negsu
 use Rattle.std.specs.FinMap.{get}
 use Rattle.std.specs.Fmt.{decimal, signed_decimal}
 use Rattle.std.specs.Option.{option_map_or}
-use Rattle.room_core.specs.Events.{OfAccount, Release, Start, Settle}
-use Rattle.room_core.specs.declared.event.Reply.{Reply}
-use Rattle.room_core.specs.declared.event.Reply.TheVariants as reply
+use Rattle.room_events.specs.Events.{OfAccount, Release, Start, Settle}
+use Rattle.room_events.specs.declared.event.Reply.{Reply}
+use Rattle.room_events.specs.declared.event.Reply.TheVariants as reply
 use Rattle.room_laws.specs.AccountsTold.{AccountTold, account_told, after_deed, left_told, rate_told}
 use Rattle.room_laws.specs.Deeds.{Released, Settled}
 use Rattle.room_laws.specs.JobsTold.{JobTold, Sent, Stage, Waits, IsFree, Prints, impressions_told, need_told}

@@ -3,9 +3,9 @@ use Rattle.std.specs.Prelude.{ℕ, Bool, true, false, nat_eq, nat_lt, List, Opti
 use Rattle.std.specs.List.{starts_with}
 use Rattle.ipp_coding.specs.Reading.{header_in}
 use Rattle.room_asks.specs.Asks.{PlainAsk, PlainRefusal, ask_of}
-use Rattle.room_core.specs.Events.{AccountEvent, Ipp}
-use Rattle.room_core.specs.declared.event.Reply.{Reply}
-use Rattle.room_core.specs.declared.event.Reply.TheVariants as reply
+use Rattle.room_events.specs.Events.{AccountEvent, Ipp}
+use Rattle.room_events.specs.declared.event.Reply.{Reply}
+use Rattle.room_events.specs.declared.event.Reply.TheVariants as reply
 
 -- a request was done: its status is one of successful-ok (RFC 8011 section B.1.2)
 abbrev pub is_successful : Reply → Bool

@@ -1,8 +1,8 @@
 -- The numbers that a line may say, whose lines they are, and the events that they ask for (this
 -- project's own).
 use Rattle.std.specs.Prelude.{ℕ, Bool, true, false, ◌&&◌, nat_le, Option, Some, None, unwrap_or}
-use Rattle.room_core.specs.Events as event
-use Rattle.room_core.specs.Events.{PlainEvent, OfAccount, OfDevice}
+use Rattle.room_events.specs.Events as event
+use Rattle.room_events.specs.Events.{PlainEvent, OfAccount, OfDevice}
 use Rattle.room_rules.specs.Limits.{may_be_job, most_impressions, first_month, last_month, most_pages, most_rate}
 use Rattle.room_lines.specs.declared.action.Action.{Action}
 use Rattle.room_lines.specs.declared.action.Action.TheVariants as action

@@ -1,5 +1,5 @@
 //! What a line asks for.
-use room_core::{Event, Name};
+use room_events::{Event, Name};
 
 /// One thing that a line asks the rooms or the devices to do.
 #[derive(Debug, Drop)]
@@ -55,8 +55,8 @@ pub enum Action {
 
 impl Action {
     ghost use Rattle.std.specs.Prelude.{◌≡◌, IsTrue};
-    ghost use Rattle.room_core.specs.Events.{plain_event};
-    ghost use Rattle.room_core.specs.Fits.{fits};
+    ghost use Rattle.room_events.specs.Events.{plain_event};
+    ghost use Rattle.room_events.specs.Fits.{fits};
     ghost use Rattle.room_lines.specs.Actions.{event_of_action, is_in_range};
 
     /// The event that it is. A release without impressions leaves those of the job.

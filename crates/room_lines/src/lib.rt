@@ -1,4 +1,4 @@
-//! The lines of scripts and of stations: what each asks for, and what is printed of the answers.
+//! The lines of scripts, stations and operators: what each asks for, and what is printed of the answers.
 #![tactic(auto)]
 
 mod action;
@@ -10,5 +10,5 @@ mod printing;
 pub use action::Action;
 pub use fault::LineFault;
 pub use line::{Line, events_of};
-pub use lines::Grammar;
+pub use lines::{Grammar, read_question};
 pub use printing::print_answer;

@@ -1,11 +1,11 @@
 //! A line that was read.
 ghost use Rattle.std.specs.Prelude.{◌≡◌, ℕ, All, IfOk, IfSome, IsTrue, length, slice_get, vec_len};
-ghost use Rattle.room_core.specs.Fits.{fits};
-ghost use Rattle.room_core.specs.Events.{plain_event, plain_timed};
+ghost use Rattle.room_events.specs.Fits.{fits};
+ghost use Rattle.room_events.specs.Events.{plain_event, plain_timed};
 ghost use Rattle.room_lines.specs.Actions.{event_of_action, is_in_range};
 
 use crate::action::Action;
-use room_core::Event;
+use room_events::Event;
 use std::alloc::{AllocError, Global};
 
 /// What to do, and the moment at which it counts as done, in seconds since 1970-01-01T00:00:00Z.

@@ -5,14 +5,15 @@ ghost use Rattle.std.specs.Prelude.{◌≡◌, ◌==◌, ◌∷◌, ◌≤◌, �
 ghost use Rattle.room_rules.specs.Limits.{first_month, last_moment, last_month};
 ghost use Rattle.room_lines.specs.Actions.{are_impressions, is_in_range, is_of_operator, is_of_station};
 ghost use Rattle.room_lines.specs.Lines.{IsAllowed};
-ghost use Rattle.room_lines.specs.Saying.{AreLinesOf, IsLineOf, Says, SaysBytes, SaysImpressions, SaysMonth, SaysNumber, SaysPassword, SaysWord};
+ghost use Rattle.room_lines.specs.Saying.{AreLinesOf, IsLineOf, IsQuestionOf, Says, SaysBytes, SaysImpressions, SaysMonth, SaysNumber, SaysPassword, SaysQuestion, SaysWord};
 ghost use Rattle.room_lines.specs.ProofTaking.{TakesField, TakesOne, TakesSome, left};
 
 use crate::action::Action;
 use crate::fault::LineFault;
 use crate::line::Line;
-use room_core::{LAST_JOB, LAST_MOMENT, MOST_IMPRESSIONS, MOST_PAGES, MOST_RATE, Name};
+use room_events::{LAST_JOB, LAST_MOMENT, MOST_IMPRESSIONS, MOST_PAGES, MOST_RATE, Name};
 use room_input::FieldFault;
+use room_questions::Question;
 use std::alloc::Global;
 
 /// Which lines an input may have.
@@ -72,6 +73,31 @@ impl Grammar {
         };
         fields.end()?;
         Ok(line)
+    }
+}
+
+/// A question of an operator, without what ends its line. `Malformed` where the line is none.
+pub fn read_question(line: &[u8]) -> Result<Question, FieldFault>
+    ensures said { IfOk result (IsQuestionOf line.now) }
+{
+    let mut fields = Fields { rest: Some(line) };
+    let kind = fields.take()?;
+    let question = question_of(kind, &mut fields)?;
+    fields.end()?;
+    Ok(question)
+}
+
+fn question_of(kind: &[u8], fields: &mut Fields<'_>) -> Result<Question, FieldFault>
+    ensures said { IfOk result (λ question. TakesSome (left fields.old) (left fields.new)
+        (λ taken. SaysQuestion (kind.now ∷ taken) question)) }
+{
+    match kind {
+        b"ping" => Ok(Question::Ping),
+        b"left" => Ok(Question::Left {
+            account: fields.name()?,
+            month: fields.month()?,
+        }),
+        _ => Err(FieldFault::Malformed),
     }
 }
 

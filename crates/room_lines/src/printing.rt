@@ -1,6 +1,6 @@
 //! What the program prints for each event, with no memory taken.
 
-use room_core::{Part, Reply};
+use room_events::{Part, Reply};
 use room_input::print_hex;
 use std::io;
 use std::io::Write;

@@ -1,8 +1,8 @@
 -- The devices of the rooms, and what is answered to an event of one of them.
 use Rattle.std.specs.Prelude.{◌≡◌, ⊤}
-use Rattle.room_core.specs.Events.{PlainEvent, OfAccount, OfDevice}
-use Rattle.room_core.specs.declared.event.Reply.{Reply}
-use Rattle.room_core.specs.DeviceEvents.{device_answered}
+use Rattle.room_events.specs.Events.{PlainEvent, OfAccount, OfDevice}
+use Rattle.room_events.specs.declared.event.Reply.{Reply}
+use Rattle.room_events.specs.DeviceEvents.{device_answered}
 use Rattle.room_rules.specs.Devices.{Devices, device_map}
 use Rattle.room_rows.specs.declared.rooms.Rooms.{Rooms}
 

@@ -1,7 +1,8 @@
-//! Two texts side by side.
+//! Compares two texts line by line.
 
-/// The first line that is another in the one text than in the other.
-pub fn difference<'a>(answered: &'a str, expected: &'a str) -> Option<(&'a str, &'a str)> {
+/// Compares two texts line by line. Answers the first two lines that differ, with `nothing` for one
+/// that is missing, or `None` if all are the same.
+pub fn first_other_line<'a>(answered: &'a str, expected: &'a str) -> Option<(&'a str, &'a str)> {
     let mut expected = expected.lines();
     for line in answered.lines() {
         match expected.next() {

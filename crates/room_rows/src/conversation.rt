@@ -35,12 +35,12 @@ pub struct Conversation {
 }
 
 impl Conversation {
-    /// That of the lines. One that begins with `> ` begins a line of a script, at `MOMENT` if it
-    /// names none, or a step of its own, and `> N times ` so many of them; one with `< ` begins a
-    /// line of the output. The lines under each spell the message that goes on it; such a line
-    /// before any is `Message`. `opened` stands for `OPENED`; `reopened` says
-    /// that the conversation is also one with a file that is closed and opened again between any
-    /// two lines; an empty line, and one that begins with `-- `, say nothing.
+    /// Reads the lines of a row. One that begins with `> ` begins a line of a script, at `MOMENT`
+    /// if it names none, or a step of its own, and `> N times ` so many of them; one with `< `
+    /// begins a line of the output. The lines under each spell the message that goes on it; such a
+    /// line before any is `RowFault::Message`. `opened` stands for `OPENED`; `reopened` says that
+    /// the conversation is also one with a file that is closed and opened again between any two
+    /// lines; an empty line, and one that begins with `-- `, say nothing.
     pub fn read(alloc: Global, lines: &str) -> Result<Conversation, RowFault> {
         let mut talk = Conversation {
             asked: Vec::new(alloc),
@@ -49,17 +49,17 @@ impl Conversation {
             is_reopened: false,
         };
         for line in lines.lines() {
-            talk.add(alloc, line)?;
+            talk.read_line(alloc, line)?;
         }
         Ok(talk)
     }
 
-    /// Adds one line, as `read` says. After a fault part of it may be added.
-    fn add(&mut self, alloc: Global, line: &str) -> Result<(), RowFault> {
+    /// Reads one line of a row, as `read` says. After a fault part of it may be added.
+    fn read_line(&mut self, alloc: Global, line: &str) -> Result<(), RowFault> {
         match line {
             "opened" => {
                 for line in OPENED {
-                    self.add_line(alloc, line)?;
+                    self.read_plain_line(alloc, line)?;
                 }
                 Ok(())
             }
@@ -67,11 +67,12 @@ impl Conversation {
                 self.is_reopened = true;
                 Ok(())
             }
-            line => self.add_line(alloc, line),
+            line => self.read_plain_line(alloc, line),
         }
     }
 
-    fn add_line(&mut self, alloc: Global, line: &str) -> Result<(), RowFault> {
+    /// Reads a line that is neither `opened` nor `reopened`.
+    fn read_plain_line(&mut self, alloc: Global, line: &str) -> Result<(), RowFault> {
         if line.is_empty() || line.starts_with("-- ") {
             return Ok(());
         }
@@ -96,6 +97,8 @@ impl Conversation {
         }
     }
 
+    /// Begins a step by what stands behind `> `, with `MOMENT` before it if it is an event that
+    /// names none.
     fn begin_step(&mut self, alloc: Global, asked: &str) -> Result<(), RowFault> {
         let (times, asked) = match asked.split_once(" times ") {
             Some((times, asked)) => (times.parse()?, asked),
@@ -111,7 +114,7 @@ impl Conversation {
         Ok(())
     }
 
-    /// What is handed in, in order.
+    /// Answers all steps in order, each as often as it is said.
     pub fn steps(&self, alloc: Global) -> Result<Vec<Step>, RowFault> {
         let mut steps = Vec::with_capacity(alloc, self.asked.len())?;
         for asked in self.asked.as_slice() {
@@ -122,7 +125,7 @@ impl Conversation {
         Ok(steps)
     }
 
-    /// The script that hands in the same, if it is one.
+    /// Answers the script of the same lines, or `None` if a step is no line of a script.
     pub fn script(&self, alloc: Global) -> Result<Option<String>, RowFault> {
         let mut script = String::new(alloc);
         for asked in self.asked.as_slice() {
@@ -137,8 +140,8 @@ impl Conversation {
         Ok(Some(script))
     }
 
-    /// The conversation that is read of what `explain` prints of its lines: the same one, if both
-    /// have one notation.
+    /// Reads what `explain` prints of the conversation's lines. Answers the conversation that this
+    /// is: the same one, if both have one notation.
     pub fn explained(&self, alloc: Global) -> Result<Conversation, RowFault> {
         let mut lines = String::new(alloc);
         for asked in self.asked.as_slice() {
@@ -148,7 +151,7 @@ impl Conversation {
         Conversation::read(alloc, lines.as_str())
     }
 
-    /// All that is handed in, and after it all that should be printed.
+    /// Answers a text of all that is handed in, and then of all that should be printed.
     pub fn said(&self, alloc: Global) -> Result<String, AllocError> {
         let mut said = String::new(alloc);
         for asked in self.asked.as_slice() {
@@ -159,11 +162,12 @@ impl Conversation {
         Ok(said)
     }
 
+    /// Answers whether the conversation is also asked of a file that is closed and opened again.
     pub fn is_reopened(&self) -> bool {
         self.is_reopened
     }
 
-    /// What should be printed, but for the line feed at its end.
+    /// Answers what should be printed, but for the line feed at its end.
     pub fn expected(&self) -> &str {
         self.printed.as_str()
     }
@@ -178,8 +182,8 @@ fn add_words(text: &mut String, line: &str) -> Result<(), AllocError> {
     Ok(())
 }
 
-/// Adds what `explain` prints of the text. What it prints of a message stands after two spaces,
-/// and each other line gets the mark before it.
+/// Adds what `explain` prints of the text. What it prints of a message stands after two spaces, and
+/// each other line gets the mark before it.
 fn add_explained(
     alloc: Global,
     lines: &mut String,

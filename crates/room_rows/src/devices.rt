@@ -1,4 +1,4 @@
-//! The devices that the rooms' machine knows.
+//! The devices of rooms in memory.
 ghost use Rattle.room_core.specs.Rates.{AreRated};
 ghost use Rattle.room_rules.specs.Devices.{device_map};
 
@@ -14,12 +14,12 @@ pub struct Devices {
 
 impl Devices {
     ghost use Rattle.std.specs.Prelude.{◌≡◌, ◌↔◌, ◌<◌, IfOk, OnOk, OnErr, IsErrOf, IsTrue, []};
-    ghost use Rattle.room_core.specs.DeviceEvents.{device_answered};
-    ghost use Rattle.room_core.specs.Events.{plain_event};
-    ghost use Rattle.room_core.specs.Fits.{fits};
+    ghost use Rattle.room_events.specs.DeviceEvents.{device_answered};
+    ghost use Rattle.room_events.specs.Events.{plain_event};
+    ghost use Rattle.room_events.specs.Fits.{fits};
     ghost use Rattle.room_rules.specs.Limits.{last_moment};
 
-    /// No devices.
+    /// Begins with no device.
     pub fn new(alloc: Global) -> Devices
         ensures { result.items.items ≡ [] }
     {
@@ -28,6 +28,7 @@ impl Devices {
         }
     }
 
+    /// Answers the devices that are known, in the order in which they became so.
     pub fn as_slice(&self) -> &[Device]
         ensures value { result.now ≡ self.now.items.items }
         ensures rated { AreRated (device_map result.now) }
@@ -35,7 +36,8 @@ impl Devices {
         self.items.as_slice()
     }
 
-    /// What is answered to a `Device` or a `Rate` event. After a fault every device is as before.
+    /// Applies a `Device` or a `Rate` event, and answers the reply. After a fault every device is
+    /// as before.
     pub fn answer(&mut self, alloc: Global, now: u64, event: &Event<'_>) -> Result<Reply, CoreFault>
         requires { IsTrue (fits (plain_event event.now)) }
         ensures reply { IfOk result (λ reply.

@@ -46,6 +46,7 @@ struct Open {
 }
 
 impl Open {
+    /// Begins a call that reads and writes nothing yet.
     fn new(alloc: Global) -> Open {
         Open {
             read: String::new(alloc),
@@ -54,11 +55,13 @@ impl Open {
         }
     }
 
+    /// Answers whether nothing was said of the call.
     fn is_empty(&self) -> bool {
         self.read.is_empty() && self.written.is_empty()
     }
 
-    fn add(&mut self, alloc: Global, line: &str) -> Result<(), RowFault> {
+    /// Reads one line of what the call reads or writes: a text behind `>` or `<`, or further bytes.
+    fn read_line(&mut self, alloc: Global, line: &str) -> Result<(), RowFault> {
         if let Some(text) = line.strip_prefix('>') {
             self.is_written = false;
             return push_line(alloc, &mut self.read, text.trim_start());
@@ -75,7 +78,8 @@ impl Open {
         Ok(())
     }
 
-    fn refuse(&mut self, alloc: Global, status: &str) -> Result<(), RowFault> {
+    /// Adds what `serve_one` writes of a refusal with this status.
+    fn add_refusal(&mut self, alloc: Global, status: &str) -> Result<(), RowFault> {
         let status = format!(in alloc; "HTTP/1.1 {status}")?;
         for line in [
             status.as_str(),
@@ -88,7 +92,8 @@ impl Open {
         Ok(())
     }
 
-    fn end(self, alloc: Global, end: &str) -> Result<Call, RowFault> {
+    /// Ends the call: answers it with this end, which also says how often it comes.
+    fn into_call(self, alloc: Global, end: &str) -> Result<Call, RowFault> {
         let (end, times) = match end.strip_suffix(" times") {
             Some(end) => end.split_once(' ').ok_or(RowFault::Times)?,
             None => (end, "1"),
@@ -103,7 +108,7 @@ impl Open {
 }
 
 impl Exchange {
-    /// That of the lines.
+    /// Reads the lines of an exchange. Answers `RowFault::Call` if the last call has no end.
     pub fn read(alloc: Global, lines: &str) -> Result<Exchange, RowFault> {
         let mut exchange = Exchange {
             moment: MOMENT,
@@ -120,14 +125,14 @@ impl Exchange {
             } else if line == "failing" {
                 exchange.is_failing = true;
             } else if let Some(end) = line.strip_prefix("= ") {
-                exchange.calls.push(open.end(alloc, end)?)?;
+                exchange.calls.push(open.into_call(alloc, end)?)?;
                 open = Open::new(alloc);
             } else if let Some(status) = line.strip_prefix("refused ") {
-                open.refuse(alloc, status)?;
-                exchange.calls.push(open.end(alloc, "close")?)?;
+                open.add_refusal(alloc, status)?;
+                exchange.calls.push(open.into_call(alloc, "close")?)?;
                 open = Open::new(alloc);
             } else {
-                open.add(alloc, line)?;
+                open.read_line(alloc, line)?;
             }
         }
         if !open.is_empty() {
@@ -136,16 +141,18 @@ impl Exchange {
         Ok(exchange)
     }
 
+    /// Answers the moment of the calls, in seconds.
     pub fn moment(&self) -> u64 {
         self.moment
     }
 
+    /// Answers whether the exchange is also made with each call of the connection failing.
     pub fn is_failing(&self) -> bool {
         self.is_failing
     }
 
-    /// How many calls there are.
-    pub fn count(&self) -> usize {
+    /// Counts the calls, each as often as it comes.
+    pub fn count_calls(&self) -> usize {
         let mut count = 0usize;
         for call in self.calls.as_slice() {
             count = count.saturating_add(call.times as usize);
@@ -153,7 +160,7 @@ impl Exchange {
         count
     }
 
-    /// All that is sent.
+    /// Answers all bytes that are sent.
     pub fn input(&self, alloc: Global) -> Result<Vec<u8>, AllocError> {
         let mut input = Vec::new(alloc);
         for call in self.calls.as_slice() {
@@ -164,7 +171,7 @@ impl Exchange {
         Ok(input)
     }
 
-    /// All that should be written.
+    /// Answers all bytes that should be written.
     pub fn written(&self, alloc: Global) -> Result<Vec<u8>, AllocError> {
         let mut written = Vec::new(alloc);
         for call in self.calls.as_slice() {
@@ -175,7 +182,8 @@ impl Exchange {
         Ok(written)
     }
 
-    /// What should be told of the calls. What is sent to a connection that has ended is left.
+    /// Answers what should be told of the calls. What is sent to a connection that has ended is
+    /// left.
     pub fn due(&self, alloc: Global) -> Result<String, RowFault> {
         let written = self.written(alloc)?;
         let mut ends = Vec::new(alloc);
@@ -188,12 +196,18 @@ impl Exchange {
                 }
             }
         }
-        told(alloc, ends.as_slice(), left, written.as_slice())
+        told_of_calls(alloc, ends.as_slice(), left, written.as_slice())
     }
 }
 
-/// What is told of calls, in lines: how each ended, how many bytes they left, and what they wrote.
-pub fn told(alloc: Global, ends: &[&str], left: usize, written: &[u8]) -> Result<String, RowFault> {
+/// Answers what is told of calls, in lines: how each ended, how many bytes they left, and what they
+/// wrote.
+pub fn told_of_calls(
+    alloc: Global,
+    ends: &[&str],
+    left: usize,
+    written: &[u8],
+) -> Result<String, RowFault> {
     let mut text = String::new(alloc);
     for end in ends {
         text.push_str(end)?;
@@ -204,8 +218,8 @@ pub fn told(alloc: Global, ends: &[&str], left: usize, written: &[u8]) -> Result
     Ok(text)
 }
 
-/// Adds bytes as a text: line feeds and what is printed of ASCII but for the backslash as they are,
-/// each other byte by its number.
+/// Adds bytes as a text that can be read: line feeds and printable ASCII but for the backslash stay
+/// as they are, and each other byte is `\x` and its two digits.
 fn push_legible(alloc: Global, text: &mut String, bytes: &[u8]) -> Result<(), RowFault> {
     for byte in bytes {
         match *byte {
@@ -216,6 +230,7 @@ fn push_legible(alloc: Global, text: &mut String, bytes: &[u8]) -> Result<(), Ro
     Ok(())
 }
 
+/// Adds the digits of a line's bytes and of CR LF.
 fn push_line(alloc: Global, digits: &mut String, line: &str) -> Result<(), RowFault> {
     digits.push_str(hex::encode(alloc, line.as_bytes())?.as_str())?;
     digits.push_str("0d0a")?;

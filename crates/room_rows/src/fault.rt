@@ -1,4 +1,4 @@
-//! Why a conversation is none, or an answer is not told.
+//! Why a row can't be read, or an answer can't be told.
 
 use hex::FromHexError;
 use ipp_notation::NotationFault;

@@ -19,7 +19,7 @@ pub enum Carriage {
 const FEW: usize = 7;
 
 impl Carriage {
-    /// Each in its turn.
+    /// Answers how the request of this number is carried: the three ways one after another.
     pub fn of_turn(turn: u64) -> Carriage {
         match turn % 3 {
             0 => Carriage::Length,
@@ -29,7 +29,7 @@ impl Carriage {
     }
 }
 
-/// The message that carries a request to its account.
+/// Answers the message that carries an IPP request to the account's queue.
 pub fn http_request(
     alloc: Global,
     account: Name,
@@ -53,6 +53,7 @@ pub fn http_request(
     Ok(text)
 }
 
+/// Puts the field that announces chunks, and the body in chunks of so many bytes at most.
 fn put_chunks(text: &mut Vec<u8>, body: &[u8], most: usize) -> Result<(), RowFault>
     requires { 0 < most }
 {
@@ -66,7 +67,7 @@ fn put_chunks(text: &mut Vec<u8>, body: &[u8], most: usize) -> Result<(), RowFau
     Ok(())
 }
 
-/// The message that tells a reply to a request.
+/// Answers the message by which `serve_one` tells the reply to a request.
 pub fn http_answer(alloc: Global, reply: &Reply) -> Result<Vec<u8>, RowFault> {
     let mut text = Vec::new(alloc);
     match reply {
@@ -85,6 +86,7 @@ pub fn http_answer(alloc: Global, reply: &Reply) -> Result<Vec<u8>, RowFault> {
     Ok(text)
 }
 
+/// Puts an answer of this status, without a body, that ends the connection.
 fn put_refusal(text: &mut Vec<u8>, status: &str) -> Result<(), RowFault> {
     write!(
         text,

@@ -19,15 +19,15 @@ mod runs;
 mod served;
 mod step;
 
-pub use comparing::difference;
+pub use comparing::first_other_line;
 pub use conversation::Conversation;
-pub use exchange::{ENDED, Exchange, told};
+pub use exchange::{ENDED, Exchange, told_of_calls};
 pub use fault::RowFault;
 pub use http::{Carriage, http_answer, http_request};
 pub use listing::{print_devices, print_hex, print_room};
 pub use reached::Act;
 pub use rooms::Rooms;
 pub use run::Run;
-pub use runs::{FileStep, RunStep, run_steps};
+pub use runs::{FileStep, RunStep, read_run_steps};
 pub use served::{line_answer, line_text, served_answer};
 pub use step::Step;

@@ -5,7 +5,7 @@ use room_core::{Device, FIRST_MONTH, Job, LAST_MONTH, Name, Room, Standing};
 use std::io;
 use std::io::Write;
 
-/// The rows that stand for an account's room; none where it is not open.
+/// Prints the rows that stand for the account's room, and nothing if it is not open.
 pub fn print_room(output: &mut Vec<u8>, name: Name, room: Option<&Room>) -> io::Result<()> {
     let Some(room) = room else {
         return Ok(());
@@ -28,7 +28,7 @@ pub fn print_room(output: &mut Vec<u8>, name: Name, room: Option<&Room>) -> io::
     Ok(())
 }
 
-/// Those of devices: the name, whether it is on, and the rate.
+/// Prints the rows of the devices: the name, whether it is on, and the rate.
 pub fn print_devices(output: &mut Vec<u8>, devices: &[Device]) -> io::Result<()> {
     for device in devices {
         print_begin(output, "device", device.name)?;
@@ -49,6 +49,7 @@ pub(crate) fn print_name(output: &mut Vec<u8>, name: Name) -> io::Result<()> {
     output.write_all(name.bytes())
 }
 
+/// Prints a job's row.
 fn print_job(output: &mut Vec<u8>, name: Name, job: &Job) -> io::Result<()> {
     print_begin(output, "job", name)?;
     write!(output, " {} ", job.job)?;
@@ -58,6 +59,7 @@ fn print_job(output: &mut Vec<u8>, name: Name, job: &Job) -> io::Result<()> {
     print_standing(output, &job.standing)
 }
 
+/// Prints the columns of a job's row from its state on, and the end of the line.
 fn print_standing(output: &mut Vec<u8>, standing: &Standing) -> io::Result<()> {
     let state = standing.state.number();
     let (open, stopping) = (standing.is_open as u8, standing.stopping as u8);
@@ -74,6 +76,7 @@ fn print_standing(output: &mut Vec<u8>, standing: &Standing) -> io::Result<()> {
     output.write_all(b"\n")
 }
 
+/// Prints a space and the moment, which is -1 if there is none.
 fn print_moment(output: &mut Vec<u8>, moment: Option<u64>) -> io::Result<()> {
     match moment {
         Some(moment) => write!(output, " {moment}"),
@@ -81,6 +84,7 @@ fn print_moment(output: &mut Vec<u8>, moment: Option<u64>) -> io::Result<()> {
     }
 }
 
+/// Prints a row for each document of the job.
 fn print_documents(output: &mut Vec<u8>, name: Name, room: &Room, job: &Job) -> io::Result<()> {
     for number in 1..=job.standing.documents {
         let Some(document) = room.document(job.job, number) else {

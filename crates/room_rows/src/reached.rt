@@ -25,12 +25,12 @@ pub struct Act {
 }
 
 impl Act {
-    /// That of an event that comes to the rooms as they are.
+    /// Answers the act that an event begins on the rooms as they are.
     pub fn of(alloc: Global, event: &Event<'_>, rooms: &Rooms) -> Act {
         let (name, account, job) = match event {
             Event::Open { account } => ("open", *account, 0),
             Event::Ipp { account, body } => (
-                operation(body),
+                operation_name(body),
                 *account,
                 job_in(alloc, body, *account),
             ),
@@ -45,7 +45,11 @@ impl Act {
             Some(room) => Act {
                 name,
                 job,
-                state: if job == 0 { "" } else { state(room.job(job)) },
+                state: if job == 0 {
+                    ""
+                } else {
+                    state_name(room.job(job))
+                },
                 has_password: has_password(room.job(job)),
                 is_last: room.account().next_job > LAST_JOB,
             },
@@ -59,6 +63,7 @@ impl Act {
         }
     }
 
+    /// Answers the act of a line on a device, and whether the rooms know that.
     fn of_device(name: &'static str, device: Name, rooms: &Rooms) -> Act {
         Act {
             name,
@@ -73,8 +78,8 @@ impl Act {
         }
     }
 
-    /// What the act came to, the room being the account's afterwards: `ACT STATE: OUTCOME`, and
-    /// what else a job that was handed out shows.
+    /// Answers what the act came to, by its reply and the account's room afterwards: `ACT STATE:
+    /// OUTCOME`, and what else a job that was handed out shows.
     pub fn reached(
         &self,
         alloc: Global,
@@ -103,7 +108,8 @@ impl Act {
         Ok(names)
     }
 
-    /// The word of a refusal; the state of the job that was acted on; or what is answered.
+    /// Answers the word of a refusal, else the state of the job that was acted on, or what was
+    /// answered if there is none.
     fn outcome(
         &self,
         alloc: Global,
@@ -121,12 +127,13 @@ impl Act {
             return Ok(said);
         }
         match room {
-            Some(room) => Ok(String::from_str(alloc, state(room.job(self.job)))?),
+            Some(room) => Ok(String::from_str(alloc, state_name(room.job(self.job)))?),
             None => Ok(said),
         }
     }
 }
 
+/// Answers whether there is a job and it has a password.
 fn has_password(job: Option<&Job>) -> bool {
     match job {
         Some(job) => !job.password.as_slice().is_empty(),
@@ -134,15 +141,15 @@ fn has_password(job: Option<&Job>) -> bool {
     }
 }
 
-/// The operation that a request names, `ipp` where it is none of RFC 8011.
-fn operation(body: &[u8]) -> &'static str {
+/// Answers the name of the operation that a request names, `ipp` where it is none of RFC 8011.
+fn operation_name(body: &[u8]) -> &'static str {
     match read_header(body) {
         Some(header) => Operation(header.code).name().unwrap_or("ipp"),
         None => "ipp",
     }
 }
 
-/// The job that a good request acts on.
+/// Answers the number of the job that a good request acts on, 0 if there is none.
 fn job_in(alloc: Global, body: &[u8], account: Name) -> u32 {
     if body.len() < HEADER_LENGTH {
         return 0;
@@ -153,7 +160,9 @@ fn job_in(alloc: Global, body: &[u8], account: Name) -> u32 {
     }
 }
 
-fn state(job: Option<&Job>) -> &'static str {
+/// Answers the name of the job's state in `.reached` files, which tells open jobs, jobs without
+/// documents and bound jobs apart.
+fn state_name(job: Option<&Job>) -> &'static str {
     let Some(job) = job else {
         return "no job";
     };
@@ -175,7 +184,7 @@ fn state(job: Option<&Job>) -> &'static str {
     }
 }
 
-/// The word of a refusal, or the status of an answer, and whether it is a refusal.
+/// Answers the word of a refusal, or the status of an answer, and whether it is a refusal.
 fn answer_said(alloc: Global, answer: &List<u8>) -> Result<(String, bool), RowFault> {
     let Ok(message) = read_message(alloc, answer.as_slice()) else {
         return Err(RowFault::Answer);
@@ -193,12 +202,14 @@ fn answer_said(alloc: Global, answer: &List<u8>) -> Result<(String, bool), RowFa
     Ok((format!(in alloc; "{code:04x}")?, false))
 }
 
+/// Answers the first word of a line's answer, and whether it is a refusal: another word than `ok`.
 fn line_said(alloc: Global, line: &List<u8>) -> Result<(String, bool), RowFault> {
     let word = first_word(alloc, line.as_slice())?;
     let is_refusal = word.as_str() != "ok";
     Ok((word, is_refusal))
 }
 
+/// Answers the text up to its first space.
 fn first_word(alloc: Global, text: &[u8]) -> Result<String, RowFault> {
     let Ok(text) = std::str::from_utf8(text) else {
         return Err(RowFault::Text);
@@ -207,8 +218,8 @@ fn first_word(alloc: Global, text: &[u8]) -> Result<String, RowFault> {
     Ok(String::from_str(alloc, word)?)
 }
 
-/// How many documents were handed out, and of each its line without its numbers: `copies 3,
-/// text/plain`.
+/// Adds how many documents were handed out, and of each its line without its numbers: `copies 3`,
+/// `text/plain`.
 fn add_parts(alloc: Global, names: &mut Vec<String>, parts: &[Part]) -> Result<(), RowFault> {
     let count = parts.len();
     names.push(format!(in alloc; "handed out: {count} documents")?)?;

@@ -1,9 +1,9 @@
 //! The rooms of accounts and the devices, as a machine in memory keeps them.
 ghost use Rattle.std.specs.Prelude.{◌≡◌, IfOk, OnOk, OnErr, IsTrue};
 ghost use Rattle.std.specs.FinMap.{empty};
-ghost use Rattle.room_core.specs.DeviceEvents.{device_answered};
-ghost use Rattle.room_core.specs.Events.{plain_event};
-ghost use Rattle.room_core.specs.Fits.{fits};
+ghost use Rattle.room_events.specs.DeviceEvents.{device_answered};
+ghost use Rattle.room_events.specs.Events.{plain_event};
+ghost use Rattle.room_events.specs.Fits.{fits};
 ghost use Rattle.room_rules.specs.Devices.{device_map};
 ghost use Rattle.room_rows.specs.DeviceEvents.{devices_of, IsToldOfDevices};
 
@@ -21,7 +21,7 @@ pub struct Rooms {
 }
 
 impl Rooms {
-    /// A database with no accounts and no devices.
+    /// Begins with no account and no device.
     pub fn new(alloc: Global) -> Rooms
         ensures { devices_of result ≡ empty }
     {
@@ -32,8 +32,8 @@ impl Rooms {
         }
     }
 
-    /// What is answered to an event at a moment, in seconds since 1970-01-01T00:00:00Z. After a
-    /// fault every room and every device is as before.
+    /// Applies an event at a moment, in seconds since 1970-01-01T00:00:00Z, and answers the reply.
+    /// After a fault every room and every device is as before.
     pub fn answer(&mut self, now: u64, event: &Event<'_>) -> Result<Reply, CoreFault>
         requires { IsTrue (fits (plain_event event.now)) }
         ensures told { IfOk result
@@ -55,23 +55,24 @@ impl Rooms {
         }
     }
 
-    /// The account's room, if it is open.
+    /// Answers the account's room, or `None` if it is not open.
     pub fn room(&self, account: Name) -> Option<&Room> {
         self.rooms.get(&account)?.as_ref()
     }
 
-    /// The same, to be changed.
+    /// Answers the account's room, to be changed, or `None` if it is not open.
     pub fn room_mut(&mut self, account: Name) -> Option<&mut Room> {
         self.rooms.get_mut(&account)?.as_mut()
     }
 
-    /// The devices that are known, each once.
+    /// Answers the devices that are known, each once.
     pub fn devices(&self) -> &[Device]
         ensures { device_map result.now ≡ devices_of self.now }
     {
         self.devices.as_slice()
     }
 
+    /// Applies an event of the account to its room, and answers the reply.
     fn answer_account(
         &mut self,
         now: u64,

@@ -46,8 +46,8 @@ pub struct Run {
 }
 
 impl Run {
-    /// The run that a line begins: `$ WORDS` is one of the words, `script ? LINE` and `station ?
-    /// LINE` are one with this bad line.
+    /// Answers the run that a line begins, or `None` if it begins none: `$ WORDS` is one of the
+    /// words, `script ? LINE` and `station ? LINE` are one with this bad line.
     pub(crate) fn begun(alloc: Global, line: &str) -> Result<Option<Run>, RowFault> {
         if line == "$" {
             return Ok(Some(Run::new(alloc, "")?));
@@ -63,7 +63,7 @@ impl Run {
         Ok(None)
     }
 
-    /// That of the words, which are parted by a space.
+    /// Makes a run of the words, which are parted by a space; it should print nothing and end well.
     fn new(alloc: Global, words: &str) -> Result<Run, RowFault> {
         Ok(Run {
             words: unescaped(alloc, words)?,
@@ -75,7 +75,7 @@ impl Run {
         })
     }
 
-    /// A run in memory of a script, or of the lines of a station, whose second line is bad.
+    /// Makes a run in memory of a script, or of the lines of a station, whose second line is bad.
     fn with_bad_line(alloc: Global, words: &str, lines: [&str; 3]) -> Result<Run, RowFault> {
         let mut run = Run::new(alloc, words)?;
         for line in lines {
@@ -86,7 +86,7 @@ impl Run {
         Ok(run)
     }
 
-    /// Adds what a line says of the run, if it says something of one:
+    /// Reads a line. Answers whether it says something of a run, which is added then:
     ///
     /// - `clock MOMENT`, or `clock none`;
     /// - `> TEXT` is a line of its input, `>. TEXT` one without its end, `* N TEXT` so many;
@@ -94,7 +94,7 @@ impl Run {
     /// prints;
     /// - `status N TEXT` is its exit status and the line on standard error, `usage` the status 1
     /// and any text.
-    pub(crate) fn add(&mut self, alloc: Global, line: &str) -> Result<bool, RowFault> {
+    pub(crate) fn read_line(&mut self, alloc: Global, line: &str) -> Result<bool, RowFault> {
         if let Some(clock) = line.strip_prefix("clock ") {
             self.clock = if clock == "none" {
                 None
@@ -124,6 +124,7 @@ impl Run {
         Ok(true)
     }
 
+    /// Adds a text to the run's input, with a line feed if it is ended.
     fn add_input(&mut self, alloc: Global, text: &str, is_ended: bool) -> Result<(), RowFault> {
         self.input
             .extend_from_slice(unescaped(alloc, text)?.as_slice())?;
@@ -133,6 +134,7 @@ impl Run {
         Ok(())
     }
 
+    /// Adds `N TEXT` to the run's input: so many lines of the text.
     fn add_many(&mut self, alloc: Global, text: &str) -> Result<(), RowFault> {
         let (times, text) = text.split_once(' ').ok_or(RowFault::Number)?;
         let times: u32 = times.parse()?;
@@ -142,6 +144,7 @@ impl Run {
         Ok(())
     }
 
+    /// Adds a line to what the run should print.
     fn add_printed(&mut self, text: &str) -> Result<(), RowFault> {
         if let Printed::Whole(printed) = &mut self.printed {
             printed.extend_from_slice(text.as_bytes())?;
@@ -150,7 +153,7 @@ impl Run {
         Ok(())
     }
 
-    /// Its words, those after the program's name.
+    /// Answers the words of the run, those after the program's name.
     pub fn words(&self, alloc: Global) -> Result<Vec<&[u8]>, AllocError> {
         if self.words.is_empty() {
             return Ok(Vec::new(alloc));
@@ -158,18 +161,19 @@ impl Run {
         self.words.split(|byte| *byte == b' ').collect(alloc)
     }
 
-    /// The clock's moment, if it has one.
+    /// Answers the clock's moment, or `None` if the run has no clock.
     pub fn clock(&self) -> Option<u64> {
         self.clock
     }
 
-    /// What stands on standard input.
+    /// Answers what stands on standard input.
     pub fn input(&self) -> &[u8] {
         self.input.as_slice()
     }
 
-    /// How the run ended, where it is otherwise than it should.
-    pub fn differs(
+    /// Compares how a run ended with how it should. Answers a text of how it ended, or `None` if
+    /// that is so.
+    pub fn difference(
         &self,
         alloc: Global,
         status: u8,
@@ -187,6 +191,7 @@ impl Run {
         )?))
     }
 
+    /// Answers whether the output is what the run should print.
     fn prints(&self, output: &str) -> bool {
         match &self.printed {
             Printed::Whole(printed) => output.as_bytes() == printed.as_slice(),
@@ -194,6 +199,7 @@ impl Run {
         }
     }
 
+    /// Answers whether what is on standard error is what the run should tell.
     fn tells(&self, errors: &str) -> bool {
         match &self.told {
             Told::Line(line) => errors == line.as_str(),
@@ -202,8 +208,8 @@ impl Run {
     }
 }
 
-/// The bytes that a text stands for, in which a backslash, an x and two hexadecimal digits stand
-/// for a byte.
+/// Answers the bytes that a text stands for, in which a backslash, an x and two hexadecimal digits
+/// stand for a byte.
 fn unescaped(alloc: Global, text: &str) -> Result<Vec<u8>, RowFault> {
     let mut pieces = text.split("\\x");
     let mut bytes = Vec::new(alloc);

@@ -6,6 +6,7 @@ use crate::run::Run;
 use room_lines::{Grammar, Line};
 use std::alloc::Global;
 
+/// A step of a row of runs.
 #[derive(Drop)]
 pub enum RunStep {
     Run(Run),
@@ -35,6 +36,7 @@ pub enum FileStep {
 }
 
 impl FileStep {
+    /// Reads a step of the file. Answers `RowFault::Unknown` if the line is none.
     fn read(alloc: Global, line: &str) -> Result<FileStep, RowFault> {
         if let Some(sql) = line.strip_prefix("sql ") {
             return Ok(FileStep::Sql(String::from_str(alloc, sql)?));
@@ -58,10 +60,10 @@ impl FileStep {
     }
 }
 
-/// The steps of a row. A line begins a run (`Run::begun`), says something of the run before it
-/// (`Run::add`), or is a step of the file. An empty line, and one that begins with `-- `, say
-/// nothing.
-pub fn run_steps(alloc: Global, lines: &str) -> Result<Vec<RunStep>, RowFault> {
+/// Reads the steps of a row. A line begins a run (`Run::begun`), says something of the run before
+/// it (`Run::read_line`), or is a step of the file. An empty line, and one that begins with `-- `,
+/// say nothing.
+pub fn read_run_steps(alloc: Global, lines: &str) -> Result<Vec<RunStep>, RowFault> {
     let mut steps = Vec::new(alloc);
     for line in lines.lines() {
         if line.is_empty() || line.starts_with("-- ") {
@@ -72,7 +74,7 @@ pub fn run_steps(alloc: Global, lines: &str) -> Result<Vec<RunStep>, RowFault> {
             continue;
         }
         if let Some(RunStep::Run(run)) = steps.last_mut()
-            && run.add(alloc, line)?
+            && run.read_line(alloc, line)?
         {
             continue;
         }

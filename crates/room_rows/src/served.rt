@@ -9,8 +9,8 @@ use std::alloc::Global;
 use std::io;
 use std::io::Write;
 
-/// The line of a station or an operator that asks for the action, with the line feed that ends it
-/// and without a moment. A message of IPP has no line: it answers `RowFault::Line`.
+/// Answers the line of a station or an operator that asks for the action, with the line feed that
+/// ends it and without a moment. A message of IPP has no line: it answers `RowFault::Line`.
 pub fn line_text(alloc: Global, action: &Action) -> Result<Vec<u8>, RowFault> {
     let mut text = Vec::new(alloc);
     put_action(&mut text, action)?;
@@ -18,6 +18,7 @@ pub fn line_text(alloc: Global, action: &Action) -> Result<Vec<u8>, RowFault> {
     Ok(text)
 }
 
+/// Puts the words of the line that asks for the action.
 fn put_action(text: &mut Vec<u8>, action: &Action) -> Result<(), RowFault> {
     match action {
         Action::Open { account } => print_begin(text, "open", *account)?,
@@ -82,6 +83,7 @@ fn put_job(
     write!(text, " {job}")
 }
 
+/// Puts a space and the password's digits, or `-` if there is none.
 fn put_password(text: &mut Vec<u8>, password: &[u8]) -> io::Result<()> {
     if password.is_empty() {
         return text.write_all(b" -");
@@ -90,6 +92,7 @@ fn put_password(text: &mut Vec<u8>, password: &[u8]) -> io::Result<()> {
     print_hex(text, password)
 }
 
+/// Puts a space and the impressions, or `-` if they are not told.
 fn put_impressions(text: &mut Vec<u8>, impressions: Option<u32>) -> io::Result<()> {
     match impressions {
         Some(impressions) => write!(text, " {impressions}"),
@@ -97,8 +100,9 @@ fn put_impressions(text: &mut Vec<u8>, impressions: Option<u32>) -> io::Result<(
     }
 }
 
-/// What a connection of lines is sent for a line that came to the reply: what a script prints of
-/// it, but for documents the number of them, and of each its line and then its bytes as they are.
+/// Answers what a connection of lines is sent for a line that came to the reply: what a script
+/// prints of it, but for documents the number of them, and of each its line and then its bytes as
+/// they are.
 pub fn line_answer(alloc: Global, reply: &Reply) -> Result<Vec<u8>, RowFault> {
     let mut text = Vec::new(alloc);
     match reply {
@@ -108,6 +112,7 @@ pub fn line_answer(alloc: Global, reply: &Reply) -> Result<Vec<u8>, RowFault> {
     Ok(text)
 }
 
+/// Puts `documents N`, and of each document its line and its bytes, each with a line feed.
 fn put_documents(text: &mut Vec<u8>, parts: &[Part]) -> io::Result<()> {
     writeln!(text, "documents {}", parts.len())?;
     for part in parts {
@@ -119,9 +124,9 @@ fn put_documents(text: &mut Vec<u8>, parts: &[Part]) -> io::Result<()> {
     Ok(())
 }
 
-/// The message of HTTP that tells a request's reply to a connection that is served beside all
-/// others. Where `closes`, it says that the connection ends after it. Unlike `http_answer`'s, the
-/// names of its fields are in lower case, and a refusal does not by itself end the connection.
+/// Answers the message of HTTP that tells a request's reply to a connection that is served beside
+/// all others. Where `closes`, it says that the connection ends after it. Unlike `http_answer`'s,
+/// the names of its fields are in lower case, and a refusal does not by itself end the connection.
 pub fn served_answer(alloc: Global, reply: &Reply, closes: bool) -> Result<Vec<u8>, RowFault> {
     let (status, kind, body) = match reply {
         Reply::Ipp(answer) => (

@@ -1,7 +1,7 @@
 -- Databases that agree, and machines that are given the same.
 use Rattle.std.proofs.Common.{◌≡◌, ℕ, Bool, true, false, cond, List, [], ◌∷◌, filter, Option, Some, None, length, refl, sym, ap, subst, ◌∙◌, arith}
 use Rattle.sqlite.specs.Effect.{Database}
-use Rattle.room_core.specs.Events.{Timed}
+use Rattle.room_events.specs.Events.{Timed}
 use Rattle.room_rules.specs.Devices.{Devices}
 use Rattle.room_state.specs.Rooms.{RoomValue}
 use Rattle.room_tables.proofs.AgreedRows.{still_holds}

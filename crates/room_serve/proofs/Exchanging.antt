@@ -3,7 +3,7 @@ use Rattle.std.proofs.Common.{◌≡◌, ℕ, List, take, Option, Result, Ok, Er
 use Rattle.std.specs.Io.KnownBytes.{Appends}
 use Rattle.sqlite.specs.Held.{Held}
 use Rattle.sqlite_trees.specs.declared.store.Store.{Ghosts}
-use Rattle.room_core.specs.declared.event.Reply.{Reply}
+use Rattle.room_events.specs.declared.event.Reply.{Reply}
 use Rattle.room_http.specs.Exchange.{AppendsFront, FailedReceiving, Takes}
 use Rattle.room_http.specs.Http.{Http, Carried}
 use Rattle.room_http.specs.Texts.{interim_text}

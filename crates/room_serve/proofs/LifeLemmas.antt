@@ -3,10 +3,10 @@ use Rattle.std.proofs.Common.{◌≡◌, ℕ, ◌+◌, Bool, true, false, cond, 
 use Rattle.std.proofs.lemmas.List.{append-nil, append_assoc, length-append}
 use Rattle.std.proofs.lemmas.List.Elements.{filter-append}
 use Rattle.sqlite.specs.Effect.{Database}
-use Rattle.room_core.specs.DeviceEvents.{device_answered}
-use Rattle.room_core.specs.Events.{AccountEvent, PlainEvent, Timed, OfAccount, OfDevice}
-use Rattle.room_core.specs.Machine.{answered}
-use Rattle.room_core.specs.declared.event.Reply.{Reply}
+use Rattle.room_events.specs.DeviceEvents.{device_answered}
+use Rattle.room_events.specs.Events.{AccountEvent, PlainEvent, Timed, OfAccount, OfDevice}
+use Rattle.room_events.specs.Machine.{answered}
+use Rattle.room_events.specs.declared.event.Reply.{Reply}
 use Rattle.room_rules.specs.Devices.{Devices}
 use Rattle.room_state.specs.Rooms.{RoomValue}
 use Rattle.room_serve.specs.declared.outcome.Outcome.{Outcome}

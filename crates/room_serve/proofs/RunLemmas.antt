@@ -9,9 +9,9 @@ use Rattle.sqlite.specs.Effect.{Database}
 use Rattle.sqlite.specs.Held.{Held, state}
 use Rattle.sqlite.specs.State.{State, HasCleanDisk}
 use Rattle.std.proofs.lemmas.Slice.Eq.{bytes_eq-Decides}
-use Rattle.room_core.specs.Events.{PlainEvent, AccountEvent, Timed, OfAccount, OfDevice}
-use Rattle.room_core.specs.Machine.{answered}
-use Rattle.room_core.specs.declared.event.Reply.{Reply}
+use Rattle.room_events.specs.Events.{PlainEvent, AccountEvent, Timed, OfAccount, OfDevice}
+use Rattle.room_events.specs.Machine.{answered}
+use Rattle.room_events.specs.declared.event.Reply.{Reply}
 use Rattle.room_store.specs.Applied.{Applies, IsAnswered}
 use Rattle.room_rules.specs.Devices.{Devices}
 use Rattle.room_state.specs.Rooms.{RoomValue}

@@ -4,8 +4,8 @@ use Rattle.std.specs.Prelude.{◌≡◌, ◌⊎◌, ℕ, true, List, [], ◌∷�
 use Rattle.std.specs.Io.KnownBytes.{Appends}
 use Rattle.sqlite.specs.Held.{Held, state}
 use Rattle.sqlite_trees.specs.declared.store.Store.{Ghosts}
-use Rattle.room_core.specs.Events.{Timed, OfAccount, Ipp}
-use Rattle.room_core.specs.declared.event.Reply.{Reply}
+use Rattle.room_events.specs.Events.{Timed, OfAccount, Ipp}
+use Rattle.room_events.specs.declared.event.Reply.{Reply}
 use Rattle.room_http.specs.Exchange.{Takes}
 use Rattle.room_http.specs.Http.{Http, Carried}
 use Rattle.room_http.specs.Texts.{interim_text}

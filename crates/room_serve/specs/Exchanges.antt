@@ -5,9 +5,9 @@ use Rattle.std.specs.Io.KnownBytes.{Appends}
 use Rattle.sqlite.specs.Held.{Held, state}
 use Rattle.sqlite_trees.specs.declared.store.Store.{Ghosts}
 use Rattle.ipp_coding.specs.Reading.{header_in}
-use Rattle.room_core.specs.Events.{OfAccount, Ipp}
-use Rattle.room_core.specs.declared.event.Reply.{Reply}
-use Rattle.room_core.specs.declared.event.Reply.TheVariants as reply_is
+use Rattle.room_events.specs.Events.{OfAccount, Ipp}
+use Rattle.room_events.specs.declared.event.Reply.{Reply}
+use Rattle.room_events.specs.declared.event.Reply.TheVariants as reply_is
 use Rattle.room_http.specs.Exchange.{AppendsFront, AppendsInterim, Takes, TakesHead}
 use Rattle.room_http.specs.Http.{Http, Nothing, Refused, Carried}
 use Rattle.room_http.specs.Texts.{answer_text, interim_text, refusal_text}

@@ -4,7 +4,7 @@ use Rattle.sqlite.specs.Effect.{Database}
 use Rattle.room_tables.specs.Accounts.{IsSound}
 use Rattle.room_tables.specs.Devices.{AreSoundDevices}
 use Rattle.room_serve.specs.declared.outcome.Outcome.{Outcome}
-use Rattle.room_core.specs.Events.{Timed}
+use Rattle.room_events.specs.Events.{Timed}
 use Rattle.room_serve.specs.Own.{is_of, own}
 use Rattle.room_serve.specs.Outcomes.{NoneFailed, replies_to}
 use Rattle.room_serve.specs.Runs.{RunsAlone}

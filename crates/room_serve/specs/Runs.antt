@@ -11,7 +11,7 @@ use Rattle.room_tables.specs.Accounts.{AgreeOnRows, Holds}
 use Rattle.room_tables.specs.Devices.{AgreeOnDevices, HoldsDevices}
 use Rattle.room_tables.specs.Tables.{meta}
 use Rattle.room_serve.specs.declared.outcome.Outcome.{Outcome}
-use Rattle.room_core.specs.Events.{Timed}
+use Rattle.room_events.specs.Events.{Timed}
 use Rattle.room_serve.specs.Own.{is_of, is_of_device, of_devices, own}
 use Rattle.room_serve.specs.Alone.{Alone, DevicesAlone, alone, devices_alone}
 use Rattle.room_serve.specs.Outcomes.{answered_of, replies_to, result_of}

@@ -3,8 +3,8 @@ ghost use Rattle.std.specs.Prelude.{◌≡◌, ◌++◌, ◌∷◌, [], ◌<◌,
 ghost use Rattle.std.specs.Vec.{vec_capacity, vec_len};
 ghost use Rattle.sqlite.specs.Held.{state};
 ghost use Rattle.sqlite_trees.specs.Tree.{Trees};
-ghost use Rattle.room_core.specs.Events.{plain_event, plain_timed};
-ghost use Rattle.room_core.specs.Fits.{fits};
+ghost use Rattle.room_events.specs.Events.{plain_event, plain_timed};
+ghost use Rattle.room_events.specs.Fits.{fits};
 ghost use Rattle.room_laws.specs.Lives.{Life};
 ghost use Rattle.room_tables.specs.Calls.{KeepsConnection, IfOurTables};
 ghost use Rattle.room_tables.specs.Keyed.{HasSchema};
@@ -14,7 +14,7 @@ ghost use Rattle.room_serve.specs.Runs.{AreApplied, LeavesTheRest, RunsAlone, Ru
 
 use crate::fault::RunFault;
 use crate::outcome::Outcome;
-use room_core::Event;
+use room_events::Event;
 use room_store::Store;
 use sqlite::Alter;
 use std::alloc::Global;

@@ -6,7 +6,7 @@ use Rattle.sqlite.specs.Effect.{Database}
 use Rattle.sqlite.specs.Held.{Held, state}
 use Rattle.sqlite.specs.State.{State, HasCleanDisk}
 use Rattle.sqlite_trees.specs.declared.store.Store.{Ghosts}
-use Rattle.room_core.specs.Events.{Timed}
+use Rattle.room_events.specs.Events.{Timed}
 use Rattle.room_serve.proofs.RunLemmas.{Shows, SoFar, begins, next_schema, one_more, one_shown, still_shown}
 use Rattle.room_serve.specs.Outcomes.{outcome_of}
 use Rattle.room_serve.specs.declared.outcome.Outcome.{Outcome}

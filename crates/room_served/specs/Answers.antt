@@ -8,8 +8,8 @@ use Rattle.http_server.specs.declared.response.Response.{Response}
 use Rattle.sqlite_trees.specs.declared.store.Store.{Ghosts}
 use Rattle.ipp_coding.specs.Reading.{header_in}
 use Rattle.ipp_coding.specs.declared.message.Header.{Header}
-use Rattle.room_core.specs.declared.event.Reply.{Reply}
-use Rattle.room_core.specs.declared.event.Reply.TheVariants as reply_is
+use Rattle.room_events.specs.declared.event.Reply.{Reply}
+use Rattle.room_events.specs.declared.event.Reply.TheVariants as reply_is
 use Rattle.room_http.specs.Texts.{status_of}
 use Rattle.room_http.specs.declared.refusal.Refusal.{Refusal}
 use Rattle.room_http.specs.declared.refusal.Refusal.TheVariants.{MethodNotAllowed, NotFound}

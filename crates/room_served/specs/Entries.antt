@@ -1,6 +1,6 @@
 -- The event that something that came asks for (all this project's own).
 use Rattle.std.specs.Prelude.{ℕ}
-use Rattle.room_core.specs.Events.{PlainEvent, Timed, OfAccount, Ipp}
+use Rattle.room_events.specs.Events.{PlainEvent, Timed, OfAccount, Ipp}
 use Rattle.room_lines.specs.Actions.{event_of_action}
 use Rattle.room_served.specs.declared.entry.Entry.{Entry}
 use Rattle.room_served.specs.declared.entry.Entry.TheVariants as entry

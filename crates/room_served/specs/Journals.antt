@@ -6,8 +6,8 @@ use Rattle.sqlite.specs.Held.{Held, state}
 use Rattle.sqlite.specs.State.{HasCleanDisk, Survives}
 use Rattle.sqlite_trees.specs.declared.store.Store.{Ghosts}
 use Rattle.http_server.specs.declared.log.Log.{Log}
-use Rattle.room_core.specs.Events.{Timed}
-use Rattle.room_core.specs.declared.event.Reply.{Reply}
+use Rattle.room_events.specs.Events.{Timed}
+use Rattle.room_events.specs.declared.event.Reply.{Reply}
 use Rattle.room_statements.specs.Rounds.{BeginsRound, EndsRound}
 use Rattle.room_store.specs.Applied.{Applies}
 use Rattle.room_store.specs.Rounds.{IsLost, StaysInRound}

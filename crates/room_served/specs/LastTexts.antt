@@ -4,8 +4,8 @@ use Rattle.std.specs.Prelude.{ℕ, List, true, if◌then◌else◌, length, nat_
 use Rattle.ipp_coding.specs.Limits.{header_length}
 use Rattle.ipp_coding.specs.Reading.{header_in}
 use Rattle.ipp_coding.specs.declared.message.Header.{Header}
-use Rattle.room_core.specs.declared.event.Reply.{Reply}
-use Rattle.room_core.specs.declared.event.Reply.TheVariants as reply_is
+use Rattle.room_events.specs.declared.event.Reply.{Reply}
+use Rattle.room_events.specs.declared.event.Reply.TheVariants as reply_is
 use Rattle.room_http.specs.Texts.{answer_text, refusal_text}
 use Rattle.room_http.specs.declared.refusal.Refusal.TheVariants.{BadRequest, NotFound}
 use Rattle.room_replies.specs.Replies.{internal_error_text}

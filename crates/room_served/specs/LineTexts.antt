@@ -2,8 +2,8 @@
 use Rattle.std.specs.Prelude.{ℕ, List, ◌++◌, codes, decimal, length, Result, Ok, Err}
 use Rattle.std.specs.List.{flat_map}
 use Rattle.room_replies.specs.declared.part.Part.{Part}
-use Rattle.room_core.specs.declared.event.Reply.{Reply}
-use Rattle.room_core.specs.declared.event.Reply.TheVariants as reply_is
+use Rattle.room_events.specs.declared.event.Reply.{Reply}
+use Rattle.room_events.specs.declared.event.Reply.TheVariants as reply_is
 use Rattle.room_store.specs.declared.fault.StoreFault.{StoreFault}
 
 -- for a line that is none of its side's

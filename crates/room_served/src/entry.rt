@@ -1,11 +1,11 @@
 //! What came, and the moment at which it counts as done.
 ghost use Rattle.std.specs.Prelude.{◌≡◌, IsTrue};
-ghost use Rattle.room_core.specs.Events.{plain_event};
-ghost use Rattle.room_core.specs.Fits.{fits};
+ghost use Rattle.room_events.specs.Events.{plain_event};
+ghost use Rattle.room_events.specs.Fits.{fits};
 ghost use Rattle.room_served.specs.Entries.{event_of_entry, moment_at};
 
 use bytes::Bytes;
-use room_core::{Event, Name};
+use room_events::{Event, Name};
 use room_lines::Line;
 
 /// What a connection asked of the rooms or the devices, at a moment in seconds since

@@ -8,7 +8,7 @@ use crate::shared::shared;
 use bytes::BufMut;
 use http_server::Rope;
 use ipp_coding::{HEADER_LENGTH, Header, header_in};
-use room_core::{Reply, internal_error};
+use room_events::{Reply, internal_error};
 use room_http::{Refusal, last_answer_head, refusal_text};
 use room_store::StoreFault;
 use std::alloc::{AllocError, Global};

@@ -5,7 +5,7 @@ ghost use Rattle.room_served.specs.LineTexts.{line_text, part_text, parts_text, 
 use crate::shared::shared;
 use bytes::BufMut;
 use http_server::Rope;
-use room_core::{Part, Reply};
+use room_events::{Part, Reply};
 use room_store::StoreFault;
 use std::alloc::{AllocError, Global};
 

@@ -5,7 +5,7 @@ ghost use Rattle.room_served.specs.Requests.{asked, has_ipp, has_long_body, is_i
 use bytes::Bytes;
 use http::{HeaderValue, Request, header};
 use ipp_coding::HEADER_LENGTH;
-use room_core::Name;
+use room_events::Name;
 use room_http::{Refusal, account_of, is_ipp_type, is_post};
 
 /// A body of more bytes ends the connection, which would keep the room that it took.

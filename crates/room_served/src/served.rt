@@ -4,7 +4,7 @@ ghost use Rattle.room_served.specs.Journals.{AppliesEntry, AppliesNext, IsBegun,
 
 use crate::entry::Entry;
 use http_server::Log;
-use room_core::{Part, Reply};
+use room_events::{Part, Reply};
 use room_store::{Rounds, Store, StoreFault};
 use sqlite::{Alter, Connection};
 use std::alloc::{AllocError, Global};

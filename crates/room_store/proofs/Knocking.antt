@@ -5,10 +5,10 @@ use Rattle.sqlite_trees.specs.declared.store.Store.{Ghosts}
 use Rattle.sqlite.specs.Held.{Held, state}
 use Rattle.sqlite.specs.State.{State, IsNotRun, IsUnchanged as IsLeftSame}
 use Rattle.sqlite.specs.declared.error.Error.{Error}
-use Rattle.room_core.specs.DeviceEvents.{device_answered}
-use Rattle.room_core.specs.Events.{PlainEvent, OfAccount, OfDevice}
-use Rattle.room_core.specs.Machine.{answered}
-use Rattle.room_core.specs.declared.event.Reply.{Reply}
+use Rattle.room_events.specs.DeviceEvents.{device_answered}
+use Rattle.room_events.specs.Events.{PlainEvent, OfAccount, OfDevice}
+use Rattle.room_events.specs.Machine.{answered}
+use Rattle.room_events.specs.declared.event.Reply.{Reply}
 use Rattle.room_rules.specs.Devices.{Devices}
 use Rattle.room_state.specs.Rooms.{RoomValue}
 use Rattle.room_statements.proofs.RoundTexts.{empty_is_one}

@@ -1,9 +1,11 @@
-//! Answers that no event brings: a store that fails, and a queue whose last number is given.
+//! Tests of answers that no event brings: a store that fails, and a queue whose last number is
+//! given.
 
 use ipp_coding::Header;
 use room_replies::{check_accepting, internal_error, is_accepting};
 use room_rules::{Refusal, Word};
 
+/// Shows the bytes that a request is answered where the store fails.
 #[test]
 fn a_store_that_fails(rt: HostRuntime) {
     let request = Header {
@@ -23,6 +25,7 @@ fn a_store_that_fails(rt: HostRuntime) {
     );
 }
 
+/// Shows that an account accepts a job as long as a number is left, and refuses one after the last.
 #[test]
 fn the_last_number(rt: HostRuntime) {
     let refused = Err(Refusal {

@@ -1,4 +1,4 @@
-//! What a request asks, where it is read by itself.
+//! Tests of reading what a request asks, by itself.
 
 use crate::examples::REQUEST;
 use ipp_coding::HEADER_LENGTH;
@@ -23,6 +23,8 @@ const INSISTING: &[u8] = b"\x01\x01\x00\x02\x00\x00\x00\x01\x01\
 
 const LONGEST_DOCUMENT: usize = 16_777_216;
 
+/// Shows what is read of the first worked example: the operation, the base of its target, and no
+/// job.
 #[test]
 fn a_good_request_is_an_ask(rt: HostRuntime) -> Result<(), Fail> {
     let alice = Name::read(b"alice").ok_or("a name")?;
@@ -34,8 +36,8 @@ fn a_good_request_is_an_ask(rt: HostRuntime) -> Result<(), Fail> {
     Ok(())
 }
 
-/// Why the queue of alice refuses the request with so many bytes of data, and None where it does
-/// not.
+/// Answers why the queue of alice refuses the request with so many bytes of data, or `None` if it
+/// does not.
 fn refusal(alloc: Global, front: &[u8], data: usize) -> Result<Option<Refusal>, Fail> {
     let alice = Name::read(b"alice").ok_or("a name")?;
     let mut body = Vec::from_slice(alloc, front)?;
@@ -50,6 +52,8 @@ fn refusal(alloc: Global, front: &[u8], data: usize) -> Result<Option<Refusal>, 
     }
 }
 
+/// Shows that a document of 16 MiB is taken and one byte more refused, behind the check of
+/// templates, and that only an operation with a document refuses it.
 #[test]
 fn the_longest_document(rt: HostRuntime) -> Result<(), Fail> {
     let too_large = Refusal {

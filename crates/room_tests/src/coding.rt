@@ -1,4 +1,4 @@
-//! Messages that are read and written, part by part.
+//! Tests of reading and writing messages, part by part.
 
 use crate::examples::{ANSWER, REQUEST};
 use ipp_coding::{
@@ -7,6 +7,7 @@ use ipp_coding::{
 };
 use std::test::Fail;
 
+/// Shows that the header of a request is read, and that there is none in seven bytes.
 #[test]
 fn header_of_a_request(rt: HostRuntime) {
     let header = Header {
@@ -19,6 +20,7 @@ fn header_of_a_request(rt: HostRuntime) {
     assert_eq!(rt; read_header(&REQUEST[..7]), None);
 }
 
+/// Shows that a message without its last bytes is malformed, however many of them are missing.
 #[test]
 fn every_proper_prefix_is_malformed(rt: HostRuntime) {
     assert_eq!(rt; REQUEST.len(), 119);
@@ -29,6 +31,7 @@ fn every_proper_prefix_is_malformed(rt: HostRuntime) {
     assert!(rt; read_message(rt.alloc(), REQUEST).is_ok());
 }
 
+/// Shows that the parts of an answer, put one after another, are its bytes.
 #[test]
 fn the_puts_write_an_answer(rt: HostRuntime) -> Result<(), Fail> {
     let mut out = Vec::new(rt.alloc());
@@ -47,6 +50,7 @@ fn the_puts_write_an_answer(rt: HostRuntime) -> Result<(), Fail> {
     Ok(())
 }
 
+/// Shows that a further value is put with an empty name.
 #[test]
 fn a_further_value(rt: HostRuntime) -> Result<(), Fail> {
     let mut out = Vec::new(rt.alloc());
@@ -59,6 +63,8 @@ fn a_further_value(rt: HostRuntime) -> Result<(), Fail> {
     Ok(())
 }
 
+/// Shows which fault a bad attribute or group has, if two are wrong the one that comes first, and
+/// that nothing is put then.
 #[test]
 fn refusals_in_their_order(rt: HostRuntime) -> Result<(), Fail> {
     let mut out = Vec::new(rt.alloc());
@@ -84,6 +90,7 @@ fn refusals_in_their_order(rt: HostRuntime) -> Result<(), Fail> {
     Ok(())
 }
 
+/// Shows that an integer or an enum of four bytes is a number, and nothing else is.
 #[test]
 fn numbers(rt: HostRuntime) {
     let cases: [(u8, &[u8], Option<i32>); 7] = [
@@ -100,6 +107,7 @@ fn numbers(rt: HostRuntime) {
     }
 }
 
+/// Shows that a boolean of the byte 0 or 1 is a truth, and nothing else is.
 #[test]
 fn truths(rt: HostRuntime) {
     let cases: [(u8, &[u8], Option<bool>); 6] = [
@@ -115,6 +123,7 @@ fn truths(rt: HostRuntime) {
     }
 }
 
+/// Shows which values are texts, and that one with a language is its second part.
 #[test]
 fn texts(rt: HostRuntime) {
     let cases: [(u8, &[u8], Option<&[u8]>); 14] = [

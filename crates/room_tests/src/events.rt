@@ -1,11 +1,11 @@
-//! One account's machine by itself: an account that is opened, events that do not fit, moments that
-//! are none.
+//! Tests of one account's machine by itself: an account that is opened, events that do not fit,
+//! moments that are none.
 
 ghost use Rattle.std.specs.List.{AllByRecursion};
 ghost use Rattle.std.specs.Prelude.{IsTrue};
-ghost use Rattle.room_core.specs.Events.{plain_event};
-ghost use Rattle.room_core.specs.Fits.{fits};
-ghost use Rattle.room_core.specs.Rates.{HasRate};
+ghost use Rattle.room_events.specs.Events.{plain_event};
+ghost use Rattle.room_events.specs.Fits.{fits};
+ghost use Rattle.room_events.specs.Rates.{HasRate};
 
 use crate::examples::{ANSWER, REQUEST};
 use room_core::{CoreFault, Device, Event, Name, Reply, Room, answer, fits};
@@ -14,14 +14,15 @@ use std::process::Abort;
 
 const NEXT_CENTURY: u64 = 4_102_444_800;
 
-/// `alice`, as an account and as a device.
-fn name(rt: &impl Abort) -> Name {
+/// Answers `alice`, as an account and as a device.
+fn alice(rt: &impl Abort) -> Name {
     Name::read(b"alice").expect(rt, "a name")
 }
 
+/// Shows that an event does not fit if a month, pages, a rate or impressions are past their limits.
 #[test]
 fn numbers_past_their_limits(rt: HostRuntime) {
-    let name = name(&rt);
+    let name = alice(&rt);
     for (month, pages) in [(23_639, 1), (25_200, 1), (25_199, 1_000_000_001)] {
         let grant = Event::Grant {
             account: name,
@@ -52,9 +53,11 @@ fn numbers_past_their_limits(rt: HostRuntime) {
     assert!(rt; !fits(&release));
 }
 
+/// Shows that an event at a moment out of range fails for that, whatever it asks, and changes
+/// nothing.
 #[test]
 fn moments_come_first(rt: HostRuntime) {
-    let account = name(&rt);
+    let account = alice(&rt);
     let short = Event::Ipp {
         account,
         body: b"\x01\x01\x00\x04\x00\x00\x00",
@@ -67,7 +70,7 @@ fn moments_come_first(rt: HostRuntime) {
     }
 }
 
-/// The answer at a moment. It promises nothing here: a test looks at what runs.
+/// Answers the machine's reply at a moment. It promises nothing here: a test looks at what runs.
 #[tactic(auto, using(room_core::proofs::Rates::all_are_rated))]
 fn answer_with(
     alloc: Global,
@@ -82,8 +85,12 @@ fn answer_with(
     answer(alloc, room, devices, now, event)
 }
 
-/// The answer at the moment 1000, where no device is known.
-fn answered(rt: &(impl Abort + AllocGlobal), room: &mut Option<Room>, event: &Event<'_>) -> Reply
+/// Answers the machine's reply at the moment 1000, where no device is known.
+fn answer_at_1000(
+    rt: &(impl Abort + AllocGlobal),
+    room: &mut Option<Room>,
+    event: &Event<'_>,
+) -> Reply
     requires { IsTrue (fits (plain_event event.now)) }
 {
     answer_with(rt.alloc(), room, &[], 1000, event)
@@ -91,19 +98,20 @@ fn answered(rt: &(impl Abort + AllocGlobal), room: &mut Option<Room>, event: &Ev
         .expect(rt, "an answer")
 }
 
+/// Shows that a request finds no account before it is opened, and is answered after.
 #[test]
 fn an_account_is_opened(rt: HostRuntime) {
-    let account = name(&rt);
+    let account = alice(&rt);
     let body = REQUEST;
     let mut room = None;
-    let before = answered(&rt, &mut room, &Event::Ipp { account, body });
+    let before = answer_at_1000(&rt, &mut room, &Event::Ipp { account, body });
     assert!(rt; matches!(&before, Reply::NoAccount));
     assert!(rt; room.is_none());
-    match answered(&rt, &mut room, &Event::Open { account }) {
+    match answer_at_1000(&rt, &mut room, &Event::Open { account }) {
         Reply::Line(text) => assert_eq!(rt; text.as_slice(), b"ok".as_slice()),
         _ => assert!(rt; false),
     }
-    match answered(&rt, &mut room, &Event::Ipp { account, body }) {
+    match answer_at_1000(&rt, &mut room, &Event::Ipp { account, body }) {
         Reply::Ipp(message) => assert_eq!(rt; message.as_slice(), ANSWER),
         _ => assert!(rt; false),
     }

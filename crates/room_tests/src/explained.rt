@@ -1,4 +1,4 @@
-//! Messages and lines that are explained.
+//! Tests of what `explain` prints of messages and lines.
 
 use crate::notation::{explained, spelled};
 use ipp_coding::read_message;
@@ -137,6 +137,7 @@ const NO_MESSAGES: [(&str, usize, &str); 11] = [
     ),
 ];
 
+/// Shows what is printed of each kind of message, and that it stands for the same digits.
 #[test]
 fn each_kind_of_message(rt: HostRuntime) -> Result<(), Fail> {
     let alloc = rt.alloc();
@@ -149,6 +150,8 @@ fn each_kind_of_message(rt: HostRuntime) -> Result<(), Fail> {
     Ok(())
 }
 
+/// Shows what is printed of bytes that are no message, that it stands for the same digits, and that
+/// the place told is where the longest good front ends.
 #[test]
 fn no_messages(rt: HostRuntime) -> Result<(), Fail> {
     let alloc = rt.alloc();
@@ -166,7 +169,8 @@ fn no_messages(rt: HostRuntime) -> Result<(), Fail> {
     Ok(())
 }
 
-/// How long the longest front is that is a message with an end tag after it, 0 where none is.
+/// Answers how long the longest front is that is a message with an end tag after it, 0 where none
+/// is.
 fn longest_front(alloc: Global, bytes: Vec<u8>) -> Result<usize, Fail> {
     let mut longest = 0;
     for length in 0..=bytes.len() {
@@ -180,6 +184,7 @@ fn longest_front(alloc: Global, bytes: Vec<u8>) -> Result<usize, Fail> {
     Ok(longest)
 }
 
+/// Shows that a value of 32768 bytes, whose length no message can say, is no message.
 #[test]
 fn a_value_that_is_too_long(rt: HostRuntime) -> Result<(), Fail> {
     let alloc = rt.alloc();
@@ -257,6 +262,7 @@ const LINES_EXPLAINED: &[u8] = b"1788249600 open alice\n\
     ipp\n\
     \x20 01  # no message from byte 0 on\n";
 
+/// Shows which lines hold a message that is explained, and that each other line stays as it is.
 #[test]
 fn each_kind_of_line(rt: HostRuntime) -> Result<(), Fail> {
     let mut output = Vec::new(rt.alloc());

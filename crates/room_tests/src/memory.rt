@@ -1,7 +1,8 @@
-//! Each call where a request for memory is refused: it answers its fault for memory and leaves what
-//! it was given as it was, and made again it gives the usual answer. Run as they are, these tests
-//! meet no refusal; `tools/refuse-memory` runs them once for each request that they make, and so
-//! the rows of `worked_rows`, which reach the machine as a whole, the store and what stands on it.
+//! Tests of calls where a request for memory is refused: each answers its fault for memory and
+//! leaves what it was given as it was, and made again it gives the usual answer. Run as they are,
+//! these tests meet no refusal; `tools/refuse-memory` runs them once for each request that they
+//! make, and so the rows of `worked_rows`, which reach the machine as a whole, the store and what
+//! stands on it.
 
 ghost use Rattle.room_replies.specs.Limits.{IsPlace};
 ghost use Rattle.room_replies.specs.Places.{plain_place};
@@ -20,6 +21,7 @@ use room_rules::{CoreFault, Device, Job, JobState, Name, Standing, Word, set_dev
 use std::process::Abort;
 use std::test::Fail;
 
+/// Shows what reading a message gives, asked again where memory was refused.
 #[test]
 fn read_message_again(rt: HostRuntime) -> Result<(), Fail> {
     let mut read = read_message(rt.alloc(), REQUEST);
@@ -32,7 +34,7 @@ fn read_message_again(rt: HostRuntime) -> Result<(), Fail> {
     Ok(())
 }
 
-/// Makes the call, once more where memory was refused, and compares what it appended.
+/// Makes the call, once more where memory was refused, and compares all that it appended.
 fn put_parts_again<F: FnMut(&mut Vec<u8>) -> Result<(), PutFault>>(
     rt: &(impl Abort + AllocGlobal),
     mut put: F,
@@ -50,6 +52,7 @@ fn put_parts_again<F: FnMut(&mut Vec<u8>) -> Result<(), PutFault>>(
     assert_eq!(rt; out.as_slice(), appended);
 }
 
+/// Shows what putting each part of a message appends, asked again where memory was refused.
 #[test]
 fn put_calls_again(rt: HostRuntime) {
     let header = Header {
@@ -91,6 +94,7 @@ const REQUESTED: &[u8] = b"\x01\x01\x00\x0a\x00\x00\x00\x01\x01\
     \x45\x00\x0bprinter-uri\x00\x1fipp://localhost/ipp/print/alice\
     \x44\x00\x14requested-attributes\x00\x06job-id\x44\x00\x00\x00\x08job-name\x03";
 
+/// Shows what reading requests with lists in them gives, asked again where memory was refused.
 #[test]
 fn read_ask_again(rt: HostRuntime) -> Result<(), Fail> {
     let alice = Name::read(b"alice").ok_or("a name")?;
@@ -111,6 +115,7 @@ fn read_ask_again(rt: HostRuntime) -> Result<(), Fail> {
     Ok(())
 }
 
+/// Shows that a new device is made, asked again where memory was refused.
 #[test]
 fn set_device_again(rt: HostRuntime) -> Result<(), Fail> {
     let d1 = Name::read(b"d1").ok_or("a name")?;
@@ -125,6 +130,7 @@ fn set_device_again(rt: HostRuntime) -> Result<(), Fail> {
     Ok(())
 }
 
+/// Shows what reading a file of grants gives, asked again where memory was refused.
 #[test]
 fn read_grants_again(rt: HostRuntime) -> Result<(), Fail> {
     let file = b"alice,2026-09,100\n\"bob\",2026-09\n";
@@ -139,7 +145,8 @@ fn read_grants_again(rt: HostRuntime) -> Result<(), Fail> {
     Ok(())
 }
 
-/// Makes the call, once more where memory was refused, and looks at the end of what it appended.
+/// Makes the call, once more where memory was refused, and compares the length and the end of what
+/// it appended.
 fn put_again<F: FnMut(&mut Vec<u8>) -> Result<(), CoreFault>>(
     rt: &(impl Abort + AllocGlobal),
     mut put: F,
@@ -159,6 +166,7 @@ fn put_again<F: FnMut(&mut Vec<u8>) -> Result<(), CoreFault>>(
     assert!(rt; out.ends_with(end));
 }
 
+/// Shows what putting a line of an answer appends, asked again where memory was refused.
 #[test]
 fn lines_again(rt: HostRuntime) {
     let word = Word::Quota { need: 66, left: 65 };
@@ -175,6 +183,8 @@ fn lines_again(rt: HostRuntime) {
     );
 }
 
+/// Shows what putting a refusal with an unsupported attribute appends, asked again where memory was
+/// refused.
 #[test]
 fn reply_again(rt: HostRuntime) {
     let header = Header {
@@ -213,7 +223,8 @@ fn reply_again(rt: HostRuntime) {
     );
 }
 
-fn alice(rt: &impl Abort) -> Place<'static>
+/// Answers the place of alice's queue at the moment 2000.
+fn place_of_alice(rt: &impl Abort) -> Place<'static>
     ensures { IsPlace (plain_place result) }
 {
     let name = Name::read(b"alice").expect(rt, "a name");
@@ -225,6 +236,7 @@ fn alice(rt: &impl Abort) -> Place<'static>
     }
 }
 
+/// Shows what putting all attributes of a job appends, asked again where memory was refused.
 #[test]
 fn job_again(rt: HostRuntime) {
     let job = Job {
@@ -251,7 +263,7 @@ fn job_again(rt: HostRuntime) {
             ended: None,
         },
     };
-    let place = alice(&rt);
+    let place = place_of_alice(&rt);
     put_again(
         &rt,
         |out| put_job(out, &place, &job, None),
@@ -260,6 +272,7 @@ fn job_again(rt: HostRuntime) {
     );
 }
 
+/// Shows what putting all attributes of a printer appends, asked again where memory was refused.
 #[test]
 fn printer_again(rt: HostRuntime) {
     let now = PrinterNow {
@@ -267,7 +280,7 @@ fn printer_again(rt: HostRuntime) {
         accepting: true,
         queued: 0,
     };
-    let place = alice(&rt);
+    let place = place_of_alice(&rt);
     put_again(
         &rt,
         |out| put_printer(out, &place, now, None),

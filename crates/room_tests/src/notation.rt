@@ -1,5 +1,5 @@
-//! Attributes in the notation: what is printed of each kind of value, and that it stands for the
-//! same bytes.
+//! Tests of attributes in the notation: what is printed of each kind of value, and that it stands
+//! for the same bytes.
 
 use ipp_notation::{NotationFault, explain, spell};
 use std::alloc::Global;
@@ -217,14 +217,14 @@ const OTHERS: [Printed; 6] = [
     ),
 ];
 
-/// What is printed of the text.
+/// Answers what `explain` prints of the text.
 pub fn explained(alloc: Global, text: &[u8]) -> Result<String, Fail> {
     let mut output = Vec::new(alloc);
     explain(alloc, text, &mut output)?;
     Ok(String::from_utf8(output)?)
 }
 
-/// The digits that the lines stand for.
+/// Answers the digits that the lines stand for.
 pub fn spelled(alloc: Global, lines: &str) -> Result<String, NotationFault> {
     let mut digits = String::new(alloc);
     for line in lines.lines() {
@@ -233,6 +233,7 @@ pub fn spelled(alloc: Global, lines: &str) -> Result<String, NotationFault> {
     Ok(digits)
 }
 
+/// Shows what is printed of each kind of value, and that it stands for the same digits.
 #[test]
 fn each_kind_of_value(rt: HostRuntime) -> Result<(), Fail> {
     let alloc = rt.alloc();

@@ -1,8 +1,10 @@
-//! Names, media types, months and devices.
+//! Tests of names, media types, months, what is left of a quota, and devices.
 
 use room_rules::{Device, Format, Name, left, month_of, set_device, set_rate};
 use std::test::Fail;
 
+/// Shows that a text that is empty, too long, begins with no small letter or has other characters
+/// is no name.
 #[test]
 fn no_names(rt: HostRuntime) {
     let too_long: &[u8] = b"abcdefghijklmnopqrstuvwxyz-012345";
@@ -20,7 +22,8 @@ fn no_names(rt: HostRuntime) {
     }
 }
 
-/// Those of RFC 8011 section 5.4.22 and of PWG 5102.4 are spelled in small letters alone.
+/// Shows that only a media type that is spelled in small letters, as RFC 8011 section 5.4.22 and
+/// PWG 5102.4 have it, is a format.
 #[test]
 fn no_media_types(rt: HostRuntime) {
     let none: [&[u8]; 4] = [b"", b"image/", b"Image/jpeg", b"text/plain "];
@@ -29,6 +32,7 @@ fn no_media_types(rt: HostRuntime) {
     }
 }
 
+/// Shows the month of the first and the last moment in range, and that a later moment has none.
 #[test]
 fn months_of_moments(rt: HostRuntime) {
     assert_eq!(rt; month_of(1_788_220_800), Some(24_320));
@@ -37,11 +41,13 @@ fn months_of_moments(rt: HostRuntime) {
     assert_eq!(rt; month_of(u64::MAX), None);
 }
 
+/// Shows that what is left is what was granted less what is reserved.
 #[test]
 fn what_is_left(rt: HostRuntime) {
     assert_eq!(rt; left(100, 36, 0), 64);
 }
 
+/// Shows that a device that is turned on first is made with rate 1.
 #[test]
 fn a_device_is_made(rt: HostRuntime) -> Result<(), Fail> {
     let d1 = Name::read(b"d1").ok_or("a name")?;
@@ -56,6 +62,7 @@ fn a_device_is_made(rt: HostRuntime) -> Result<(), Fail> {
     Ok(())
 }
 
+/// Shows that of two devices of one name the first gets the rate.
 #[test]
 fn the_first_of_a_name_counts(rt: HostRuntime) -> Result<(), Fail> {
     let d1 = Name::read(b"d1").ok_or("a name")?;

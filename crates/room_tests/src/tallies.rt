@@ -1,8 +1,10 @@
-//! What is counted of jobs, at its bounds.
+//! A test of what is counted of jobs, at its bounds.
 
 use room_rules::JobState;
 use room_state::Tally;
 
+/// Shows that a tally takes a job where its counts and sums stay within their bounds, and no job
+/// past them.
 #[test]
 fn bounds(rt: HostRuntime) {
     let most = Tally {

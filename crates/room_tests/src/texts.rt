@@ -1,4 +1,4 @@
-//! Texts of answers, each writer by itself.
+//! Tests of the texts of answers, each writer by itself.
 
 ghost use Rattle.std.specs.Prelude.{◌≡◌, IfOk, codes};
 ghost use Rattle.room_replies.specs.Limits.{IsPlace, IsShowable};
@@ -27,8 +27,8 @@ const HELD: Standing = Standing {
     ended: None,
 };
 
-/// Job 1 of alice, which was opened at 1000, at the moment 2000.
-fn alice(rt: &impl Abort) -> Place<'static>
+/// Answers the place of alice's queue, which was opened at 1000, at the moment 2000.
+fn place_of_alice(rt: &impl Abort) -> Place<'static>
     ensures { IsPlace (plain_place result) }
 {
     let name = Name::read(b"alice").expect(rt, "a name");
@@ -40,7 +40,8 @@ fn alice(rt: &impl Abort) -> Place<'static>
     }
 }
 
-fn job(alloc: Global, standing: Standing) -> Result<Job, AllocError>
+/// Answers job 1, `untitled`, of this standing.
+fn job_of_standing(alloc: Global, standing: Standing) -> Result<Job, AllocError>
     ensures number { IfOk result (λ job. job.job ≡ 1) }
     ensures name { IfOk result (λ job. job.name ≡ codes "untitled") }
     ensures standing { IfOk result (λ job. job.standing ≡ standing) }
@@ -56,6 +57,7 @@ fn job(alloc: Global, standing: Standing) -> Result<Job, AllocError>
     })
 }
 
+/// Shows the bytes that a Print-Job is answered.
 #[test]
 fn a_print_job_answer(rt: HostRuntime) -> Result<(), Fail> {
     let request = Header {
@@ -65,10 +67,10 @@ fn a_print_job_answer(rt: HostRuntime) -> Result<(), Fail> {
         request_id: 2,
     };
     let wanted: [&[u8]; 4] = [b"job-uri", b"job-id", b"job-state", b"job-state-reasons"];
-    let job = job(rt.alloc(), HELD)?;
+    let job = job_of_standing(rt.alloc(), HELD)?;
     let mut out = Vec::new(rt.alloc());
     put_reply(&mut out, request, 0x0000, None, &[])?;
-    put_job(&mut out, &alice(&rt), &job, Some(&wanted))?;
+    put_job(&mut out, &place_of_alice(&rt), &job, Some(&wanted))?;
     put_end(&mut out)?;
     assert_eq!(rt; out.len(), 197);
     assert_eq!(rt;
@@ -87,6 +89,7 @@ fn a_print_job_answer(rt: HostRuntime) -> Result<(), Fail> {
     Ok(())
 }
 
+/// Shows the line of a refusal for lack of quota.
 #[test]
 fn a_line(rt: HostRuntime) -> Result<(), Fail> {
     let mut out = Vec::new(rt.alloc());
@@ -95,6 +98,7 @@ fn a_line(rt: HostRuntime) -> Result<(), Fail> {
     Ok(())
 }
 
+/// Shows how a stopped printer's state is put, if it alone is asked for.
 #[test]
 fn a_printer_that_is_stopped(rt: HostRuntime) -> Result<(), Fail> {
     let stopped = PrinterNow {
@@ -104,7 +108,7 @@ fn a_printer_that_is_stopped(rt: HostRuntime) -> Result<(), Fail> {
     };
     let wanted: [&[u8]; 1] = [b"printer-state"];
     let mut out = Vec::new(rt.alloc());
-    put_printer(&mut out, &alice(&rt), stopped, Some(&wanted))?;
+    put_printer(&mut out, &place_of_alice(&rt), stopped, Some(&wanted))?;
     assert_eq!(rt;
         out.as_slice(),
         b"\x04\x23\x00\x0dprinter-state\x00\x04\x00\x00\x00\x05".as_slice()

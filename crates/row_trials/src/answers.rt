@@ -1,11 +1,13 @@
-//! What is printed of the answers to the steps of a conversation.
+//! Asks the steps of a conversation in each way, and answers what is printed.
 
 use crate::program::{by_program_in_file, by_program_in_memory};
 use room_lines::print_answer;
 use room_rows::{Conversation, Rooms, Step};
 use sqlite::{Alter, Connection};
 use table_trials::FileTables;
-use trials::{Fault, Tables, answered, remove_files, skip_to, take, text};
+use trials::{
+    Fault, Tables, answer_by_rooms, apply_step, remove_files, set_next_job_in_rooms, text_of,
+};
 
 /// Who answers.
 #[derive(Clone, Copy)]
@@ -26,9 +28,9 @@ pub const WAYS: [Way; 5] = [
 ];
 
 impl Way {
-    /// What is printed of the answers, if this way is one of the conversation: rooms can't follow
-    /// where rows are changed by hand, a file is closed and opened again between any two steps
-    /// where it says so, and the program is given a script.
+    /// Asks the steps in this way, and answers what is printed. Answers `None` if the conversation
+    /// is not asked so: rooms can't follow where rows are changed by hand, a file is closed and
+    /// opened again between any two steps where it says so, and the program is given a script.
     pub fn answers<S, F>(
         self,
         rt: &HostRuntime,
@@ -57,6 +59,7 @@ impl Way {
         }
     }
 
+    /// Answers the name of the way, as it is printed where a row differs.
     pub fn name(self) -> &'static str {
         match self {
             Way::Rooms => "rooms",
@@ -68,31 +71,37 @@ impl Way {
     }
 }
 
+/// Asks rooms in memory the steps. Answers what is printed.
 fn by_rooms(rt: &HostRuntime, steps: &[Step]) -> Result<String, Fault> {
     let mut rooms = Rooms::new(rt.alloc());
     let mut output = Vec::new(rt.alloc());
     for step in steps {
         match step {
             Step::Event(line) => {
-                let outcome = answered(rt, &mut rooms, line.moment, line);
+                let outcome = answer_by_rooms(rt, &mut rooms, line.moment, line);
                 print_answer(&mut output, outcome.as_ref().ok())?;
             }
-            Step::NextJob { account, number } => skip_to(&mut rooms, *account, *number)?,
+            Step::NextJob { account, number } => set_next_job_in_rooms(
+                &mut rooms, *account, *number,
+            )?,
             Step::Sql(_) => return Err(Fault::ByHand),
         }
     }
-    text(output)
+    text_of(output)
 }
 
+/// Asks new tables in memory the steps. Answers what is printed.
 fn by_tables_in_memory(rt: &HostRuntime, steps: &[Step]) -> Result<String, Fault> {
     let mut tables = Tables::in_memory(rt)?;
     let mut output = Vec::new(rt.alloc());
     for step in steps {
-        take(rt, &mut tables, step, &mut output)?;
+        apply_step(rt, &mut tables, step, &mut output)?;
     }
-    text(output)
+    text_of(output)
 }
 
+/// Asks tables in a file the steps, and closes and opens the file before each. Answers what is
+/// printed.
 fn by_tables_in_file<S, F>(rt: &HostRuntime, files: &F, steps: &[Step]) -> Result<String, Fault>
 where
     S: Alter + Drop,
@@ -102,8 +111,8 @@ where
     let mut output = Vec::new(rt.alloc());
     for step in steps {
         tables.reopen(rt, files)?;
-        take(rt, &mut tables, step, &mut output)?;
+        apply_step(rt, &mut tables, step, &mut output)?;
     }
     remove_files(rt);
-    text(output)
+    text_of(output)
 }

@@ -1,11 +1,11 @@
 //! Exchanges over one connection of HTTP, held against `serve_one` over tables in memory: alice and
 //! bob have accounts, and the device d1 is on.
 
-use room_rows::{Conversation, ENDED, Exchange, Step, told};
+use room_rows::{Conversation, ENDED, Exchange, Step, told_of_calls};
 use room_serve::{After, WireFault};
 use sqlite::MemStore;
 use std::alloc::Global;
-use trials::{Fault, Served, Sides, Tables, rows_of, tell_again};
+use trials::{Fault, ServedCalls, Sides, Tables, rows_of, tell_again};
 
 /// The text that asks for a body that waits for it (RFC 9110, section 10.1.1).
 const GO_ON: &[u8] = b"HTTP/1.1 100 Continue\r\n\r\n";
@@ -24,6 +24,7 @@ pub enum Pieces {
 pub const PIECES: [Pieces; 2] = [Pieces::Whole, Pieces::Bytes];
 
 impl Pieces {
+    /// Answers how many bytes a call gives or takes at most.
     pub fn most(self) -> usize {
         match self {
             Pieces::Whole => usize::MAX,
@@ -31,6 +32,7 @@ impl Pieces {
         }
     }
 
+    /// Answers the name of the pieces, as it is printed where a row differs.
     pub fn name(self) -> &'static str {
         match self {
             Pieces::Whole => "whole",
@@ -39,37 +41,41 @@ impl Pieces {
     }
 }
 
-/// What is told of the calls of the exchange. A single call that is refused memory, and leaves all
-/// rows as they were, is made once more.
-pub fn answers(
+/// Makes the calls of the exchange on new tables, and answers what is told of them. A single call
+/// that is refused memory, and leaves all rows as they were, is made once more.
+pub fn told_by_serve_one(
     rt: &HostRuntime,
     exchange: &Exchange,
     pieces: Pieces,
     due: &str,
 ) -> Result<String, Fault> {
     let mut tables = opened_tables(rt)?;
-    let first = served(rt, &mut tables, exchange, pieces)?;
+    let first = serve_exchange(rt, &mut tables, exchange, pieces)?;
     let answered = told_of(rt.alloc(), &first)?;
     if answered.as_str() == due || !is_refused(&first) || !is_unchanged(rt, &mut tables)? {
         return Ok(answered);
     }
     tell_again(rt);
-    told_of(rt.alloc(), &served(rt, &mut tables, exchange, pieces)?)
+    told_of(
+        rt.alloc(),
+        &serve_exchange(rt, &mut tables, exchange, pieces)?,
+    )
 }
 
-/// Whether the tables have the rows that they began with.
+/// Answers whether the tables have the rows that they began with.
 fn is_unchanged(rt: &HostRuntime, tables: &mut Tables<MemStore>) -> Result<bool, Fault> {
     let mut opened = opened_tables(rt)?;
     let before = rows_of(rt.alloc(), &mut opened)?;
     Ok(rows_of(rt.alloc(), tables)?.as_slice() == before.as_slice())
 }
 
-fn served(
+/// Makes the calls of the exchange on these tables. Answers how they ended and what they wrote.
+fn serve_exchange(
     rt: &HostRuntime,
     tables: &mut Tables<MemStore>,
     exchange: &Exchange,
     pieces: Pieces,
-) -> Result<Served, Fault> {
+) -> Result<ServedCalls, Fault> {
     let input = exchange.input(rt.alloc())?;
     let sides = Sides {
         most: pieces.most(),
@@ -80,13 +86,13 @@ fn served(
         exchange.moment(),
         input.as_slice(),
         sides,
-        exchange.count(),
+        exchange.count_calls(),
     )
 }
 
-/// Whether a call was refused memory, or its event was: then at most the 100 text is written, or an
-/// internal-error.
-fn is_refused(served: &Served) -> bool {
+/// Answers whether the one call was refused memory, or its event was: then at most the 100 text is
+/// written, or an internal-error.
+fn is_refused(served: &ServedCalls) -> bool {
     let written = served.written.as_slice();
     match served.ends.as_slice() {
         [Err(WireFault::Memory)] => written.is_empty() || written == GO_ON,
@@ -97,12 +103,13 @@ fn is_refused(served: &Served) -> bool {
     }
 }
 
-fn told_of(alloc: Global, served: &Served) -> Result<String, Fault> {
+/// Answers what is told of calls: how each ended, what they left and what they wrote.
+fn told_of(alloc: Global, served: &ServedCalls) -> Result<String, Fault> {
     let mut ends = Vec::new(alloc);
     for end in served.ends.as_slice() {
-        ends.push(name_of(*end))?;
+        ends.push(end_name(*end))?;
     }
-    Ok(told(
+    Ok(told_of_calls(
         alloc,
         ends.as_slice(),
         served.left,
@@ -110,7 +117,8 @@ fn told_of(alloc: Global, served: &Served) -> Result<String, Fault> {
     )?)
 }
 
-fn name_of(end: Result<After, WireFault>) -> &'static str {
+/// Answers the word of rows for how a call ended.
+fn end_name(end: Result<After, WireFault>) -> &'static str {
     match end {
         Ok(After::Again) => "again",
         Ok(After::Close) => "close",
@@ -121,7 +129,7 @@ fn name_of(end: Result<After, WireFault>) -> &'static str {
     }
 }
 
-/// Tables in memory in which two accounts are open and a device is on.
+/// Makes tables in memory in which alice and bob are open and the device d1 is on.
 pub fn opened_tables(rt: &HostRuntime) -> Result<Tables<MemStore>, Fault> {
     let mut tables = Tables::in_memory(rt)?;
     let steps = Conversation::read(rt.alloc(), "opened")?.steps(rt.alloc())?;

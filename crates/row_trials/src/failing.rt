@@ -7,7 +7,7 @@
 use crate::exchanges::{PIECES, Pieces, opened_tables};
 use room_rows::Exchange;
 use room_serve::WireFault;
-use trials::{Failing, Fault, Served, Sides, WHOLE, rows_of};
+use trials::{Failing, Fault, ServedCalls, Sides, WHOLE, rows_of};
 
 /// What an exchange has written after a number of its calls, and the rows then.
 #[derive(Drop)]
@@ -27,7 +27,8 @@ enum Side {
 const SIDES: [Side; 3] = [Side::Read, Side::Write, Side::Full];
 
 impl Side {
-    fn failing(self, at: u64) -> Failing {
+    /// Names the call of this side with the number as the one that fails.
+    fn failing_call(self, at: u64) -> Failing {
         match self {
             Side::Read => Failing::Read(at),
             Side::Write => Failing::Write(at),
@@ -35,6 +36,7 @@ impl Side {
         }
     }
 
+    /// Answers what `serve_one` has to tell where this side fails.
     fn fault(self) -> WireFault {
         match self {
             Side::Read => WireFault::Read,
@@ -42,6 +44,7 @@ impl Side {
         }
     }
 
+    /// Answers the name of the side, as it is printed where a row differs.
     fn name(self) -> &'static str {
         match self {
             Side::Read => "read",
@@ -51,12 +54,13 @@ impl Side {
     }
 }
 
-/// Where the exchange ends otherwise, if it does.
-pub fn differs(rt: &HostRuntime, exchange: &Exchange) -> Result<Option<String>, Fault> {
+/// Makes the exchange with each of its reads and writes failing in turn. Answers the first failure
+/// that comes to something else than is due, or `None`.
+pub fn difference(rt: &HostRuntime, exchange: &Exchange) -> Result<Option<String>, Fault> {
     let input = exchange.input(rt.alloc())?;
     let mut states = Vec::new(rt.alloc());
-    for calls in 0..=exchange.count() {
-        states.push(state_behind(rt, exchange, input.as_slice(), calls)?)?;
+    for calls in 0..=exchange.count_calls() {
+        states.push(state_after(rt, exchange, input.as_slice(), calls)?)?;
     }
     let trial = Trial {
         exchange,
@@ -65,7 +69,7 @@ pub fn differs(rt: &HostRuntime, exchange: &Exchange) -> Result<Option<String>, 
     };
     for pieces in PIECES {
         for side in SIDES {
-            if let Some(at) = trial.differs(rt, pieces, side)? {
+            if let Some(at) = trial.first_other_call(rt, pieces, side)? {
                 let (side, pieces) = (side.name(), pieces.name());
                 return Ok(Some(format!(in rt.alloc(); "{side} {at} that fails, {pieces}")?));
             }
@@ -74,7 +78,9 @@ pub fn differs(rt: &HostRuntime, exchange: &Exchange) -> Result<Option<String>, 
     Ok(None)
 }
 
-fn state_behind(
+/// Makes so many calls of the exchange, of which none fails. Answers what was written and the rows
+/// then.
+fn state_after(
     rt: &HostRuntime,
     exchange: &Exchange,
     input: &[u8],
@@ -106,14 +112,20 @@ struct Trial<'a> {
 }
 
 impl Trial<'_> {
-    /// The first call of the side that comes to something else where it fails.
-    fn differs(&self, rt: &HostRuntime, pieces: Pieces, side: Side) -> Result<Option<u64>, Fault> {
+    /// Lets read or write 0 of the side fail, then 1 and so on, until there is no such one. Answers
+    /// the first that comes to something else than is due, or `None`.
+    fn first_other_call(
+        &self,
+        rt: &HostRuntime,
+        pieces: Pieces,
+        side: Side,
+    ) -> Result<Option<u64>, Fault> {
         for at in 0..u64::MAX {
             let sides = Sides {
                 most: pieces.most(),
-                failing: Some(side.failing(at)),
+                failing: Some(side.failing_call(at)),
             };
-            match self.run(rt, side, sides)? {
+            match self.run_failing(rt, side, sides)? {
                 Came::Whole => break,
                 Came::Due => {}
                 Came::Otherwise => return Ok(Some(at)),
@@ -122,10 +134,18 @@ impl Trial<'_> {
         Ok(None)
     }
 
-    fn run(&self, rt: &HostRuntime, side: Side, sides: Sides) -> Result<Came, Fault> {
+    /// Makes the exchange with a failing read or write. Answers whether it failed, and whether it
+    /// came to what is due.
+    fn run_failing(&self, rt: &HostRuntime, side: Side, sides: Sides) -> Result<Came, Fault> {
         let exchange = self.exchange;
         let mut tables = opened_tables(rt)?;
-        let served = tables.serve(rt, exchange.moment(), self.input, sides, exchange.count())?;
+        let served = tables.serve(
+            rt,
+            exchange.moment(),
+            self.input,
+            sides,
+            exchange.count_calls(),
+        )?;
         if !served.has_failed {
             return Ok(Came::Whole);
         }
@@ -138,8 +158,9 @@ impl Trial<'_> {
     }
 }
 
-/// Whether so came what has to come where a side fails.
-fn is_due(side: Side, served: &Served, rows: &[u8], states: &[State]) -> bool {
+/// Answers whether the calls ended, wrote and changed what they may where this side fails in one of
+/// them.
+fn is_due(side: Side, served: &ServedCalls, rows: &[u8], states: &[State]) -> bool {
     let mut answered = 0usize;
     let mut has_failed = false;
     for end in served.ends.as_slice() {

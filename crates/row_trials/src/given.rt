@@ -9,12 +9,14 @@ const PROGRAM: &[u8] = b"ipp-room";
 
 /// An environment of these words, behind the program's name, and of nothing else.
 #[derive(Clone, Copy)]
-pub struct Given<'a> {
+pub struct GivenWords<'a> {
     pub alloc: Global,
     pub words: &'a [&'a [u8]],
 }
 
-impl Given<'_> {
+impl GivenWords<'_> {
+    /// Answers the word at the place, of which the first is the program's name; `None` behind the
+    /// last.
     fn word(&self, place: usize) -> Option<&[u8]> {
         match place {
             0 => Some(PROGRAM),
@@ -23,7 +25,7 @@ impl Given<'_> {
     }
 }
 
-impl Alloc for Given<'_> {
+impl Alloc for GivenWords<'_> {
     type A = Global;
 
     fn alloc(&self) -> Global {
@@ -31,7 +33,9 @@ impl Alloc for Given<'_> {
     }
 }
 
-impl Env for Given<'_> {
+impl Env for GivenWords<'_> {
+    /// Puts the word at the place into the buffer. Answers its length, or `TooLong` if it does not
+    /// fit.
     fn arg(&self, place: usize, buffer: &mut [u8]) -> Result<usize, FillError> {
         let Some(word) = self.word(place) else {
             return Err(FillError::NotPresent);
@@ -43,10 +47,12 @@ impl Env for Given<'_> {
         Ok(word.len())
     }
 
+    /// Answers that no variable is set.
     fn var(&self, _name: &str, _buffer: &mut [u8]) -> Result<usize, FillError> {
         Err(FillError::NotPresent)
     }
 
+    /// Answers that there is no variable at any place.
     fn var_at(&self, _place: usize, _buffer: &mut [u8]) -> Result<usize, FillError> {
         Err(FillError::NotPresent)
     }

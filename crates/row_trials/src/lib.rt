@@ -11,4 +11,4 @@ mod room_file;
 mod rows;
 mod runs;
 
-pub use rows::hold;
+pub use rows::file_holds;

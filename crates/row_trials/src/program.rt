@@ -1,47 +1,55 @@
-//! Scripts that the program runs, over memory and over a file.
+//! Runs scripts by the program, over memory and over a file.
 
 use room_commands::{MEMORY, run_on};
 use room_rows::Step;
-use stop_trials::{Told, answered_before_failed};
+use stop_trials::{Told, count_answered_before_failure};
 use trials::{FILE, Fault, remove_files, tell_again};
 
-/// What the program prints of the script in memory. A run that was refused memory is made once
-/// more, unless it printed something else than events that failed among those that did not.
+/// Runs the script in memory. Answers what the program prints and tells. A run that was refused
+/// memory is made once more, unless it printed something else than events that failed among those
+/// that did not.
 pub fn by_program_in_memory(
     rt: &HostRuntime,
     script: &str,
     steps: &[Step],
 ) -> Result<String, Fault> {
-    let told = program(rt, &["script", MEMORY], script)?;
-    if told.gave_up() && answered_before_failed(rt, steps, told.output.as_slice())?.is_some() {
+    let told = run_program(rt, &["script", MEMORY], script)?;
+    if told.gave_up()
+        && count_answered_before_failure(rt, steps, told.output.as_slice())?.is_some()
+    {
         tell_again(rt);
-        return program(rt, &["script", MEMORY], script)?.whole();
+        return run_program(rt, &["script", MEMORY], script)?.into_text();
     }
-    told.whole()
+    told.into_text()
 }
 
-/// The same on a new file.
+/// Runs the script on a new file. Answers what the program prints and tells. A run that was refused
+/// memory is made once more, as in memory.
 pub fn by_program_in_file(rt: &HostRuntime, script: &str, steps: &[Step]) -> Result<String, Fault> {
-    let told = in_file(rt, script)?;
-    if told.gave_up() && answered_before_failed(rt, steps, told.output.as_slice())?.is_some() {
+    let told = run_in_file(rt, script)?;
+    if told.gave_up()
+        && count_answered_before_failure(rt, steps, told.output.as_slice())?.is_some()
+    {
         tell_again(rt);
-        return in_file(rt, script)?.whole();
+        return run_in_file(rt, script)?.into_text();
     }
-    told.whole()
+    told.into_text()
 }
 
-fn in_file(rt: &HostRuntime, script: &str) -> Result<Told, Fault> {
+/// Makes a new file, runs the script on it, and removes it. Answers what the last run told.
+fn run_in_file(rt: &HostRuntime, script: &str) -> Result<Told, Fault> {
     remove_files(rt);
-    let mut told = program(rt, &["create", FILE], "")?;
+    let mut told = run_program(rt, &["create", FILE], "")?;
     if told.is_well() {
-        told = program(rt, &["script", FILE], script)?;
+        told = run_program(rt, &["script", FILE], script)?;
     }
     remove_files(rt);
     Ok(told)
 }
 
-/// A run of the program, which has no clock.
-fn program(rt: &HostRuntime, words: &[&str], input: &str) -> Result<Told, Fault> {
+/// Runs a command of the program, without a clock. Answers what it printed and told, and its
+/// status.
+fn run_program(rt: &HostRuntime, words: &[&str], input: &str) -> Result<Told, Fault> {
     let mut told = Told::with_room(rt.alloc())?;
     told.status = run_on(
         rt,

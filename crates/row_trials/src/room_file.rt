@@ -1,4 +1,4 @@
-//! What is done by hand to the file of a row of runs.
+//! The file of a row of runs, and what is done to it by hand.
 
 use room_lines::Line;
 use room_rows::FileStep;
@@ -26,14 +26,14 @@ impl<S: Alter + Drop> Drop for RoomFile<S> {
 }
 
 impl<S: Alter + Drop> RoomFile<S> {
-    /// No file is there.
+    /// Removes the file, if one is there, and begins without a connection that is held open.
     pub fn new(rt: &HostRuntime) -> RoomFile<S> {
-        remove(rt);
+        remove_file_and_log(rt);
         RoomFile { held: None }
     }
 
-    /// Does the step, and tells what it looks for and is not so.
-    pub fn differs<F: FileTables<Kept = Connection<S>>>(
+    /// Does the step, or looks for what it says. Answers what is not as it says, or `None`.
+    pub fn do_step<F: FileTables<Kept = Connection<S>>>(
         &mut self,
         rt: &HostRuntime,
         files: &F,
@@ -46,22 +46,23 @@ impl<S: Alter + Drop> RoomFile<S> {
             FileStep::NoFile if fs::metadata(rt, FILE).is_ok() => "a file is there",
             FileStep::ALog if fs::metadata(rt, LOG).is_err() => "no log is there",
             step => {
-                self.take(rt, files, step)?;
+                self.do_by_hand(rt, files, step)?;
                 return Ok(None);
             }
         };
         Ok(Some(String::from_str(rt.alloc(), missing)?))
     }
 
-    fn take<F: FileTables<Kept = Connection<S>>>(
+    /// Does a step that changes, opens or closes the file.
+    fn do_by_hand<F: FileTables<Kept = Connection<S>>>(
         &mut self,
         rt: &HostRuntime,
         files: &F,
         step: &FileStep,
     ) -> Result<(), Fault> {
         match step {
-            FileStep::Sql(sql) => change(files, sql.as_str())?,
-            FileStep::Stopped(lines) => stop_behind(rt, files, lines.as_slice())?,
+            FileStep::Sql(sql) => run_sql(files, sql.as_str())?,
+            FileStep::Stopped(lines) => apply_and_stop(rt, files, lines.as_slice())?,
             FileStep::Text(text) => fs::write(rt, FILE, text.as_bytes())?,
             FileStep::Hold => self.held = Some(files.open(FILE)?),
             FileStep::LetGo => {
@@ -74,14 +75,15 @@ impl<S: Alter + Drop> RoomFile<S> {
         Ok(())
     }
 
-    /// Removes the file.
-    pub fn end(self, rt: &HostRuntime) {
+    /// Closes the file, if it is held open, and removes it.
+    pub fn close_and_remove(self, rt: &HostRuntime) {
         drop(self);
-        remove(rt);
+        remove_file_and_log(rt);
     }
 }
 
-fn change<S, F>(files: &F, sql: &str) -> Result<(), Fault>
+/// Runs an SQL statement on the file.
+fn run_sql<S, F>(files: &F, sql: &str) -> Result<(), Fault>
 where
     S: Alter + Drop,
     F: FileTables<Kept = Connection<S>>,
@@ -91,8 +93,8 @@ where
     Ok(files.close(connection)?)
 }
 
-/// Gives the lines to a store over the file, which is not closed.
-fn stop_behind<S, F>(rt: &HostRuntime, files: &F, lines: &[Line]) -> Result<(), Fault>
+/// Gives the lines to a store over the file, and does not close it, as a program that is stopped.
+fn apply_and_stop<S, F>(rt: &HostRuntime, files: &F, lines: &[Line]) -> Result<(), Fault>
 where
     S: Alter + Drop,
     F: FileTables<Kept = Connection<S>>,
@@ -109,7 +111,8 @@ where
     Ok(())
 }
 
-fn remove(rt: &HostRuntime) {
+/// Removes the file and the log beside it, if they are there.
+fn remove_file_and_log(rt: &HostRuntime) {
     for file in [FILE, LOG] {
         let _ = fs::remove_file(rt, file);
     }

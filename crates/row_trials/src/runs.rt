@@ -1,28 +1,29 @@
-//! Rows of runs, held against the program.
+//! Runs the program as rows of runs say, and compares how it ends.
 
-use crate::given::Given;
+use crate::given::GivenWords;
 use crate::room_file::RoomFile;
 use room_commands::{Fault as ProgramFault, run_on, words_of};
-use room_rows::{Run, RunStep, run_steps};
+use room_rows::{Run, RunStep, read_run_steps};
 use sqlite::{Alter, Connection};
 use table_trials::FileTables;
 use trials::Fault;
 
-/// Where a row of runs differs first. They share a file, which is not there before the first of
-/// them, and is removed.
-pub fn differs<S, F>(rt: &HostRuntime, files: &F, lines: &str) -> Result<Option<String>, Fault>
+/// Runs the steps of a row on one file, which is not there before the first and is removed after
+/// the last. Answers what differs in the first that does not hold, or `None`.
+pub fn difference<S, F>(rt: &HostRuntime, files: &F, lines: &str) -> Result<Option<String>, Fault>
 where
     S: Alter + Drop,
     F: FileTables<Kept = Connection<S>>,
 {
-    let steps = run_steps(rt.alloc(), lines)?;
+    let steps = read_run_steps(rt.alloc(), lines)?;
     let mut room = RoomFile::new(rt);
-    let differs = first_that_differs(rt, files, steps.as_slice(), &mut room)?;
-    room.end(rt);
+    let differs = first_difference(rt, files, steps.as_slice(), &mut room)?;
+    room.close_and_remove(rt);
     Ok(differs)
 }
 
-fn first_that_differs<S, F>(
+/// Does the steps, up to the first that does not hold. Answers what differs in that, or `None`.
+fn first_difference<S, F>(
     rt: &HostRuntime,
     files: &F,
     steps: &[RunStep],
@@ -34,8 +35,8 @@ where
 {
     for step in steps {
         let differs = match step {
-            RunStep::Run(run) => run_differs(rt, run)?,
-            RunStep::File(step) => room.differs(rt, files, step)?,
+            RunStep::Run(run) => run_difference(rt, run)?,
+            RunStep::File(step) => room.do_step(rt, files, step)?,
         };
         if differs.is_some() {
             return Ok(differs);
@@ -44,10 +45,12 @@ where
     Ok(None)
 }
 
-fn run_differs(rt: &HostRuntime, run: &Run) -> Result<Option<String>, Fault> {
+/// Runs the program as the row says. Answers how it ended, if otherwise than the row says, or
+/// `None`.
+fn run_difference(rt: &HostRuntime, run: &Run) -> Result<Option<String>, Fault> {
     let alloc = rt.alloc();
     let words = run.words(alloc)?;
-    let given = Given {
+    let given = GivenWords {
         alloc,
         words: words.as_slice(),
     };
@@ -59,14 +62,15 @@ fn run_differs(rt: &HostRuntime, run: &Run) -> Result<Option<String>, Fault> {
             fault.status()
         }
     };
-    Ok(run.differs(alloc, status, output.as_slice(), errors.as_slice())?)
+    Ok(run.difference(alloc, status, output.as_slice(), errors.as_slice())?)
 }
 
-/// The exit status, or why the run could not begin, as `start` of the program tells it.
+/// Runs the program. Answers its exit status, or why it could not begin, as `start` of the program
+/// tells it.
 fn status_of(
     rt: &HostRuntime,
     run: &Run,
-    given: &Given<'_>,
+    given: &GivenWords<'_>,
     output: &mut Vec<u8>,
     errors: &mut Vec<u8>,
 ) -> Result<u8, ProgramFault> {

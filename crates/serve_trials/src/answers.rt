@@ -1,6 +1,7 @@
-//! Lines and grants that a client sends to what gives other answers than rooms do.
+//! Trials of the client of lines and grants against answers that rooms do not give: broken ones,
+//! failed ones, and too long ones.
 
-use crate::due::{due, due_bytes, holds, of_case};
+use crate::expecting::{expect, expect_bytes, expect_equal, with_case};
 use crate::fault::Fault;
 use crate::report::Report;
 use crate::sends::Ending;
@@ -10,7 +11,8 @@ use room_served::MOST_LINE;
 use std::io;
 use std::io::{BufReader, Write};
 
-pub fn hold<W: Write>(rt: &HostRuntime, report: &mut Report<'_, W>) {
+/// Runs each trial of this file, and tells how it ended.
+pub fn run_all<W: Write>(rt: &HostRuntime, report: &mut Report<'_, W>) {
     report.tell("outcomes", outcomes(rt));
     report.tell("documents for a keeper", documents_for_a_keeper(rt));
     report.tell("broken answers", broken_answers(rt));
@@ -20,19 +22,22 @@ pub fn hold<W: Write>(rt: &HostRuntime, report: &mut Report<'_, W>) {
     report.tell("long answers", long_answers(rt));
 }
 
-/// Sends lines where these bytes come, whatever is sent, which it returns. They come in pieces of 7.
-fn to_bytes(
+/// Sends the input's lines to a peer that answers these bytes, 7 at a time, whatever it is sent.
+/// Expects this ending; answers what was sent.
+fn send_to_bytes(
     rt: &HostRuntime,
     input: &[u8],
     answers: &[u8],
     ending: Ending<'_>,
 ) -> Result<Vec<u8>, Fault> {
     let mut written = Vec::new(rt.alloc());
-    send_to(rt, &mut written, input, answers, ending)?;
+    send_and_keep(rt, &mut written, input, answers, ending)?;
     Ok(written)
 }
 
-fn send_to(
+/// Sends the input's lines to a peer that answers these bytes, and writes what is sent into
+/// `written`. Expects this ending.
+fn send_and_keep(
     rt: &HostRuntime,
     written: &mut Vec<u8>,
     input: &[u8],
@@ -44,7 +49,7 @@ fn send_to(
     let mut input = input;
     let mut peer = Peer::new(BufReader::with_capacity(alloc, 7, answers)?, written);
     let outcome = send_lines(alloc, &mut input, &mut peer, &mut HexLines, &mut output);
-    ending.is(rt, outcome, output.as_slice())
+    ending.expect(rt, outcome, output.as_slice())
 }
 
 /// Lines, what answers them, and how it went.
@@ -63,18 +68,26 @@ const OUTCOMES: &[(&[u8], &[u8], Outcome)] = &[
     (b"a\n", b"conflict 100\n", Outcome::Fine),
 ];
 
-/// An event that failed comes before a bad line, and the first of two bad lines counts.
+/// Shows that an event that failed counts before a bad line, and that of two bad lines the first
+/// counts.
 fn outcomes(rt: &HostRuntime) -> Result<(), Fault> {
     for (input, answers, outcome) in OUTCOMES {
-        of_case(rt, *input, ends_by(rt, *input, *answers, *outcome))?;
+        with_case(rt, *input, expect_outcome(rt, *input, *answers, *outcome))?;
     }
     Ok(())
 }
 
-fn ends_by(rt: &HostRuntime, input: &[u8], answers: &[u8], outcome: Outcome) -> Result<(), Fault> {
-    let written = to_bytes(rt, input, answers, Ending::of(Ok(outcome), answers))?;
-    holds(rt, written.starts_with(input), "the input is sent")?;
-    due(rt, written.last().copied(), Some(b'\n'))
+/// Expects this outcome of the input where these are the answers; the input is sent whole, and a
+/// last line without its end is sent with one.
+fn expect_outcome(
+    rt: &HostRuntime,
+    input: &[u8],
+    answers: &[u8],
+    outcome: Outcome,
+) -> Result<(), Fault> {
+    let written = send_to_bytes(rt, input, answers, Ending::new(Ok(outcome), answers))?;
+    expect(rt, written.starts_with(input), "the input is sent")?;
+    expect_equal(rt, written.last().copied(), Some(b'\n'))
 }
 
 /// Keeps documents in a list of bytes, each after its name.
@@ -84,6 +97,7 @@ struct Listed {
 }
 
 impl Keeper for Listed {
+    /// Adds the name and the bytes to the list, and prints a path that ends with the name.
     fn keep<O: Write>(&mut self, output: &mut O, name: &str, bytes: Vec<u8>) -> io::Result<()> {
         self.list.extend_from_slice(name.as_bytes())?;
         self.list.push(b':')?;
@@ -93,18 +107,19 @@ impl Keeper for Listed {
     }
 }
 
-/// Two documents of one job, the first with line feeds in it and the second with no byte, and then
-/// an answer of a line.
+/// Shows that the keeper gets two documents of one job, the first with line feeds in it and the
+/// second with no byte, and that an answer of a line behind them is read.
 fn documents_for_a_keeper(rt: &HostRuntime) -> Result<(), Fault> {
     let mut keeper = Listed {
         list: Vec::new(rt.alloc()),
     };
-    documents_to(rt, &mut keeper)?;
+    send_starts(rt, &mut keeper)?;
     let kept = b"alice-2-999999-1:a\nb\n;alice-2-999999-2:;";
-    due_bytes(rt, keeper.list.as_slice(), kept)
+    expect_bytes(rt, keeper.list.as_slice(), kept)
 }
 
-fn documents_to(rt: &HostRuntime, keeper: &mut Listed) -> Result<(), Fault> {
+/// Sends two starts that are answered by two documents and by a line, and expects what is printed.
+fn send_starts(rt: &HostRuntime, keeper: &mut Listed) -> Result<(), Fault> {
     let alloc = rt.alloc();
     let mut output = Vec::new(alloc);
     let mut written = Vec::new(alloc);
@@ -117,7 +132,7 @@ fn documents_to(rt: &HostRuntime, keeper: &mut Listed) -> Result<(), Fault> {
         document 999999 3 text/plain 0\nhere/alice-2-999999-2\nnot-pending\n";
     let mut peer = Peer::new(BufReader::with_capacity(alloc, 7, answers)?, &mut written);
     let outcome = send_lines(alloc, &mut input, &mut peer, keeper, &mut output);
-    Ending::of(Ok(Outcome::Fine), printed).is(rt, outcome, output.as_slice())
+    Ending::new(Ok(Outcome::Fine), printed).expect(rt, outcome, output.as_slice())
 }
 
 /// Connections that end before an answer is whole, and answers that are none.
@@ -155,25 +170,32 @@ const OF_NO_START: &[&[u8]] = &[
     b"settle d1 alice 4\n",
 ];
 
-/// Each of them ends what is sent, and nothing of it is printed.
+/// Shows that an answer that is cut off, or that is none, ends what is sent, and that nothing of it
+/// is printed.
 fn broken_answers(rt: &HostRuntime) -> Result<(), Fault> {
     for answers in BROKEN {
-        of_case(rt, *answers, breaks(rt, b"start d1 alice 4\n", *answers))?;
+        with_case(
+            rt,
+            *answers,
+            expect_broken(rt, b"start d1 alice 4\n", *answers),
+        )?;
     }
     Ok(())
 }
 
+/// Shows that documents that answer another line than a start are no answer.
 fn documents_of_no_start(rt: &HostRuntime) -> Result<(), Fault> {
     let answers = b"documents 1\ndocument 4 1 text/plain 1\na\n";
     for line in OF_NO_START {
-        of_case(rt, *line, breaks(rt, *line, answers))?;
+        with_case(rt, *line, expect_broken(rt, *line, answers))?;
     }
     Ok(())
 }
 
-fn breaks(rt: &HostRuntime, input: &[u8], answers: &[u8]) -> Result<(), Fault> {
-    let broken = Ending::of(Err(ClientFault::Broken), b"");
-    to_bytes(rt, input, answers, broken)?;
+/// Expects that these answers to the input are told to be broken, and that nothing is printed.
+fn expect_broken(rt: &HostRuntime, input: &[u8], answers: &[u8]) -> Result<(), Fault> {
+    let broken = Ending::new(Err(ClientFault::Broken), b"");
+    send_to_bytes(rt, input, answers, broken)?;
     Ok(())
 }
 
@@ -197,25 +219,30 @@ const GRANTED: &[(&[u8], Result<Outcome, ClientFault>, &[u8])] = &[
     (b"ok\n", Err(ClientFault::Broken), b"1 ok\n2 bad\n"),
 ];
 
-/// Documents to a line of grants, and grants of which one failed.
+/// Shows how a client of grants ends: a grant fails, a line is bad, documents come, an answer is
+/// missing.
 fn answers_to_grants(rt: &HostRuntime) -> Result<(), Fault> {
     for (answers, outcome, printed) in GRANTED {
-        of_case(
+        with_case(
             rt,
             *answers,
-            grants_to(rt, *answers, Ending::of(*outcome, *printed)),
+            expect_grants(rt, *answers, Ending::new(*outcome, *printed)),
         )?;
     }
     Ok(())
 }
 
-fn grants_to(rt: &HostRuntime, answers: &[u8], ending: Ending<'_>) -> Result<(), Fault> {
+/// Sends three records of grants, of which the second is bad, to these answers. Expects that this
+/// is how it ends, and that the two good ones are sent as lines.
+fn expect_grants(rt: &HostRuntime, answers: &[u8], ending: Ending<'_>) -> Result<(), Fault> {
     let mut written = Vec::new(rt.alloc());
     send_grants_to(rt, &mut written, answers, ending)?;
     let due = b"grant a 1970-01 0\ngrant c 2099-12 1000000000\n";
-    due_bytes(rt, written.as_slice(), due)
+    expect_bytes(rt, written.as_slice(), due)
 }
 
+/// Sends the three records to these answers, and writes what is sent into `written`. Expects
+/// this ending.
 fn send_grants_to(
     rt: &HostRuntime,
     written: &mut Vec<u8>,
@@ -227,47 +254,49 @@ fn send_grants_to(
     let mut input = Counted::new(b"a,1970-01,0\nb,2000-00,1\nc,2099-12,1000000000".as_slice());
     let mut peer = Peer::new(BufReader::new(alloc, answers)?, written);
     let outcome = send_grants(alloc, &mut input, &mut peer, &mut output);
-    ending.is(rt, outcome, output.as_slice())
+    ending.expect(rt, outcome, output.as_slice())
 }
 
-/// A line of so many bytes, without what ends it.
-fn line_of(rt: &HostRuntime, length: usize) -> Result<Vec<u8>, Fault> {
+/// Answers a line of so many bytes, without what ends it.
+fn line_of_length(rt: &HostRuntime, length: usize) -> Result<Vec<u8>, Fault> {
     let mut line = Vec::new(rt.alloc());
     line.resize(length, b'a')?;
     Ok(line)
 }
 
-/// The longest line of the input is sent, and of a longer one nothing.
+/// Shows that the longest line of the input is sent, and of a longer one nothing.
 fn long_lines_of_the_input(rt: &HostRuntime) -> Result<(), Fault> {
-    let bad = Ending::of(Ok(Outcome::BadLine(1)), b"bad-line\n");
-    a_long_line_is_sent(rt, MOST_LINE, bad, MOST_LINE + 1)?;
-    let none = Ending::of(Err(ClientFault::TooLong), b"");
-    a_long_line_is_sent(rt, MOST_LINE + 1, none, 0)
+    let bad = Ending::new(Ok(Outcome::BadLine(1)), b"bad-line\n");
+    expect_sent(rt, MOST_LINE, bad, MOST_LINE + 1)?;
+    let none = Ending::new(Err(ClientFault::TooLong), b"");
+    expect_sent(rt, MOST_LINE + 1, none, 0)
 }
 
-/// That a line of so many bytes ends a client so, and that so many bytes are sent.
-fn a_long_line_is_sent(
+/// Sends a line of so many bytes. Expects this ending, and that so many bytes were
+/// sent.
+fn expect_sent(
     rt: &HostRuntime,
     length: usize,
     ending: Ending<'_>,
     sent: usize,
 ) -> Result<(), Fault> {
-    let line = line_of(rt, length)?;
-    let written = to_bytes(rt, line.as_slice(), b"bad-line\n", ending)?;
-    due(rt, written.len(), sent)
+    let line = line_of_length(rt, length)?;
+    let written = send_to_bytes(rt, line.as_slice(), b"bad-line\n", ending)?;
+    expect_equal(rt, written.len(), sent)
 }
 
-/// The longest line of an answer, and a longer one.
+/// Shows that the longest line of an answer is read, and that a longer one is broken.
 fn long_answers(rt: &HostRuntime) -> Result<(), Fault> {
-    let mut longest = line_of(rt, MOST_LINE)?;
+    let mut longest = line_of_length(rt, MOST_LINE)?;
     longest.push(b'\n')?;
-    let fine = Ending::of(Ok(Outcome::Fine), longest.as_slice());
-    to_bytes(rt, b"a\n", longest.as_slice(), fine)?;
-    a_longer_answer(rt)
+    let fine = Ending::new(Ok(Outcome::Fine), longest.as_slice());
+    send_to_bytes(rt, b"a\n", longest.as_slice(), fine)?;
+    expect_longer_answer_broken(rt)
 }
 
-fn a_longer_answer(rt: &HostRuntime) -> Result<(), Fault> {
-    let mut longer = line_of(rt, MOST_LINE + 1)?;
+/// Expects that an answer of one byte more than the most is told to be broken.
+fn expect_longer_answer_broken(rt: &HostRuntime) -> Result<(), Fault> {
+    let mut longer = line_of_length(rt, MOST_LINE + 1)?;
     longer.push(b'\n')?;
-    breaks(rt, b"a\n", longer.as_slice())
+    expect_broken(rt, b"a\n", longer.as_slice())
 }

@@ -1,6 +1,6 @@
-//! What is sent over HTTP to rooms of which alice's is open, and what is due.
+//! A request over HTTP and its answers, as bytes, and how trials send requests and compare answers.
 
-use crate::due::{due_bytes, of_case};
+use crate::expecting::{expect_bytes, with_case};
 use crate::fault::Fault;
 use crate::rooms::{exchange, open_rooms};
 use std::alloc::{AllocError, Global};
@@ -47,7 +47,7 @@ pub const TOO_LONG_A_HEAD: &[u8] =
 /// The refusal of the rooms' own where there is no queue, after which the connection goes on.
 pub const NOT_FOUND: &[u8] = b"HTTP/1.1 404 Not Found\r\ncontent-length: 0\r\n\r\n";
 
-/// What the pieces make.
+/// Answers the pieces as one.
 pub fn joined(alloc: Global, pieces: &[&[u8]]) -> Result<Vec<u8>, AllocError> {
     let mut whole = Vec::new(alloc);
     for piece in pieces {
@@ -56,31 +56,32 @@ pub fn joined(alloc: Global, pieces: &[&[u8]]) -> Result<Vec<u8>, AllocError> {
     Ok(whole)
 }
 
-/// That what the pieces make, and then the end, is answered by what the others make: cut into some
-/// 300 pieces, which are of one byte where it is short, and all at once.
-pub fn answered(rt: &HostRuntime, sent: &[&[u8]], due: &[&[u8]]) -> Result<(), Fault> {
+/// Sends what the pieces make, and then the end, to new rooms: cut into some 300 pieces, which are
+/// of one byte where it is short, and all at once. Expects what the others make.
+pub fn expect_answer(rt: &HostRuntime, sent: &[&[u8]], due: &[&[u8]]) -> Result<(), Fault> {
     let sent = joined(rt.alloc(), sent)?;
     let due = joined(rt.alloc(), due)?;
     let pieces = [sent.len() / 300 + 1, sent.len()];
-    answered_in(rt, &pieces, sent.as_slice(), due.as_slice())
+    expect_answer_in_pieces(rt, &pieces, sent.as_slice(), due.as_slice())
 }
 
-/// That what is sent, in pieces of so many bytes each time, and then the end, is answered so.
-pub fn answered_in(
+/// Sends this, and then the end, to new rooms: once in pieces of each of these sizes. Expects what
+/// is due each time.
+pub fn expect_answer_in_pieces(
     rt: &HostRuntime,
     pieces: &[usize],
     sent: &[u8],
     due: &[u8],
 ) -> Result<(), Fault> {
     for piece in pieces {
-        let found = answer(rt, sent, *piece)?;
-        of_case(rt, sent, due_bytes(rt, found.as_slice(), due))?;
+        let found = answer_of_new_rooms(rt, sent, *piece)?;
+        with_case(rt, sent, expect_bytes(rt, found.as_slice(), due))?;
     }
     Ok(())
 }
 
-/// What new rooms answer.
-fn answer(rt: &HostRuntime, sent: &[u8], piece: usize) -> Result<Vec<u8>, Fault> {
+/// Sends this to new rooms, in pieces of so many bytes. Answers what goes out.
+fn answer_of_new_rooms(rt: &HostRuntime, sent: &[u8], piece: usize) -> Result<Vec<u8>, Fault> {
     let mut rooms = open_rooms(rt)?;
     exchange(rt, &mut rooms, sent, piece)
 }

@@ -23,7 +23,7 @@ pub struct Faulty<D: Disk> {
     failed: u64,
 }
 
-/// A connection over an empty database in memory, of whose log one write fails.
+/// Opens a connection over an empty database in memory, of whose log one write fails.
 pub fn connect(alloc: Global) -> Result<Connection<FileStore<Faulty<Memory>>>, Error> {
     let files = Files {
         log: Faulty::new(Memory::new(alloc), true),
@@ -39,6 +39,7 @@ pub fn connect(alloc: Global) -> Result<Connection<FileStore<Faulty<Memory>>>, E
 }
 
 impl<D: Disk> Faulty<D> {
+    /// Makes a file of which one write fails, if it is to.
     fn new(inner: D, is_to_fail: bool) -> Faulty<D> {
         Faulty {
             inner,
@@ -48,7 +49,7 @@ impl<D: Disk> Faulty<D> {
     }
 }
 
-/// Fails the write of these bytes, if one is to fail and they have the mark.
+/// Fails the first write whose bytes have the mark, if one is to fail; lets each other through.
 fn fail_once(is_to_fail: &mut bool, failed: &mut u64, bytes: &[u8]) -> io::Result<()>
     ensures faults { CountsFault result failed.old failed.new }
     ensures kind { finds_no_room result ≡ false }
@@ -118,6 +119,7 @@ impl<D: Disk> Disk for Faulty<D> {
         self.inner.read_checked(key, want, at, buf)
     }
 
+    /// Writes the bytes, unless this is the write that fails.
     fn write_at(&mut self, at: usize, bytes: &[u8]) -> io::Result<()> {
         fail_once(&mut self.is_to_fail, &mut self.failed, bytes)?;
         self.inner.write_at(at, bytes)

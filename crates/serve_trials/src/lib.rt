@@ -6,8 +6,8 @@
 
 mod answers;
 mod cases;
-mod due;
 mod ends;
+mod expecting;
 mod fault;
 mod faulty;
 mod limits;
@@ -27,26 +27,27 @@ mod wired;
 use crate::report::Report;
 use std::io::Write;
 
-/// Whether each row of the file of requests over HTTP, `NAME.served`, holds. Prints that it does, or
-/// what differs.
-pub fn hold_file<W: Write>(rt: &HostRuntime, file: &str, output: &mut W) -> bool {
+/// Runs each row of the file of requests over HTTP, `NAME.served`. Answers whether all hold; prints
+/// that they do, or what differs.
+pub fn file_holds<W: Write>(rt: &HostRuntime, file: &str, output: &mut W) -> bool {
     let mut report = Report::new(output);
-    report.tell(file, refusals::hold(rt, file));
+    report.tell(file, refusals::expect_rows(rt, file));
     report.all_hold()
 }
 
-/// Whether each trial holds. Prints a line for each: its name, and that it holds or what differs.
-pub fn hold<W: Write>(rt: &HostRuntime, output: &mut W) -> bool {
+/// Runs each trial. Answers whether all hold; prints of each its name, and that it holds or what
+/// differs.
+pub fn all_trials_hold<W: Write>(rt: &HostRuntime, output: &mut W) -> bool {
     let mut report = Report::new(output);
-    requests::hold(rt, &mut report);
-    taken::hold(rt, &mut report);
-    limits::hold(rt, &mut report);
-    lines::hold(rt, &mut report);
-    turns::hold(rt, &mut report);
-    loopback::hold(rt, &mut report);
-    lost::hold(rt, &mut report);
-    sends::hold(rt, &mut report);
-    answers::hold(rt, &mut report);
-    ends::hold(rt, &mut report);
+    requests::run_all(rt, &mut report);
+    taken::run_all(rt, &mut report);
+    limits::run_all(rt, &mut report);
+    lines::run_all(rt, &mut report);
+    turns::run_all(rt, &mut report);
+    loopback::run_all(rt, &mut report);
+    lost::run_all(rt, &mut report);
+    sends::run_all(rt, &mut report);
+    answers::run_all(rt, &mut report);
+    ends::run_all(rt, &mut report);
     report.all_hold()
 }

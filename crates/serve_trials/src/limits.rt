@@ -1,7 +1,9 @@
-//! The limits of heads, of chunks and of bodies over HTTP: what has the most, and one more.
+//! Trials of the limits of heads, of chunks and of bodies over HTTP: what has the most, and one
+//! more.
 
 use crate::cases::{
-    ANSWER, CHUNKED, LAST, QUEUE, REQUEST, SIZED, TAKEN, TOO_LONG_A_BODY, TOO_LONG_A_HEAD, answered,
+    ANSWER, CHUNKED, LAST, QUEUE, REQUEST, SIZED, TAKEN, TOO_LONG_A_BODY, TOO_LONG_A_HEAD,
+    expect_answer,
 };
 use crate::fault::Fault;
 use crate::report::Report;
@@ -13,14 +15,15 @@ const TOO_LONG_A_TARGET: &[u8] =
 /// What is sent, each text so many times, and what answers it.
 type Sent = (&'static [(&'static [u8], usize)], &'static [&'static [u8]]);
 
-pub fn hold<W: Write>(rt: &HostRuntime, report: &mut Report<'_, W>) {
-    report.tell("limits of a head", are_answered(rt, LIMITS_OF_A_HEAD));
-    report.tell("limits of chunks", are_answered(rt, LIMITS_OF_CHUNKS));
+/// Runs each trial of this file, and tells how it ended.
+pub fn run_all<W: Write>(rt: &HostRuntime, report: &mut Report<'_, W>) {
+    report.tell("limits of a head", expect_answers(rt, LIMITS_OF_A_HEAD));
+    report.tell("limits of chunks", expect_answers(rt, LIMITS_OF_CHUNKS));
     report.tell("too long a chunk", too_long_a_chunk(rt));
 }
 
-/// That each text, so many times, is answered by what the others make.
-fn are_answered(rt: &HostRuntime, rows: &[Sent]) -> Result<(), Fault> {
+/// Sends each row's texts, each so many times, to new rooms. Expects the row's answer.
+fn expect_answers(rt: &HostRuntime, rows: &[Sent]) -> Result<(), Fault> {
     for (texts, due) in rows {
         let mut sent = Vec::new(rt.alloc());
         for (text, count) in *texts {
@@ -28,7 +31,7 @@ fn are_answered(rt: &HostRuntime, rows: &[Sent]) -> Result<(), Fault> {
                 sent.extend_from_slice(*text)?;
             }
         }
-        answered(rt, &[sent.as_slice()], *due)?;
+        expect_answer(rt, &[sent.as_slice()], *due)?;
     }
     Ok(())
 }
@@ -150,10 +153,10 @@ const LIMITS_OF_CHUNKS: &[Sent] = &[
     ),
 ];
 
-/// A chunk of one byte more than a body may have.
+/// Shows that a chunk of one byte more than a body may have is refused.
 fn too_long_a_chunk(rt: &HostRuntime) -> Result<(), Fault> {
     let mut body = Vec::new(rt.alloc());
     body.resize(16_842_753, b'a')?;
     let sent = &[QUEUE, CHUNKED, b"1010001\r\n", body.as_slice()];
-    answered(rt, sent, &[TOO_LONG_A_BODY])
+    expect_answer(rt, sent, &[TOO_LONG_A_BODY])
 }

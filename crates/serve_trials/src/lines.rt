@@ -1,9 +1,9 @@
-//! Lines of stations and operators.
+//! Trials of lines of stations and operators, against rooms in memory.
 
-use crate::due::{due_bytes, holds};
+use crate::expecting::{expect, expect_bytes};
 use crate::fault::Fault;
 use crate::report::Report;
-use crate::rooms::{exchange, hear_lines, lines, rooms};
+use crate::rooms::{exchange, exchange_lines, hear_lines, new_rooms};
 use room_served::{LineConnection, MOST_LINE, Served, Side};
 use sqlite::MemStore;
 use std::io::Write;
@@ -31,67 +31,76 @@ const STATION_TOLD: &[u8] =
     b"not-pending\nok reserved 24 left 76\ndocuments 1\ndocument 1 1 application/octet-stream 5\nHello\n\
     ok charged 10 left 90\nnot-processing\nbad-line\nno-account\nbad-line\n";
 
-pub fn hold<W: Write>(rt: &HostRuntime, report: &mut Report<'_, W>) {
+/// Runs each trial of this file, and tells how it ended.
+pub fn run_all<W: Write>(rt: &HostRuntime, report: &mut Report<'_, W>) {
     report.tell("lines in pieces of each size", in_pieces_of_each_size(rt));
     report.tell("a line that is cut off", a_line_that_is_cut_off(rt));
     report.tell("long lines", long_lines(rt));
 }
 
-/// An operator's lines, a job, and a station's lines: a byte at a time, cut within lines, and all
-/// at once.
+/// Shows that an operator's lines, a job and a station's lines are answered the same a byte at a
+/// time, cut within lines, and all at once.
 fn in_pieces_of_each_size(rt: &HostRuntime) -> Result<(), Fault> {
     for piece in [1, 13, 100_000] {
-        in_pieces(rt, piece)?;
+        expect_told_in_pieces(rt, piece)?;
     }
     Ok(())
 }
 
-fn in_pieces(rt: &HostRuntime, piece: usize) -> Result<(), Fault> {
-    let mut rooms = rooms(rt)?;
-    hear_all(rt, &mut rooms, piece)
+/// Sends all of it to new rooms, in pieces of so many bytes. Expects each answer.
+fn expect_told_in_pieces(rt: &HostRuntime, piece: usize) -> Result<(), Fault> {
+    let mut rooms = new_rooms(rt)?;
+    expect_all_told(rt, &mut rooms, piece)
 }
 
-fn hear_all(rt: &HostRuntime, rooms: &mut Served<MemStore>, piece: usize) -> Result<(), Fault> {
-    let told = lines(rt, rooms, Side::Operator, OPERATOR, piece)?;
-    due_bytes(rt, told.as_slice(), OPERATOR_TOLD)?;
+/// Sends an operator's lines, a job and a station's lines to the rooms. Expects each answer.
+fn expect_all_told(
+    rt: &HostRuntime,
+    rooms: &mut Served<MemStore>,
+    piece: usize,
+) -> Result<(), Fault> {
+    let told = exchange_lines(rt, rooms, Side::Operator, OPERATOR, piece)?;
+    expect_bytes(rt, told.as_slice(), OPERATOR_TOLD)?;
     exchange(rt, rooms, PRINT, piece)?;
-    let told = lines(rt, rooms, Side::Station, STATION, piece)?;
-    due_bytes(rt, told.as_slice(), STATION_TOLD)
+    let told = exchange_lines(rt, rooms, Side::Station, STATION, piece)?;
+    expect_bytes(rt, told.as_slice(), STATION_TOLD)
 }
 
-/// A line that no line feed ends changes nothing, even if it is one of the grammar.
+/// Shows that a line that no line feed ends changes nothing, even if it is one of the grammar.
 fn a_line_that_is_cut_off(rt: &HostRuntime) -> Result<(), Fault> {
-    let mut rooms = rooms(rt)?;
+    let mut rooms = new_rooms(rt)?;
     let mut connection = LineConnection::new(rt.alloc(), Side::Operator);
-    cut_off(rt, &mut connection, &mut rooms)
+    expect_not_done(rt, &mut connection, &mut rooms)
 }
 
-fn cut_off(
+/// Sends a line without its end, and refuses it. Expects that it was not done.
+fn expect_not_done(
     rt: &HostRuntime,
     connection: &mut LineConnection,
     rooms: &mut Served<MemStore>,
 ) -> Result<(), Fault> {
     connection.read_from(&mut b"open alice".as_slice())?;
-    holds(rt, !connection.answer(rooms)?, "the line waits for its end")?;
-    holds(rt, connection.has_rest(), "it is kept")?;
+    expect(rt, !connection.answer(rooms)?, "the line waits for its end")?;
+    expect(rt, connection.has_rest(), "it is kept")?;
     connection.refuse_rest()?;
     let mut output = Vec::new(rt.alloc());
     connection.write_to(&mut output)?;
-    due_bytes(rt, output.as_slice(), b"bad-line\n")?;
-    holds(rt, !connection.has_rest(), "nothing of it is left")?;
-    let told = lines(rt, rooms, Side::Operator, b"open alice\n", 100)?;
-    due_bytes(rt, told.as_slice(), b"ok\n")
+    expect_bytes(rt, output.as_slice(), b"bad-line\n")?;
+    expect(rt, !connection.has_rest(), "nothing of it is left")?;
+    let told = exchange_lines(rt, rooms, Side::Operator, b"open alice\n", 100)?;
+    expect_bytes(rt, told.as_slice(), b"ok\n")
 }
 
-/// The longest line, which is a bad one whatever it says, and a longer one, which is not waited
+/// Shows that the longest line is a bad one whatever it says, and that a longer one is not waited
 /// for.
 fn long_lines(rt: &HostRuntime) -> Result<(), Fault> {
-    let mut rooms = rooms(rt)?;
+    let mut rooms = new_rooms(rt)?;
     let mut connection = LineConnection::new(rt.alloc(), Side::Station);
-    hear_long(rt, &mut connection, &mut rooms)
+    expect_too_long(rt, &mut connection, &mut rooms)
 }
 
-fn hear_long(
+/// Sends the longest line without its end, and a byte more. Expects that it is too long only then.
+fn expect_too_long(
     rt: &HostRuntime,
     connection: &mut LineConnection,
     rooms: &mut Served<MemStore>,
@@ -100,15 +109,15 @@ fn hear_long(
     line.resize(MOST_LINE, b'a')?;
     let mut output = Vec::new(rt.alloc());
     hear_lines(connection, rooms, line.as_slice(), &mut output)?;
-    due_bytes(rt, output.as_slice(), b"")?;
-    holds(
+    expect_bytes(rt, output.as_slice(), b"")?;
+    expect(
         rt,
         !connection.is_too_long(),
         "the longest line is not too long",
     )?;
     connection.read_from(&mut b"a".as_slice())?;
-    holds(rt, connection.is_too_long(), "one byte more is too long")?;
+    expect(rt, connection.is_too_long(), "one byte more is too long")?;
     line.push(b'\n')?;
-    let told = lines(rt, rooms, Side::Station, line.as_slice(), 100_000)?;
-    due_bytes(rt, told.as_slice(), b"bad-line\n")
+    let told = exchange_lines(rt, rooms, Side::Station, line.as_slice(), 100_000)?;
+    expect_bytes(rt, told.as_slice(), b"bad-line\n")
 }

@@ -1,11 +1,12 @@
-//! The loop over all sockets: three doors on free ports of this machine, and visitors who come in
-//! by them. All of it is one thread: between any two turns of the hall each visitor goes on.
+//! The trial of the loop over all sockets: three doors on free ports of this machine, and visitors
+//! who come in by them. All of it is one thread: between any two turns of the hall each visitor
+//! goes on.
 
-use crate::due::{due_bytes, holds, of_case};
+use crate::expecting::{expect, expect_bytes, with_case};
 use crate::fault::Fault;
 use crate::lines::PRINT;
 use crate::report::Report;
-use crate::rooms::rooms;
+use crate::rooms::new_rooms;
 use room_served::Served;
 use room_sockets::{Door, Doors, Hall};
 use sqlite::Alter;
@@ -62,7 +63,8 @@ const STATION_TOLD: &[u8] =
     b"ok reserved 24 left 76\ndocuments 1\ndocument 1 1 application/octet-stream 5\nHello\nbad-line\n\
     ok charged 10 left 90\n";
 
-pub fn hold<W: Write>(rt: &HostRuntime, report: &mut Report<'_, W>) {
+/// Runs the trial of this file, and tells how it ended.
+pub fn run_all<W: Write>(rt: &HostRuntime, report: &mut Report<'_, W>) {
     report.tell("visitors over sockets", visitors_over_sockets(rt));
 }
 
@@ -85,6 +87,7 @@ pub struct Visitor<'a> {
 }
 
 impl<'a> Visitor<'a> {
+    /// Comes in by the port's door, with what is to be sent and what is due.
     pub fn enter(
         rt: &HostRuntime,
         port: u16,
@@ -102,14 +105,14 @@ impl<'a> Visitor<'a> {
         })
     }
 
-    /// Sends this as one piece, and is due to be told that from now on.
+    /// Sends this at once, as one piece. Forgets what was told so far: now the other text is due.
     pub fn go_on_with(&mut self, sends: &'a [u8], due: &'a [u8]) -> io::Result<()> {
         self.told.clear();
         self.due = due;
         self.stream.write_all(sends)
     }
 
-    /// Sends a piece, and hears what was told meanwhile.
+    /// Sends the next piece, and reads what was told meanwhile.
     fn go_on(&mut self) -> io::Result<()> {
         let piece = &self.sends[..self.sends.len().min(PIECE)];
         let count = unless_it_waits(self.stream.write(piece))?.unwrap_or(0);
@@ -117,6 +120,7 @@ impl<'a> Visitor<'a> {
         self.hear()
     }
 
+    /// Reads what was told, if something was, and notes whether the connection ended.
     fn hear(&mut self) -> io::Result<()> {
         let mut bytes = [0; 1_024];
         if let Some(count) = unless_it_waits(self.stream.read(&mut bytes))? {
@@ -127,17 +131,22 @@ impl<'a> Visitor<'a> {
         Ok(())
     }
 
-    /// Whether it was told as much as is due.
-    fn is_told(&self) -> bool {
+    /// Answers whether the visitor was told as many bytes as are due.
+    fn is_told_enough(&self) -> bool {
         self.told.len() >= self.due.len()
     }
 
-    fn is_told_what_is_due(&self, rt: &HostRuntime) -> Result<(), Fault> {
-        of_case(rt, self.due, due_bytes(rt, self.told.as_slice(), self.due))
+    /// Expects that the visitor was told what is due, and no more.
+    fn expect_told(&self, rt: &HostRuntime) -> Result<(), Fault> {
+        with_case(
+            rt,
+            self.due,
+            expect_bytes(rt, self.told.as_slice(), self.due),
+        )
     }
 }
 
-/// What a read or a write gave or took, or `None` where it would have to wait.
+/// Answers how many bytes a read or a write gave or took, or `None` where it would have to wait.
 fn unless_it_waits(count: io::Result<usize>) -> io::Result<Option<usize>> {
     match count {
         Ok(count) => Ok(Some(count)),
@@ -146,17 +155,18 @@ fn unless_it_waits(count: io::Result<usize>) -> io::Result<Option<usize>> {
     }
 }
 
-/// An operator opens accounts; two people print at once, each request cut into pieces; a station
-/// hands one job out. Each is told its own, and whoever ends is let go.
+/// Shows that an operator who opens accounts, two people who print at once, each request cut into
+/// pieces, and a station that hands one job out are told their own each, and that whoever ends is
+/// let go.
 fn visitors_over_sockets(rt: &HostRuntime) -> Result<(), Fault> {
     let doors = doors_at_free_ports(rt)?;
     let ports = ports_of(&doors)?;
-    let mut rooms = rooms(rt)?;
+    let mut rooms = new_rooms(rt)?;
     let mut hall = Hall::open(rt, doors, RandomState::new(rt)?)?;
     visit(rt, &mut hall, &mut rooms, ports)
 }
 
-/// Doors on ports that the system chose.
+/// Opens the three doors, on ports that the system chooses.
 pub fn doors_at_free_ports(rt: &HostRuntime) -> Result<Doors, Fault> {
     Ok(Doors {
         http: Door::at_port(rt, 0)?,
@@ -165,7 +175,7 @@ pub fn doors_at_free_ports(rt: &HostRuntime) -> Result<Doors, Fault> {
     })
 }
 
-/// The ports of the doors.
+/// Answers the ports of the doors.
 pub fn ports_of(doors: &Doors) -> Result<Ports, Fault> {
     Ok(Ports {
         http: doors.http.port().ok_or(Fault::Io)?,
@@ -174,6 +184,7 @@ pub fn ports_of(doors: &Doors) -> Result<Ports, Fault> {
     })
 }
 
+/// Lets the operator in, then two people who print, then the station. Expects what each is told.
 fn visit<S: Alter>(
     rt: &HostRuntime,
     hall: &mut Hall,
@@ -182,17 +193,18 @@ fn visit<S: Alter>(
 ) -> Result<(), Fault> {
     let mut visitors = Vec::new(rt.alloc());
     visitors.push(Visitor::enter(rt, ports.operators, OPERATOR, OPERATOR_TOLD)?)?;
-    until_told(rt, hall, rooms, &mut visitors)?;
+    turn_until_told(rt, hall, rooms, &mut visitors)?;
     visitors.push(Visitor::enter(rt, ports.http, PRINT, PRINTED)?)?;
     visitors.push(Visitor::enter(rt, ports.http, PRINT_OF_BOB, PRINTED_OF_BOB)?)?;
-    until_told(rt, hall, rooms, &mut visitors)?;
+    turn_until_told(rt, hall, rooms, &mut visitors)?;
     visitors.push(Visitor::enter(rt, ports.stations, STATION, STATION_TOLD)?)?;
-    until_told(rt, hall, rooms, &mut visitors)?;
-    until_let_go(rt, hall, rooms, &mut visitors)
+    turn_until_told(rt, hall, rooms, &mut visitors)?;
+    turn_until_let_go(rt, hall, rooms, &mut visitors)
 }
 
-/// Turns until all were told what is due.
-pub fn until_told<S: Alter>(
+/// Lets the hall and the visitors go on until each was told as much as is due, or `TURNS` have
+/// passed. Expects that it is what is due.
+pub fn turn_until_told<S: Alter>(
     rt: &HostRuntime,
     hall: &mut Hall,
     rooms: &mut Served<S>,
@@ -202,19 +214,19 @@ pub fn until_told<S: Alter>(
         for visitor in visitors.iter_mut() {
             visitor.go_on()?;
         }
-        if visitors.iter().all(|visitor| visitor.is_told()) {
+        if visitors.iter().all(|visitor| visitor.is_told_enough()) {
             break;
         }
         hall.turn(rt, rooms)?;
     }
     for visitor in visitors.iter() {
-        visitor.is_told_what_is_due(rt)?;
+        visitor.expect_told(rt)?;
     }
     Ok(())
 }
 
-/// All but the operator end, and hear the end too.
-fn until_let_go<S: Alter>(
+/// Ends all visitors but the operator. Expects that they hear the end, and that the operator stays.
+fn turn_until_let_go<S: Alter>(
     rt: &HostRuntime,
     hall: &mut Hall,
     rooms: &mut Served<S>,
@@ -226,14 +238,15 @@ fn until_let_go<S: Alter>(
     for visitor in others.iter() {
         visitor.stream.shutdown(Shutdown::Write)?;
     }
-    until_ended(rt, hall, rooms, others)?;
+    turn_until_ended(rt, hall, rooms, others)?;
     operator.hear()?;
-    operator.is_told_what_is_due(rt)?;
-    holds(rt, !operator.has_ended, "the operator stays")
+    operator.expect_told(rt)?;
+    expect(rt, !operator.has_ended, "the operator stays")
 }
 
-/// Turns until all hear the end, and were told what is due and no more.
-pub fn until_ended<S: Alter>(
+/// Lets the hall go on until each visitor hears the end, or `TURNS` have passed. Expects that they
+/// hear it, and were told what is due and no more.
+pub fn turn_until_ended<S: Alter>(
     rt: &HostRuntime,
     hall: &mut Hall,
     rooms: &mut Served<S>,
@@ -249,8 +262,8 @@ pub fn until_ended<S: Alter>(
         hall.turn(rt, rooms)?;
     }
     for visitor in visitors.iter() {
-        visitor.is_told_what_is_due(rt)?;
-        holds(rt, visitor.has_ended, "it hears the end")?;
+        visitor.expect_told(rt)?;
+        expect(rt, visitor.has_ended, "it hears the end")?;
     }
     Ok(())
 }

@@ -1,11 +1,13 @@
-//! A round whose commit fails: each who asked in it is told once what it came to by itself, and is
-//! then let go, and so is one who ended before it could be told.
+//! The trial of a round whose commit fails: each who asked in it is told once what it came to by
+//! itself, and is then let go, and so is one who ended before it could be told.
 
-use crate::due::holds;
+use crate::expecting::expect;
 use crate::fault::Fault;
 use crate::faulty::{MARK, connect};
 use crate::lines::PRINT;
-use crate::loopback::{Ports, Visitor, doors_at_free_ports, ports_of, until_ended, until_told};
+use crate::loopback::{
+    Ports, Visitor, doors_at_free_ports, ports_of, turn_until_ended, turn_until_told,
+};
 use crate::report::Report;
 use crate::rooms::rooms_over;
 use room_served::Served;
@@ -50,37 +52,46 @@ const ONE_JOB: &[u8] =
     \x45\x00\x07job-uri\x00\x21ipp://localhost/ipp/print/alice/1\
     \x21\x00\x06job-id\x00\x04\x00\x00\x00\x01\x03";
 
-pub fn hold<W: Write>(rt: &HostRuntime, report: &mut Report<'_, W>) {
+/// Runs the trial of this file, and tells how it ended.
+pub fn run_all<W: Write>(rt: &HostRuntime, report: &mut Report<'_, W>) {
     report.tell("a lost round", a_lost_round(rt));
 }
 
+/// Shows that who asked in a lost round is told once and let go, and that what each asked was done
+/// once.
 fn a_lost_round(rt: &HostRuntime) -> Result<(), Fault> {
     match connect(rt.alloc()) {
-        Ok(connection) => lose(rt, connection),
+        Ok(connection) => lose_round_over(rt, connection),
         Err(error) => Err(Fault::from(OpenFault::from(error))),
     }
 }
 
-fn lose<S: Alter + Drop>(rt: &HostRuntime, connection: Connection<S>) -> Result<(), Fault> {
+/// Opens rooms over this connection and a hall before them, and makes the trial there.
+fn lose_round_over<S: Alter + Drop>(
+    rt: &HostRuntime,
+    connection: Connection<S>,
+) -> Result<(), Fault> {
     let doors = doors_at_free_ports(rt)?;
     let ports = ports_of(&doors)?;
     let mut rooms = rooms_over(rt, connection)?;
     let mut hall = Hall::open(rt, doors, RandomState::new(rt)?)?;
-    lose_in(rt, &mut hall, &mut rooms, ports)
+    lose_round_in(rt, &mut hall, &mut rooms, ports)
 }
 
-fn lose_in<S: Alter>(
+/// Has four ask in one round, whose commit fails. Expects what they are told, and that what each
+/// asked was done once.
+fn lose_round_in<S: Alter>(
     rt: &HostRuntime,
     hall: &mut Hall,
     rooms: &mut Served<S>,
     ports: Ports,
 ) -> Result<(), Fault> {
-    let alices = Texts::of(rt.alloc(), "alice", "Hello")?;
-    let brians = Texts::of(rt.alloc(), "brian", "Hello")?;
-    let carols = Texts::of(rt.alloc(), "carol", MARK)?;
+    let alices = Texts::for_account(rt.alloc(), "alice", "Hello")?;
+    let brians = Texts::for_account(rt.alloc(), "brian", "Hello")?;
+    let carols = Texts::for_account(rt.alloc(), "carol", MARK)?;
     let all = [&alices, &brians, &carols];
     ask_in_one(rt, hall, rooms, ports, all)?;
-    each_is_there_once(rt, hall, rooms, ports, all)
+    expect_each_once(rt, hall, rooms, ports, all)
 }
 
 /// What is sent and told of one account.
@@ -93,19 +104,20 @@ struct Texts {
 }
 
 impl Texts {
-    /// Those of an account whose name is as long as alice's, which prints this document.
-    fn of(alloc: Global, account: &str, document: &str) -> Result<Texts, Fault> {
+    /// Makes the texts of an account whose name is as long as alice's, and which prints this
+    /// document.
+    fn for_account(alloc: Global, account: &str, document: &str) -> Result<Texts, Fault> {
         Ok(Texts {
-            print: changed(alloc, PRINT, account, document)?,
-            printed_alone: changed(alloc, PRINTED_ALONE, account, document)?,
-            asks_jobs: changed(alloc, ASKS_JOBS, account, document)?,
-            one_job: changed(alloc, ONE_JOB, account, document)?,
+            print: with_names(alloc, PRINT, account, document)?,
+            printed_alone: with_names(alloc, PRINTED_ALONE, account, document)?,
+            asks_jobs: with_names(alloc, ASKS_JOBS, account, document)?,
+            one_job: with_names(alloc, ONE_JOB, account, document)?,
         })
     }
 }
 
-/// The text with the account in the place of alice's and the document in that of `Hello`.
-fn changed(alloc: Global, text: &[u8], account: &str, document: &str) -> Result<Vec<u8>, Fault> {
+/// Puts the account in the place of alice's and the document in that of `Hello`.
+fn with_names(alloc: Global, text: &[u8], account: &str, document: &str) -> Result<Vec<u8>, Fault> {
     let Ok(text) = str::from_utf8(text) else {
         return Err(Fault::Io);
     };
@@ -113,8 +125,8 @@ fn changed(alloc: Global, text: &[u8], account: &str, document: &str) -> Result<
     Ok(text.replace(alloc, "Hello", document)?.into_bytes())
 }
 
-/// Four who are in the hall ask at once. The last of them, of whose document the round is lost, ends
-/// before it is told.
+/// Has four who are in the hall ask at once; the last of them, for whose document the round is
+/// lost, ends before it is told. Expects that the others are told, and let go.
 fn ask_in_one<'a, S: Alter>(
     rt: &HostRuntime,
     hall: &mut Hall,
@@ -128,7 +140,7 @@ fn ask_in_one<'a, S: Alter>(
     for _ in 0..3 {
         visitors.push(Visitor::enter(rt, ports.http, GREETS, GREETED)?)?;
     }
-    until_told(rt, hall, rooms, &mut visitors)?;
+    turn_until_told(rt, hall, rooms, &mut visitors)?;
     let asked = [
         (b"open diane\n".as_slice(), b"ok\n".as_slice()),
         (alices.print.as_slice(), alices.printed_alone.as_slice()),
@@ -138,13 +150,13 @@ fn ask_in_one<'a, S: Alter>(
     for (visitor, (sends, due)) in visitors.iter_mut().zip(asked) {
         visitor.go_on_with(sends, due)?;
     }
-    holds(rt, visitors.pop().is_some(), "the last ends")?;
-    until_ended(rt, hall, rooms, &mut visitors)
+    expect(rt, visitors.pop().is_some(), "the last ends")?;
+    turn_until_ended(rt, hall, rooms, &mut visitors)
 }
 
-/// What each asked was done once: others who come then find one job of each, also of the one that
-/// was told nothing, and the account opened.
-fn each_is_there_once<S: Alter>(
+/// Asks again, by others who come. Expects one job of each account, also of the one that was told
+/// nothing, and that the account is open.
+fn expect_each_once<S: Alter>(
     rt: &HostRuntime,
     hall: &mut Hall,
     rooms: &mut Served<S>,
@@ -157,5 +169,5 @@ fn each_is_there_once<S: Alter>(
         visitors.push(Visitor::enter(rt, ports.http, asks, texts.one_job.as_slice())?)?;
     }
     visitors.push(Visitor::enter(rt, ports.operators, b"open diane\n", b"exists\n")?)?;
-    until_told(rt, hall, rooms, &mut visitors)
+    turn_until_told(rt, hall, rooms, &mut visitors)
 }

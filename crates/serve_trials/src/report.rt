@@ -1,4 +1,4 @@
-//! What is printed of trials.
+//! Prints how each trial ended, and keeps whether all hold.
 
 use crate::fault::Fault;
 use std::io::Write;
@@ -11,6 +11,7 @@ pub struct Report<'a, W> {
 }
 
 impl<'a, W: Write> Report<'a, W> {
+    /// Begins a report in which nothing failed so far.
     pub fn new(output: &'a mut W) -> Report<'a, W> {
         Report {
             output,
@@ -18,7 +19,7 @@ impl<'a, W: Write> Report<'a, W> {
         }
     }
 
-    /// Tells how a trial ended. One that can't be told does not hold.
+    /// Prints how a trial ended. One that can't be told does not hold.
     pub fn tell(&mut self, name: &str, ended: Result<(), Fault>) {
         let told = match ended {
             Ok(()) => writeln!(self.output, "{name}: holds"),
@@ -30,6 +31,7 @@ impl<'a, W: Write> Report<'a, W> {
         self.all_hold &= told.is_ok();
     }
 
+    /// Answers whether each trial that was told holds.
     pub fn all_hold(&self) -> bool {
         self.all_hold
     }

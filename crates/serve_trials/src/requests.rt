@@ -1,7 +1,9 @@
-//! Requests over HTTP: the first worked row, paths of no queue, one request after another, and a
-//! long body.
+//! Trials of requests over HTTP: the first worked row, paths of no queue, one request after
+//! another, and a long body.
 
-use crate::cases::{ANSWER, NOT_FOUND, QUEUE, REQUEST, SIZED, TAKEN, answered_in, joined};
+use crate::cases::{
+    ANSWER, NOT_FOUND, QUEUE, REQUEST, SIZED, TAKEN, expect_answer_in_pieces, joined,
+};
 use crate::fault::Fault;
 use crate::report::Report;
 use std::io::Write;
@@ -13,24 +15,31 @@ const HEAD_OF_NOBODY: &[u8] =
 /// Pieces of one byte, of some, and all at once.
 const PIECES: [usize; 3] = [1, 50, 100_000];
 
-pub fn hold<W: Write>(rt: &HostRuntime, report: &mut Report<'_, W>) {
+/// Runs each trial of this file, and tells how it ended.
+pub fn run_all<W: Write>(rt: &HostRuntime, report: &mut Report<'_, W>) {
     report.tell("first answer", first_answer(rt));
     report.tell("no queue", no_queue(rt));
     report.tell("one behind another", one_behind_another(rt));
     report.tell("long body", long_body(rt));
 }
 
-/// That what the pieces make is answered by what the others make, in pieces of each size.
-fn answers(rt: &HostRuntime, sent: &[&[u8]], due: &[&[u8]]) -> Result<(), Fault> {
+/// Sends what the pieces make to new rooms, cut in each of `PIECES`. Expects what the others make.
+fn expect_answer_in_all_pieces(
+    rt: &HostRuntime,
+    sent: &[&[u8]],
+    due: &[&[u8]],
+) -> Result<(), Fault> {
     let sent = joined(rt.alloc(), sent)?;
     let due = joined(rt.alloc(), due)?;
-    answered_in(rt, &PIECES, sent.as_slice(), due.as_slice())
+    expect_answer_in_pieces(rt, &PIECES, sent.as_slice(), due.as_slice())
 }
 
+/// Shows that the first worked example is answered.
 fn first_answer(rt: &HostRuntime) -> Result<(), Fault> {
-    answers(rt, &[QUEUE, SIZED, REQUEST], &[TAKEN, ANSWER])
+    expect_answer_in_all_pieces(rt, &[QUEUE, SIZED, REQUEST], &[TAKEN, ANSWER])
 }
 
+/// Shows that a path that names no queue is not found.
 fn no_queue(rt: &HostRuntime) -> Result<(), Fault> {
     let fields =
         b" HTTP/1.1\r\nHost: localhost\r\nContent-Type: application/ipp\r\nContent-Length: 119\r\n\r\n";
@@ -42,19 +51,19 @@ fn no_queue(rt: &HostRuntime) -> Result<(), Fault> {
         b"/ipp/prints/alice".as_slice(),
         b"/".as_slice(),
     ] {
-        answers(rt, &[b"POST ", path, fields, REQUEST], &[NOT_FOUND])?;
+        expect_answer_in_all_pieces(rt, &[b"POST ", path, fields, REQUEST], &[NOT_FOUND])?;
     }
     Ok(())
 }
 
-/// Two requests, of which the second follows the first at once, and the second is of another
-/// account.
+/// Shows that two requests that come at once, the second for an account that is not open, are
+/// answered in order.
 fn one_behind_another(rt: &HostRuntime) -> Result<(), Fault> {
     let sent = &[QUEUE, SIZED, REQUEST, HEAD_OF_NOBODY, REQUEST];
-    answers(rt, sent, &[TAKEN, ANSWER, NOT_FOUND])
+    expect_answer_in_all_pieces(rt, sent, &[TAKEN, ANSWER, NOT_FOUND])
 }
 
-/// A body of more than a mebibyte is answered, and ends the connection.
+/// Shows that a body of more than a mebibyte is answered, and ends the connection.
 fn long_body(rt: &HostRuntime) -> Result<(), Fault> {
     let mut sent = joined(
         rt.alloc(),
@@ -68,5 +77,5 @@ fn long_body(rt: &HostRuntime) -> Result<(), Fault> {
             ANSWER,
         ],
     )?;
-    answered_in(rt, &[4_096], sent.as_slice(), due.as_slice())
+    expect_answer_in_pieces(rt, &[4_096], sent.as_slice(), due.as_slice())
 }

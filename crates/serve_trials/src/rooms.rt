@@ -1,4 +1,4 @@
-//! Rooms in memory, and connections to them.
+//! Makes rooms in memory, and sends them requests and lines over connections in memory.
 
 use crate::fault::Fault;
 use http_server::Connection;
@@ -10,12 +10,12 @@ use std::hash::RandomState;
 
 const NOW: u64 = 1_788_220_800;
 
-/// Rooms of which none is open yet.
-pub fn rooms(rt: &HostRuntime) -> Result<Served<MemStore>, Fault> {
+/// Makes rooms in memory of which none is open yet.
+pub fn new_rooms(rt: &HostRuntime) -> Result<Served<MemStore>, Fault> {
     rooms_over(rt, sqlite::Connection::open_in_memory(rt.alloc())?)
 }
 
-/// The same over a connection to an empty database.
+/// Makes rooms over a connection to an empty database.
 pub fn rooms_over<S: Alter + Drop>(
     rt: &HostRuntime,
     connection: sqlite::Connection<S>,
@@ -26,18 +26,18 @@ pub fn rooms_over<S: Alter + Drop>(
     }
 }
 
-/// Rooms of which alice's is open.
+/// Makes rooms in memory of which alice's is open.
 pub fn open_rooms(rt: &HostRuntime) -> Result<Served<MemStore>, Fault> {
-    let mut rooms = rooms(rt)?;
-    lines(rt, &mut rooms, Side::Operator, b"open alice\n", 100)?;
+    let mut rooms = new_rooms(rt)?;
+    exchange_lines(rt, &mut rooms, Side::Operator, b"open alice\n", 100)?;
     Ok(rooms)
 }
 
 /// More than a connection in these trials needs of reads, of lines or of writes, one after another.
 pub const MANY: u32 = 10_000;
 
-/// What goes out for what comes in on one connection of HTTP, in pieces of so many bytes, and then
-/// the end.
+/// Sends the input on one connection of HTTP, in pieces of so many bytes, and then the end. Answers
+/// what goes out.
 pub fn exchange(
     rt: &HostRuntime,
     rooms: &mut Served<MemStore>,
@@ -49,7 +49,8 @@ pub fn exchange(
     converse(rt.alloc(), &mut connection, rooms, input, piece)
 }
 
-/// The same on a connection that is there: its drop is long, and `exchange` has one exit after it.
+/// Sends the input on a connection that is there, whose drop is long: `exchange` has one exit after
+/// it. Answers what goes out.
 fn converse(
     alloc: Global,
     connection: &mut Connection,
@@ -67,6 +68,8 @@ fn converse(
     Ok(output)
 }
 
+/// Lets the connection read the bytes until it wants no more, and answer. Adds what goes out to the
+/// output.
 fn hear(
     connection: &mut Connection,
     rooms: &mut Served<MemStore>,
@@ -83,6 +86,7 @@ fn hear(
     Ok(())
 }
 
+/// Lets the connection read once and answer. Adds what goes out to the output.
 fn read_once(
     connection: &mut Connection,
     rooms: &mut Served<MemStore>,
@@ -100,8 +104,9 @@ fn read_once(
     Ok(())
 }
 
-/// What goes out for lines that come in on one connection, in pieces of so many bytes.
-pub fn lines(
+/// Sends lines on one connection of a station or an operator, in pieces of so many bytes. Answers
+/// what goes out.
+pub fn exchange_lines(
     rt: &HostRuntime,
     rooms: &mut Served<MemStore>,
     side: Side,
@@ -116,6 +121,7 @@ pub fn lines(
     Ok(output)
 }
 
+/// Lets the connection read the bytes and answer each line. Adds what goes out to the output.
 pub fn hear_lines(
     connection: &mut LineConnection,
     rooms: &mut Served<MemStore>,
@@ -139,7 +145,7 @@ pub fn hear_lines(
     Ok(())
 }
 
-/// Answers each line that came.
+/// Lets the connection answer each line that came.
 fn answer_all(connection: &mut LineConnection, rooms: &mut Served<MemStore>) -> Result<(), Fault> {
     for _ in 0..MANY {
         if !connection.answer(rooms)? {

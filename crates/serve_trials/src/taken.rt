@@ -1,6 +1,8 @@
-//! Requests over HTTP that are taken and that another server may refuse.
+//! Trials of requests over HTTP that are taken here and that another server may refuse.
 
-use crate::cases::{ANSWER, BAD, CHUNKED, CONTINUED, LAST, QUEUE, REQUEST, SIZED, TAKEN, answered};
+use crate::cases::{
+    ANSWER, BAD, CHUNKED, CONTINUED, LAST, QUEUE, REQUEST, SIZED, TAKEN, expect_answer,
+};
 use crate::fault::Fault;
 use crate::report::Report;
 use std::io::Write;
@@ -79,23 +81,26 @@ const EXPECTING: &[&[u8]] = &[
 /// Lines that begin a chunk of 119 bytes.
 const LINES_OF_A_CHUNK: &[&[u8]] = &[b"77\r\n", b"0000000000000000000000000077 \t;a=\"b\"\r\n"];
 
-pub fn hold<W: Write>(rt: &HostRuntime, report: &mut Report<'_, W>) {
+/// Runs each trial of this file, and tells how it ended.
+pub fn run_all<W: Write>(rt: &HostRuntime, report: &mut Report<'_, W>) {
     report.tell("taken heads", taken_heads(rt));
-    report.tell("fields that wait for the 100 text", expecting(rt));
+    report.tell("fields that wait for the 100 text", fields_that_wait(rt));
     report.tell("lines of a chunk", lines_of_a_chunk(rt));
     report.tell("what follows a message", what_follows(rt));
 }
 
+/// Shows that each of these heads is taken, and how the answer's head begins.
 fn taken_heads(rt: &HostRuntime) -> Result<(), Fault> {
     for (head, fields, due) in TAKEN_HEADS {
-        answered(rt, &[*head, *fields, REQUEST], &[*due, ANSWER])?;
+        expect_answer(rt, &[*head, *fields, REQUEST], &[*due, ANSWER])?;
     }
     Ok(())
 }
 
-fn expecting(rt: &HostRuntime) -> Result<(), Fault> {
+/// Shows that a client that waits for the 100 text gets it, and then its answer.
+fn fields_that_wait(rt: &HostRuntime) -> Result<(), Fault> {
     for expect in EXPECTING {
-        answered(
+        expect_answer(
             rt,
             &[QUEUE, b"Expect: ", *expect, b"\r\n", SIZED, REQUEST],
             &[CONTINUED, TAKEN, ANSWER],
@@ -104,18 +109,18 @@ fn expecting(rt: &HostRuntime) -> Result<(), Fault> {
     Ok(())
 }
 
-/// HTTP/1.1 takes them, and HTTP/1.0 has no chunks.
+/// Shows that HTTP/1.1 takes these lines of a chunk, and that HTTP/1.0 has no chunks.
 fn lines_of_a_chunk(rt: &HostRuntime) -> Result<(), Fault> {
     for line in LINES_OF_A_CHUNK {
         let sent = &[QUEUE, CHUNKED, *line, REQUEST, LAST];
-        answered(rt, sent, &[TAKEN, ANSWER])?;
-        answered(rt, &[LINE_0, CHUNKED, *line, REQUEST, LAST], &[BAD])?;
+        expect_answer(rt, sent, &[TAKEN, ANSWER])?;
+        expect_answer(rt, &[LINE_0, CHUNKED, *line, REQUEST, LAST], &[BAD])?;
     }
     Ok(())
 }
 
-/// After the last message of a connection nothing is answered, and a line that is cut off is a bad
-/// head.
+/// Shows that after the last message of a connection nothing is answered, and that a line that is
+/// cut off is a bad head.
 fn what_follows(rt: &HostRuntime) -> Result<(), Fault> {
     let twice = &[
         QUEUE,
@@ -126,7 +131,7 @@ fn what_follows(rt: &HostRuntime) -> Result<(), Fault> {
         SIZED,
         REQUEST,
     ];
-    answered(rt, twice, &[CLOSED, ANSWER])?;
+    expect_answer(rt, twice, &[CLOSED, ANSWER])?;
     let cut = &[QUEUE, SIZED, REQUEST, b"\r\n"];
-    answered(rt, cut, &[TAKEN, ANSWER, BAD])
+    expect_answer(rt, cut, &[TAKEN, ANSWER, BAD])
 }

@@ -1,6 +1,6 @@
-//! A peer of rooms, over a reader that makes it wait.
+//! A peer of rooms that is given one turn after another, over a reader that makes it wait.
 
-use crate::due::{due, due_bytes};
+use crate::expecting::{expect_bytes, expect_equal};
 use crate::fault::Fault;
 use crate::rooms::open_rooms;
 use room_served::{HttpPeer, LinePeer, Next, Patience, Served, Side, Turn};
@@ -20,6 +20,7 @@ struct Tape<'a> {
 }
 
 impl Read for Tape<'_> {
+    /// Reads what came. Where nothing is left it would have to wait, or finds the end.
     fn read(&mut self, buffer: &mut [u8]) -> io::Result<usize> {
         if self.comes.is_empty() && !self.ends {
             return Err(io::Error::from(ErrorKind::WouldBlock));
@@ -49,7 +50,7 @@ pub struct Talk<'a> {
 }
 
 impl<'a> Talk<'a> {
-    /// With a client of HTTP that sends this.
+    /// Begins with a client of HTTP that sends this.
     pub fn of_client(rt: &HostRuntime, comes: &'a [u8]) -> Result<Talk<'a>, Fault> {
         let keys = RandomState::new(rt)?;
         Ok(Talk {
@@ -60,7 +61,7 @@ impl<'a> Talk<'a> {
         })
     }
 
-    /// With a station that sends this.
+    /// Begins with a station that sends this.
     pub fn of_station(rt: &HostRuntime, comes: &'a [u8]) -> Result<Talk<'a>, Fault> {
         Ok(Talk {
             rooms: open_rooms(rt)?,
@@ -70,17 +71,18 @@ impl<'a> Talk<'a> {
         })
     }
 
-    /// The peer sends this, after what it sent. What went before is forgotten.
+    /// Sends this, after what the peer sent before. What went out before is forgotten.
     pub fn send(&mut self, comes: &'a [u8]) {
         self.tape.comes = comes;
         self.went.clear();
     }
 
-    /// The peer ends after what it sends.
+    /// Ends what the peer sends.
     pub fn end(&mut self) {
         self.tape.ends = true;
     }
 
+    /// Gives the peer one turn. Answers how it goes on.
     pub fn turn(&mut self, turn: Turn) -> Next {
         match &mut self.peer {
             Peer::Http(peer) => peer.drive(&mut self.tape, &mut self.went, &mut self.rooms, turn),
@@ -88,8 +90,8 @@ impl<'a> Talk<'a> {
         }
     }
 
-    /// Turns, until one that does not go on at once.
-    pub fn turns(&mut self, turn: Turn) -> Next {
+    /// Gives the peer turns until one does not answer `Again`. Answers how it goes on then.
+    pub fn turn_while_again(&mut self, turn: Turn) -> Next {
         let mut next = Next::Again;
         for _ in 0..MANY {
             if next != Next::Again {
@@ -100,23 +102,25 @@ impl<'a> Talk<'a> {
         next
     }
 
-    /// That a turn ends so, after which this went.
-    pub fn goes(
+    /// Gives the peer one turn. Expects that it answers this, and what went out since it sent
+    /// something.
+    pub fn expect_turn(
         &mut self,
         rt: &HostRuntime,
         turn: Turn,
         next: Next,
         went: &[u8],
     ) -> Result<(), Fault> {
-        due(rt, self.turn(turn), next)?;
-        due_bytes(rt, self.went(), went)
+        expect_equal(rt, self.turn(turn), next)?;
+        expect_bytes(rt, self.went_out(), went)
     }
 
-    /// What went to the peer since it sent something.
-    pub fn went(&self) -> &[u8] {
+    /// Answers what went out to the peer since it sent something.
+    pub fn went_out(&self) -> &[u8] {
         self.went.as_slice()
     }
 
+    /// Answers how long the peer's connection may take.
     pub fn patience(&self) -> Patience {
         match &self.peer {
             Peer::Http(peer) => peer.patience(),
@@ -124,15 +128,15 @@ impl<'a> Talk<'a> {
         }
     }
 
-    /// How many bytes the connection holds.
-    pub fn held(&self) -> usize {
+    /// Counts the bytes that the connection holds.
+    pub fn bytes_held(&self) -> usize {
         match &self.peer {
             Peer::Http(peer) => peer.held(),
             Peer::Lines(peer) => peer.held(),
         }
     }
 
-    /// Whether a large request is coming.
+    /// Answers whether a large request is coming.
     pub fn is_large(&self) -> bool {
         match &self.peer {
             Peer::Http(peer) => peer.is_large(),

@@ -1,8 +1,8 @@
-//! Turns of connections over a stream that makes them wait: how much one does, and what it waits
-//! for.
+//! Trials of turns of connections over a stream that makes them wait: how much one does, and what
+//! it waits for.
 
 use crate::cases::{ANSWER, CONTINUED, QUEUE, REQUEST, SIZED, TAKEN, joined};
-use crate::due::{due, due_bytes, holds};
+use crate::expecting::{expect, expect_bytes, expect_equal};
 use crate::fault::Fault;
 use crate::report::Report;
 use crate::talk::Talk;
@@ -24,7 +24,8 @@ const NO_ROOM: Turn = Turn {
     reads: true,
 };
 
-pub fn hold<W: Write>(rt: &HostRuntime, report: &mut Report<'_, W>) {
+/// Runs each trial of this file, and tells how it ended.
+pub fn run_all<W: Write>(rt: &HostRuntime, report: &mut Report<'_, W>) {
     report.tell("a few requests a turn", a_few_requests_a_turn(rt));
     report.tell(
         "a large request waits for room",
@@ -37,17 +38,17 @@ pub fn hold<W: Write>(rt: &HostRuntime, report: &mut Report<'_, W>) {
     report.tell("a line too long for turns", a_line_that_is_too_long(rt));
 }
 
-/// Validate-Job for the queue of alice, with its head.
+/// Answers Validate-Job for the queue of alice, with its head.
 fn request(alloc: Global) -> Result<Vec<u8>, AllocError> {
     joined(alloc, &[QUEUE, SIZED, REQUEST])
 }
 
-/// The answer to it, with its head.
-fn valid(alloc: Global) -> Result<Vec<u8>, AllocError> {
+/// Answers the answer to `request`, with its head.
+fn valid_answer(alloc: Global) -> Result<Vec<u8>, AllocError> {
     joined(alloc, &[TAKEN, ANSWER])
 }
 
-/// So many copies of a text.
+/// Answers so many copies of a text as one.
 fn copies(alloc: Global, text: &[u8], count: u32) -> Result<Vec<u8>, AllocError> {
     let mut all = Vec::new(alloc);
     for _ in 0..count {
@@ -56,144 +57,163 @@ fn copies(alloc: Global, text: &[u8], count: u32) -> Result<Vec<u8>, AllocError>
     Ok(all)
 }
 
-/// A flood of requests is answered four at a time at most, in order, and all of them in the end.
+/// Shows that a flood of requests is answered four at a time at most, in order, and all of them in
+/// the end.
 fn a_few_requests_a_turn(rt: &HostRuntime) -> Result<(), Fault> {
     let request = request(rt.alloc())?;
     let comes = copies(rt.alloc(), request.as_slice(), 300)?;
     let mut talk = Talk::of_client(rt, comes.as_slice())?;
-    a_few_a_turn(rt, &mut talk)
+    expect_a_few_a_turn(rt, &mut talk)
 }
 
-fn a_few_a_turn(rt: &HostRuntime, talk: &mut Talk<'_>) -> Result<(), Fault> {
-    let valid = valid(rt.alloc())?;
-    due(rt, talk.turn(ROOM), Next::Again)?;
-    holds(rt, !talk.went().is_empty(), "the first turn answers")?;
+/// Expects four answers at most in the first turn, and all 300 in the end.
+fn expect_a_few_a_turn(rt: &HostRuntime, talk: &mut Talk<'_>) -> Result<(), Fault> {
+    let valid = valid_answer(rt.alloc())?;
+    expect_equal(rt, talk.turn(ROOM), Next::Again)?;
+    expect(rt, !talk.went_out().is_empty(), "the first turn answers")?;
     let most = valid.len().saturating_mul(4);
-    holds(rt, talk.went().len() <= most, "the first turn answers four")?;
-    due(rt, talk.turns(ROOM), Next::Wait)?;
+    expect(
+        rt,
+        talk.went_out().len() <= most,
+        "the first turn answers four",
+    )?;
+    expect_equal(rt, talk.turn_while_again(ROOM), Next::Wait)?;
     let all = copies(rt.alloc(), valid.as_slice(), 300)?;
-    due_bytes(rt, talk.went(), all.as_slice())
+    expect_bytes(rt, talk.went_out(), all.as_slice())
 }
 
-/// A request whose body has a million bytes.
+/// Answers a request whose body has a million bytes.
 fn large_request(alloc: Global) -> Result<Vec<u8>, AllocError> {
     let mut large = joined(alloc, &[QUEUE, b"Content-Length: 1000000\r\n\r\n", REQUEST])?;
     large.resize(large.len() + 1_000_000 - REQUEST.len(), b'a')?;
     Ok(large)
 }
 
-/// Where there is no room a large request stops coming, a small one does not, and the large one
-/// goes on with room.
+/// Shows that where there is no room a large request stops coming, a small one does not, and the
+/// large one goes on with room.
 fn a_large_request_waits_for_room(rt: &HostRuntime) -> Result<(), Fault> {
     let small = request(rt.alloc())?;
     let large = large_request(rt.alloc())?;
     let mut talk = Talk::of_client(rt, small.as_slice())?;
-    a_large_one_waits(rt, &mut talk, large.as_slice())
+    expect_large_one_waits(rt, &mut talk, large.as_slice())
 }
 
-fn a_large_one_waits<'a>(
+/// Sends the large request behind a small one. Expects that only the large one waits for room.
+fn expect_large_one_waits<'a>(
     rt: &HostRuntime,
     talk: &mut Talk<'a>,
     large: &'a [u8],
 ) -> Result<(), Fault> {
-    let valid = valid(rt.alloc())?;
-    talk.goes(rt, NO_ROOM, Next::Wait, valid.as_slice())?;
+    let valid = valid_answer(rt.alloc())?;
+    talk.expect_turn(rt, NO_ROOM, Next::Wait, valid.as_slice())?;
     talk.send(large);
-    due(rt, talk.turns(NO_ROOM), Next::Hold)?;
-    holds(rt, talk.is_large(), "a large request is coming")?;
-    holds(rt, talk.held() < 300_000, "it stops coming")?;
-    holds(rt, talk.patience().is_held_back(), "it is held back")?;
-    due(rt, talk.turns(ROOM), Next::Wait)?;
-    due_bytes(rt, talk.went(), valid.as_slice())?;
-    holds(rt, talk.patience().rests(), "it rests behind its answer")
+    expect_equal(rt, talk.turn_while_again(NO_ROOM), Next::Hold)?;
+    expect(rt, talk.is_large(), "a large request is coming")?;
+    expect(rt, talk.bytes_held() < 300_000, "it stops coming")?;
+    expect(rt, talk.patience().is_held_back(), "it is held back")?;
+    expect_equal(rt, talk.turn_while_again(ROOM), Next::Wait)?;
+    expect_bytes(rt, talk.went_out(), valid.as_slice())?;
+    expect(rt, talk.patience().rests(), "it rests behind its answer")
 }
 
-/// A client that was asked for its body has as long for it as for the rest of what it began.
+/// Shows that a client that was asked for its body has as long for it as for the rest of what it
+/// began.
 fn a_body_that_was_asked_for(rt: &HostRuntime) -> Result<(), Fault> {
     let head = joined(rt.alloc(), &[QUEUE, b"Expect: 100-continue\r\n", SIZED])?;
     let mut talk = Talk::of_client(rt, head.as_slice())?;
-    a_body_comes(rt, &mut talk)
+    expect_body_waited_for(rt, &mut talk)
 }
 
-fn a_body_comes(rt: &HostRuntime, talk: &mut Talk<'_>) -> Result<(), Fault> {
-    talk.goes(rt, ROOM, Next::Wait, CONTINUED)?;
+/// Expects the 100 text and ten seconds of patience, and the answer once the body came.
+fn expect_body_waited_for(rt: &HostRuntime, talk: &mut Talk<'_>) -> Result<(), Fault> {
+    talk.expect_turn(rt, ROOM, Next::Wait, CONTINUED)?;
     let patience = talk.patience();
-    holds(rt, !patience.rests(), "the body is waited for")?;
-    holds(rt, !patience.is_over(10_000), "it has ten seconds")?;
-    holds(rt, patience.is_over(10_001), "it has no more")?;
+    expect(rt, !patience.rests(), "the body is waited for")?;
+    expect(rt, !patience.is_over(10_000), "it has ten seconds")?;
+    expect(rt, patience.is_over(10_001), "it has no more")?;
     talk.send(REQUEST);
-    let valid = valid(rt.alloc())?;
-    talk.goes(rt, ROOM, Next::Wait, valid.as_slice())?;
-    holds(rt, talk.patience().rests(), "it rests behind its answer")
+    let valid = valid_answer(rt.alloc())?;
+    talk.expect_turn(rt, ROOM, Next::Wait, valid.as_slice())?;
+    expect(rt, talk.patience().rests(), "it rests behind its answer")
 }
 
-/// A connection ends with its input, within a request.
+/// Shows that a connection closes behind its answer where the client sends no more.
 fn a_client_that_ends(rt: &HostRuntime) -> Result<(), Fault> {
     let request = request(rt.alloc())?;
     let mut talk = Talk::of_client(rt, request.as_slice())?;
-    an_end_comes(rt, &mut talk)
+    expect_close_at_end(rt, &mut talk)
 }
 
-fn an_end_comes(rt: &HostRuntime, talk: &mut Talk<'_>) -> Result<(), Fault> {
-    let valid = valid(rt.alloc())?;
+/// Ends what is sent behind a request. Expects the answer in the next turn, and that the connection
+/// closes.
+fn expect_close_at_end(rt: &HostRuntime, talk: &mut Talk<'_>) -> Result<(), Fault> {
+    let valid = valid_answer(rt.alloc())?;
     talk.end();
     let last = Turn {
         is_last: true,
         ..ROOM
     };
-    talk.goes(rt, last, Next::Close, valid.as_slice())
+    talk.expect_turn(rt, last, Next::Close, valid.as_slice())
 }
 
-/// A connection ends with a refusal, after which nothing more is answered.
+/// Shows that a connection ends with a refusal, after which nothing more is answered.
 fn the_end_behind_a_refusal(rt: &HostRuntime) -> Result<(), Fault> {
     let request = request(rt.alloc())?;
     let mut talk = Talk::of_client(rt, b"GET nothing\r\n\r\n")?;
-    nothing_follows(rt, &mut talk, request.as_slice())
+    expect_nothing_follows(rt, &mut talk, request.as_slice())
 }
 
-fn nothing_follows<'a>(
+/// Sends a request behind a head that is refused. Expects no answer, and that the connection closes
+/// when the client ends.
+fn expect_nothing_follows<'a>(
     rt: &HostRuntime,
     talk: &mut Talk<'a>,
     request: &'a [u8],
 ) -> Result<(), Fault> {
-    due(rt, talk.turn(ROOM), Next::Part)?;
-    holds(rt, !talk.went().is_empty(), "it is refused")?;
+    expect_equal(rt, talk.turn(ROOM), Next::Part)?;
+    expect(rt, !talk.went_out().is_empty(), "it is refused")?;
     talk.send(request);
-    talk.goes(rt, ROOM, Next::Parted, b"")?;
-    holds(rt, talk.patience().is_over(10_001), "it has ten seconds")?;
+    talk.expect_turn(rt, ROOM, Next::Parted, b"")?;
+    expect(rt, talk.patience().is_over(10_001), "it has ten seconds")?;
     talk.end();
-    due(rt, talk.turn(ROOM), Next::Close)
+    expect_equal(rt, talk.turn(ROOM), Next::Close)
 }
 
-/// Lines are answered one by one, and a start waits for room.
+/// Shows that lines are answered one by one, and that a start waits for room.
 fn lines_in_turns(rt: &HostRuntime) -> Result<(), Fault> {
     let comes = b"release d1 alice 1 - -\nstart d1 alice 1\nsettle d1 alice 1";
     let mut talk = Talk::of_station(rt, comes)?;
-    a_start_waits(rt, &mut talk)
+    expect_start_waits(rt, &mut talk)
 }
 
-fn a_start_waits(rt: &HostRuntime, talk: &mut Talk<'_>) -> Result<(), Fault> {
-    talk.goes(rt, NO_ROOM, Next::Hold, b"no-device\n")?;
-    talk.goes(rt, ROOM, Next::Wait, b"no-device\nno-device\n")?;
-    holds(rt, !talk.patience().rests(), "the rest of a line is due")?;
+/// Gives turns with and without room. Expects that only a start is held back.
+fn expect_start_waits(rt: &HostRuntime, talk: &mut Talk<'_>) -> Result<(), Fault> {
+    talk.expect_turn(rt, NO_ROOM, Next::Hold, b"no-device\n")?;
+    talk.expect_turn(rt, ROOM, Next::Wait, b"no-device\nno-device\n")?;
+    expect(rt, !talk.patience().rests(), "the rest of a line is due")?;
     talk.send(b" 4 done\nstart ");
-    talk.goes(rt, NO_ROOM, Next::Hold, b"no-device\n")?;
-    holds(rt, talk.patience().is_held_back(), "a start is held back")?;
-    due(rt, talk.turn(ROOM), Next::Wait)?;
-    holds(rt, !talk.patience().is_held_back(), "it is let on")
+    talk.expect_turn(rt, NO_ROOM, Next::Hold, b"no-device\n")?;
+    expect(rt, talk.patience().is_held_back(), "a start is held back")?;
+    expect_equal(rt, talk.turn(ROOM), Next::Wait)?;
+    expect(rt, !talk.patience().is_held_back(), "it is let on")
 }
 
-/// A line that is too long ends the connection, also after one that began.
+/// Shows that a line that is too long ends the connection, also if it came in two parts.
 fn a_line_that_is_too_long(rt: &HostRuntime) -> Result<(), Fault> {
     let mut line = Vec::new(rt.alloc());
     line.resize(MOST_LINE, b'a')?;
     let mut talk = Talk::of_station(rt, b"start ")?;
-    a_line_goes_on(rt, &mut talk, line.as_slice())
+    expect_line_too_long(rt, &mut talk, line.as_slice())
 }
 
-fn a_line_goes_on<'a>(rt: &HostRuntime, talk: &mut Talk<'a>, line: &'a [u8]) -> Result<(), Fault> {
-    due(rt, talk.turn(ROOM), Next::Wait)?;
+/// Goes on with a line until it is too long. Expects `bad-line`, and that the connection parts.
+fn expect_line_too_long<'a>(
+    rt: &HostRuntime,
+    talk: &mut Talk<'a>,
+    line: &'a [u8],
+) -> Result<(), Fault> {
+    expect_equal(rt, talk.turn(ROOM), Next::Wait)?;
     talk.send(line);
-    due(rt, talk.turns(ROOM), Next::Part)?;
-    due_bytes(rt, talk.went(), b"bad-line\n")
+    expect_equal(rt, talk.turn_while_again(ROOM), Next::Part)?;
+    expect_bytes(rt, talk.went_out(), b"bad-line\n")
 }

@@ -17,6 +17,7 @@ pub struct Wired {
     ends: RefCell<Ends>,
 }
 
+/// The rooms, the connection to them, and the answers that were not read yet.
 #[derive(Drop)]
 struct Ends {
     rooms: Served<MemStore>,
@@ -25,6 +26,7 @@ struct Ends {
 }
 
 impl Wired {
+    /// Makes a connection of a station or an operator to the rooms.
     pub fn new(alloc: Global, rooms: Served<MemStore>, side: Side) -> Wired {
         Wired {
             ends: RefCell::new(Ends {
@@ -35,7 +37,7 @@ impl Wired {
         }
     }
 
-    /// The rooms as the lines left them.
+    /// Answers the rooms as the lines left them.
     pub fn into_rooms(self) -> Served<MemStore> {
         let Ends {
             rooms,
@@ -47,6 +49,7 @@ impl Wired {
 }
 
 impl Ends {
+    /// Reads lines of the bytes, and answers them. Answers how many bytes were read.
     fn hear(&mut self, bytes: &[u8]) -> io::Result<usize>
         ensures { IfOk result (λ count. count ≤ length bytes.now) }
     {
@@ -68,6 +71,7 @@ impl Ends {
 }
 
 impl Read for &Wired {
+    /// Reads what the rooms answered.
     fn read(&mut self, buf: &mut [u8]) -> io::Result<usize> {
         match self.ends.try_borrow_mut() {
             Ok(mut ends) => ends.answers.read(buf),
@@ -77,6 +81,7 @@ impl Read for &Wired {
 }
 
 impl Write for &Wired {
+    /// Gives the bytes to the rooms, as lines.
     fn write(&mut self, buf: &[u8]) -> io::Result<usize> {
         match self.ends.try_borrow_mut() {
             Ok(mut ends) => ends.hear(buf),

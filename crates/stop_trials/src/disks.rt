@@ -21,7 +21,8 @@ pub enum DiskFile {
 pub const DISK_FILES: [DiskFile; 2] = [DiskFile::Log, DiskFile::Database];
 
 impl DiskFile {
-    /// How many calls the log takes, and the database's file, where this one takes so many.
+    /// Answers how many calls the log takes and how many the database's file, if this one takes so
+    /// many and the other all.
     fn calls(self, calls: u64) -> (u64, u64) {
         match self {
             DiskFile::Log => (calls, u64::MAX),
@@ -44,23 +45,24 @@ pub trait Disks: Sized {
     /// A connection over them.
     type Kept: Drop;
 
-    /// An empty log beside a database's file of these bytes. The one named stops after so many
-    /// calls.
+    /// Makes an empty log beside a database's file of these bytes. The file named stops after so
+    /// many calls.
     fn stopping(alloc: Global, file: DiskFile, calls: u64, database: &[u8]) -> Result<Self, Fault>;
 
-    /// Those with the same bytes, which do not stop, as the next run finds them after a program
-    /// that ended.
+    /// Copies the files as they are, as the next run finds them after a program that ended. The
+    /// copies do not stop.
     fn copied(&self) -> Result<Self, Fault>;
 
-    /// As the next run finds them after a machine that went down: what was not synced is lost.
+    /// Loses what was not synced, as the next run finds the files after a machine that went down.
     fn crashed(self) -> Self;
 
-    /// Whether a connection could not be closed over them, since one has stopped.
+    /// Answers whether a connection could not be closed over the files, since one has stopped.
     fn is_stopped(&self) -> bool;
 
-    /// The bytes of the database's file.
+    /// Answers the bytes of the database's file.
     fn database(&self) -> Result<&[u8], Fault>;
 
+    /// Opens a connection over the files, which are away until it is closed.
     fn open(&mut self) -> Result<Self::Kept, Error>;
 
     /// Closes the connection, and has the files again.
@@ -172,6 +174,7 @@ impl Disks for InMemory {
     }
 }
 
+/// Makes a file in memory of these bytes, all of them synced.
 fn memory_of(alloc: Global, bytes: &[u8]) -> Result<Memory, Fault> {
     let mut memory = Memory::new(alloc);
     memory.write_at(0, bytes)?;

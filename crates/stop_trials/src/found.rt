@@ -18,7 +18,8 @@ pub struct Found {
 }
 
 impl Found {
-    /// Where all that was written is there, and where what was not synced is lost.
+    /// Answers what the next run finds in each of two cases: all that was written is there; what
+    /// was not synced is lost.
     pub fn both<S, D>(alloc: Global, disks: D) -> Result<[Found; 2], Fault>
     where
         S: Alter + Drop,
@@ -26,12 +27,13 @@ impl Found {
     {
         let copied = disks.copied()?;
         Ok([
-            Found::on(alloc, copied)?,
-            Found::on(alloc, disks.crashed())?,
+            Found::open_over(alloc, copied)?,
+            Found::open_over(alloc, disks.crashed())?,
         ])
     }
 
-    fn on<S, D>(alloc: Global, mut disks: D) -> Result<Found, Fault>
+    /// Opens the database over the disks, and reads the rows that it finds.
+    fn open_over<S, D>(alloc: Global, mut disks: D) -> Result<Found, Fault>
     where
         S: Alter + Drop,
         D: Disks<Kept = Connection<S>> + Drop,
@@ -45,12 +47,13 @@ impl Found {
             accounts: Vec::new(alloc),
             devices: Vec::new(alloc),
         };
-        found.read(&mut Tables::of(connection))?;
+        found.read_rows(&mut Tables::over(connection))?;
         Ok(found)
     }
 
-    /// Reads the rows that can be there.
-    fn read<S: Alter + Drop>(&mut self, tables: &mut Tables<S>) -> Result<(), Fault> {
+    /// Reads the rows that can be there: all of a store, and the accounts' of a database of version
+    /// 1.
+    fn read_rows<S: Alter + Drop>(&mut self, tables: &mut Tables<S>) -> Result<(), Fault> {
         match self.fault {
             None => {
                 print_accounts(tables, &mut self.accounts)?;
@@ -61,7 +64,7 @@ impl Found {
         }
     }
 
-    /// Whether these are the rows of both accounts and of the devices.
+    /// Answers whether these rows, of both accounts and then of the devices, are what is found.
     pub fn has_rows(&self, rows: &[u8]) -> bool {
         match rows.strip_prefix(self.accounts.as_slice()) {
             Some(devices) => devices == self.devices.as_slice(),

@@ -9,5 +9,5 @@ mod stopped;
 mod stopping;
 mod told;
 
-pub use stopped::differs_where_stopped;
-pub use told::{Told, answered_before_failed};
+pub use stopped::difference_where_stopped;
+pub use told::{Told, count_answered_before_failure};

@@ -3,26 +3,28 @@
 
 use crate::disks::{DISK_FILES, DiskFile, Disks};
 use crate::found::Found;
-use crate::stopped::unexpected;
-use crate::stopping::on_disks;
+use crate::stopped::output_difference;
+use crate::stopping::run_on_disks;
 use room_rows::Conversation;
 use room_store::OpenFault;
 use sqlite::{Alter, Connection};
 use std::alloc::Global;
-use trials::{Fault, Tables, print_accounts, take};
+use trials::{Fault, Tables, apply_step, print_accounts};
 
-/// Where the row differs first.
-pub fn differs<S, D>(rt: &HostRuntime, talk: &Conversation) -> Result<Option<String>, Fault>
+/// Migrates the row's database over each file that stops, after each number of calls. Answers the
+/// first case that comes to something else than is due, or `None`; also how the row's steps are
+/// answered, if otherwise than it says.
+pub fn difference<S, D>(rt: &HostRuntime, talk: &Conversation) -> Result<Option<String>, Fault>
 where
     S: Alter + Drop,
     D: Disks<Kept = Connection<S>> + Drop,
 {
-    let first = match First::made::<S, D>(rt, talk)? {
+    let first = match First::make::<S, D>(rt, talk)? {
         Ok(first) => first,
         Err(differs) => return Ok(Some(differs)),
     };
     for file in DISK_FILES {
-        if let Some(calls) = first.differs::<S, D>(rt.alloc(), file)? {
+        if let Some(calls) = first.first_other_stop::<S, D>(rt.alloc(), file)? {
             return Ok(Some(format!(in rt.alloc(); "{file} that stops behind {calls} calls")?));
         }
     }
@@ -48,15 +50,16 @@ struct First {
 }
 
 impl First {
-    /// That of the steps, or where they are answered otherwise than expected.
-    fn made<S, D>(rt: &HostRuntime, talk: &Conversation) -> Result<Result<First, String>, Fault>
+    /// Makes the database by the row's steps. Answers the first line that differs if they are
+    /// answered otherwise than the row says.
+    fn make<S, D>(rt: &HostRuntime, talk: &Conversation) -> Result<Result<First, String>, Fault>
     where
         S: Alter + Drop,
         D: Disks<Kept = Connection<S>> + Drop,
     {
         let alloc = rt.alloc();
         let mut disks = D::stopping(alloc, DiskFile::Log, u64::MAX, b"")?;
-        let made = match made(rt, talk, &mut disks)? {
+        let made = match make_database(rt, talk, &mut disks)? {
             Ok(rows) => rows,
             Err(differs) => return Ok(Err(differs)),
         };
@@ -68,14 +71,15 @@ impl First {
         }))
     }
 
-    /// After how many calls the run comes to something else, where the file stops after them.
-    fn differs<S, D>(&self, alloc: Global, file: DiskFile) -> Result<Option<u64>, Fault>
+    /// Migrates with the file stopping after 0 calls, after 1 and so on, until it does not stop.
+    /// Answers the first number of calls that comes to something else than is due, or `None`.
+    fn first_other_stop<S, D>(&self, alloc: Global, file: DiskFile) -> Result<Option<u64>, Fault>
     where
         S: Alter + Drop,
         D: Disks<Kept = Connection<S>> + Drop,
     {
         for calls in 0..u64::MAX {
-            match self.run::<S, D>(alloc, file, calls)? {
+            match self.run_stopped::<S, D>(alloc, file, calls)? {
                 Came::Whole => break,
                 Came::Due => {}
                 Came::Otherwise => return Ok(Some(calls)),
@@ -84,13 +88,15 @@ impl First {
         Ok(None)
     }
 
-    fn run<S, D>(&self, alloc: Global, file: DiskFile, calls: u64) -> Result<Came, Fault>
+    /// Migrates a copy of the database, whose file stops after so many calls. Answers whether
+    /// nothing stopped it, and whether it came to what is due.
+    fn run_stopped<S, D>(&self, alloc: Global, file: DiskFile, calls: u64) -> Result<Came, Fault>
     where
         S: Alter + Drop,
         D: Disks<Kept = Connection<S>> + Drop,
     {
         let mut disks = D::stopping(alloc, file, calls, self.database.as_slice())?;
-        let told = on_disks(alloc, &mut disks, "migrate", "")?;
+        let told = run_on_disks(alloc, &mut disks, "migrate", "")?;
         let is_ok = told.is_ok();
         let is_told = is_ok || told.gave_up() && told.output.is_empty();
         let is_stopped = disks.is_stopped() || !is_ok;
@@ -100,7 +106,8 @@ impl First {
         Ok(if is_stopped { Came::Due } else { Came::Whole })
     }
 
-    /// Whether it is found as a run may leave it, which told that it was migrated or did not.
+    /// Answers whether the next run finds what a migration may leave. If it was told to be done the
+    /// database is of version 2, else of 1 or 2, with the rows that it had.
     fn is_due<S, D>(&self, alloc: Global, is_told: bool, disks: D) -> Result<bool, Fault>
     where
         S: Alter + Drop,
@@ -120,9 +127,9 @@ impl First {
     }
 }
 
-/// Makes the database, and tells the rows of both accounts, or where the steps are answered
-/// otherwise than expected.
-fn made<S, D>(
+/// Makes a database over the disks by the row's steps. Answers the rows of both accounts, or the
+/// first line that differs if the steps are answered otherwise than the row says.
+fn make_database<S, D>(
     rt: &HostRuntime,
     talk: &Conversation,
     disks: &mut D,
@@ -132,17 +139,18 @@ where
     D: Disks<Kept = Connection<S>>,
 {
     let mut tables = Tables::create(rt, disks.open()?)?;
-    let printed = printed_by(rt, talk, &mut tables)?;
-    if let Some(differs) = unexpected(rt.alloc(), printed.as_slice(), talk)? {
+    let printed = run_steps(rt, talk, &mut tables)?;
+    if let Some(differs) = output_difference(rt.alloc(), printed.as_slice(), talk)? {
         return Ok(Err(differs));
     }
     let mut rows = Vec::new(rt.alloc());
     print_accounts(&mut tables, &mut rows)?;
-    disks.close(tables.end()?);
+    disks.close(tables.into_connection()?);
     Ok(Ok(rows))
 }
 
-fn printed_by<S: Alter + Drop>(
+/// Does the row's steps on the tables. Answers what they print.
+fn run_steps<S: Alter + Drop>(
     rt: &HostRuntime,
     talk: &Conversation,
     tables: &mut Tables<S>,
@@ -150,7 +158,7 @@ fn printed_by<S: Alter + Drop>(
     let steps = talk.steps(rt.alloc())?;
     let mut printed = Vec::new(rt.alloc());
     for step in steps.as_slice() {
-        take(rt, tables, step, &mut printed)?;
+        apply_step(rt, tables, step, &mut printed)?;
     }
     Ok(printed)
 }

@@ -1,4 +1,4 @@
-//! Events that share a commit, over disks that stop.
+//! Asks events in one round, over disks that stop.
 
 use crate::disks::Disks;
 use room_lines::{Line, print_answer};
@@ -8,9 +8,9 @@ use sqlite::{Alter, Connection};
 use std::alloc::Global;
 use trials::Fault;
 
-/// What is printed of the events, asked in one round, and where that is lost each by itself, as
-/// `serve` asks them. `None` where no store can be opened.
-pub fn in_a_round<S, D>(
+/// Asks the steps' events in one round, and if that is lost each by itself, as `serve` does.
+/// Answers what is printed, or `None` if no store can be opened.
+pub fn run_in_a_round<S, D>(
     alloc: Global,
     disks: &mut D,
     steps: &[Step],
@@ -35,6 +35,8 @@ where
     Ok(Some(printed?))
 }
 
+/// Asks the steps' events in one round, and if that is lost each by itself. Answers what is
+/// printed.
 fn print_round<S: Alter>(
     alloc: Global,
     rounds: &mut Rounds<S>,
@@ -62,6 +64,7 @@ fn print_round<S: Alter>(
     Ok(printed)
 }
 
+/// Answers the line of a step that is an event, and `Fault::ByHand` for any other step.
 fn line_of(step: &Step) -> Result<&Line, Fault> {
     match step {
         Step::Event(line) => Ok(line),

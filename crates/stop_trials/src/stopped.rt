@@ -10,37 +10,43 @@
 use crate::disks::{DISK_FILES, DiskFile, Disks, InMemory, OnDisks};
 use crate::found::Found;
 use crate::migrated;
-use crate::rounds::in_a_round;
-use crate::stopping::on_disks;
-use crate::told::answered_before_failed;
+use crate::rounds::run_in_a_round;
+use crate::stopping::run_on_disks;
+use crate::told::count_answered_before_failure;
 use room_rows::{Conversation, Step};
 use room_store::OpenFault;
 use sqlite::{Alter, Connection};
 use std::alloc::Global;
 use std::fmt;
 use std::fmt::{Display, Formatter, Write};
-use trials::{Fault, Tables, differing, rows_of, take, text};
+use trials::{Fault, Tables, apply_step, difference_text, rows_of, text_of};
 
 /// The line that begins a row of a database that is migrated.
 const MIGRATED: &str = "migrated\n";
 
-/// Where a row differs first.
-pub fn differs_where_stopped(rt: &HostRuntime, lines: &str) -> Result<Option<String>, Fault> {
-    differs::<OnDisks, InMemory>(rt, lines)
+/// Runs a row over two files in memory of which one stops, after each number of calls. Answers the
+/// first case that comes to something else than is due, or `None`.
+pub fn difference_where_stopped(rt: &HostRuntime, lines: &str) -> Result<Option<String>, Fault> {
+    row_difference::<OnDisks, InMemory>(rt, lines)
 }
 
-fn differs<S, D>(rt: &HostRuntime, lines: &str) -> Result<Option<String>, Fault>
+/// Runs a row over any disks that stop: a migration behind the line `migrated`, else a script.
+/// Answers the first case that comes to something else than is due, or `None`.
+fn row_difference<S, D>(rt: &HostRuntime, lines: &str) -> Result<Option<String>, Fault>
 where
     S: Alter + Drop,
     D: Disks<Kept = Connection<S>> + Drop,
 {
     match lines.strip_prefix(MIGRATED) {
-        Some(lines) => migrated::differs::<S, D>(rt, &Conversation::read(rt.alloc(), lines)?),
-        None => script_differs::<S, D>(rt, &Conversation::read(rt.alloc(), lines)?),
+        Some(lines) => migrated::difference::<S, D>(rt, &Conversation::read(rt.alloc(), lines)?),
+        None => script_difference::<S, D>(rt, &Conversation::read(rt.alloc(), lines)?),
     }
 }
 
-fn script_differs<S, D>(rt: &HostRuntime, talk: &Conversation) -> Result<Option<String>, Fault>
+/// Runs the script in each way, with each file stopping after each number of calls. Answers the
+/// first case that comes to something else than is due, or `None`; also how it is answered where
+/// nothing stops, if otherwise than the row says.
+fn script_difference<S, D>(rt: &HostRuntime, talk: &Conversation) -> Result<Option<String>, Fault>
 where
     S: Alter + Drop,
     D: Disks<Kept = Connection<S>> + Drop,
@@ -48,13 +54,18 @@ where
     let Some(script) = talk.script(rt.alloc())? else {
         return Err(Fault::ByHand);
     };
-    let whole = Whole::of(rt, talk.steps(rt.alloc())?)?;
-    if let Some(differs) = unexpected(rt.alloc(), whole.printed.as_slice(), talk)? {
+    let whole = WholeScript::record(rt, talk.steps(rt.alloc())?)?;
+    if let Some(differs) = output_difference(rt.alloc(), whole.printed.as_slice(), talk)? {
         return Ok(Some(differs));
     }
     for way in [Way::Script, Way::Round] {
         for file in DISK_FILES {
-            if let Some((calls, end)) = whole.differs::<S, D>(rt, way, file, script.as_str())? {
+            if let Some((calls, end)) = whole.first_other_stop::<S, D>(
+                rt,
+                way,
+                file,
+                script.as_str(),
+            )? {
                 return Ok(Some(format!(in rt.alloc();
                     "{way}: {file} that stops behind {calls} calls, {end}"
                 )?));
@@ -64,17 +75,18 @@ where
     Ok(None)
 }
 
-/// Where what was printed is another than the row expects.
-pub fn unexpected(
+/// Compares what was printed with what the row says. Answers the first line that differs, or
+/// `None`.
+pub fn output_difference(
     alloc: Global,
     printed: &[u8],
     talk: &Conversation,
 ) -> Result<Option<String>, Fault> {
     let mut found = Vec::new(alloc);
     found.extend_from_slice(printed)?;
-    differing(
+    difference_text(
         alloc,
-        text(found)?,
+        text_of(found)?,
         String::from_str(alloc, talk.expected())?,
     )
 }
@@ -120,33 +132,36 @@ impl Display for End {
 
 /// A script that nothing stops.
 #[derive(Drop)]
-struct Whole {
+struct WholeScript {
     steps: Vec<Step>,
     printed: Vec<u8>,
     /// The rows after no event, after the first, up to after the last.
     rows: Vec<Vec<u8>>,
 }
 
-impl Whole {
-    fn of(rt: &HostRuntime, steps: Vec<Step>) -> Result<Whole, Fault> {
+impl WholeScript {
+    /// Does the steps on tables in memory, where nothing stops, and records what they print and the
+    /// rows after each.
+    fn record(rt: &HostRuntime, steps: Vec<Step>) -> Result<WholeScript, Fault> {
         let mut tables = Tables::in_memory(rt)?;
         let mut printed = Vec::new(rt.alloc());
         let mut rows = Vec::new(rt.alloc());
         rows.push(rows_of(rt.alloc(), &mut tables)?)?;
         for step in steps.as_slice() {
-            take(rt, &mut tables, step, &mut printed)?;
+            apply_step(rt, &mut tables, step, &mut printed)?;
             rows.push(rows_of(rt.alloc(), &mut tables)?)?;
         }
-        Ok(Whole {
+        Ok(WholeScript {
             steps,
             printed,
             rows,
         })
     }
 
-    /// After how many calls a run comes to something else, where the file stops after them, and
-    /// what it comes to.
-    fn differs<S, D>(
+    /// Runs the script with the file stopping after 0 calls, after 1 and so on, until it does not
+    /// stop. Answers the first number of calls after which the database is not as such a run may
+    /// leave it, with what the run came to, or `None`.
+    fn first_other_stop<S, D>(
         &self,
         rt: &HostRuntime,
         way: Way,
@@ -159,8 +174,8 @@ impl Whole {
     {
         for calls in 0..u64::MAX {
             let mut disks = D::stopping(rt.alloc(), file, calls, b"")?;
-            let end = self.run(rt, way, &mut disks, script)?;
-            let is_stopped = disks.is_stopped() || !self.is_last(end);
+            let end = self.run_stopped(rt, way, &mut disks, script)?;
+            let is_stopped = disks.is_stopped() || !self.is_whole(end);
             if !self.is_due(rt.alloc(), way, end, disks)? {
                 return Ok(Some((calls, end)));
             }
@@ -171,8 +186,9 @@ impl Whole {
         Ok(None)
     }
 
-    /// A run of the program on a new database over the disks.
-    fn run<S, D>(
+    /// Makes a new database over the disks, and gives it the script's events in this way. Answers
+    /// what the run came to.
+    fn run_stopped<S, D>(
         &self,
         rt: &HostRuntime,
         way: Way,
@@ -183,7 +199,7 @@ impl Whole {
         S: Alter + Drop,
         D: Disks<Kept = Connection<S>>,
     {
-        let created = on_disks(rt.alloc(), disks, "create", "")?;
+        let created = run_on_disks(rt.alloc(), disks, "create", "")?;
         if created.gave_up() && created.output.is_empty() {
             return Ok(End::Unmade);
         }
@@ -196,53 +212,58 @@ impl Whole {
         }
     }
 
+    /// Gives the script to the program over the disks. Answers how many events were answered before
+    /// the first that failed.
     fn run_script<S, D>(&self, rt: &HostRuntime, disks: &mut D, script: &str) -> Result<End, Fault>
     where
         S: Alter + Drop,
         D: Disks<Kept = Connection<S>>,
     {
-        let told = on_disks(rt.alloc(), disks, "script", script)?;
+        let told = run_on_disks(rt.alloc(), disks, "script", script)?;
         if told.is_well() && told.output.as_slice() == self.printed.as_slice() {
             return Ok(End::Answered(self.steps.len()));
         }
         let output = told.output.as_slice();
         Ok(
-            match answered_before_failed(rt, self.steps.as_slice(), output)? {
+            match count_answered_before_failure(rt, self.steps.as_slice(), output)? {
                 Some(events) if told.gave_up() => End::Answered(events),
                 _ => End::Other,
             },
         )
     }
 
+    /// Gives the script's events to a store over the disks in one round. Answers how many were
+    /// answered before the first that failed.
     fn run_round<S, D>(&self, rt: &HostRuntime, disks: &mut D) -> Result<End, Fault>
     where
         S: Alter + Drop,
         D: Disks<Kept = Connection<S>>,
     {
         let steps = self.steps.as_slice();
-        let Some(printed) = in_a_round(rt.alloc(), disks, steps)? else {
+        let Some(printed) = run_in_a_round(rt.alloc(), disks, steps)? else {
             return Ok(End::Answered(0));
         };
         if printed.as_slice() == self.printed.as_slice() {
             return Ok(End::Answered(steps.len()));
         }
         Ok(
-            match answered_before_failed(rt, steps, printed.as_slice())? {
+            match count_answered_before_failure(rt, steps, printed.as_slice())? {
                 Some(events) => End::Answered(events),
                 None => End::Other,
             },
         )
     }
 
-    fn is_last(&self, end: End) -> bool {
+    /// Answers whether all events of the script were answered.
+    fn is_whole(&self, end: End) -> bool {
         match end {
             End::Answered(events) => events == self.steps.len(),
             End::Unmade | End::Other => false,
         }
     }
 
-    /// Whether the database is found as such a run may leave it: of a round that was lost all may be
-    /// found.
+    /// Answers whether the next run finds the database as such a run may leave it. Of a round that
+    /// was lost, all events may be found.
     fn is_due<S, D>(&self, alloc: Global, way: Way, end: End, disks: D) -> Result<bool, Fault>
     where
         S: Alter + Drop,
@@ -256,17 +277,17 @@ impl Whole {
         let both = Found::both(alloc, disks)?;
         Ok(
             both.iter().all(|found| match found.fault {
-                None => self.is_behind(events, found)
-                    || self.is_behind(events.saturating_add(1), found)
-                    || matches!(way, Way::Round) && self.is_behind(self.steps.len(), found),
+                None => self.has_rows_after(events, found)
+                    || self.has_rows_after(events.saturating_add(1), found)
+                    || matches!(way, Way::Round) && self.has_rows_after(self.steps.len(), found),
                 Some(OpenFault::NotOurs) => may_be_none,
                 Some(_) => false,
             }),
         )
     }
 
-    /// Whether what is found has the rows after so many events.
-    fn is_behind(&self, events: usize, found: &Found) -> bool {
+    /// Answers whether what is found has the rows that stand after so many events.
+    fn has_rows_after(&self, events: usize, found: &Found) -> bool {
         match self.rows.get(events) {
             Some(due) => found.has_rows(due.as_slice()),
             None => false,

@@ -1,4 +1,4 @@
-//! Runs of the program over disks.
+//! Runs commands of the program over disks that stop.
 
 use crate::disks::Disks;
 use crate::told::Told;
@@ -15,6 +15,7 @@ struct Lent<'a, D>(&'a mut D);
 impl<D: Disks> Opener for Lent<'_, D> {
     type Kept = D::Kept;
 
+    /// Opens the disks, whichever file the program names.
     fn open(&mut self, _database: &str) -> Result<D::Kept, OpenFault> {
         Ok(self.0.open()?)
     }
@@ -24,8 +25,8 @@ impl<D: Disks> Opener for Lent<'_, D> {
     }
 }
 
-/// A run of a command of the program over the disks.
-pub fn on_disks<S, D>(
+/// Runs a command of the program over the disks. Answers what it printed and told, and its status.
+pub fn run_on_disks<S, D>(
     alloc: Global,
     disks: &mut D,
     command: &str,

@@ -3,7 +3,7 @@
 use room_lines::print_answer;
 use room_rows::{Rooms, Step};
 use std::alloc::Global;
-use trials::{Fault, answered, text};
+use trials::{Fault, answer_by_rooms, text_of};
 
 /// What a run tells that lacked memory, or that the storage refused.
 const REFUSED: [&[u8]; 2] = [b"ipp-room: memory\n", b"ipp-room: store\n"];
@@ -29,8 +29,8 @@ pub struct Told {
 }
 
 impl Told {
-    /// Nothing yet, with room for what most runs print, so that want of memory is no failed write
-    /// of theirs.
+    /// Begins with nothing told, and with room for what most runs print, so that no write fails for
+    /// want of memory.
     pub fn with_room(alloc: Global) -> Result<Told, Fault> {
         Ok(Told {
             output: Vec::with_capacity(alloc, ROOM)?,
@@ -39,31 +39,32 @@ impl Told {
         })
     }
 
-    /// Whether it ended as it should, and told of no fault.
+    /// Answers whether the run ended with status 0 and told of no fault.
     pub fn is_well(&self) -> bool {
         self.status == 0 && self.errors.is_empty()
     }
 
-    /// Whether it printed that it did what was asked for.
+    /// Answers whether the run printed `ok` and no more, and told of no fault.
     pub fn is_ok(&self) -> bool {
         self.is_well() && self.output.as_slice() == OK.as_slice()
     }
 
-    /// Whether it lacked memory, or the storage refused.
+    /// Answers whether the run ended since memory ran out, or since the storage refused.
     pub fn gave_up(&self) -> bool {
         self.status == STATUS && REFUSED.contains(&self.errors.as_slice())
     }
 
-    /// All that it printed and told.
-    pub fn whole(mut self) -> Result<String, Fault> {
+    /// Answers all that the run printed, and then what it told of a fault.
+    pub fn into_text(mut self) -> Result<String, Fault> {
         self.output.extend_from_slice(self.errors.as_slice())?;
-        text(self.output)
+        text_of(self.output)
     }
 }
 
-/// How many steps were answered before the first whose event failed, where what is printed is
-/// nothing, or what rooms answer that are not given the events that failed.
-pub fn answered_before_failed(
+/// Counts the steps that were answered before the first that failed: 0 where nothing was printed.
+/// Answers `None` if none failed, or if more was printed than `failed` and what rooms answer that
+/// are not given the failed events.
+pub fn count_answered_before_failure(
     rt: &HostRuntime,
     steps: &[Step],
     printed: &[u8],
@@ -86,7 +87,9 @@ pub fn answered_before_failed(
         let mut due = Vec::new(rt.alloc());
         print_answer(
             &mut due,
-            answered(rt, &mut rooms, line.moment, line).as_ref().ok(),
+            answer_by_rooms(rt, &mut rooms, line.moment, line)
+                .as_ref()
+                .ok(),
         )?;
         match rest.strip_prefix(due.as_slice()) {
             Some(behind) => rest = behind,

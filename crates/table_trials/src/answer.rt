@@ -9,6 +9,7 @@ use sqlite::ErrorCode;
 use std::io;
 use std::io::Write;
 
+/// What a command answers.
 pub enum Answer {
     Ok,
     Account(Option<Account>),
@@ -52,7 +53,7 @@ impl Drop for Answer {
 }
 
 impl Answer {
-    /// Prints its lines, each with a line feed.
+    /// Prints the answer's lines, each with a line feed.
     pub fn print<W: Write>(&self, output: &mut W) -> io::Result<()> {
         match self.word() {
             Some(word) => writeln!(output, "{word}"),
@@ -60,7 +61,7 @@ impl Answer {
         }
     }
 
-    /// The word that it is, if it is one.
+    /// Answers the word that the answer is, or `None` if it is values.
     fn word(&self) -> Option<&'static str> {
         match self {
             Answer::Ok => Some("ok"),
@@ -74,6 +75,7 @@ impl Answer {
         }
     }
 
+    /// Prints the values of an answer that is no word.
     fn print_values<W: Write>(&self, output: &mut W) -> io::Result<()> {
         match self {
             Answer::Account(Some(account)) => print_account(output, account),
@@ -91,6 +93,7 @@ impl Answer {
     }
 }
 
+/// Prints `opened MOMENT next NUMBER`.
 fn print_account<W: Write>(output: &mut W, account: &Account) -> io::Result<()> {
     writeln!(
         output,
@@ -99,6 +102,7 @@ fn print_account<W: Write>(output: &mut W, account: &Account) -> io::Result<()> 
     )
 }
 
+/// Prints `unfinished COUNT idle|processing reserved UNITS charged UNITS`.
 fn print_tally<W: Write>(output: &mut W, tally: &Tally) -> io::Result<()> {
     let doing = if tally.is_processing {
         "processing"
@@ -112,6 +116,7 @@ fn print_tally<W: Write>(output: &mut W, tally: &Tally) -> io::Result<()> {
     )
 }
 
+/// Prints a job's number, name and password, and its standing, in the words of `add-job`.
 fn print_job<W: Write>(output: &mut W, job: &Job) -> io::Result<()> {
     write!(output, "{} ", job.job)?;
     print_bytes(output, job.name.as_slice())?;
@@ -121,6 +126,7 @@ fn print_job<W: Write>(output: &mut W, job: &Job) -> io::Result<()> {
     print_standing(output, &job.standing)
 }
 
+/// Prints a job's standing, in the words of `set-standing` from STATE on.
 fn print_standing<W: Write>(output: &mut W, standing: &Standing) -> io::Result<()> {
     let open = if standing.is_open { "open" } else { "closed" };
     let stopping = if standing.stopping {
@@ -143,6 +149,7 @@ fn print_standing<W: Write>(output: &mut W, standing: &Standing) -> io::Result<(
     output.write_all(b"\n")
 }
 
+/// Prints a name, or `-` if there is none.
 fn print_name<W: Write>(output: &mut W, name: Option<Name>) -> io::Result<()> {
     match name {
         Some(name) => output.write_all(name.bytes()),
@@ -150,6 +157,7 @@ fn print_name<W: Write>(output: &mut W, name: Option<Name>) -> io::Result<()> {
     }
 }
 
+/// Prints a moment, or `-` if there is none.
 fn print_moment<W: Write>(output: &mut W, moment: Option<u64>) -> io::Result<()> {
     match moment {
         Some(moment) => write!(output, "{moment}"),
@@ -157,6 +165,7 @@ fn print_moment<W: Write>(output: &mut W, moment: Option<u64>) -> io::Result<()>
     }
 }
 
+/// Prints the number and the name of each job, or `none` if there is no job.
 fn print_jobs<W: Write>(output: &mut W, jobs: &[Job]) -> io::Result<()> {
     if jobs.is_empty() {
         return output.write_all(b"none\n");
@@ -169,6 +178,8 @@ fn print_jobs<W: Write>(output: &mut W, jobs: &[Job]) -> io::Result<()> {
     Ok(())
 }
 
+/// Prints the job, the number, the format and the bytes of each document, or `none` if there is no
+/// document.
 fn print_documents<W: Write>(output: &mut W, documents: &[Document]) -> io::Result<()> {
     if documents.is_empty() {
         return output.write_all(b"none\n");
@@ -182,6 +193,7 @@ fn print_documents<W: Write>(output: &mut W, documents: &[Document]) -> io::Resu
     Ok(())
 }
 
+/// Prints bytes as digits, or `-` if there are none.
 fn print_bytes<W: Write>(output: &mut W, bytes: &[u8]) -> io::Result<()> {
     if bytes.is_empty() {
         return output.write_all(b"-");
@@ -192,6 +204,7 @@ fn print_bytes<W: Write>(output: &mut W, bytes: &[u8]) -> io::Result<()> {
     Ok(())
 }
 
+/// Prints the word for why there is no store.
 fn print_open_fault<W: Write>(output: &mut W, fault: OpenFault) -> io::Result<()> {
     match fault {
         OpenFault::NotOurs => writeln!(output, "not-ours"),
@@ -201,6 +214,7 @@ fn print_open_fault<W: Write>(output: &mut W, fault: OpenFault) -> io::Result<()
     }
 }
 
+/// Answers the word of rows for a job's state.
 fn state_word(state: JobState) -> &'static str {
     match state {
         JobState::Held => "held",
@@ -212,6 +226,7 @@ fn state_word(state: JobState) -> &'static str {
     }
 }
 
+/// Answers the word of rows for why a statement of the tables failed.
 fn table_word(fault: TableFault) -> &'static str {
     match fault {
         TableFault::Storage => "storage",
@@ -220,6 +235,7 @@ fn table_word(fault: TableFault) -> &'static str {
     }
 }
 
+/// Answers the word of rows for why SQL failed: `memory`, or `refused` for all else.
 fn statement_word(error: sqlite::Error) -> &'static str {
     match error {
         sqlite::Error::SqliteFailure(ErrorCode::OutOfMemory) => "memory",

@@ -22,6 +22,7 @@ use room_statements::{
 use sqlite::{Alter, Connection};
 use std::alloc::Global;
 
+/// A command that reads rows, with its words.
 #[derive(Clone, Copy)]
 pub enum Ask {
     Account { name: Name },
@@ -40,21 +41,22 @@ pub enum Ask {
 }
 
 impl Ask {
-    /// What a command of the kind asks for, if it reads rows.
+    /// Reads what a command of this kind asks for. Answers `None` if the kind reads no rows.
     pub fn read(kind: &str, fields: &mut Fields<'_>) -> Result<Option<Ask>, Fault> {
         match kind {
             "is-device-on" => Ok(Some(Ask::IsDeviceOn)),
             "account" | "device" | "rate" | "tally" | "queue" | "count" => {
-                Ask::by_name(kind, fields)
+                Ask::read_with_name(kind, fields)
             }
-            "grant" | "granted" => Ask::by_month(kind, fields),
-            "job" | "documents" => Ask::by_job(kind, fields),
-            "unfinished" | "ended" => Ask::by_limit(kind, fields),
+            "grant" | "granted" => Ask::read_with_month(kind, fields),
+            "job" | "documents" => Ask::read_with_job(kind, fields),
+            "unfinished" | "ended" => Ask::read_with_limit(kind, fields),
             _ => Ok(None),
         }
     }
 
-    fn by_name(kind: &str, fields: &mut Fields<'_>) -> Result<Option<Ask>, Fault> {
+    /// Reads a command of the form `KIND NAME`. Answers `None` if there is no such kind.
+    fn read_with_name(kind: &str, fields: &mut Fields<'_>) -> Result<Option<Ask>, Fault> {
         let name = fields.name()?;
         Ok(match kind {
             "account" => Some(Ask::Account { name }),
@@ -67,7 +69,8 @@ impl Ask {
         })
     }
 
-    fn by_month(kind: &str, fields: &mut Fields<'_>) -> Result<Option<Ask>, Fault> {
+    /// Reads a command of the form `KIND NAME MONTH`. Answers `None` if there is no such kind.
+    fn read_with_month(kind: &str, fields: &mut Fields<'_>) -> Result<Option<Ask>, Fault> {
         let name = fields.name()?;
         let month = fields.number()?;
         Ok(match kind {
@@ -77,7 +80,8 @@ impl Ask {
         })
     }
 
-    fn by_job(kind: &str, fields: &mut Fields<'_>) -> Result<Option<Ask>, Fault> {
+    /// Reads a command of the form `KIND NAME NUMBER`. Answers `None` if there is no such kind.
+    fn read_with_job(kind: &str, fields: &mut Fields<'_>) -> Result<Option<Ask>, Fault> {
         let name = fields.name()?;
         let job = fields.number()?;
         Ok(match kind {
@@ -87,7 +91,8 @@ impl Ask {
         })
     }
 
-    fn by_limit(kind: &str, fields: &mut Fields<'_>) -> Result<Option<Ask>, Fault> {
+    /// Reads a command of the form `KIND NAME LIMIT`. Answers `None` if there is no such kind.
+    fn read_with_limit(kind: &str, fields: &mut Fields<'_>) -> Result<Option<Ask>, Fault> {
         let name = fields.name()?;
         let limit = fields.number_or_none()?;
         Ok(match kind {
@@ -97,7 +102,8 @@ impl Ask {
         })
     }
 
-    pub fn call<S: Alter>(
+    /// Makes the one call of `room_statements` that the command stands for. Answers what it found.
+    pub fn answer<S: Alter>(
         self,
         alloc: Global,
         connection: &mut Connection<S>,

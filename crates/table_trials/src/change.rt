@@ -20,6 +20,7 @@ use room_statements::{
 use sqlite::{Alter, Connection, Savepoint};
 use std::alloc::Global;
 
+/// A command that writes rows, with its words.
 pub enum Change {
     Account {
         name: Name,
@@ -102,7 +103,7 @@ impl Drop for Change {
 }
 
 impl Change {
-    /// What a command of the kind changes, if it writes rows.
+    /// Reads what a command of this kind changes. Answers `None` if the kind writes no rows.
     pub fn read(
         alloc: Global,
         kind: &str,
@@ -122,14 +123,17 @@ impl Change {
         }
     }
 
-    pub fn call<S: Alter>(&self, connection: &mut Connection<S>) -> Result<(), Fault> {
+    /// Makes the change in a savepoint of its own, and commits it.
+    pub fn apply<S: Alter>(&self, connection: &mut Connection<S>) -> Result<(), Fault> {
         let mut savepoint = connection.savepoint()?;
-        self.set(&mut savepoint)?;
+        self.apply_in(&mut savepoint)?;
         savepoint.commit()?;
         Ok(())
     }
 
-    fn set<S: Alter>(&self, savepoint: &mut Savepoint<'_, S>) -> Result<(), Fault> {
+    /// Makes the one call of `room_statements` that the command stands for, within the savepoint.
+    /// Answers `Fault::Range` if a value is past what the call takes.
+    fn apply_in<S: Alter>(&self, savepoint: &mut Savepoint<'_, S>) -> Result<(), Fault> {
         match self {
             Change::Account { name, account } => {
                 if account.opened > LAST_MOMENT
@@ -177,6 +181,7 @@ impl Change {
     }
 }
 
+/// Reads the words of `set-account`: NAME OPENED NEXT.
 fn read_account(fields: &mut Fields<'_>) -> Result<Option<Change>, Fault> {
     let name = fields.name()?;
     let account = Account {
@@ -186,24 +191,28 @@ fn read_account(fields: &mut Fields<'_>) -> Result<Option<Change>, Fault> {
     Ok(Some(Change::Account { name, account }))
 }
 
+/// Reads the words of `set-next`: NAME NEXT.
 fn read_next_job(fields: &mut Fields<'_>) -> Result<Option<Change>, Fault> {
     let name = fields.name()?;
     let next_job = fields.number()?;
     Ok(Some(Change::NextJob { name, next_job }))
 }
 
+/// Reads the words of `set-device`: NAME on|off.
 fn read_device(fields: &mut Fields<'_>) -> Result<Option<Change>, Fault> {
     let name = fields.name()?;
     let on = fields.choice("on", "off")?;
     Ok(Some(Change::Device { name, on }))
 }
 
+/// Reads the words of `set-rate`: NAME UNITS.
 fn read_rate(fields: &mut Fields<'_>) -> Result<Option<Change>, Fault> {
     let name = fields.name()?;
     let units = fields.number()?;
     Ok(Some(Change::Rate { name, units }))
 }
 
+/// Reads the words of `set-grant`: NAME MONTH PAGES.
 fn read_grant(fields: &mut Fields<'_>) -> Result<Option<Change>, Fault> {
     let name = fields.name()?;
     let month = fields.number()?;
@@ -211,12 +220,14 @@ fn read_grant(fields: &mut Fields<'_>) -> Result<Option<Change>, Fault> {
     Ok(Some(Change::Grant { name, month, pages }))
 }
 
+/// Reads the words of `add-job`: NAME, and those of the job.
 fn read_new_job(alloc: Global, fields: &mut Fields<'_>) -> Result<Option<Change>, Fault> {
     let name = fields.name()?;
     let job = read_job(alloc, fields)?;
     Ok(Some(Change::NewJob { name, job }))
 }
 
+/// Reads the words of `set-standing`: NAME NUMBER, and those of the standing.
 fn read_new_standing(fields: &mut Fields<'_>) -> Result<Option<Change>, Fault> {
     let name = fields.name()?;
     let job = fields.number()?;
@@ -228,6 +239,7 @@ fn read_new_standing(fields: &mut Fields<'_>) -> Result<Option<Change>, Fault> {
     }))
 }
 
+/// Reads the words of `add-document`: NAME JOB NUMBER FORMAT HEX.
 fn read_document(alloc: Global, fields: &mut Fields<'_>) -> Result<Option<Change>, Fault> {
     let name = fields.name()?;
     let job = fields.number()?;
@@ -243,12 +255,14 @@ fn read_document(alloc: Global, fields: &mut Fields<'_>) -> Result<Option<Change
     }))
 }
 
+/// Reads the words of `remove-documents`: NAME JOB.
 fn read_removal(fields: &mut Fields<'_>) -> Result<Option<Change>, Fault> {
     let name = fields.name()?;
     let job = fields.number()?;
     Ok(Some(Change::RemoveDocuments { name, job }))
 }
 
+/// Reads a job's words: NUMBER HEX PASSWORD, and those of its standing.
 fn read_job(alloc: Global, fields: &mut Fields<'_>) -> Result<Job, Fault> {
     Ok(Job {
         job: fields.number()?,
@@ -262,6 +276,7 @@ fn read_job(alloc: Global, fields: &mut Fields<'_>) -> Result<Job, Fault> {
     })
 }
 
+/// Reads a standing's words, from STATE to ENDED.
 fn read_standing(fields: &mut Fields<'_>) -> Result<Standing, Fault> {
     Ok(Standing {
         state: fields.state()?,

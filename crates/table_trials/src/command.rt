@@ -1,4 +1,4 @@
-//! The commands of rows.
+//! The commands of rows, and how a line is read as one.
 
 use crate::ask::Ask;
 use crate::change::Change;
@@ -60,45 +60,49 @@ impl Drop for Command<'_> {
 }
 
 impl<'a> Command<'a> {
+    /// Reads the command of a line. Answers a fault if a word is wrong, missing or too many.
     pub fn read(alloc: Global, line: &'a str) -> Result<Command<'a>, Fault> {
         let mut fields = Fields::new(line);
         let command = Command::read_fields(alloc, &mut fields)?;
-        fields.end()?;
+        fields.expect_no_word()?;
         Ok(command)
     }
 
+    /// Reads the command of the words, of any kind.
     fn read_fields(alloc: Global, fields: &mut Fields<'a>) -> Result<Command<'a>, Fault> {
-        let kind = fields.take()?;
+        let kind = fields.next_word()?;
         if let Some(ask) = Ask::read(kind, fields)? {
             return Ok(Command::Ask(ask));
         }
         if let Some(change) = Change::read(alloc, kind, fields)? {
             return Ok(Command::Change(change));
         }
-        match StoreCall::of(kind) {
+        match StoreCall::named(kind) {
             Some(call) => Ok(Command::Store(call)),
             None => Command::read_other(kind, fields),
         }
     }
 
+    /// Reads a command that neither reads nor writes rows by a statement, and calls no store.
     fn read_other(kind: &str, fields: &mut Fields<'a>) -> Result<Command<'a>, Fault> {
         match kind {
-            "sql" => Ok(Command::Sql(fields.text()?)),
-            "read" => Ok(Command::Read(fields.take()?)),
-            "number" => Ok(Command::Number(fields.text()?)),
+            "sql" => Ok(Command::Sql(fields.rest_of_line()?)),
+            "read" => Ok(Command::Read(fields.next_word()?)),
+            "number" => Ok(Command::Number(fields.rest_of_line()?)),
             "begin" => Ok(Command::Begin),
             "commit" => Ok(Command::Commit),
             "tables" => Ok(Command::Tables),
-            "file" => Ok(Command::File(fields.take()?)),
+            "file" => Ok(Command::File(fields.next_word()?)),
             "memory" => Ok(Command::Memory),
-            "remove" => Ok(Command::Remove(fields.take()?)),
+            "remove" => Ok(Command::Remove(fields.next_word()?)),
             _ => Err(Fault::Notation(Wrong::Command)),
         }
     }
 }
 
 impl StoreCall {
-    fn of(kind: &str) -> Option<StoreCall> {
+    /// Answers the call on a store that the word names, or `None` if it names none.
+    fn named(kind: &str) -> Option<StoreCall> {
         match kind {
             "create" => Some(StoreCall::Create),
             "open" => Some(StoreCall::Open),

@@ -28,11 +28,12 @@ impl<S: Alter + Drop> Drop for Database<S> {
 }
 
 impl<S: Alter + Drop> Database<S> {
-    /// An empty one in memory.
+    /// Makes an empty database in memory.
     pub fn new(rt: &HostRuntime) -> Result<Database<S>, Fault> {
         Ok(Database::Memory(Connection::open_in_memory(rt.alloc())?))
     }
 
+    /// Opens the database in the file. If that fails it tries once more.
     fn in_file<F: FileTables<Kept = Connection<S>>>(
         rt: &HostRuntime,
         name: &str,
@@ -47,10 +48,10 @@ impl<S: Alter + Drop> Database<S> {
         }
     }
 
-    /// The database after a command, and what the command answers. A file that the command names is
-    /// opened or removed. What a table or a statement refuses is an answer; a fault is bad notation,
-    /// storage or memory that fails, and the database is gone with it.
-    pub fn run<F: FileTables<Kept = Connection<S>>>(
+    /// Runs a command. Answers the database after it and the command's answer. A file that the
+    /// command names is opened or removed. What a table or a statement refuses is an answer; a
+    /// fault is bad notation, storage or memory that fails, and the database is gone with it.
+    pub fn run_command<F: FileTables<Kept = Connection<S>>>(
         self,
         rt: &HostRuntime,
         command: &Command<'_>,
@@ -67,51 +68,55 @@ impl<S: Alter + Drop> Database<S> {
                 let _ = fs::remove_file(rt, name);
                 Ok((Database::new(rt)?, Answer::Ok))
             }
-            command => self.run_here(rt, command),
+            command => self.run_in_place(rt, command),
         }
     }
 
-    fn run_here(
+    /// Runs a command that goes on on the same database. Answers the database and the command's
+    /// answer.
+    fn run_in_place(
         self,
         rt: &HostRuntime,
         command: &Command<'_>,
     ) -> Result<(Database<S>, Answer), Fault> {
         match self {
             Database::Memory(connection) => {
-                let (connection, answer) = run_on(rt, connection, command)?;
+                let (connection, answer) = run_over(rt, connection, command)?;
                 Ok((Database::Memory(connection), answer))
             }
             Database::File(connection) => {
-                let (connection, answer) = run_on(rt, connection, command)?;
+                let (connection, answer) = run_over(rt, connection, command)?;
                 Ok((Database::File(connection), answer))
             }
         }
     }
 }
 
-fn run_on<S: Alter + Drop>(
+/// Runs a command over the connection. Answers the connection and the command's answer.
+fn run_over<S: Alter + Drop>(
     rt: &HostRuntime,
     connection: Connection<S>,
     command: &Command<'_>,
 ) -> Result<(Connection<S>, Answer), Fault> {
     if let Command::Store(call) = command {
-        return store(rt, connection, *call);
+        return call_store(rt, connection, *call);
     }
     let mut connection = connection;
     let answer = answer_of(rt, &mut connection, command)?;
     Ok((connection, answer))
 }
 
-/// What a command answers that leaves the connection where it is.
+/// Runs a command that leaves the connection where it is, once more if memory was refused. What a
+/// table or a statement refuses is an answer.
 fn answer_of<S: Alter>(
     rt: &HostRuntime,
     connection: &mut Connection<S>,
     command: &Command<'_>,
 ) -> Result<Answer, Fault> {
-    let mut answer = answered(rt, connection, command);
+    let mut answer = answer_once(rt, connection, command);
     if is_refused_memory(&answer) {
         tell_again(rt);
-        answer = answered(rt, connection, command);
+        answer = answer_once(rt, connection, command);
     }
     match answer {
         Err(Fault::Table(fault)) => Ok(Answer::Table(fault)),
@@ -120,6 +125,7 @@ fn answer_of<S: Alter>(
     }
 }
 
+/// Answers whether the call failed since memory was refused.
 fn is_refused_memory(answer: &Result<Answer, Fault>) -> bool {
     match answer {
         Ok(_) => false,
@@ -127,20 +133,22 @@ fn is_refused_memory(answer: &Result<Answer, Fault>) -> bool {
     }
 }
 
-fn answered<S: Alter>(
+/// Runs a command that leaves the connection where it is, once. Answers what it found or why it
+/// failed.
+fn answer_once<S: Alter>(
     rt: &HostRuntime,
     connection: &mut Connection<S>,
     command: &Command<'_>,
 ) -> Result<Answer, Fault> {
     match command {
-        Command::Ask(ask) => ask.call(rt.alloc(), connection),
+        Command::Ask(ask) => ask.answer(rt.alloc(), connection),
         Command::Change(change) => {
-            change.call(connection)?;
+            change.apply(connection)?;
             Ok(Answer::Ok)
         }
         Command::Sql(text) => run_batch(connection, text),
         Command::Read(file) => run_file(rt, connection, file),
-        Command::Number(text) => number(connection, text),
+        Command::Number(text) => query_number(connection, text),
         Command::Begin => {
             begin_round(connection)?;
             Ok(Answer::Ok)
@@ -149,20 +157,20 @@ fn answered<S: Alter>(
             commit_round(connection)?;
             Ok(Answer::Ok)
         }
-        Command::Tables => Ok(Answer::Count(tables(connection))),
+        Command::Tables => Ok(Answer::Count(count_tables(connection))),
         Command::Store(_) | Command::File(_) | Command::Memory | Command::Remove(_) => {
             Err(Fault::Notation(Wrong::Command))
         }
     }
 }
 
-/// Prints that a call is made once more, since the first failed. Where memory and storage are there
-/// none fails, so that in the gate such a line is one that no row has.
+/// Prints `asked again`: a call is made once more, since the first failed. Where memory and storage
+/// are there none fails, so that in the gate such a line is one that no row has.
 pub fn tell_again(rt: &HostRuntime) {
     let _ = writeln!(rt.stdout(), "asked again");
 }
 
-/// What a file says. Where it can't be read, it is read once more.
+/// Reads a file. If that fails it tries once more.
 pub fn read_text(rt: &HostRuntime, file: &str) -> Result<String, Fault> {
     match fs::read_to_string(rt, file) {
         Ok(text) => Ok(text),
@@ -170,6 +178,7 @@ pub fn read_text(rt: &HostRuntime, file: &str) -> Result<String, Fault> {
     }
 }
 
+/// Runs the statements of an SQL file, as `run_batch` does.
 fn run_file<S: Alter>(
     rt: &HostRuntime,
     connection: &mut Connection<S>,
@@ -179,6 +188,8 @@ fn run_file<S: Alter>(
     run_batch(connection, text.as_str())
 }
 
+/// Runs SQL statements in a transaction of their own. Answers `Wrong::InTransaction` if one is
+/// open.
 fn run_batch<S: Alter>(connection: &mut Connection<S>, text: &str) -> Result<Answer, Fault> {
     if !connection.is_autocommit() {
         return Err(Fault::Notation(Wrong::InTransaction));
@@ -189,35 +200,38 @@ fn run_batch<S: Alter>(connection: &mut Connection<S>, text: &str) -> Result<Ans
     Ok(Answer::Ok)
 }
 
-fn number<S: Alter>(connection: &mut Connection<S>, text: &str) -> Result<Answer, Fault> {
+/// Answers the one integer that an SQL query finds.
+fn query_number<S: Alter>(connection: &mut Connection<S>, text: &str) -> Result<Answer, Fault> {
     Ok(Answer::Integer(connection.query_row(text, &[])?.get(0)?))
 }
 
-fn tables<S: Alter>(connection: &Connection<S>) -> usize {
+/// Counts the tables of the database.
+fn count_tables<S: Alter>(connection: &Connection<S>) -> usize {
     connection.schema().tables.as_slice().len()
 }
 
-/// A call that the storage refuses is made once more as well, since the storage may have been
-/// refused memory.
-fn store<S: Alter + Drop>(
+/// Makes a call on a store, once more if storage or memory is refused: the storage may have been
+/// refused memory. Answers the connection and the call's answer.
+fn call_store<S: Alter + Drop>(
     rt: &HostRuntime,
     connection: Connection<S>,
     call: StoreCall,
 ) -> Result<(Connection<S>, Answer), Fault> {
-    let told = match store_once(connection, call)? {
-        (connection, Some(OpenFault::Storage)) => store_once(connection, call)?,
+    let told = match call_store_once(connection, call)? {
+        (connection, Some(OpenFault::Storage)) => call_store_once(connection, call)?,
         told => told,
     };
     let (connection, refused) = match told {
         (connection, Some(OpenFault::Memory)) => {
             tell_again(rt);
-            store_once(connection, call)?
+            call_store_once(connection, call)?
         }
         told => told,
     };
     Ok((connection, store_answer(refused)))
 }
 
+/// Answers `ok`, or why there is no store.
 fn store_answer(refused: Option<OpenFault>) -> Answer {
     match refused {
         None => Answer::Ok,
@@ -225,13 +239,13 @@ fn store_answer(refused: Option<OpenFault>) -> Answer {
     }
 }
 
-/// The connection after a call, and why the call was refused. One that is refused has to leave as
-/// many tables as there were.
-fn store_once<S: Alter + Drop>(
+/// Makes a call on a store, once. Answers the connection, and why the call was refused, if it was.
+/// One that is refused has to leave as many tables as there were.
+fn call_store_once<S: Alter + Drop>(
     connection: Connection<S>,
     call: StoreCall,
 ) -> Result<(Connection<S>, Option<OpenFault>), Fault> {
-    let before = tables(&connection);
+    let before = count_tables(&connection);
     let result = match call {
         StoreCall::Create => Store::create(connection),
         StoreCall::Open => Store::open(connection),
@@ -240,7 +254,7 @@ fn store_once<S: Alter + Drop>(
     match result {
         Ok(store) => Ok((store.close(), None)),
         Err(Refused { connection, fault }) => {
-            if tables(&connection) != before {
+            if count_tables(&connection) != before {
                 return Err(Fault::Changed);
             }
             Ok((connection, Some(fault)))

@@ -8,6 +8,7 @@ use std::alloc::{AllocError, AllocFailed};
 use std::io;
 use thiserror::Error;
 
+/// Why a row could not be run, or a call was refused.
 #[derive(Debug, Drop, Error)]
 pub enum Fault {
     /// A line that the notation of rows does not have.
@@ -65,7 +66,7 @@ pub enum Wrong {
 }
 
 impl Fault {
-    /// Whether a call was refused memory.
+    /// Answers whether the fault is that a call was refused memory.
     pub fn is_refused_memory(&self) -> bool {
         match self {
             Fault::Table(TableFault::Memory) => true,

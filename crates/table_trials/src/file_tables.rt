@@ -1,4 +1,4 @@
-//! Where the rows get a database that stands in a file.
+//! How rows get a database that stands in a file.
 
 use sqlite::Error;
 
@@ -8,7 +8,7 @@ pub trait FileTables {
     /// A connection, in no transaction.
     type Kept: Drop;
 
-    /// A connection to the database in a file, which is made where it is not there.
+    /// Opens the database in a file, which is made where it is not there. Answers the connection.
     fn open(&self, file: &str) -> Result<Self::Kept, Error>;
 
     /// Closes the connection. The log beside the file goes into it.

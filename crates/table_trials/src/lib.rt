@@ -15,4 +15,4 @@ mod script;
 
 pub use fault::{Fault, Wrong};
 pub use file_tables::FileTables;
-pub use rows::hold;
+pub use rows::file_holds;

@@ -11,9 +11,9 @@ use crate::script::Script;
 use sqlite::{Alter, Connection};
 use std::io::Write;
 
-/// Whether each row of the file holds. Prints that they do, or of one that does not what is
-/// answered instead. `files` has the databases that rows keep in files.
-pub fn hold<S, F>(rt: &HostRuntime, file: &str, files: &F) -> Result<bool, Fault>
+/// Runs each row of the file. Answers whether all hold; prints that they do, or of each that does
+/// not what is answered instead. `files` has the databases that rows keep in files.
+pub fn file_holds<S, F>(rt: &HostRuntime, file: &str, files: &F) -> Result<bool, Fault>
 where
     S: Alter + Drop,
     F: FileTables<Kept = Connection<S>>,
@@ -24,7 +24,7 @@ where
     };
     let mut all = true;
     for row in text.split("\n# ") {
-        all &= holds(rt, file, row, files)?;
+        all &= row_holds(rt, file, row, files)?;
     }
     if all {
         writeln!(rt.stdout(), "{file}: holds")?;
@@ -32,21 +32,21 @@ where
     Ok(all)
 }
 
-/// Whether a row holds. Where it does not, the first line that is another is printed.
-fn holds<S, F>(rt: &HostRuntime, file: &str, row: &str, files: &F) -> Result<bool, Fault>
+/// Runs a row. Answers whether it holds, and prints the first line that differs if not.
+fn row_holds<S, F>(rt: &HostRuntime, file: &str, row: &str, files: &F) -> Result<bool, Fault>
 where
     S: Alter + Drop,
     F: FileTables<Kept = Connection<S>>,
 {
     let (title, lines) = row.split_once('\n').unwrap_or((row, ""));
-    let outcome = match outcome_of(rt, lines, files) {
+    let outcome = match run_row(rt, lines, files) {
         Ok(outcome) => outcome,
         Err(fault) => {
             writeln!(rt.stderr(), "{file}: {title}")?;
             return Err(fault);
         }
     };
-    let Some((answered, expected)) = difference(
+    let Some((answered, expected)) = first_other_line(
         outcome.answered.as_str(),
         outcome.expected.as_str(),
     ) else {
@@ -66,28 +66,30 @@ struct Outcome {
     expected: String,
 }
 
-fn outcome_of<S, F>(rt: &HostRuntime, lines: &str, files: &F) -> Result<Outcome, Fault>
+/// Runs a row, once more if memory ran out. Answers what it answered and should have answered.
+fn run_row<S, F>(rt: &HostRuntime, lines: &str, files: &F) -> Result<Outcome, Fault>
 where
     S: Alter + Drop,
     F: FileTables<Kept = Connection<S>>,
 {
-    match run(rt, lines, files) {
+    match run_row_once(rt, lines, files) {
         Err(Fault::Memory) => {
             tell_again(rt);
-            run(rt, lines, files)
+            run_row_once(rt, lines, files)
         }
         outcome => outcome,
     }
 }
 
-fn run<S, F>(rt: &HostRuntime, lines: &str, files: &F) -> Result<Outcome, Fault>
+/// Runs a row, once. Answers what it answered and should have answered.
+fn run_row_once<S, F>(rt: &HostRuntime, lines: &str, files: &F) -> Result<Outcome, Fault>
 where
     S: Alter + Drop,
     F: FileTables<Kept = Connection<S>>,
 {
     let script = Script::read(rt.alloc(), lines)?;
     let mut output = Vec::new(rt.alloc());
-    run_lines(rt, script.commands.as_slice(), files, &mut output)?;
+    run_commands(rt, script.commands.as_slice(), files, &mut output)?;
     let Ok(answered) = String::from_utf8(output) else {
         return Err(Fault::Notation(Wrong::Answer));
     };
@@ -97,7 +99,9 @@ where
     })
 }
 
-fn run_lines<S, F>(
+/// Runs the row's commands one after another, from an empty database in memory on. Prints what each
+/// answers.
+fn run_commands<S, F>(
     rt: &HostRuntime,
     lines: &[String],
     files: &F,
@@ -109,13 +113,13 @@ where
 {
     let mut database = Database::new(rt)?;
     for line in lines {
-        database = run_line(rt, database, line.as_str(), files, output)?;
+        database = run_command(rt, database, line.as_str(), files, output)?;
     }
     Ok(())
 }
 
-/// The database after a line, whose answer is printed.
-fn run_line<S, F>(
+/// Runs the command of a line, and prints its answer. Answers the database after it.
+fn run_command<S, F>(
     rt: &HostRuntime,
     database: Database<S>,
     line: &str,
@@ -127,14 +131,14 @@ where
     F: FileTables<Kept = Connection<S>>,
 {
     let command = command_of(rt, line)?;
-    let (database, answer) = database.run(rt, &command, files)?;
+    let (database, answer) = database.run_command(rt, &command, files)?;
     match answer.print(output) {
         Ok(()) => Ok(database),
         Err(_) => Err(Fault::Memory),
     }
 }
 
-/// The command that a line is. One that is none is told.
+/// Reads the command of a line. If it is none the line is printed on standard error.
 fn command_of<'a>(rt: &HostRuntime, line: &'a str) -> Result<Command<'a>, Fault> {
     match Command::read(rt.alloc(), line) {
         Err(Fault::Notation(why)) => {
@@ -145,8 +149,8 @@ fn command_of<'a>(rt: &HostRuntime, line: &'a str) -> Result<Command<'a>, Fault>
     }
 }
 
-/// The first line that is another in the one text than in the other.
-fn difference<'a>(answered: &'a str, expected: &'a str) -> Option<(&'a str, &'a str)> {
+/// Compares two texts line by line. Answers the first two lines that differ, or `None`.
+fn first_other_line<'a>(answered: &'a str, expected: &'a str) -> Option<(&'a str, &'a str)> {
     let mut expected = expected.lines();
     for line in answered.lines() {
         match expected.next() {

@@ -12,18 +12,20 @@ pub struct Script {
 }
 
 impl Script {
+    /// Reads the lines of a row.
     pub fn read(alloc: Global, lines: &str) -> Result<Script, Fault> {
         let mut script = Script {
             commands: Vec::new(alloc),
             expected: String::new(alloc),
         };
         for line in lines.lines() {
-            script.add(alloc, line)?;
+            script.read_line(alloc, line)?;
         }
         Ok(script)
     }
 
-    fn add(&mut self, alloc: Global, line: &str) -> Result<(), Fault> {
+    /// Reads one line of a row: a command, an answer, or what goes on with a command.
+    fn read_line(&mut self, alloc: Global, line: &str) -> Result<(), Fault> {
         if line.is_empty() {
             return Ok(());
         }

@@ -1,16 +1,16 @@
-//! What tables hold, and what was printed, against what is due.
+//! Compares the rows that tables hold, and texts that were printed, with what is due.
 
 use crate::accounts::{ACCOUNTS, account_of};
 use crate::fault::Fault;
 use crate::tables::Tables;
-use room_rows::{Rooms, difference, print_devices, print_room};
+use room_rows::{Rooms, first_other_line, print_devices, print_room};
 use sqlite::Alter;
 use std::alloc::Global;
 use std::io::Write;
 
-/// Where the tables hold other rows than those of the rooms and the devices, the first that
-/// differs.
-pub fn rows_differ<S: Alter + Drop>(
+/// Compares the tables' rows with those of the rooms and the devices. Answers the first row that
+/// differs, as found and as due, or `None` if all are the same.
+pub fn first_other_row<S: Alter + Drop>(
     rt: &HostRuntime,
     tables: &mut Tables<S>,
     rooms: &Rooms,
@@ -22,10 +22,10 @@ pub fn rows_differ<S: Alter + Drop>(
         print_room(&mut due, account, rooms.room(account))?;
     }
     print_devices(&mut due, rooms.devices())?;
-    differing(rt.alloc(), text(found)?, text(due)?)
+    difference_text(rt.alloc(), text_of(found)?, text_of(due)?)
 }
 
-/// Prints the rows of both accounts and of the devices.
+/// Prints the tables' rows of both accounts and of the devices.
 pub fn print_rows<S: Alter + Drop>(
     tables: &mut Tables<S>,
     output: &mut Vec<u8>,
@@ -34,7 +34,7 @@ pub fn print_rows<S: Alter + Drop>(
     tables.print_devices(output)
 }
 
-/// Prints those of both accounts.
+/// Prints the tables' rows of both accounts.
 pub fn print_accounts<S: Alter + Drop>(
     tables: &mut Tables<S>,
     output: &mut Vec<u8>,
@@ -45,33 +45,34 @@ pub fn print_accounts<S: Alter + Drop>(
     Ok(())
 }
 
-/// The rows of both accounts and of the devices.
+/// Answers the tables' rows of both accounts and of the devices, as they are printed.
 pub fn rows_of<S: Alter + Drop>(alloc: Global, tables: &mut Tables<S>) -> Result<Vec<u8>, Fault> {
     let mut rows = Vec::new(alloc);
     print_rows(tables, &mut rows)?;
     Ok(rows)
 }
 
-/// The same as a text.
+/// Answers the tables' rows of both accounts and of the devices as a text.
 pub fn rows_text<S: Alter + Drop>(alloc: Global, tables: &mut Tables<S>) -> Result<String, Fault> {
-    text(rows_of(alloc, tables)?)
+    text_of(rows_of(alloc, tables)?)
 }
 
-/// Where the texts differ, their first lines that do.
-pub fn differing(alloc: Global, found: String, due: String) -> Result<Option<String>, Fault> {
-    match difference(found.as_str(), due.as_str()) {
+/// Compares two texts line by line. Answers the first line that differs, as found and as due, or
+/// `None` if all are the same.
+pub fn difference_text(alloc: Global, found: String, due: String) -> Result<Option<String>, Fault> {
+    match first_other_line(found.as_str(), due.as_str()) {
         Some((found, due)) => Ok(Some(format!(in alloc; "\n  found {found}\n  due {due}")?)),
         None => Ok(None),
     }
 }
 
-/// What was printed.
-pub fn text(output: Vec<u8>) -> Result<String, Fault> {
+/// Turns printed bytes into a text. Answers `Fault::Answer` if they are no UTF-8.
+pub fn text_of(output: Vec<u8>) -> Result<String, Fault> {
     String::from_utf8(output).map_err(|_| Fault::Answer)
 }
 
-/// Whether nothing differs. Prints what does.
-pub fn print_differing(
+/// Prints the place and what differs there, if something does. Answers whether nothing does.
+pub fn print_difference(
     rt: &HostRuntime,
     place: &str,
     differs: Option<String>,

@@ -1,5 +1,5 @@
-//! The tables of trials: events and connections of `serve_one` over a store of any storage, the rows
-//! that they leave, and those of rooms in memory.
+//! What trials share: tables over any storage, the events and connections of `serve_one` that they
+//! are given, and their rows, compared with those of rooms in memory.
 #![tactic(auto)]
 
 mod accounts;
@@ -11,9 +11,11 @@ mod wires;
 
 pub use accounts::{ACCOUNTS, account_of};
 pub use comparing::{
-    differing, print_accounts, print_differing, rows_differ, rows_of, rows_text, text,
+    difference_text, first_other_row, print_accounts, print_difference, rows_of, rows_text, text_of,
 };
 pub use fault::Fault;
-pub use steps::{answered, as_of_rooms, set_next_job, skip_to, take};
+pub use steps::{
+    answer_by_rooms, apply_step, as_of_rooms, set_next_job_in_rooms, set_next_job_in_tables,
+};
 pub use tables::{FILE, Tables, remove_files, tell_again};
-pub use wires::{Failing, Served, Sides, WHOLE};
+pub use wires::{Failing, ServedCalls, Sides, WHOLE};

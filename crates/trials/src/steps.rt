@@ -1,17 +1,17 @@
-//! What a step of a conversation does to rooms and to tables.
+//! Does one step of a conversation on rooms in memory or on tables.
 
 use crate::fault::Fault;
 use crate::tables::{Tables, tell_again};
-use room_core::{CoreFault, LAST_JOB, Name, Reply};
+use room_events::{CoreFault, LAST_JOB, Name, Reply};
 use room_lines::{Line, print_answer};
 use room_rows::{Rooms, Step};
 use room_store::StoreFault;
 use sqlite::Alter;
 use sqlite::types::ValueRef;
 
-/// What a room answers to a line's event at the moment. One that is refused for want of memory is
-/// given once more: after a refusal everything is as before.
-pub fn answered(
+/// Asks the rooms a line's event at the moment, and answers their reply. If memory is refused it
+/// asks once more: after a refusal everything is as before.
+pub fn answer_by_rooms(
     rt: &HostRuntime,
     rooms: &mut Rooms,
     moment: u64,
@@ -26,8 +26,9 @@ pub fn answered(
     }
 }
 
-/// The account's next job gets the number, which no job before it has.
-pub fn skip_to(rooms: &mut Rooms, account: Name, number: u32) -> Result<(), Fault> {
+/// Sets the number of the account's next job in the rooms. Answers `Fault::NextJob` if the account
+/// is not open, or if the number is below its next one or past the last.
+pub fn set_next_job_in_rooms(rooms: &mut Rooms, account: Name, number: u32) -> Result<(), Fault> {
     let Some(room) = rooms.room_mut(account) else {
         return Err(Fault::NextJob);
     };
@@ -38,22 +39,22 @@ pub fn skip_to(rooms: &mut Rooms, account: Name, number: u32) -> Result<(), Faul
     Ok(())
 }
 
-/// Does a step on tables, and prints what they answer.
-pub fn take<S: Alter + Drop>(
+/// Does a step on the tables, and prints their answer if the step is an event.
+pub fn apply_step<S: Alter + Drop>(
     rt: &HostRuntime,
     tables: &mut Tables<S>,
     step: &Step,
     output: &mut Vec<u8>,
 ) -> Result<(), Fault> {
     match step {
-        Step::Event(line) => print(output, tables.apply(rt, line.moment, line)?),
-        Step::NextJob { account, number } => set_next_job(tables, *account, *number),
+        Step::Event(line) => print_outcome(output, tables.apply(rt, line.moment, line)?),
+        Step::NextJob { account, number } => set_next_job_in_tables(tables, *account, *number),
         Step::Sql(sql) => tables.execute(sql.as_str(), &[]),
     }
 }
 
-/// The same as `skip_to`, by hand.
-pub fn set_next_job<S: Alter + Drop>(
+/// Sets the number of the account's next job in the tables, by an SQL statement.
+pub fn set_next_job_in_tables<S: Alter + Drop>(
     tables: &mut Tables<S>,
     account: Name,
     number: u32,
@@ -67,8 +68,9 @@ pub fn set_next_job<S: Alter + Drop>(
     )
 }
 
-/// Prints what tables answered: that rows are damaged, rooms never tell.
-fn print(output: &mut Vec<u8>, outcome: Result<Reply, StoreFault>) -> Result<(), Fault> {
+/// Prints what the tables answered to an event: `damaged` if rows are damaged, which rooms never
+/// tell, and else the answer.
+fn print_outcome(output: &mut Vec<u8>, outcome: Result<Reply, StoreFault>) -> Result<(), Fault> {
     if let Err(StoreFault::Damaged) = &outcome {
         output.extend_from_slice(b"damaged\n")?;
         return Ok(());
@@ -78,8 +80,8 @@ fn print(output: &mut Vec<u8>, outcome: Result<Reply, StoreFault>) -> Result<(),
     Ok(())
 }
 
-/// What tables answered as rooms answer it, who never tell that storage failed or that rows are
-/// damaged.
+/// Turns the tables' outcome into one of rooms. Answers `Fault::Tables` if storage failed or rows
+/// are damaged, which rooms never tell.
 pub fn as_of_rooms(outcome: Result<Reply, StoreFault>) -> Result<Result<Reply, CoreFault>, Fault> {
     match outcome {
         Ok(reply) => Ok(Ok(reply)),

@@ -1,12 +1,13 @@
-//! Shared tables. Each event comes to a store of its own, over the one connection.
+//! The tables that trials run on, in memory or in a file. Each use opens a store of its own over
+//! the one connection.
 
 ghost use Rattle.std.specs.Prelude.{All, IfOk, IsTrue};
-ghost use Rattle.room_core.specs.Events.{plain_event};
-ghost use Rattle.room_core.specs.Fits.{fits};
+ghost use Rattle.room_events.specs.Events.{plain_event};
+ghost use Rattle.room_events.specs.Fits.{fits};
 
 use crate::fault::Fault;
-use crate::wires::{Served, Sides, serve};
-use room_core::{Event, Name, Reply};
+use crate::wires::{ServedCalls, Sides, serve};
+use room_events::{Event, Name, Reply};
 use room_lines::Line;
 use room_rows::print_hex;
 use room_serve::{Outcome, run_events};
@@ -55,20 +56,20 @@ impl<S: Alter + Drop> Drop for Tables<S> {
 }
 
 impl Tables<MemStore> {
-    /// New tables in memory.
+    /// Makes new tables in memory.
     pub fn in_memory(rt: &HostRuntime) -> Result<Tables<MemStore>, Fault> {
         Tables::create(rt, Connection::open_in_memory(rt.alloc())?)
     }
 }
 
 impl<S: Alter + Drop> Tables<S> {
-    /// New tables in the file.
+    /// Makes new tables in the file `FILE`, in the place of an old one.
     pub fn in_file<F: FileTables<Kept = Connection<S>>>(
         rt: &HostRuntime,
         files: &F,
     ) -> Result<Tables<S>, Fault> {
         remove_files(rt);
-        Tables::create(rt, file(rt, files)?)
+        Tables::create(rt, open_file(rt, files)?)
     }
 
     /// Closes the file and opens it again.
@@ -80,45 +81,46 @@ impl<S: Alter + Drop> Tables<S> {
         if let Some(connection) = self.waiting.take() {
             files.close(connection)?;
         }
-        self.waiting = Some(file(rt, files)?);
+        self.waiting = Some(open_file(rt, files)?);
         Ok(())
     }
 
-    /// Those that a connection has.
-    pub fn of(connection: Connection<S>) -> Tables<S> {
+    /// Takes the connection to a database that has the tables already.
+    pub fn over(connection: Connection<S>) -> Tables<S> {
         Tables {
             waiting: Some(connection),
         }
     }
 
-    /// Makes them. Where memory is refused, they are made once more.
+    /// Makes the tables over a connection. If that is refused it tries once more, since memory may
+    /// have been refused.
     pub fn create(rt: &HostRuntime, connection: Connection<S>) -> Result<Tables<S>, Fault> {
         let refused = match Store::create(connection) {
-            Ok(store) => return Ok(Tables::of(store.close())),
+            Ok(store) => return Ok(Tables::over(store.close())),
             Err(refused) => refused,
         };
         tell_again(rt);
         match Store::create(refused.connection) {
-            Ok(store) => Ok(Tables::of(store.close())),
+            Ok(store) => Ok(Tables::over(store.close())),
             Err(Refused { fault, .. }) => Err(Fault::Open(fault)),
         }
     }
 
-    /// The connection, at the end of all uses.
-    pub fn end(self) -> Result<Connection<S>, Fault> {
+    /// Answers the connection, after all uses, or `Fault::Away` if a fault lost it.
+    pub fn into_connection(self) -> Result<Connection<S>, Fault> {
         let Tables { waiting } = self;
         waiting.ok_or(Fault::Away)
     }
 
-    /// What is answered to a line's event at the moment. One that is refused for want of memory is
-    /// given once more: after a refusal everything is as before.
+    /// Applies a line's event at the moment, and answers the store's outcome. If memory or storage
+    /// is refused it asks once more: after a refusal everything is as before.
     pub fn apply(
         &mut self,
         rt: &HostRuntime,
         moment: u64,
         line: &Line,
     ) -> Result<Result<Reply, StoreFault>, Fault> {
-        let mut store = self.store(rt)?;
+        let mut store = self.open_store(rt)?;
         let event = line.action.event();
         let mut outcome = store.apply(rt.alloc(), moment, &event);
         if matches!(&outcome, Err(StoreFault::Memory | StoreFault::Storage)) {
@@ -129,38 +131,45 @@ impl<S: Alter + Drop> Tables<S> {
         Ok(outcome)
     }
 
-    /// What each line's event comes to, the store being given them as one list.
-    pub fn run(&mut self, rt: &HostRuntime, lines: &[&Line]) -> Result<Vec<Outcome>, Fault> {
-        let events = events_of(rt.alloc(), lines)?;
-        self.run_all(rt, events.as_slice())
+    /// Gives the lines' events to the store as one list, by `run_events`. Answers the outcome of
+    /// each.
+    pub fn run_as_list(
+        &mut self,
+        rt: &HostRuntime,
+        lines: &[&Line],
+    ) -> Result<Vec<Outcome>, Fault> {
+        let events = events_of_lines(rt.alloc(), lines)?;
+        self.run_list(rt, events.as_slice())
     }
 
-    fn run_all(
+    /// Gives events, each with its moment, to the store as one list. Answers the outcome of each.
+    fn run_list(
         &mut self,
         rt: &HostRuntime,
         events: &[(u64, Event<'_>)],
     ) -> Result<Vec<Outcome>, Fault>
         requires { All (λ e. IsTrue (fits (plain_event e.1))) events.now }
     {
-        let mut store = self.store(rt)?;
+        let mut store = self.open_store(rt)?;
         let outcomes = run_events(rt.alloc(), &mut store, events);
         self.waiting = Some(store.close());
         Ok(outcomes?)
     }
 
-    /// The same, each event being given to the store by itself, in one round.
+    /// Gives the lines' events to the store one by one, in one round. Answers the outcome of each.
     pub fn run_in_a_round(
         &mut self,
         rt: &HostRuntime,
         lines: &[&Line],
     ) -> Result<Vec<Outcome>, Fault> {
-        let mut rounds = Rounds::over(self.store(rt)?);
-        let outcomes = outcomes_in_a_round(rt.alloc(), &mut rounds, lines);
+        let mut rounds = Rounds::over(self.open_store(rt)?);
+        let outcomes = apply_in_a_round(rt.alloc(), &mut rounds, lines);
         self.waiting = Some(rounds.close());
         outcomes
     }
 
-    /// What so many calls of `serve_one` on one connection come to (`wires`).
+    /// Makes so many calls of `serve_one` on one connection that sends this input. Answers how they
+    /// ended and what they wrote (`wires`).
     pub fn serve(
         &mut self,
         rt: &HostRuntime,
@@ -168,15 +177,16 @@ impl<S: Alter + Drop> Tables<S> {
         input: &[u8],
         sides: Sides,
         calls: usize,
-    ) -> Result<Served, Fault> {
-        let mut store = self.store(rt)?;
+    ) -> Result<ServedCalls, Fault> {
+        let mut store = self.open_store(rt)?;
         let served = serve(rt.alloc(), &mut store, moment, input, sides, calls);
         self.waiting = Some(store.close());
         served
     }
 
-    /// The store over them. Where memory is refused, it is opened once more.
-    pub fn store(&mut self, rt: &HostRuntime) -> Result<Store<S>, Fault> {
+    /// Opens a store over the tables, which are away until it is closed. If that is refused it
+    /// tries once more, since memory may have been refused.
+    pub fn open_store(&mut self, rt: &HostRuntime) -> Result<Store<S>, Fault> {
         let Some(connection) = self.waiting.take() else {
             return Err(Fault::Away);
         };
@@ -191,7 +201,7 @@ impl<S: Alter + Drop> Tables<S> {
         }
     }
 
-    /// Changes rows by hand.
+    /// Runs an SQL statement, to change rows by hand.
     pub fn execute(&mut self, sql: &str, values: &[ValueRef<'_>]) -> Result<(), Fault> {
         match &mut self.waiting {
             Some(connection) => {
@@ -206,7 +216,7 @@ impl<S: Alter + Drop> Tables<S> {
     pub fn print_account(&mut self, account: Name, output: &mut Vec<u8>) -> Result<(), Fault> {
         for (table, query) in OF_ACCOUNT {
             let rows = self.query(query, &[ValueRef::Text(account.bytes())])?;
-            print_rows(output, table, rows.as_slice())?;
+            print_table_rows(output, table, rows.as_slice())?;
         }
         Ok(())
     }
@@ -214,9 +224,10 @@ impl<S: Alter + Drop> Tables<S> {
     /// Prints the rows of the devices: the name, whether it is on, and the rate.
     pub fn print_devices(&mut self, output: &mut Vec<u8>) -> Result<(), Fault> {
         let rows = self.query(OF_DEVICES, &[])?;
-        print_rows(output, "device", rows.as_slice())
+        print_table_rows(output, "device", rows.as_slice())
     }
 
+    /// Answers the rows that an SQL query finds.
     fn query(&mut self, sql: &str, values: &[ValueRef<'_>]) -> Result<Vec<Row>, Fault> {
         match &mut self.waiting {
             Some(connection) => Ok(connection.query_all(sql, values)?),
@@ -225,15 +236,15 @@ impl<S: Alter + Drop> Tables<S> {
     }
 }
 
-/// Tells that a call is made once more, since the first was refused. No call is where memory and
-/// storage are there, so that in the gate each such line is a row that fails; `tools/refuse-memory`
-/// has requests for memory refused.
+/// Prints `asked again`: a call is made once more, since the first was refused. Where memory and
+/// storage are there no call is refused, so that in the gate such a line fails its row;
+/// `tools/refuse-memory` has requests for memory refused, and expects the line.
 pub fn tell_again(rt: &HostRuntime) {
     let _ = writeln!(rt.stdout(), "asked again");
 }
 
-/// A connection to the file. Where it can't be opened, it is opened once more.
-fn file<F: FileTables>(rt: &HostRuntime, files: &F) -> Result<F::Kept, Fault> {
+/// Opens a connection to the file. If that fails it tries once more.
+fn open_file<F: FileTables>(rt: &HostRuntime, files: &F) -> Result<F::Kept, Fault> {
     match files.open(FILE) {
         Ok(connection) => Ok(connection),
         Err(_) => {
@@ -243,15 +254,15 @@ fn file<F: FileTables>(rt: &HostRuntime, files: &F) -> Result<F::Kept, Fault> {
     }
 }
 
-/// Removes the files, those of them that are there.
+/// Removes the file and the log beside it, if they are there.
 pub fn remove_files(rt: &HostRuntime) {
     for file in [FILE, LOG] {
         let _ = fs::remove_file(rt, file);
     }
 }
 
-/// What the events come to in a round, which is committed behind them.
-fn outcomes_in_a_round<S: Alter>(
+/// Applies the lines' events one by one in a round, and commits it. Answers the outcome of each.
+fn apply_in_a_round<S: Alter>(
     alloc: Global,
     rounds: &mut Rounds<S>,
     lines: &[&Line],
@@ -266,19 +277,27 @@ fn outcomes_in_a_round<S: Alter>(
     Ok(outcomes)
 }
 
-fn events_of<'a>(alloc: Global, lines: &[&'a Line]) -> Result<Vec<(u64, Event<'a>)>, Fault>
+/// Answers each line's event with its moment.
+fn events_of_lines<'a>(alloc: Global, lines: &[&'a Line]) -> Result<Vec<(u64, Event<'a>)>, Fault>
     ensures { IfOk result (λ events. All (λ e. IsTrue (fits (plain_event e.1))) events.items) }
 {
-    Ok(lines.iter().map(|line| timed(*line)).collect(alloc)?)
+    Ok(
+        lines
+            .iter()
+            .map(|line| event_of_line(*line))
+            .collect(alloc)?,
+    )
 }
 
-fn timed(line: &Line) -> (u64, Event<'_>)
+/// Answers the line's event with its moment.
+fn event_of_line(line: &Line) -> (u64, Event<'_>)
     ensures { IsTrue (fits (plain_event result.1)) }
 {
     (line.moment, line.event())
 }
 
-fn print_rows(output: &mut Vec<u8>, table: &str, rows: &[Row]) -> Result<(), Fault> {
+/// Prints rows, each on a line: the table's name, and the columns in their order.
+fn print_table_rows(output: &mut Vec<u8>, table: &str, rows: &[Row]) -> Result<(), Fault> {
     for row in rows {
         output.write_all(table.as_bytes())?;
         for at in 0..row.column_count() {
@@ -290,6 +309,7 @@ fn print_rows(output: &mut Vec<u8>, table: &str, rows: &[Row]) -> Result<(), Fau
     Ok(())
 }
 
+/// Prints a column's value, bytes as digits. Answers `Fault::Column` if no table has such a value.
 fn print_value(output: &mut Vec<u8>, value: ValueRef<'_>) -> Result<(), Fault> {
     match value {
         ValueRef::Int(integer) => write!(output, "{integer}")?,

@@ -42,15 +42,16 @@ struct Calls {
 }
 
 impl Calls {
-    fn up_to(failing: Option<u64>) -> Calls {
+    /// Begins to count calls. The one of this number fails; with `None` none does.
+    fn failing_at(failing: Option<u64>) -> Calls {
         Calls {
             left: failing,
             has_failed: false,
         }
     }
 
-    /// Whether the next one fails.
-    fn fails(&mut self) -> bool {
+    /// Counts one more call. Answers whether it fails, as each after it does.
+    fn next_fails(&mut self) -> bool {
         match self.left {
             Some(0) => {
                 self.has_failed = true;
@@ -65,6 +66,7 @@ impl Calls {
     }
 }
 
+/// The side that is read, with what is left of its input.
 #[derive(Drop)]
 struct Given<'a> {
     left: &'a [u8],
@@ -73,7 +75,8 @@ struct Given<'a> {
 }
 
 impl<'a> Given<'a> {
-    fn of(input: &'a [u8], sides: Sides) -> Given<'a> {
+    /// Makes the reader of the input. The sides name the read that fails, if one does.
+    fn new(input: &'a [u8], sides: Sides) -> Given<'a> {
         let failing = match sides.failing {
             Some(Failing::Read(at)) => Some(at),
             _ => None,
@@ -81,14 +84,15 @@ impl<'a> Given<'a> {
         Given {
             left: input,
             most: sides.most,
-            calls: Calls::up_to(failing),
+            calls: Calls::failing_at(failing),
         }
     }
 }
 
 impl Read for Given<'_> {
+    /// Reads `most` bytes of what is left at most. Fails from the failing call on.
     fn read(&mut self, buffer: &mut [u8]) -> io::Result<usize> {
-        if self.calls.fails() {
+        if self.calls.next_fails() {
             return Err(io::Error::from(ErrorKind::ConnectionReset));
         }
         let count = self.left.len().min(buffer.len()).min(self.most);
@@ -103,6 +107,7 @@ impl Read for Given<'_> {
 /// write of most exchanges.
 const ROOM: usize = 65_536;
 
+/// The side that is written, with what it took.
 #[derive(Drop)]
 struct Taken {
     bytes: Vec<u8>,
@@ -112,7 +117,9 @@ struct Taken {
 }
 
 impl Taken {
-    fn by(alloc: Global, sides: Sides) -> Result<Taken, Fault> {
+    /// Makes the writer, which keeps what it is given. The sides name the write that fails, if one
+    /// does.
+    fn new(alloc: Global, sides: Sides) -> Result<Taken, Fault> {
         let (failing, takes_nothing) = match sides.failing {
             Some(Failing::Write(at)) => (Some(at), false),
             Some(Failing::Full(at)) => (Some(at), true),
@@ -121,15 +128,17 @@ impl Taken {
         Ok(Taken {
             bytes: Vec::with_capacity(alloc, ROOM)?,
             most: sides.most,
-            calls: Calls::up_to(failing),
+            calls: Calls::failing_at(failing),
             takes_nothing,
         })
     }
 }
 
 impl Write for Taken {
+    /// Keeps the first `most` bytes of the piece. From the failing call on it fails, or takes
+    /// nothing.
     fn write(&mut self, piece: &[u8]) -> io::Result<usize> {
-        if self.calls.fails() {
+        if self.calls.next_fails() {
             if self.takes_nothing {
                 return Ok(0);
             }
@@ -147,7 +156,7 @@ impl Write for Taken {
 
 /// What calls of `serve_one` on one connection answered and wrote, and how many bytes they left.
 #[derive(Drop)]
-pub struct Served {
+pub struct ServedCalls {
     pub ends: Vec<Result<After, WireFault>>,
     pub written: Vec<u8>,
     pub left: usize,
@@ -155,7 +164,8 @@ pub struct Served {
     pub has_failed: bool,
 }
 
-/// So many calls at the moment, on a connection with this input.
+/// Makes so many calls of `serve_one` at the moment on one connection that sends this input.
+/// Answers how they ended, what they wrote and what they left.
 pub fn serve<S: Alter>(
     alloc: Global,
     store: &mut Store<S>,
@@ -163,16 +173,16 @@ pub fn serve<S: Alter>(
     input: &[u8],
     sides: Sides,
     calls: usize,
-) -> Result<Served, Fault> {
-    let mut given = Given::of(input, sides);
-    let mut taken = Taken::by(alloc, sides)?;
+) -> Result<ServedCalls, Fault> {
+    let mut given = Given::new(input, sides);
+    let mut taken = Taken::new(alloc, sides)?;
     let mut ends = Vec::new(alloc);
     let mut wire = Wire::new(Counted::new(&mut given), Counted::new(&mut taken));
     'calls: for _ in 0..calls {
         ends.push(serve_one(alloc, store, moment, &mut wire))?;
     }
     drop(wire);
-    Ok(Served {
+    Ok(ServedCalls {
         ends,
         has_failed: given.calls.has_failed || taken.calls.has_failed,
         written: taken.bytes,

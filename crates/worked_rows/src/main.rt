@@ -8,7 +8,7 @@
 //!   or what differs.
 #![tactic(auto)]
 
-use event_trials::hold_events;
+use event_trials::list_holds;
 use sqlite::{Alter, Connection, Error, File, FileStore};
 use std::env;
 use std::io::Write;
@@ -25,6 +25,7 @@ struct OnDisk<'a> {
 impl FileTables for OnDisk<'_> {
     type Kept = Connection<FileStore<File>>;
 
+    /// Opens the database in a file of the current folder.
     fn open(&self, file: &str) -> Result<Connection<FileStore<File>>, Error> {
         Connection::open(self.rt, file)
     }
@@ -34,8 +35,9 @@ impl FileTables for OnDisk<'_> {
     }
 }
 
+/// Runs what the words name. Answers success if all of it holds.
 fn main(rt: HostRuntime) -> ExitCode {
-    match hold_all(&rt, &OnDisk { rt: &rt }) {
+    match all_hold(&rt, &OnDisk { rt: &rt }) {
         Ok(true) => ExitCode::SUCCESS,
         Ok(false) => ExitCode::FAILURE,
         Err(fault) => {
@@ -45,8 +47,8 @@ fn main(rt: HostRuntime) -> ExitCode {
     }
 }
 
-/// Whether all holds that the program's words name.
-fn hold_all<S, F>(rt: &HostRuntime, files: &F) -> Result<bool, Fault>
+/// Runs what each of the program's words names. Answers whether all of it holds.
+fn all_hold<S, F>(rt: &HostRuntime, files: &F) -> Result<bool, Fault>
 where
     S: Alter + Drop,
     F: FileTables<Kept = Connection<S>>,
@@ -54,28 +56,29 @@ where
     let mut all = true;
     let words: Vec<String> = env::args(rt)?.skip(1).collect(rt.alloc())?;
     for word in words.as_slice() {
-        all &= hold(rt, files, word.as_str())?;
+        all &= word_holds(rt, files, word.as_str())?;
     }
     Ok(all)
 }
 
-/// Whether that holds which a word names. `files` has the databases that stand in files.
-fn hold<S, F>(rt: &HostRuntime, files: &F, word: &str) -> Result<bool, Fault>
+/// Runs what a word names: a file of rows, a list of events, or the trials of `serving`. Answers
+/// whether it holds. `files` has the databases that stand in files.
+fn word_holds<S, F>(rt: &HostRuntime, files: &F, word: &str) -> Result<bool, Fault>
 where
     S: Alter + Drop,
     F: FileTables<Kept = Connection<S>>,
 {
     if word == "serving" {
-        return Ok(serve_trials::hold(rt, &mut rt.stdout()));
+        return Ok(serve_trials::all_trials_hold(rt, &mut rt.stdout()));
     }
     if word.ends_with(".served") {
-        return Ok(serve_trials::hold_file(rt, word, &mut rt.stdout()));
+        return Ok(serve_trials::file_holds(rt, word, &mut rt.stdout()));
     }
     if word.ends_with(".tables") {
-        return Ok(table_trials::hold(rt, word, files)?);
+        return Ok(table_trials::file_holds(rt, word, files)?);
     }
     match word.strip_suffix(".events") {
-        Some(name) => hold_events(rt, files, name),
-        None => row_trials::hold(rt, files, word),
+        Some(name) => list_holds(rt, files, name),
+        None => row_trials::file_holds(rt, files, word),
     }
 }

@@ -1,6 +1,6 @@
 use Rattle.std.proofs.Common.{ℕ, inl, subst, rules}
 use Rattle.sqlite.specs.Held.{state}
-use Rattle.room_core.specs.Events.{PlainEvent, plain_event}
+use Rattle.room_events.specs.Events.{PlainEvent, plain_event}
 use Rattle.room_store.specs.Applied.{Applies}
 use Rattle.room_served.specs.Entries.{moment_at}
 use Rattle.room_served.specs.Journals.{store_of}

@@ -1,0 +1,21 @@
+//! What an act on a job makes of the room.
+
+ghost use Rattle.std.specs.Prelude.{◌≡◌, OnOk, OnErr};
+ghost use Rattle.room_core.specs.Words.{CanMove, with_moved};
+
+use crate::room::Room;
+use room_rules::Standing;
+use std::alloc::AllocError;
+
+/// Gives the job its next standing; one that ends loses its documents.
+pub(crate) fn stand(room: &mut Room, number: u32, standing: &Standing) -> Result<(), AllocError>
+    requires { CanMove room.old number standing.now }
+    ensures changed { OnOk result (room.new ≡ with_moved room.old number standing.now) }
+    ensures unchanged { OnErr result (room.new ≡ room.old) }
+{
+    if standing.state.is_unfinished() {
+        return room.restand(number, *standing, None);
+    }
+    room.finish(number, *standing);
+    Ok(())
+}

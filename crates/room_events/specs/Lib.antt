@@ -1,0 +1,16 @@
+pub mod Events
+pub mod Fits
+pub mod Rates
+pub mod Steps
+pub mod Moving
+pub mod JobActs
+pub mod Stations
+pub mod Grants
+pub mod Requests
+pub mod NewJobs
+pub mod JobRequests
+pub mod Queues
+pub mod Printers
+pub mod Machine
+pub mod DeviceEvents
+pub mod OperationLaws

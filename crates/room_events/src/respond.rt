@@ -1,0 +1,60 @@
+//! What the responses to requests share.
+
+ghost use Rattle.std.specs.Prelude.{◌≡◌, ◌≤◌, ◌∷◌, [], Some, codes, map};
+ghost use Rattle.room_asks.specs.Asks.{IsAsk, plain_ask};
+ghost use Rattle.room_rules.specs.Limits.{last_moment};
+ghost use Rattle.std.specs.Borrow.{Bor};
+ghost use Rattle.std.specs.Prelude.{ℕ, List};
+ghost use Rattle.room_events.specs.NewJobs.{made_names};
+ghost use Rattle.room_events.specs.Requests.{asked_at};
+ghost use Rattle.room_rules.specs.declared.refusal.Word.TheVariants.{NoJob};
+ghost use Rattle.room_replies.specs.Limits.{IsPlace};
+ghost use Rattle.room_replies.specs.Places.{plain_place};
+ghost use Rattle.room_replies.specs.Tables.{asked_names};
+
+use room_asks::Ask;
+use room_replies::Place;
+use room_rules::{Name, Refusal, Word};
+
+/// Where and when the request is answered, of an account that was opened then.
+pub fn asked_at<'a>(opened: u64, account: Name, now: u64, ask: &Ask<'a>) -> Place<'a>
+    requires ask { IsAsk (plain_ask ask.now) }
+    requires opened { opened ≤ last_moment }
+    requires moment { now ≤ last_moment }
+    ensures place { plain_place result ≡ asked_at opened account now (plain_ask ask.entry.now) }
+    ensures limits { IsPlace (plain_place result) }
+{
+    Place {
+        base: ask.base,
+        name: account,
+        opened,
+        now,
+    }
+}
+
+/// The names of the attributes that the request wants.
+pub fn wanted_names<'m, 'a>(ask: &'m Ask<'a>) -> Option<&'m [&'a [u8]]>
+    ensures { asked_names result ≡ (plain_ask ask.entry.now).wanted }
+{
+    match &ask.wanted {
+        None => None,
+        Some(names) => Some(names.as_slice()),
+    }
+}
+
+/// What is told of a job that a request made or added to.
+pub fn made_names() -> [&'static [u8]; 4]
+    ensures { Some (map (λ (name : Bor (List ℕ)). name.now) result) ≡ made_names }
+{
+    [b"job-uri", b"job-id", b"job-state", b"job-state-reasons"]
+}
+
+/// client-error-not-found: the account has no such job.
+pub fn no_job() -> Refusal
+    ensures { result ≡ record { status = 0x0406; word = NoJob } }
+{
+    Refusal {
+        status: 0x0406,
+        word: Word::NoJob,
+    }
+}
