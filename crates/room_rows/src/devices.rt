@@ -1,5 +1,5 @@
 //! The devices of rooms in memory.
-ghost use Rattle.room_core.specs.Rates.{AreRated};
+ghost use Rattle.room_events.specs.Rates.{AreRated};
 ghost use Rattle.room_rules.specs.Devices.{device_map};
 
 use room_core::{CoreFault, Device, Event, Reply, answer_device};

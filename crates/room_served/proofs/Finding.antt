@@ -18,7 +18,9 @@ use Rattle.room_tables.specs.Crashes.{CrashesFindLastCommit, IsOnDisk}
 use Rattle.room_tables.specs.Keyed.{HasSchema}
 use Rattle.room_served.proofs.Running.{IsGone, StillGoes, entry_keeps, entry_leaves_no_more, leads_keep, leads_leave, leads_leave_no_more, leads_on, round_shown, runs, was_clean}
 use Rattle.room_served.specs.Entries.{timed}
-use Rattle.room_served.specs.Journals.{AllSettle, AppliesEntry, Begins, IsOver, IsRound, Leads, Round, Settles, Told, events_of, kept_in, outcomes_of}
+use Rattle.room_served.specs.Journals.{Round, Told, events_of, kept_in, outcomes_of}
+use Rattle.room_served.specs.Applying.{AppliesEntry, Leads}
+use Rattle.room_served.specs.Rounds.{AllSettle, Begins, IsOver, IsRound, Settles}
 use Rattle.room_served.specs.ServedLives.{AloneIsFound, AlwaysFound, AlwaysLives, FindsLife, FindsRound, KeptIsFound, RoundIsFound, RoundIsNotFound, told_to}
 
 module _ {S : Type 0} (store : Ghosts S) where
@@ -201,9 +203,9 @@ module _ {S : Type 0} (store : Ghosts S) where
     settle_found (more, false) old new settled (inl is) clean has shown found may =
         (lasts new shown found).0 may ∙ ap (λ (db : Database). db.trees) (sym (lost_settles more old new is clean has shown))
     settle_found round old new settled (inr (inl (alone, leads))) clean has shown found may = (leads_found round.0 old new settled leads clean).found shown found may
-    settle_found round old new settled (inr (inr (is, refused))) clean has shown found may =
-        let was_open = refused.connection.back clean shown in
-        let same = refused.unchanged clean shown in
+    settle_found round old new settled (inr (inr (is, looks))) clean has shown found may =
+        let was_open = looks.connection.back clean shown in
+        let same = looks.unchanged clean has shown in
         let was = settled.found was_open (state store old).committed.trees ((lasts old was_open (state store old).committed.trees).1 refl) in
         (lasts new shown found).0 may ∙ ap (λ (db : Database). db.trees) same.committed ∙ was ∙ ap (λ (db : Database). db.trees) (sym same.now)
 

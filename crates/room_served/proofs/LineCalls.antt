@@ -5,7 +5,7 @@ use Rattle.std.proofs.lemmas.List.{take-append-drop}
 use Rattle.std.proofs.KnownBytes.{Appends-nil, Consumes-nil}
 use Rattle.sqlite_trees.specs.declared.store.Store.{Ghosts}
 use Rattle.room_served.proofs.Ends.{carry_then, no_bytes}
-use Rattle.room_served.specs.Lines.{AnswersLine, IsQuiet, IsWaiting, Leaves, LosesAnswer, TakesLine, input_of, output_of, received_of, sent_of, side_of}
+use Rattle.room_served.specs.Lines.{AnswersLine, IsPutOff, IsQuiet, IsWaiting, Leaves, LosesAnswer, TakesLine, input_of, output_of, received_of, sent_of, side_of}
 use Rattle.room_served.specs.declared.line_connection.LineConnection.{LineConnection}
 use Rattle.room_served.specs.declared.line_connection.Side.{Side}
 use Rattle.room_served.specs.declared.served.Served.{Served}
@@ -171,7 +171,7 @@ module _ {S : Type 0} (store : Ghosts S) where
       carry = no_bytes ends;
       input = append-nil (input_of before) ∙ sym (append-nil (input_of before)) ∙ sym (append-nil (input_of before ++ [])) ∙ ap (λ x. (input_of before ++ []) ++ x) (sym is.input);
       output = ap (λ x. output_of before ++ x) (append-nil (codes "bad-line\n"));
-      chain = (old, inr (refl, refl), refl);
+      chain = (old, inr (inr (refl, refl)), refl);
       side = is.side;
       received = none_more _ _ is.quiet.0;
       sent = none_more _ _ is.quiet.1;
@@ -188,6 +188,9 @@ module _ {S : Type 0} (store : Ghosts S) where
 
   pub waits : (ends : Ends) (next : Option Next) (before after : LineConnection) (old new : Served S) → IsWaiting before after old new → TakesStep store ends ends next before after old new
   waits ends next before after old new is = (output_of after, waited ends before after old new is, λ goes. refl)
+
+  pub put_off : (ends : Ends) (next : Option Next) (before after : LineConnection) (old new : Served S) → IsPutOff before after old new → TakesStep store ends ends next before after old new
+  put_off ends next before after old new is = (output_of after, rw (is.served, is.connection) (stays ends before old), λ goes. refl)
 
   pub waited_then : (e f : Ends) (next : Option Next) (a b c : LineConnection) (old mid new : Served S) → IsWaiting a b old mid → TakesStep store e f next b c mid new → TakesStep store e f next a c old new
   waited_then e f next a b c old mid new is later = on e e f next a b c old mid new (waited e a b old mid is) later

@@ -6,9 +6,13 @@ use Rattle.std.proofs.lemmas.List.Quantifiers.{position-Some}
 use Rattle.sqlite_trees.specs.declared.store.Store.{Ghosts}
 use Rattle.room_events.specs.declared.event.Reply.{Reply}
 use Rattle.room_store.specs.declared.fault.StoreFault.{StoreFault}
-use Rattle.room_served.specs.Journals.{AppliesNext, moment_of}
+use Rattle.room_questions.specs.declared.question.Question.{Question}
+use Rattle.room_served.specs.Journals.{moment_of}
+use Rattle.room_served.specs.Turns.{AnswersNext, AppliesNext}
 use Rattle.room_served.specs.Lines.{IsEntryOf, TakesLine, grammar_of, input_of, line_end, side_of}
-use Rattle.room_served.specs.LineTexts.{bad_line_text, line_text}
+use Rattle.room_served.specs.LineTexts.{answer_text, bad_line_text, line_text}
+use Rattle.room_lines.specs.Saying.{IsQuestionOf}
+use Rattle.room_served.specs.declared.line_connection.Side.TheVariants.{Operator}
 use Rattle.room_served.specs.declared.entry.Entry.{Entry}
 use Rattle.room_served.specs.declared.line_connection.LineConnection.{LineConnection}
 use Rattle.room_served.specs.declared.served.Served.{Served}
@@ -39,13 +43,33 @@ module _ {S : Type 0} (store : Ghosts S) where
     });
   }
 
+  -- an operator's question was answered
+  pub takes_question : (before after : LineConnection) (old new : Served S) (end : ℕ) (question : Question) (told : Result (List ℕ) StoreFault) → line_end (input_of before) ≡ Some end → input_of after ≡ drop (end + 1) (input_of before)
+      → side_of before ≡ Operator → IsQuestionOf (take end (input_of before)) question → AnswersNext store question told old new
+      → TakesLine store before after old (answer_text told) new
+  takes_question before after old new end question told first rest operators said next = record {
+    end = end;
+    first = first;
+    rest = rest;
+    gives = inr (inl (record {
+      line = take end (input_of before);
+      ended = ends_with_feed (input_of before) end first;
+      operators = operators;
+      question = question;
+      said = said;
+      told = told;
+      next = next;
+      says = refl;
+    }));
+  }
+
   -- a line that is none of its side's
   pub takes_bad : (before after : LineConnection) (old : Served S) (end : ℕ) → line_end (input_of before) ≡ Some end → input_of after ≡ drop (end + 1) (input_of before) → TakesLine store before after old bad_line_text old
   takes_bad before after old end first rest = record {
     end = end;
     first = first;
     rest = rest;
-    gives = inr (refl, refl);
+    gives = inr (inr (refl, refl));
   }
 
 -- what holds anyway holds after an error

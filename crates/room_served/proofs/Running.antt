@@ -16,7 +16,10 @@ use Rattle.room_tables.specs.Calls.{KeepsConnection, LeavesNoMore}
 use Rattle.room_tables.specs.Keyed.{HasSchema}
 use Rattle.room_served.proofs.LineEnds.{on_err}
 use Rattle.room_served.specs.Entries.{event_of_entry, moment_at, timed}
-use Rattle.room_served.specs.Journals.{AllSettle, AlwaysRuns, AppliesEntry, IsRound, Leads, Round, Told, events_of, kept_in, outcomes_of, Settles}
+use Rattle.room_served.specs.Journals.{Round, Told, events_of, kept_in, outcomes_of}
+use Rattle.room_served.specs.Applying.{AppliesEntry, Leads}
+use Rattle.room_served.specs.Rounds.{AllSettle, IsRound, Settles}
+use Rattle.room_served.specs.ServedRuns.{AlwaysRuns}
 
 -- the same, whether a transaction is under way or not
 abbrev outside : State → State
@@ -238,9 +241,9 @@ module _ {S : Type 0} (store : Ghosts S) where
       none_more events outcomes a new (nothing_more events outcomes a old new so_far (round_keeps (more, false) old new is (λ it clean. lost_mode more old new it clean)) (λ clean. lost_same more old new is clean))
   settle_one (more, true) events outcomes a old new so_far (inr (inl (alone, leads))) = leads_on more events outcomes a old new so_far leads
   settle_one (more, false) events outcomes a old new so_far (inr (inl (alone, leads))) = absurd (true≢false (sym alone))
-  settle_one (more, true) events outcomes a old new so_far (inr (inr (is, refused))) = absurd (true≢false (ap (λ (round : Round). round.1) is))
-  settle_one (more, false) events outcomes a old new so_far (inr (inr (is, refused))) =
-      none_more events outcomes a new (nothing_more events outcomes a old new so_far refused.connection (λ clean has shown. (refused.unchanged clean shown).now))
+  settle_one (more, true) events outcomes a old new so_far (inr (inr (is, looks))) = absurd (true≢false (ap (λ (round : Round). round.1) is))
+  settle_one (more, false) events outcomes a old new so_far (inr (inr (is, looks))) =
+      none_more events outcomes a new (nothing_more events outcomes a old new so_far looks.connection (λ clean has shown. (looks.unchanged clean (has (looks.connection.back clean shown)) shown).now))
 
   pub settle_on : (rounds : List Round) (events : List Timed) (outcomes : List Outcome) (a mid new : Held S) → SoFar events outcomes (state store a) (state store mid) → AllSettle store mid rounds new → RunsOn events outcomes a (kept_in rounds) new
   settle_on [] events outcomes a mid new so_far is = none_more events outcomes a new (subst (λ (held : Held S). SoFar events outcomes (state store a) (state store held)) (sym is) so_far)

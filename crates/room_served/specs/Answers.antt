@@ -17,7 +17,8 @@ use Rattle.room_store.specs.declared.fault.StoreFault.{StoreFault}
 use Rattle.room_replies.specs.Replies.{internal_error_text}
 use Rattle.room_served.specs.declared.entry.Entry.TheVariants as entry
 use Rattle.room_served.specs.declared.served.Served.{Served}
-use Rattle.room_served.specs.Journals.{AppliesNext, moment_of}
+use Rattle.room_served.specs.Journals.{moment_of}
+use Rattle.room_served.specs.Turns.{AppliesNext}
 use Rattle.room_served.specs.Requests.{asked, has_long_body}
 
 -- ---- the fields

@@ -5,7 +5,7 @@ use Rattle.std.specs.Io.KnownBytes.{Appends}
 use Rattle.sqlite_trees.specs.declared.store.Store.{Ghosts}
 use Rattle.room_events.specs.declared.event.Reply.{Reply}
 use Rattle.room_store.specs.declared.fault.StoreFault.{StoreFault}
-use Rattle.room_served.specs.Journals.{AppliesNext}
+use Rattle.room_served.specs.Turns.{AppliesNext}
 use Rattle.room_served.specs.LastTexts.{last_text}
 use Rattle.room_served.specs.Streams.{Carry, Ends}
 use Rattle.room_served.specs.declared.entry.Entry.{Entry}

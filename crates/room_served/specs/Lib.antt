@@ -1,5 +1,9 @@
 pub mod Entries
 pub mod Journals
+pub mod Applying
+pub mod Turns
+pub mod Rounds
+pub mod ServedRuns
 pub mod ServedLives
 pub mod Requests
 pub mod Answers

@@ -2,7 +2,7 @@
 use Rattle.std.specs.Prelude.{◌≡◌, ◌≢◌, ◌⊎◌, ℕ, Bool, List, [], ◌∷◌, ◌++◌, None, IsTrue}
 use Rattle.std.specs.List.{flat_map}
 use Rattle.sqlite_trees.specs.declared.store.Store.{Ghosts}
-use Rattle.room_served.specs.Lines.{Asks, IsBad, input_of, line_end, output_of, received_of, sent_of, side_of}
+use Rattle.room_served.specs.Lines.{IsTold, input_of, line_end, output_of, received_of, sent_of, side_of}
 use Rattle.room_served.specs.declared.line_connection.LineConnection.{LineConnection}
 use Rattle.room_served.specs.declared.line_connection.Side.{Side}
 use Rattle.room_served.specs.declared.served.Served.{Served}
@@ -33,13 +33,12 @@ abbrev pub bytes_told : List LineCall → List ℕ
 bytes_told calls = flat_map (λ (call : LineCall). call.1) calls
 
 module _ {S : Type 0} (store : Ghosts S) (side : Side) where
-  -- what each line says is applied, once, and told, or it is a bad one, which changes nothing, and
-  -- is told of
+  -- what each line says is applied, once, and told, or it asks a question, which is answered, or it is
+  -- a bad one, which changes nothing, and is told of
   abbrev pub Chain : Served S → List LineCall → Served S → Type 0
   Chain old [] new = new ≡ old
   Chain old (call ∷ calls) new = (next : Served S)
-      × (Asks store side call.0 old call.1 next ⊎ IsBad store old call.1 next)
-      × Chain next calls new
+      × IsTold store side call.0 old call.1 next × Chain next calls new
 
 module _ {S : Type 0} (store : Ghosts S) where
   -- Bytes came, and the lines in them were taken in order; what was told of each goes after the

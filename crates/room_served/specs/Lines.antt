@@ -1,14 +1,15 @@
 -- What a line is answered, and what it does to the rooms (all this project's own).
-use Rattle.std.specs.Prelude.{◌≡◌, ◌⊎◌, ◌==◌, ◌+◌, ℕ, Bool, List, ◌∷◌, ◌++◌, [], codes, drop, length, take, Option, None, Some, Result}
+use Rattle.std.specs.Prelude.{◌≡◌, ◌⊎◌, ◌==◌, ◌+◌, ℕ, Bool, List, ◌∷◌, ◌++◌, [], codes, drop, length, take, Option, None, Some, IsTrue, Result}
 use Rattle.std.specs.Io.KnownBytes.{Appends, Consumes}
 use Rattle.std.specs.List.{flat_map, position, starts_with}
 use Rattle.sqlite_trees.specs.declared.store.Store.{Ghosts}
 use Rattle.room_events.specs.declared.event.Reply.{Reply}
 use Rattle.room_lines.specs.Lines.{IsAllowed}
-use Rattle.room_lines.specs.Saying.{IsLineOf}
+use Rattle.room_lines.specs.Saying.{IsLineOf, IsQuestionOf}
 use Rattle.room_lines.specs.declared.lines.Grammar.{Grammar}
 use Rattle.room_lines.specs.declared.lines.Grammar.TheVariants as grammar_is
 use Rattle.room_lines.specs.declared.line.Line.{Line}
+use Rattle.room_questions.specs.declared.question.Question.{Question}
 use Rattle.room_store.specs.declared.fault.StoreFault.{StoreFault}
 use Rattle.room_served.specs.declared.entry.Entry.{Entry}
 use Rattle.room_served.specs.declared.entry.Entry.TheVariants as entry_is
@@ -16,8 +17,9 @@ use Rattle.room_served.specs.declared.line_connection.LineConnection.{LineConnec
 use Rattle.room_served.specs.declared.line_connection.Side.{Side}
 use Rattle.room_served.specs.declared.line_connection.Side.TheVariants.{Station, Operator}
 use Rattle.room_served.specs.declared.served.Served.{Served}
-use Rattle.room_served.specs.Journals.{AppliesNext, moment_of}
-use Rattle.room_served.specs.LineTexts.{bad_line_text, line_text}
+use Rattle.room_served.specs.Journals.{moment_of, shares_of}
+use Rattle.room_served.specs.Turns.{AnswersNext, AppliesNext}
+use Rattle.room_served.specs.LineTexts.{answer_text, bad_line_text, line_text}
 
 -- ---- a connection
 
@@ -92,9 +94,27 @@ module _ {S : Type 0} (store : Ghosts S) where
     pub next : AppliesNext store entry told old new
     pub says : text ≡ line_text told
 
+  -- a question that an operator's line asks outside a round is answered, and nothing is applied
+  pub record Inquires (side : Side) (came : List ℕ) (old : Served S) (text : List ℕ)
+      (new : Served S) : Type 0 where
+    pub line : List ℕ
+    pub ended : came ≡ line ++ 10 ∷ []
+    pub operators : side ≡ Operator
+    pub question : Question
+    pub said : IsQuestionOf line question
+    pub told : Result (List ℕ) StoreFault
+    pub next : AnswersNext store question told old new
+    pub says : text ≡ answer_text told
+
   -- a line that is none of its side's
   abbrev pub IsBad : Served S → List ℕ → Served S → Type 0
   IsBad old text new = (text ≡ bad_line_text) × (new ≡ old)
+
+  -- a line asks for something, or asks a question, or is a bad one
+  abbrev pub IsTold : (side : Side) (came : List ℕ) (old : Served S) (text : List ℕ) (new : Served S)
+      → Type 0
+  IsTold side came old text new = Asks side came old text new
+      ⊎ (Inquires side came old text new ⊎ IsBad old text new)
 
   -- the first line that came is taken, and this is told of it
   pub record TakesLine (before after : LineConnection) (old : Served S) (text : List ℕ)
@@ -102,8 +122,7 @@ module _ {S : Type 0} (store : Ghosts S) where
     pub end : ℕ
     pub first : line_end (input_of before) ≡ Some end
     pub rest : input_of after ≡ drop (end + 1) (input_of before)
-    pub gives : Asks (side_of before) (take (end + 1) (input_of before)) old text new
-        ⊎ IsBad old text new
+    pub gives : IsTold (side_of before) (take (end + 1) (input_of before)) old text new
 
   -- the first line that came is taken, and its answer waits after the others
   abbrev pub AnswersLine : (before after : LineConnection) (old new : Served S) → Type 0
@@ -119,5 +138,11 @@ module _ {S : Type 0} (store : Ghosts S) where
 pub record IsWaiting {S : Type 0} (before after : LineConnection) (old new : Served S)
     : Type 0 where
   pub none : line_end (input_of before) ≡ None
+  pub connection : after ≡ before
+  pub served : new ≡ old
+
+-- A question stands in front, which is asked once the round is over; nothing has changed.
+pub record IsPutOff {S : Type 0} (before after : LineConnection) (old new : Served S) : Type 0 where
+  pub shared : IsTrue (shares_of old)
   pub connection : after ≡ before
   pub served : new ≡ old

@@ -13,7 +13,9 @@ use Rattle.room_serve.specs.Crashes.{IsFound, IsFoundAfter}
 use Rattle.room_serve.specs.LivesInFiles.{IsLifeIn, exchanges_of}
 use Rattle.room_served.specs.Entries.{timed}
 use Rattle.room_served.specs.declared.entry.Entry.{Entry}
-use Rattle.room_served.specs.Journals.{AllSettle, AppliesAlone, AppliesEntry, Begins, IsRound, Leads, Round, Told, events_of, kept_in, outcomes_of}
+use Rattle.room_served.specs.Journals.{Round, Told, events_of, kept_in, outcomes_of}
+use Rattle.room_served.specs.Applying.{AppliesAlone, AppliesEntry, Leads}
+use Rattle.room_served.specs.Rounds.{AllSettle, Begins, IsRound}
 
 -- what an account was told, and the devices
 abbrev pub told_to : (name : List ℕ) (more : List Told) → Life

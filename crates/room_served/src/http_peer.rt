@@ -4,7 +4,7 @@ ghost use Rattle.std.specs.Prelude.{◌≡◌, ◌≢◌, IsFalse, Some};
 ghost use Rattle.room_http.specs.Limits.{longest_body, longest_head};
 ghost use Rattle.http_server.specs.Connection.{config_of, history};
 ghost use Rattle.http_server.specs.History.{new_history};
-ghost use Rattle.room_served.specs.Journals.{Continues};
+ghost use Rattle.room_served.specs.Turns.{Continues};
 
 use crate::load::{LARGE, Load};
 use crate::patience::Patience;

@@ -1,5 +1,5 @@
 //! What holds of all that was served.
-ghost use Rattle.room_served.specs.Journals.{AlwaysRuns};
+ghost use Rattle.room_served.specs.ServedRuns.{AlwaysRuns};
 ghost use Rattle.room_served.specs.ServedLives.{AloneIsFound, AlwaysFound, AlwaysLives, KeptIsFound, RoundIsFound, RoundIsNotFound};
 
 use sqlite::Alter;

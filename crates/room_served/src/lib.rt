@@ -28,7 +28,7 @@ pub use http_peer::HttpPeer;
 pub use last_peer::LastPeer;
 pub use laws::{always_found, always_lives, always_runs, lives_are_always_found};
 pub use limits::connection_config;
-pub use line_connection::{LineConnection, MOST_LINE, Side};
+pub use line_connection::{Front, LineConnection, MOST_LINE, Side};
 pub use line_peer::LinePeer;
 pub use load::{LARGE, LONGEST};
 pub use patience::Patience;

@@ -1,17 +1,19 @@
 //! A connection of lines: what came and is no whole line yet, and answers that wait to go.
-ghost use Rattle.std.specs.Prelude.{◌≡◌, ◌<◌, ◌≤◌, ◌+◌, ◌++◌, [], length, nat_lt, false, true, IfOk, IfSome, OnErr, OnOk, Ok};
+ghost use Rattle.std.specs.Prelude.{◌≡◌, ◌≢◌, ◌<◌, ◌≤◌, ◌+◌, ◌++◌, [], length, nat_lt, false, true, IfOk, IfSome, OnErr, OnOk, Ok, Some};
 ghost use Rattle.std.specs.Io.KnownBytes.{Keeps};
+ghost use Rattle.room_lines.specs.Saying.{IsQuestionOf};
 ghost use Rattle.room_served.specs.LineTexts.{bad_line_text};
-ghost use Rattle.room_served.specs.Journals.{Continues};
-ghost use Rattle.room_served.specs.Lines.{AnswersLine, Comes, IsEntryOf, IsQuiet, IsWaiting, Leaves, LosesAnswer, begins_start, grammar_of, input_of, line_end, output_of, received_of, sent_of, side_of, longest_line};
+ghost use Rattle.room_served.specs.Turns.{Continues};
+ghost use Rattle.room_served.specs.Lines.{AnswersLine, Comes, IsEntryOf, IsPutOff, IsQuiet, IsWaiting, Leaves, LosesAnswer, begins_start, grammar_of, input_of, line_end, output_of, received_of, sent_of, side_of, longest_line};
 
 use crate::entry::Entry;
-use crate::line_text::{put_bad, put_told};
+use crate::line_text::{put_answer, put_bad, put_told};
 use crate::served::Served;
 use bytes::{Buf, BufMut, BytesMut};
 use http_server::{Log, Rope};
 use room_input::FieldFault;
-use room_lines::Grammar;
+use room_lines::{Grammar, read_question};
+use room_questions::Question;
 use sqlite::Alter;
 use std::alloc::{AllocError, Global};
 use std::io;
@@ -41,6 +43,17 @@ impl Side {
             Side::Operator => Grammar::Operator { moment },
         }
     }
+}
+
+/// What became of the line at the front of what came.
+#[derive(Clone, Copy, Debug, PartialEq, Eq)]
+pub enum Front {
+    /// It was answered.
+    Answered,
+    /// It is not whole yet.
+    Unended,
+    /// It is a question, and a round is under way.
+    PutOff,
 }
 
 /// A connection that carries lines one way and their answers the other. It makes no system call:
@@ -109,13 +122,16 @@ impl LineConnection {
     }
 
     /// Answers the line at the front of what came, at the moment of what is served: what it asks
-    /// for is applied, once, or it is a bad line, which changes nothing. `Ok(false)` where no line
-    /// is whole yet. Where memory was refused, the connection has to be closed; the line is left, or
-    /// it was taken and its answer is lost.
-    pub fn answer<S: Alter>(&mut self, served: &mut Served<S>) -> Result<bool, AllocError>
-        ensures taken { result ≡ Ok true
+    /// for is applied, once, or it is a question, or a bad line, which change nothing. A question is
+    /// put off while a round is under way. Where memory was refused, the connection has to be
+    /// closed; the line is left, or it was taken and its answer is lost.
+    pub fn answer<S: Alter>(&mut self, served: &mut Served<S>) -> Result<Front, AllocError>
+        ensures taken { result ≡ Ok Front.Answered
             → AnswersLine S.Store self.old self.new served.old served.new }
-        ensures none { result ≡ Ok false → IsWaiting self.old self.new served.old served.new }
+        ensures none { result ≡ Ok Front.Unended
+            → IsWaiting self.old self.new served.old served.new }
+        ensures put_off { result ≡ Ok Front.PutOff
+            → IsPutOff self.old self.new served.old served.new }
         ensures lost { OnErr result
             (LosesAnswer S.Store self.old self.new served.old served.new) }
         ensures continues { Continues S.Store served.old served.new }
@@ -123,7 +139,7 @@ impl LineConnection {
         ensures side { side_of self.new ≡ side_of self.old }
     {
         let Some(end) = line_end(self.input.as_slice()) else {
-            return Ok(false);
+            return Ok(Front::Unended);
         };
         let grammar = self.side.grammar(served.moment);
         match entry_of(self.alloc, grammar, &self.input.as_slice()[..end])? {
@@ -131,13 +147,42 @@ impl LineConnection {
                 let told = served.apply(entry)?;
                 self.input.advance(end + 1);
                 put_told(self.alloc, &mut self.output, told)?;
+                Ok(Front::Answered)
             }
-            None => {
-                self.input.advance(end + 1);
-                put_bad(&mut self.output)?;
-            }
+            None => self.answer_other(served, end),
         }
-        Ok(true)
+    }
+
+    /// Answers a line, which ends there, that asks for nothing to be applied.
+    fn answer_other<S: Alter>(
+        &mut self,
+        served: &mut Served<S>,
+        end: usize,
+    ) -> Result<Front, AllocError>
+        requires first { line_end (input_of self.old) ≡ Some end }
+        ensures taken { result ≡ Ok Front.Answered
+            → AnswersLine S.Store self.old self.new served.old served.new }
+        ensures whole { result ≢ Ok Front.Unended }
+        ensures put_off { result ≡ Ok Front.PutOff
+            → IsPutOff self.old self.new served.old served.new }
+        ensures lost { OnErr result
+            (LosesAnswer S.Store self.old self.new served.old served.new) }
+        ensures continues { Continues S.Store served.old served.new }
+        ensures quiet { IsQuiet self.old self.new }
+        ensures side { side_of self.new ≡ side_of self.old }
+    {
+        let Some(question) = question_of(self.side, &self.input.as_slice()[..end]) else {
+            self.input.advance(end + 1);
+            put_bad(&mut self.output)?;
+            return Ok(Front::Answered);
+        };
+        if served.is_shared() {
+            return Ok(Front::PutOff);
+        }
+        let told = served.answer_question(question);
+        self.input.advance(end + 1);
+        put_answer(&mut self.output, told)?;
+        Ok(Front::Answered)
     }
 
     /// Whether what came is more than a line may have, and no line yet.
@@ -212,7 +257,7 @@ fn line_end(input: &[u8]) -> Option<usize>
     input.iter().position(|byte| *byte == b'\n')
 }
 
-/// What a line asks for, or `None` where it is a bad one.
+/// What a line asks to be applied, or `None` where it asks for nothing of that kind.
 fn entry_of(alloc: Global, grammar: Grammar, line: &[u8]) -> Result<Option<Entry>, AllocError>
     ensures { IfOk result (λ entry. IfSome entry (IsEntryOf grammar line.now)) }
 {
@@ -223,5 +268,15 @@ fn entry_of(alloc: Global, grammar: Grammar, line: &[u8]) -> Result<Option<Entry
         Ok(line) => Ok(Some(Entry::Line(line))),
         Err(FieldFault::Malformed) => Ok(None),
         Err(FieldFault::Memory) => Err(AllocError),
+    }
+}
+
+/// The question that a line asks. Operators alone ask any.
+fn question_of(side: Side, line: &[u8]) -> Option<Question>
+    ensures { IfSome result (λ question. (side ≡ Side.Operator) × IsQuestionOf line.now question) }
+{
+    match side {
+        Side::Station => None,
+        Side::Operator => read_question(line).ok(),
     }
 }

@@ -1,9 +1,10 @@
 //! A connection of lines: where it stands, and how long it may take.
 
 ghost use Rattle.std.specs.Prelude.{◌≡◌, ◌≢◌, ◌≤◌, ◌+◌, [], length, IsFalse, Some};
-ghost use Rattle.room_served.specs.Journals.{Continues};
+ghost use Rattle.room_served.specs.Turns.{Continues};
 ghost use Rattle.room_served.specs.Lines.{input_of, output_of, received_of, sent_of, side_of};
 
+use crate::line_connection::Front;
 use crate::patience::Patience;
 use crate::progress::Progress;
 use crate::step::{Next, STEPS, Turn, after, drain};
@@ -41,8 +42,8 @@ impl LinePeer {
     }
 
     /// Reads, answers and writes as far as it goes now, but a few steps at most: what came is taken
-    /// line by line, each is applied, once, or is a bad one, and what is told goes in order. Only
-    /// what waits to go may be lost with a connection that is over.
+    /// line by line, each is applied, once, or is a question or a bad one, and what is told goes in
+    /// order. Only what waits to go may be lost with a connection that is over.
     pub fn drive<S: Alter, R: Read, W: Write>(
         &mut self,
         reader: &mut R,
@@ -93,11 +94,14 @@ impl LinePeer {
         }
         self.progress.patience.let_on(turn.ticks);
         match self.connection.answer(served) {
-            Ok(true) => None,
-            Ok(false) if self.has_ended || self.connection.is_too_long() => self.end(turn.ticks),
-            Ok(false) if self.progress.has_all => Some(Next::Wait),
-            Ok(false) if !turn.reads => Some(Next::Again),
-            Ok(false) => self.receive(reader, turn),
+            Ok(Front::Answered) => None,
+            Ok(Front::PutOff) => Some(Next::Again),
+            Ok(Front::Unended) if self.has_ended || self.connection.is_too_long() => {
+                self.end(turn.ticks)
+            }
+            Ok(Front::Unended) if self.progress.has_all => Some(Next::Wait),
+            Ok(Front::Unended) if !turn.reads => Some(Next::Again),
+            Ok(Front::Unended) => self.receive(reader, turn),
             Err(_) => Some(Next::Close),
         }
     }

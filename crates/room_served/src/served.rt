@@ -1,10 +1,15 @@
 //! The rooms as one process serves them to everybody.
 ghost use Rattle.std.specs.Prelude.{◌≡◌, ◌≢◌, ◌⊎◌, [], true, false, IsTrue, None, IfOk, OnErr};
-ghost use Rattle.room_served.specs.Journals.{AppliesEntry, AppliesNext, IsBegun, IsNotBegun, IsSettled, asked_of, is_full_of, is_lost_of, moment_of, open_of, rounds_of, shares_of, store_of};
+ghost use Rattle.room_served.specs.Journals.{asked_of, is_full_of, is_lost_of, moment_of, open_of, rounds_of, shares_of, store_of};
+ghost use Rattle.room_served.specs.Applying.{AppliesEntry};
+ghost use Rattle.room_served.specs.Turns.{AnswersNext, AppliesNext};
+ghost use Rattle.room_served.specs.Rounds.{IsBegun, IsNotBegun, IsSettled};
 
 use crate::entry::Entry;
 use http_server::Log;
+use ipp_coding::List;
 use room_events::{Part, Reply};
+use room_questions::Question;
 use room_store::{Rounds, Store, StoreFault};
 use sqlite::{Alter, Connection};
 use std::alloc::{AllocError, Global};
@@ -20,7 +25,8 @@ pub struct Served<S: Alter> {
     pub(crate) rounds: Rounds<S>,
     pub(crate) moment: u64,
     /// The rounds that are over, each with whether it was kept. What is applied by itself is a round
-    /// of one that was kept, and a round that could not begin is an empty one that was not.
+    /// of one that was kept. A question, and a round that could not begin, is an empty one that was
+    /// not.
     pub(crate) over: Log<Log<Entry, Result<Reply, StoreFault>>, bool>,
     /// The round that is under way.
     pub(crate) under_way: Log<Entry, Result<Reply, StoreFault>>,
@@ -188,6 +194,17 @@ impl<S: Alter> Served<S> {
         }
         self.rounds
             .apply(self.alloc, entry.moment(), &entry.event())
+    }
+
+    /// Answers a question by the tables as they are. No round is under way: what one has changed may
+    /// still be lost.
+    pub(crate) fn answer_question(&mut self, question: Question) -> Result<List<u8>, StoreFault>
+        requires { shares_of self.old ≡ false }
+        ensures { AnswersNext S.Store question result self.old self.new }
+    {
+        let told = self.rounds.answer(self.alloc, question);
+        self.over = self.over.and(&Log::new(), &false);
+        told
     }
 
     /// The connection to the tables as they are. What a round that is under way has changed is on the

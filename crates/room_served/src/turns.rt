@@ -4,7 +4,7 @@ ghost use Rattle.http_server.specs.Connection.{config_of, history};
 ghost use Rattle.http_server.specs.Exchange.{Calls};
 ghost use Rattle.http_server.specs.History.{IsQuiet, IsServed, Rests};
 ghost use Rattle.room_served.specs.Answers.{Answers};
-ghost use Rattle.room_served.specs.Journals.{Continues};
+ghost use Rattle.room_served.specs.Turns.{Continues};
 
 use crate::served::Served;
 use http_server::Connection;

@@ -1,25 +1,28 @@
 -- What is told in a peer's turn stands in the journal.
-use Rattle.std.proofs.Common.{◌≡◌, ◌≢◌, ◌≤◌, ◌<◌, ◌⊎◌, ℕ, suc, length, slice_get, Some, arith, length-append, List, [], ◌∷◌, ◌++◌, Result, Ok, Err, refl, sym, ap, subst, ◌∙◌, append_assoc, append-nil, inl, inr}
+use Rattle.std.proofs.Common.{◌≡◌, ◌≢◌, ◌≤◌, ◌<◌, ◌⊎◌, ℕ, suc, false, length, slice_get, take, Option, Some, arith, length-append, List, [], ◌∷◌, ◌++◌, Result, Ok, Err, refl, sym, ap, subst, ◌∙◌, append_assoc, append-nil, inl, inr}
 use Rattle.std.specs.List.{Contains}
+use Rattle.std.proofs.Math.Seq.{get_or-append_seam, take-length}
 use Rattle.std.proofs.lemmas.Grind.{flat_map-append}
-use Rattle.std.proofs.Math.Seq.{get_or-append_seam}
-use Rattle.std.proofs.lemmas.List.{get_or_append_left}
+use Rattle.std.proofs.lemmas.List.{get_or_append_left, take-append-le}
 use Rattle.std.proofs.lemmas.Option.{get_or_from_slice_get, slice_get-get_or, slice_get_within}
 use Rattle.slab.proofs.SlabLemmas.{Contains-cons_cases}
+use Rattle.sqlite.specs.Held.{Held, state}
+use Rattle.sqlite.specs.State.{HasCleanDisk}
 use Rattle.http_server.proofs.Theorems.{always_served}
 use Rattle.http_server.specs.Exchange.{Call, Chain}
 use Rattle.sqlite_trees.specs.declared.store.Store.{Ghosts}
 use Rattle.http.specs.Request.{body_of}
 use Rattle.room_http.specs.declared.refusal.Refusal.{Refusal}
-use Rattle.room_served.proofs.Journaling.{one_more, stays, then}
+use Rattle.room_served.proofs.Journaling.{applied_then, line_chain, looked, one_more, stays, then}
 use Rattle.room_served.specs.Answers.{Answers, Gives}
 use Rattle.room_served.specs.HttpPeers as http
 use Rattle.room_served.specs.HttpPeers.{calls_of, connection_of}
-use Rattle.room_served.specs.Journals.{Continues, Told, moment_of}
+use Rattle.room_served.specs.Journals.{Notes, Told, applied, journal_of, moment_of, shares_of, store_of}
+use Rattle.room_served.specs.Turns.{Continues}
 use Rattle.room_served.specs.LastPeers.{SaysLast, left_of}
 use Rattle.room_served.specs.LinePeers as lines
 use Rattle.room_served.specs.LinePeers.{LineCall, TakesLines, bytes_told, lines_of, taken}
-use Rattle.room_served.specs.Lines.{Asks, IsBad, input_of, output_of, sent_of, side_of}
+use Rattle.room_served.specs.Lines.{Asks, Inquires, IsBad, IsTold, input_of, output_of, sent_of, side_of}
 use Rattle.room_served.specs.Requests.{asked}
 use Rattle.room_served.specs.Streams.{Ends}
 use Rattle.room_served.specs.declared.entry.Entry.TheVariants as entry
@@ -31,7 +34,9 @@ use Rattle.room_served.specs.declared.line_peer.LinePeer.{LinePeer}
 use Rattle.room_served.specs.declared.served.Served.{Served}
 use Rattle.room_served.specs.declared.step.Next.{Next}
 use Rattle.room_served.specs.declared.step.Next.TheVariants.{Close}
-use Rattle.room_sockets.specs.EndToEnd.{AnswersCall, AnswersCalls, AnswersLineCall, AnswersLineCalls, HasAnsweredLines, IsAnswered, StandAt}
+use Rattle.room_sockets.proofs.Drives.{IsClean, IsServed, continues_clean, served_continues}
+use Rattle.room_sockets.proofs.Inquiring.{answered_so, grown_alone}
+use Rattle.room_sockets.specs.EndToEnd.{AnswersBy, AnswersCall, AnswersCalls, AnswersLineCalls, HasAnsweredLines, IsAnswered, IsFresh, StandAt, TellsAnswer}
 use Rattle.room_sockets.specs.Guests.{TakesTurn}
 use Rattle.room_sockets.specs.declared.guest.Peer.{Peer}
 use Rattle.room_sockets.specs.declared.guest.Peer.TheVariants.{Http, Last, Lines}
@@ -57,6 +62,17 @@ stand_longer least [] [] all more is = tt
 stand_longer least (place ∷ places) (told ∷ some) all more is = (is.0, at_longer all more place told is.1, stand_longer (suc place) places some all more is.2)
 stand_longer least [] (told ∷ some) all more is = absurd is
 stand_longer least (place ∷ places) [] all more is = absurd is
+
+-- what was before an end stays there
+take_within : (all more : List Told) (n : ℕ) → n ≤ length all → take n (all ++ more) ≡ take n all
+take_within all more n within = take-append-le n all more within
+
+places_then : (journal first more : List Told) → places_from (length journal) first ++ places_from (length (journal ++ first)) more ≡ places_from (length journal) (first ++ more)
+places_then journal [] more = ap (λ (log : List Told). places_from (length log) more) (append-nil journal)
+places_then journal (told ∷ first) more =
+    let long : length (journal ++ told ∷ []) ≡ suc (length journal) = omega (arith, length-append journal (told ∷ [])) in
+    let on : places_from (suc (length journal)) first ++ places_from (length ((journal ++ told ∷ []) ++ first)) more ≡ places_from (suc (length journal)) (first ++ more) = subst (λ (n : ℕ). places_from n first ++ places_from (length ((journal ++ told ∷ []) ++ first)) more ≡ places_from n (first ++ more)) long (places_then (journal ++ told ∷ []) first more) in
+    ap (λ (l : List ℕ). length journal ∷ l) (subst (λ (log : List Told). places_from (suc (length journal)) first ++ places_from (length log) more ≡ places_from (suc (length journal)) (first ++ more)) (append_assoc journal (told ∷ []) first) on)
 
 pub stand_behind : (least : ℕ) (front more : List Told) → least ≤ length front → StandAt least (places_from (length front) more) more (front ++ more)
 stand_behind least front [] low = tt
@@ -105,127 +121,225 @@ calls_then : (first more : List Call) (mine its : List Told) → AnswersCalls fi
 calls_then [] more mine its none is = subst (λ (l : List Told). AnswersCalls more (l ++ its)) (sym none) is
 calls_then (call ∷ first) more mine its answers is = (answers.0 ++ its, call_then (asked call.0) call mine answers.0 its answers.1, calls_then first more answers.0 its answers.2 is)
 
-line_then : (side : Side) (call : LineCall) (mine rest its : List Told) → AnswersLineCall side call mine rest → AnswersLineCall side call (mine ++ its) (rest ++ its)
-line_then side call mine rest its (inl bad) = inl (bad.0, ap (λ (l : List Told). l ++ its) bad.1)
-line_then side call mine rest its (inr is) = inr (is.0, is.1, ap (λ (l : List Told). l ++ its) is.2)
+module _ {S : Type 0} (store : Ghosts S) (first last : Held S) where
+  lines_longer : (side : Side) (calls : List LineCall) (least : ℕ) (places : List ℕ) (journal more : List Told) → AnswersLineCalls store first last side calls least places journal → AnswersLineCalls store first last side calls least places (journal ++ more)
+  lines_longer side [] least places journal more is = is
+  lines_longer side (call ∷ calls) least places journal more (inl (told, tells, place, rest, are, low, stands, later)) = inl (told, tells, place, rest, are, low, at_longer journal more place told stands, lines_longer side calls (suc place) rest journal more later)
+  lines_longer side (call ∷ calls) least places journal more (inr (inl (n, low, within, tells, later))) = inr (inl (n, low, (omega (arith, within, length-append journal more)), subst (λ (so_far : List Told). TellsAnswer store first last side call so_far) (sym (take_within journal more n within)) tells, lines_longer side calls n places journal more later))
+  lines_longer side (call ∷ calls) least places journal more (inr (inr (bad, later))) = inr (inr (bad, lines_longer side calls least places journal more later))
 
-lines_then : (side : Side) (first more : List LineCall) (mine its : List Told) → AnswersLineCalls side first mine → AnswersLineCalls side more its → AnswersLineCalls side (first ++ more) (mine ++ its)
-lines_then side [] more mine its none is = subst (λ (l : List Told). AnswersLineCalls side more (l ++ its)) (sym none) is
-lines_then side (call ∷ first) more mine its answers is = (answers.0 ++ its, line_then side call mine answers.0 its answers.1, lines_then side first more answers.0 its answers.2 is)
+  lines_lower : (side : Side) (calls : List LineCall) (least lower : ℕ) (places : List ℕ) (journal : List Told) → lower ≤ least → AnswersLineCalls store first last side calls least places journal → AnswersLineCalls store first last side calls lower places journal
+  lines_lower side [] least lower places journal low is = is
+  lines_lower side (call ∷ calls) least lower places journal low (inl (told, tells, place, rest, are, high, stands, later)) = inl (told, tells, place, rest, are, omega (arith, low, high), stands, later)
+  lines_lower side (call ∷ calls) least lower places journal low (inr (inl (n, high, within, tells, later))) = inr (inl (n, omega (arith, low, high), within, tells, later))
+  lines_lower side (call ∷ calls) least lower places journal low (inr (inr (bad, later))) = inr (inr (bad, lines_lower side calls least lower places journal low later))
 
--- ---- what was told stays told
+  lines_then : (side : Side) (these more : List LineCall) (least : ℕ) (places its : List ℕ) (journal told : List Told) → least ≤ length journal → AnswersLineCalls store first last side these least places journal → AnswersLineCalls store first last side more (length journal) its (journal ++ told)
+      → AnswersLineCalls store first last side (these ++ more) least (places ++ its) (journal ++ told)
+  lines_then side [] more least places its journal told low none is = subst (λ (at : List ℕ). AnswersLineCalls store first last side more least (at ++ its) (journal ++ told)) (sym none) (lines_lower side more (length journal) least its (journal ++ told) low is)
+  lines_then side (call ∷ these) more least places its journal told low (inl (one, tells, place, rest, are, high, stands, later)) is =
+      let within = slice_get_within journal place one stands in
+      inl (one, tells, place, rest ++ its, ap (λ (at : List ℕ). at ++ its) are, high, at_longer journal told place one stands, lines_then side these more (suc place) rest its journal told (omega (arith, within)) later is)
+  lines_then side (call ∷ these) more least places its journal told low (inr (inl (n, high, within, tells, later))) is =
+      inr (inl (n, high, (omega (arith, within, length-append journal told)), subst (λ (so_far : List Told). TellsAnswer store first last side call so_far) (sym (take_within journal told n within)) tells, lines_then side these more n places its journal told within later is))
+  lines_then side (call ∷ these) more least places its journal told low (inr (inr (bad, later))) is = inr (inr (bad, lines_then side these more least places its journal told low later is))
 
-pub answered_longer : (peer : Peer) (places : List ℕ) (journal more : List Told) → IsAnswered peer places journal → IsAnswered peer places (journal ++ more)
-answered_longer (Http peer) places journal more is = record { served = is.served; mine = is.mine; answered = is.answered; stand = stand_longer 0 places is.mine journal more is.stand }
-answered_longer (Lines peer) places journal more is = record { calls = is.calls; came = is.came; goes = is.goes; mine = is.mine; answered = is.answered; stand = stand_longer 0 places is.mine journal more is.stand }
-answered_longer (Last peer) places journal more is = record { told = is.told; stands = stand_longer 0 places (is.told ∷ []) journal more is.stands; went = is.went; text = is.text }
+  lines_within : (side : Side) (calls : List LineCall) (least : ℕ) (places : List ℕ) (journal : List Told) → AnswersLineCalls store first last side calls least places journal → (place : ℕ) → Contains places place → place < length journal
+  lines_within side [] least places journal none place there = absurd (none_there place (subst (λ (at : List ℕ). Contains at place) none there))
+  lines_within side (call ∷ calls) least places journal (inl (told, tells, at, rest, are, low, stands, later)) place there =
+      elim (Contains-cons_cases at place rest (subst (λ (all : List ℕ). Contains all place) are there)) [
+        | inl same ↦ subst (λ (n : ℕ). n < length journal) same (slice_get_within journal at told stands)
+        | inr behind ↦ lines_within side calls (suc at) rest journal later place behind
+      ]
+  lines_within side (call ∷ calls) least places journal (inr (inl (n, low, within, tells, later))) place there = lines_within side calls n places journal later place there
+  lines_within side (call ∷ calls) least places journal (inr (inr (bad, later))) place there = lines_within side calls least places journal later place there
 
-pub answered_within : (peer : Peer) (places : List ℕ) (journal : List Told) → IsAnswered peer places journal → (place : ℕ) → Contains places place → place < length journal
-answered_within (Http peer) places journal is = stand_within 0 places is.mine journal is.stand
-answered_within (Lines peer) places journal is = stand_within 0 places is.mine journal is.stand
-answered_within (Last peer) places journal is = stand_within 0 places (is.told ∷ []) journal is.stands
+  -- ---- what was told stays told
 
-module _ {S : Type 0} (store : Ghosts S) where
+  pub answered_longer : (peer : Peer) (places : List ℕ) (journal more : List Told) → IsAnswered store first last peer places journal → IsAnswered store first last peer places (journal ++ more)
+  answered_longer (Http peer) places journal more is = record { served = is.served; mine = is.mine; answered = is.answered; stand = stand_longer 0 places is.mine journal more is.stand }
+  answered_longer (Lines peer) places journal more is = record { calls = is.calls; came = is.came; goes = is.goes; answered = lines_longer (side_of (lines_of peer)) is.calls 0 places journal more is.answered }
+  answered_longer (Last peer) places journal more is = record { told = is.told; stands = stand_longer 0 places (is.told ∷ []) journal more is.stands; went = is.went; text = is.text }
+
+  pub answered_within : (peer : Peer) (places : List ℕ) (journal : List Told) → IsAnswered store first last peer places journal → (place : ℕ) → Contains places place → place < length journal
+  answered_within (Http peer) places journal is = stand_within 0 places is.mine journal is.stand
+  answered_within (Lines peer) places journal is = lines_within (side_of (lines_of peer)) is.calls 0 places journal is.answered
+  answered_within (Last peer) places journal is = stand_within 0 places (is.told ∷ []) journal is.stands
+
+module _ {S : Type 0} (store : Ghosts S) (before : Served S) (fresh : IsFresh before) (last : Held S) where
   -- ---- what a turn applies, and what is told of it
 
-  gives_told : (wants : Result (List ℕ) Refusal) (call : Call) (old new : Served S) → Gives store wants old call.0 call.1 new → (c : Continues store old new) × ((rest : List Told) → AnswersCall wants call (c.more ++ rest) rest)
+  gives_told : (wants : Result (List ℕ) Refusal) (call : Call) (old new : Served S) → Gives store wants old call.0 call.1 new → (c : Continues store old new) × ((rest : List Told) → AnswersCall wants call (applied c.more ++ rest) rest)
   unfolding one_more stays
   gives_told (Ok account) call old new is = (one_more store (entry.Message (moment_of old) account (body_of call.0)) is.told old new is.next, λ rest. ((entry.Message (moment_of old) account (body_of call.0), is.told), record { moment = moment_of old; asked = refl; tells = is.tells }, refl))
-  gives_told (Err why) call old new is = subst (λ (served : Served S). (c : Continues store old served) × ((rest : List Told) → AnswersCall (Err why) call (c.more ++ rest) rest)) (sym is.1) (stays store old, λ rest. (is.0, refl))
+  gives_told (Err why) call old new is = subst (λ (served : Served S). (c : Continues store old served) × ((rest : List Told) → AnswersCall (Err why) call (applied c.more ++ rest) rest)) (sym is.1) (stays store old, λ rest. (is.0, refl))
 
-  pub calls_told : (calls : List Call) (old new : Served S) → Chain (Answers store) old calls new → (c : Continues store old new) × AnswersCalls calls c.more
+  pub calls_told : (calls : List Call) (old new : Served S) → Chain (Answers store) old calls new → (c : Continues store old new) × AnswersCalls calls (applied c.more)
   unfolding stays then
-  calls_told [] old new is = subst (λ (served : Served S). (c : Continues store old served) × AnswersCalls [] c.more) (sym is) (stays store old, refl)
+  calls_told [] old new is = subst (λ (served : Served S). (c : Continues store old served) × AnswersCalls [] (applied c.more)) (sym is) (stays store old, refl)
   calls_told (call ∷ calls) old new is =
       let first = gives_told (asked call.0) call old is.0 is.1 in
       let rest = calls_told calls is.0 new is.2 in
-      (then store old is.0 new first.0 rest.0, (rest.0.more, first.1 rest.0.more, rest.1))
+      (then store old is.0 new first.0 rest.0, (applied rest.0.more, subst (λ (mine : List Told). AnswersCall (asked call.0) call mine (applied rest.0.more)) (sym (applied_then first.0.more rest.0.more)) (first.1 (applied rest.0.more)), rest.1))
 
-  line_told : (side : Side) (call : LineCall) (old new : Served S) → Asks store side call.0 old call.1 new ⊎ IsBad store old call.1 new → (c : Continues store old new) × ((rest : List Told) → AnswersLineCall side call (c.more ++ rest) rest)
-  unfolding one_more stays
-  line_told side call old new (inl is) = (one_more store is.entry is.told old new is.next, λ rest. inr ((is.entry, is.told), record { line = is.line; ended = is.ended; moment = moment_of old; said = is.said; says = is.says }, refl))
-  line_told side call old new (inr bad) = subst (λ (served : Served S). (c : Continues store old served) × ((rest : List Told) → AnswersLineCall side call (c.more ++ rest) rest)) (sym bad.1) (stays store old, λ rest. inl (bad.0, refl))
+  -- the journal, where nothing is shared
+  abbrev IsJournal : (journal : List Told) → Served S → Type 0
+  IsJournal journal served = shares_of served ≡ false → journal ≡ journal_of served
 
-  pub lines_told : (side : Side) (calls : List LineCall) (old new : Served S) → lines.Chain store side old calls new → (c : Continues store old new) × AnswersLineCalls side calls c.more
+  pub journal_then : (journal : List Told) (old new : Served S) (c : Continues store old new) → IsJournal journal old → IsJournal (journal ++ applied c.more) new
+  journal_then journal old new c is alone =
+      let was : shares_of old ≡ false = sym c.shares ∙ alone in
+      ap (λ (told : List Told). told ++ applied c.more) (is was) ∙ sym (grown_alone c.more old new (subst (λ b. Notes b c.more old new) was c.notes).0)
+
+  -- one line is told, at the end of the journal
+  abbrev LineTold : (side : Side) (call : LineCall) (old new : Served S) → Type 0
+  LineTold side call old new = (c : Continues store old new)
+      × ((journal : List Told) → IsJournal journal old → (calls : List LineCall) (its : List ℕ) (told : List Told) → AnswersLineCalls store (store_of before) last side calls (length (journal ++ applied c.more)) its ((journal ++ applied c.more) ++ told)
+      → AnswersLineCalls store (store_of before) last side (call ∷ calls) (length journal) (places_from (length journal) (applied c.more) ++ its) ((journal ++ applied c.more) ++ told))
+
+  asks_told : (side : Side) (call : LineCall) (old new : Served S) → Asks store side call.0 old call.1 new → LineTold side call old new
+  unfolding one_more
+  asks_told side call old new is = (
+    one_more store is.entry is.told old new is.next,
+    λ journal is_journal calls its told later.
+        let one : Told = (is.entry, is.told) in
+        let long : length (journal ++ one ∷ []) ≡ suc (length journal) = omega (arith, length-append journal (one ∷ [])) in
+        let stands : slice_get ((journal ++ one ∷ []) ++ told) (length journal) ≡ Some one = at_longer (journal ++ one ∷ []) told (length journal) one (at_seam journal [] one) in
+        inl (one, record { line = is.line; ended = is.ended; moment = moment_of old; said = is.said; says = is.says }, length journal, its, refl, omega arith, stands, subst (λ (n : ℕ). AnswersLineCalls store (store_of before) last side calls n its ((journal ++ one ∷ []) ++ told)) long later),
+  )
+
+  -- nothing was applied: the rest stands where it did
+  none_told : (side : Side) (calls : List LineCall) (journal told : List Told) (its : List ℕ) → AnswersLineCalls store (store_of before) last side calls (length (journal ++ [])) its ((journal ++ []) ++ told) → AnswersLineCalls store (store_of before) last side calls (length journal) its ((journal ++ []) ++ told)
+  none_told side calls journal told its later = subst (λ (n : ℕ). AnswersLineCalls store (store_of before) last side calls n its ((journal ++ []) ++ told)) (ap length (append-nil journal)) later
+
+  inquires_told : (side : Side) (call : LineCall) (old new : Served S) → IsServed store before old → (HasCleanDisk (state store last) → IsClean store new) → Inquires store side call.0 old call.1 new → LineTold side call old new
+  unfolding looked
+  inquires_told side call old new served clean is = (
+    looked store is.question is.told old new is.next,
+    λ journal is_journal calls its told later.
+        let so_far : take (length journal) ((journal ++ []) ++ told) ≡ journal_of old = take_within (journal ++ []) told (length journal) (omega (arith, ap length (append-nil journal))) ∙ ap (λ x. take (length journal) x) (append-nil journal) ∙ take-length journal ∙ is_journal is.next.alone in
+        inr (inl (
+          length journal,
+          omega arith,
+          omega (arith, length-append (journal ++ []) told, ap length (append-nil journal)),
+          record {
+            line = is.line;
+            ended = is.ended;
+            operators = is.operators;
+            question = is.question;
+            said = is.said;
+            told = is.told;
+            says = is.says;
+            answers = subst (λ (log : List Told). AnswersBy store (store_of before) last log is.question is.told) (sym so_far) (answered_so store before fresh last is.question is.told old new served clean is.next);
+          },
+          none_told side calls journal told its later,
+        )),
+  )
+
+  bad_told : (side : Side) (call : LineCall) (old new : Served S) → IsBad store old call.1 new → LineTold side call old new
+  unfolding stays
+  bad_told side call old new bad = subst (λ (served : Served S). LineTold side call old served) (sym bad.1) (stays store old, λ journal is_journal calls its told later. inr (inr (bad.0, none_told side calls journal told its later)))
+
+  line_told : (side : Side) (call : LineCall) (old new : Served S) → IsServed store before old → (HasCleanDisk (state store last) → IsClean store new) → IsTold store side call.0 old call.1 new → LineTold side call old new
+  line_told side call old new served clean (inl asks) = asks_told side call old new asks
+  line_told side call old new served clean (inr (inl inquires)) = inquires_told side call old new served clean inquires
+  line_told side call old new served clean (inr (inr bad)) = bad_told side call old new bad
+
+  abbrev LinesTold : (side : Side) (calls : List LineCall) (old new : Served S) → Type 0
+  LinesTold side calls old new = (c : Continues store old new)
+      × ((journal : List Told) → IsJournal journal old → AnswersLineCalls store (store_of before) last side calls (length journal) (places_from (length journal) (applied c.more)) (journal ++ applied c.more))
+
+  pub lines_told : (side : Side) (calls : List LineCall) (old new : Served S) → IsServed store before old → (HasCleanDisk (state store last) → IsClean store new) → lines.Chain store side old calls new → LinesTold side calls old new
   unfolding stays then
-  lines_told side [] old new is = subst (λ (served : Served S). (c : Continues store old served) × AnswersLineCalls side [] c.more) (sym is) (stays store old, refl)
-  lines_told side (call ∷ calls) old new is =
-      let first = line_told side call old is.0 is.1 in
-      let rest = lines_told side calls is.0 new is.2 in
-      (then store old is.0 new first.0 rest.0, (rest.0.more, first.1 rest.0.more, rest.1))
+  lines_told side [] old new served clean is = subst (λ (it : Served S). LinesTold side [] old it) (sym is) (stays store old, λ journal is_journal. refl)
+  lines_told side (call ∷ calls) old new served clean is =
+      let rest_on : Continues store is.0 new = line_chain store side calls is.0 new is.2 in
+      let first = line_told side call old is.0 served (λ honest. continues_clean store is.0 new rest_on (clean honest)) is.1 in
+      let rest = lines_told side calls is.0 new (served_continues store before old is.0 served first.0) clean is.2 in (
+        then store old is.0 new first.0 rest.0,
+        λ journal is_journal.
+            let mid : List Told = journal ++ applied first.0.more in
+            let later = rest.1 mid (journal_then journal old is.0 first.0 is_journal) in
+            let all = first.1 journal is_journal calls (places_from (length mid) (applied rest.0.more)) (applied rest.0.more) later in
+            let log : mid ++ applied rest.0.more ≡ journal ++ applied (first.0.more ++ rest.0.more) = append_assoc journal (applied first.0.more) (applied rest.0.more) ∙ ap (λ x. journal ++ x) (sym (applied_then first.0.more rest.0.more)) in
+            let at : places_from (length journal) (applied first.0.more) ++ places_from (length mid) (applied rest.0.more) ≡ places_from (length journal) (applied (first.0.more ++ rest.0.more)) =
+            places_then journal (applied first.0.more) (applied rest.0.more) ∙ ap (λ (told : List Told). places_from (length journal) told) (sym (applied_then first.0.more rest.0.more)) in
+            subst (λ (at : List ℕ). AnswersLineCalls store (store_of before) last side (call ∷ calls) (length journal) at (journal ++ applied (first.0.more ++ rest.0.more))) at (subst (λ (told : List Told). AnswersLineCalls store (store_of before) last side (call ∷ calls) (length journal) (places_from (length journal) (applied first.0.more) ++ places_from (length mid) (applied rest.0.more)) told) log all),
+      )
 
   -- ---- a turn
 
   -- who was answered is, with what this turn applies
-  abbrev pub Answered : (before after : Peer) (old new : Served S) → Type 0
-  Answered before after old new = (c : Continues store old new)
-      × ((places : List ℕ) (journal : List Told) → IsAnswered before places journal → IsAnswered after (places ++ places_from (length journal) c.more) (journal ++ c.more))
+  abbrev pub Answered : (was now : Peer) (old new : Served S) → Type 0
+  Answered was now old new = (c : Continues store old new)
+      × ((places : List ℕ) (journal : List Told) → IsJournal journal old → IsAnswered store (store_of before) last was places journal → IsAnswered store (store_of before) last now (places ++ places_from (length journal) (applied c.more)) (journal ++ applied c.more))
 
-  http_answered : (before after : HttpPeer) (old new : Served S) → http.MakesCalls store before after old new → Answered (Http before) (Http after) old new
-  http_answered before after old new is =
-      let told = calls_told is.0 old new is.2 in (
+  http_answered : (was now : HttpPeer) (old new : Served S) → http.MakesCalls store was now old new → Answered (Http was) (Http now) old new
+  http_answered was now old new is =
+      let told = calls_told is.0 old new is.2 in
+      let more : List Told = applied told.0.more in (
         told.0,
-        λ places journal was. record {
-          served = always_served (connection_of after);
-          mine = was.mine ++ told.0.more;
-          answered = subst (λ (calls : List Call). AnswersCalls calls (was.mine ++ told.0.more)) (sym is.1) (calls_then (calls_of before) is.0 was.mine told.0.more was.answered told.1);
-          stand = stand_then 0 places was.mine journal told.0.more (omega arith) was.stand;
+        λ places journal is_journal had. record {
+          served = always_served (connection_of now);
+          mine = had.mine ++ more;
+          answered = subst (λ (calls : List Call). AnswersCalls calls (had.mine ++ more)) (sym is.1) (calls_then (calls_of was) is.0 had.mine more had.answered told.1);
+          stand = stand_then 0 places had.mine journal more (omega arith) had.stand;
         },
       )
 
-  lines_answered : (ends ends2 : Ends) (before after : LineConnection) (old new : Served S) → TakesLines store ends ends2 before after (output_of after) old new
-      → (c : Continues store old new) × ((places : List ℕ) (journal : List Told) → HasAnsweredLines before places journal → HasAnsweredLines after (places ++ places_from (length journal) c.more) (journal ++ c.more))
-  lines_answered ends ends2 before after old new is =
-      let told = lines_told (side_of before) is.calls old new is.chain in (
+  lines_answered : (ends ends2 : Ends) (was now : LineConnection) (old new : Served S) → IsServed store before old → (HasCleanDisk (state store last) → IsClean store new) → TakesLines store ends ends2 was now (output_of now) old new
+      → (c : Continues store old new) × ((places : List ℕ) (journal : List Told) → IsJournal journal old → HasAnsweredLines store (store_of before) last was places journal → HasAnsweredLines store (store_of before) last now (places ++ places_from (length journal) (applied c.more)) (journal ++ applied c.more))
+  lines_answered ends ends2 was now old new served clean is =
+      let told = lines_told (side_of was) is.calls old new served clean is.chain in
+      let more : List Told = applied told.0.more in (
         told.0,
-        λ places journal was. record {
-          calls = was.calls ++ is.calls;
+        λ places journal is_journal had. record {
+          calls = had.calls ++ is.calls;
           came =
-              is.received ∙ ap (λ x. x ++ is.came) was.came ∙ append_assoc (taken was.calls) (input_of before) is.came ∙ ap (λ x. taken was.calls ++ x) is.input
-              ∙ sym (append_assoc (taken was.calls) (taken is.calls) (input_of after)) ∙ ap (λ x. x ++ input_of after) (sym (flat_map-append (λ (call : LineCall). call.0) was.calls is.calls));
+              is.received ∙ ap (λ x. x ++ is.came) had.came ∙ append_assoc (taken had.calls) (input_of was) is.came ∙ ap (λ x. taken had.calls ++ x) is.input
+              ∙ sym (append_assoc (taken had.calls) (taken is.calls) (input_of now)) ∙ ap (λ x. x ++ input_of now) (sym (flat_map-append (λ (call : LineCall). call.0) had.calls is.calls));
           goes =
-              flat_map-append (λ (call : LineCall). call.1) was.calls is.calls ∙ ap (λ x. x ++ bytes_told is.calls) was.goes ∙ append_assoc (sent_of before) (output_of before) (bytes_told is.calls)
-              ∙ ap (λ x. sent_of before ++ x) is.output ∙ sym (append_assoc (sent_of before) is.went (output_of after)) ∙ ap (λ x. x ++ output_of after) (sym is.sent);
-          mine = was.mine ++ told.0.more;
-          answered = subst (λ (side : Side). AnswersLineCalls side (was.calls ++ is.calls) (was.mine ++ told.0.more)) (sym is.side) (lines_then (side_of before) was.calls is.calls was.mine told.0.more was.answered told.1);
-          stand = stand_then 0 places was.mine journal told.0.more (omega arith) was.stand;
+              flat_map-append (λ (call : LineCall). call.1) had.calls is.calls ∙ ap (λ x. x ++ bytes_told is.calls) had.goes ∙ append_assoc (sent_of was) (output_of was) (bytes_told is.calls)
+              ∙ ap (λ x. sent_of was ++ x) is.output ∙ sym (append_assoc (sent_of was) is.went (output_of now)) ∙ ap (λ x. x ++ output_of now) (sym is.sent);
+          answered = subst (λ (side : Side). AnswersLineCalls store (store_of before) last side (had.calls ++ is.calls) 0 (places ++ places_from (length journal) more) (journal ++ more)) (sym is.side)
+              (lines_then store (store_of before) last (side_of was) had.calls is.calls 0 places (places_from (length journal) more) journal more (omega arith) had.answered (told.1 journal is_journal));
         },
       )
 
   -- nothing was applied
-  none_applied : (peer : Peer) (places : List ℕ) (journal : List Told) → IsAnswered peer places journal → IsAnswered peer (places ++ []) (journal ++ [])
-  none_applied peer places journal is = subst (λ (at : List ℕ). IsAnswered peer at (journal ++ [])) (sym (append-nil places)) (subst (λ (told : List Told). IsAnswered peer places told) (sym (append-nil journal)) is)
+  none_applied : (peer : Peer) (places : List ℕ) (journal : List Told) → IsAnswered store (store_of before) last peer places journal → IsAnswered store (store_of before) last peer (places ++ []) (journal ++ [])
+  none_applied peer places journal is = subst (λ (at : List ℕ). IsAnswered store (store_of before) last peer at (journal ++ [])) (sym (append-nil places)) (subst (λ (told : List Told). IsAnswered store (store_of before) last peer places told) (sym (append-nil journal)) is)
 
-  line_peer_answered : (ends ends2 : Ends) (next : Next) (before after : LinePeer) (old new : Served S) → next ≢ Close → lines.TakesTurn store ends ends2 next before after old new → Answered (Lines before) (Lines after) old new
+  line_peer_answered : (ends ends2 : Ends) (next : Next) (was now : LinePeer) (old new : Served S) → IsServed store before old → (HasCleanDisk (state store last) → IsClean store new) → next ≢ Close → lines.TakesTurn store ends ends2 next was now old new → Answered (Lines was) (Lines now) old new
   unfolding stays
-  line_peer_answered ends ends2 next before after old new goes (inl drops) =
-      subst (λ (served : Served S). Answered (Lines before) (Lines after) old served) (sym drops.4) (
+  line_peer_answered ends ends2 next was now old new served clean goes (inl drops) =
+      subst (λ (it : Served S). Answered (Lines was) (Lines now) old it) (sym drops.4) (
         stays store old,
-        λ places journal was. subst (λ (connection : LineConnection). HasAnsweredLines connection (places ++ []) (journal ++ [])) (sym drops.3) (none_applied (Lines before) places journal was),
+        λ places journal is_journal had. subst (λ (connection : LineConnection). HasAnsweredLines store (store_of before) last connection (places ++ []) (journal ++ [])) (sym drops.3) (none_applied (Lines was) places journal had),
       )
-  line_peer_answered ends ends2 next before after old new goes (inr takes) =
-      lines_answered ends ends2 (lines_of before) (lines_of after) old new (subst (λ (waits : List ℕ). TakesLines store ends ends2 (lines_of before) (lines_of after) waits old new) (takes.2 goes) takes.1)
+  line_peer_answered ends ends2 next was now old new served clean goes (inr takes) =
+      lines_answered ends ends2 (lines_of was) (lines_of now) old new served clean (subst (λ (waits : List ℕ). TakesLines store ends ends2 (lines_of was) (lines_of now) waits old new) (takes.2 goes) takes.1)
 
-  last_answered : (ends ends2 : Ends) (before after : LastPeer) (old new : Served S) → SaysLast ends ends2 before after → new ≡ old → Answered (Last before) (Last after) old new
+  last_answered : (ends ends2 : Ends) (was now : LastPeer) (old new : Served S) → SaysLast ends ends2 was now → new ≡ old → Answered (Last was) (Last now) old new
   unfolding stays
-  last_answered ends ends2 before after old new says same =
-      subst (λ (served : Served S). Answered (Last before) (Last after) old served) (sym same) (
+  last_answered ends ends2 was now old new says same =
+      subst (λ (it : Served S). Answered (Last was) (Last now) old it) (sym same) (
         stays store old,
-        λ places journal was. none_applied (Last after) places journal (record {
-          told = was.told;
-          stands = was.stands;
-          went = was.went ++ says.went;
-          text = was.text ∙ ap (λ x. was.went ++ x) says.left ∙ sym (append_assoc was.went says.went (left_of after));
+        λ places journal is_journal had. none_applied (Last now) places journal (record {
+          told = had.told;
+          stands = had.stands;
+          went = had.went ++ says.went;
+          text = had.text ∙ ap (λ x. had.went ++ x) says.left ∙ sym (append_assoc had.went says.went (left_of now));
         }),
       )
 
-  pub turn_answered : (ends ends2 : Ends) (next : Next) (before after : Peer) (old new : Served S) → next ≢ Close → TakesTurn store ends ends2 next before after old new → Answered before after old new
-  turn_answered ends ends2 next (Http before) (Http after) old new goes is = http_answered before after old new is.0
-  turn_answered ends ends2 next (Lines before) (Lines after) old new goes is = line_peer_answered ends ends2 next before after old new goes is
-  turn_answered ends ends2 next (Last before) (Last after) old new goes is = last_answered ends ends2 before after old new is.0 is.1
-  turn_answered ends ends2 next (Http before) (Lines after) old new goes is = absurd is
-  turn_answered ends ends2 next (Http before) (Last after) old new goes is = absurd is
-  turn_answered ends ends2 next (Lines before) (Http after) old new goes is = absurd is
-  turn_answered ends ends2 next (Lines before) (Last after) old new goes is = absurd is
-  turn_answered ends ends2 next (Last before) (Http after) old new goes is = absurd is
-  turn_answered ends ends2 next (Last before) (Lines after) old new goes is = absurd is
+  pub turn_answered : (ends ends2 : Ends) (next : Next) (was now : Peer) (old new : Served S) → IsServed store before old → (HasCleanDisk (state store last) → IsClean store new) → next ≢ Close → TakesTurn store ends ends2 next was now old new → Answered was now old new
+  turn_answered ends ends2 next (Http was) (Http now) old new served clean goes is = http_answered was now old new is.0
+  turn_answered ends ends2 next (Lines was) (Lines now) old new served clean goes is = line_peer_answered ends ends2 next was now old new served clean goes is
+  turn_answered ends ends2 next (Last was) (Last now) old new served clean goes is = last_answered ends ends2 was now old new is.0 is.1
+  turn_answered ends ends2 next (Http was) (Lines now) old new served clean goes is = absurd is
+  turn_answered ends ends2 next (Http was) (Last now) old new served clean goes is = absurd is
+  turn_answered ends ends2 next (Lines was) (Http now) old new served clean goes is = absurd is
+  turn_answered ends ends2 next (Lines was) (Last now) old new served clean goes is = absurd is
+  turn_answered ends ends2 next (Last was) (Http now) old new served clean goes is = absurd is
+  turn_answered ends ends2 next (Last was) (Lines now) old new served clean goes is = absurd is

@@ -1,11 +1,16 @@
 -- What was applied in a hall is rounds, one after another.
-use Rattle.std.proofs.Common.{◌≡◌, ◌⊎◌, Bool, true, false, not, List, [], ◌∷◌, ◌++◌, Option, None, Some, IsTrue, refl, sym, ap, subst, ◌∙◌, append-nil, append_assoc, inl, inr}
+use Rattle.std.proofs.Common.{◌≡◌, ◌⊎◌, Bool, true, false, not, List, [], ◌∷◌, ◌++◌, Option, None, Some, IsTrue, refl, sym, ap, subst, ◌∙◌, append-nil, append_assoc, arith, inl, inr}
 use Rattle.slab.specs.Slab.{Slab}
-use Rattle.sqlite.specs.Held.{Held}
+use Rattle.sqlite.specs.Held.{Held, state}
+use Rattle.sqlite.specs.State.{HasCleanDisk}
 use Rattle.sqlite_trees.specs.declared.store.Store.{Ghosts}
 use Rattle.std.proofs.lemmas.Bool.{true≢false}
-use Rattle.room_served.proofs.Journaling.{chain, leads_then, line_chain, one_more, stays}
-use Rattle.room_served.specs.Journals.{AllSettle, Begins, Continues, Follows, Leads, Notes, Round, Told, by_themselves, open_of, rounds_of, shares_of, store_of}
+use Rattle.room_served.proofs.Journaling.{chain, leads_applied, leads_then, line_chain, one_more, stays}
+use Rattle.room_served.specs.Journals.{Notes, Round, Told, applied, by_themselves, open_of, rounds_of, shares_of, store_of}
+use Rattle.room_served.specs.Applying.{DoesEach, DoesOne, Leads, OnlyLooks}
+use Rattle.room_served.specs.Turns.{Continues}
+use Rattle.room_served.specs.Rounds.{AllSettle, Begins, Follows, IsRefused}
+use Rattle.room_served.proofs.Running.{entry_keeps, was_clean}
 use Rattle.room_served.specs.LinePeers as lines
 use Rattle.room_served.specs.Streams.{Ends}
 use Rattle.room_served.specs.declared.entry.Entry.{Entry}
@@ -59,6 +64,59 @@ module _ {S : Type 0} (store : Ghosts S) where
         | inr gone ↦ ap (λ (served : Served S). shares_of served) gone.1
       ]
 
+  -- ---- the disk was honest before
+
+  one_clean : (shares : Bool) (one : Option Told) (old new : Held S) → DoesOne store shares one old new → HasCleanDisk (state store new) → HasCleanDisk (state store old)
+  one_clean false (Some told) old new applies clean = was_clean store old new applies.connection clean
+  one_clean true (Some told) old new applies clean = was_clean store old new (entry_keeps store told old new applies) clean
+  one_clean false None old new looks clean = was_clean store old new looks.connection clean
+  one_clean true None old new never clean = absurd never
+
+  each_clean : (shares : Bool) (more : List (Option Told)) (old new : Held S) → DoesEach store shares old more new → HasCleanDisk (state store new) → HasCleanDisk (state store old)
+  each_clean shares [] old new is clean = subst (λ (held : Held S). HasCleanDisk (state store held)) is clean
+  each_clean shares (one ∷ more) old new does clean = one_clean shares one old does.0 does.1 (each_clean shares more does.0 new does.2 clean)
+
+  abbrev pub IsClean : Served S → Type 0
+  IsClean served = HasCleanDisk (state store (store_of served))
+
+  pub continues_clean : (old new : Served S) → Continues store old new → IsClean new → IsClean old
+  continues_clean old new on clean = each_clean (shares_of old) on.more (store_of old) (store_of new) on.does clean
+
+  same_clean : (old new : Served S) → store_of new ≡ store_of old → IsClean new → IsClean old
+  same_clean old new same clean = subst (λ (held : Held S). HasCleanDisk (state store held)) same clean
+
+  turn_clean : (shares : Bool) (turn : Turn) (next : Next) (guest left : Guest) (old new : Served S) → Turns store shares turn next guest left old new → IsClean new → IsClean old
+  turn_clean false turn next guest left old new turns clean =
+      continues_clean old turns.mid (again_continues _ _ _ _ old turns.mid turns.again) (continues_clean turns.mid new (turn_continues of_socket of_socket next _ _ turns.mid new turns.takes) clean)
+  turn_clean true turn next guest left old new turns clean =
+      let begun : Served S = record old { asked = guest.asked } in
+      continues_clean begun turns.left (turn_continues in_round in_round next _ _ begun turns.left turns.takes) (same_clean turns.left new (ap (λ (served : Served S). store_of served) turns.same) clean)
+
+  serves_clean : (was now : Option Guest) (old new : Served S) → Serves store was now old new → IsClean new → IsClean old
+  serves_clean None now old new serves clean = same_clean old new (ap (λ (served : Served S). store_of served) serves.1.1) clean
+  serves_clean (Some guest) now old new (inl driven) clean = same_clean old driven.begun (ap (λ (served : Served S). store_of served) driven.moment.1) (turn_clean _ driven.turn driven.next guest driven.left driven.begun new driven.driven clean)
+  serves_clean (Some guest) now old new (inr gone) clean = same_clean old new (ap (λ (served : Served S). store_of served) gone.1) clean
+
+  pub step_clean : (step : Step) (a b : Slab Guest) (old new : Served S) → Does store step a b old new → IsClean new → IsClean old
+  step_clean Begin a b old new does clean = elim does.2 [
+    | inl under_way ↦ same_clean old new (ap (λ (served : Served S). store_of served) under_way.1) clean
+    | inr (inl begun) ↦ let first = begun.begins.survives.clean in omega (arith, first, clean)
+    | inr (inr not_begun) ↦ was_clean store (store_of old) (store_of new) not_begun.refused.connection clean
+  ]
+  step_clean (Ask key) a b old new does clean = serves_clean _ _ old new does.1 clean
+  step_clean Settle a b old new does clean = elim does.1 [
+    | inl none ↦ same_clean old new (ap (λ (served : Served S). store_of served) none.1) clean
+    | inr settled ↦ was_clean store (store_of old) (store_of new) settled.ends.connection clean
+  ]
+  step_clean (Serve key) a b old new does clean = serves_clean _ _ old new does.1 clean
+  step_clean (Drop key) a b old new does clean = same_clean old new (ap (λ (served : Served S). store_of served) does.2) clean
+  step_clean Enter a b old new does clean = same_clean old new (ap (λ (served : Served S). store_of served) does.1) clean
+  step_clean Leave a b old new does clean = same_clean old new (ap (λ (served : Served S). store_of served) does.1) clean
+
+  pub all_clean : (steps : List Step) (a b : Slab Guest) (old new : Served S) → DoesAll store steps a b old new → IsClean new → IsClean old
+  all_clean [] a b old new does clean = same_clean old new (ap (λ (served : Served S). store_of served) does.1) clean
+  all_clean (step ∷ steps) a b old new does clean = step_clean step a does.0 old does.1 does.2 (all_clean steps does.0 b does.1 new does.3 clean)
+
   -- ---- what was served so far, and the round that is under way, if one is
 
   pub record IsAlone (old new : Served S) : Type 0 where
@@ -83,10 +141,11 @@ module _ {S : Type 0} (store : Ghosts S) where
   settle_then [] more old mid new is later = subst (λ (held : Held S). AllSettle store held more new) is later
   settle_then (round ∷ first) more old mid new is later = (is.0, is.1, settle_then first more is.0 mid new is.2 later)
 
-  -- each by itself is a round of one
-  settle_each : (more : List Told) (old new : Held S) → Leads store false old more new → AllSettle store old (by_themselves more) new
+  -- what is done by itself is a round of its own
+  settle_each : (more : List (Option Told)) (old new : Held S) → DoesEach store false old more new → AllSettle store old (by_themselves more) new
   settle_each [] old new is = is
-  settle_each (told ∷ more) old new (next, applies, leads) = (next, inr (inl (refl, (next, applies, refl))), settle_each more next new leads)
+  settle_each (Some told ∷ more) old new (next, applies, does) = (next, inr (inl (refl, (next, applies, refl))), settle_each more next new does)
+  settle_each (None ∷ more) old new (next, looks, does) = (next, inr (inr (refl, looks)), settle_each more next new does)
 
   follow_then : (old mid new : Served S) (more : List Round) → Follows store old mid → rounds_of new ≡ rounds_of mid ++ more → AllSettle store (store_of mid) more (store_of new) → Follows store old new
   follow_then old mid new more first over settles = record {
@@ -96,16 +155,16 @@ module _ {S : Type 0} (store : Ghosts S) where
   }
 
   -- what is applied by itself
-  alone_continues : (old mid new : Served S) (more : List Told) → IsAlone old mid → Notes false more mid new → Leads store false (store_of mid) more (store_of new) → shares_of new ≡ shares_of mid → IsAlone old new
-  alone_continues old mid new more is notes leads shares = record {
+  alone_continues : (old mid new : Served S) (more : List (Option Told)) → IsAlone old mid → Notes false more mid new → DoesEach store false (store_of mid) more (store_of new) → shares_of new ≡ shares_of mid → IsAlone old new
+  alone_continues old mid new more is notes does shares = record {
     alone = shares ∙ is.alone;
     none_left = notes.1 ∙ is.none_left;
-    follows = follow_then old mid new (by_themselves more) is.follows notes.0 (settle_each more (store_of mid) (store_of new) leads);
+    follows = follow_then old mid new (by_themselves more) is.follows notes.0 (settle_each more (store_of mid) (store_of new) does);
   }
 
   -- and in a round
-  round_continues : (old mid new : Served S) (more : List Told) → IsInRound old mid → Notes true more mid new → Leads store true (store_of mid) more (store_of new) → shares_of new ≡ shares_of mid → IsInRound old new
-  round_continues old mid new more is notes leads shares = record {
+  round_continues : (old mid new : Served S) (more : List (Option Told)) → IsInRound old mid → Notes true more mid new → DoesEach store true (store_of mid) more (store_of new) → shares_of new ≡ shares_of mid → IsInRound old new
+  round_continues old mid new more is notes does shares = record {
     shared = shares ∙ is.shared;
     more = is.more;
     over = notes.0 ∙ is.over;
@@ -113,23 +172,23 @@ module _ {S : Type 0} (store : Ghosts S) where
     begun = is.begun;
     settles = is.settles;
     begins = is.begins;
-    leads = subst (λ (asked : List Told). Leads store true is.begun asked (store_of new)) (sym notes.1) (leads_then store true (open_of mid) more is.begun (store_of mid) (store_of new) is.leads leads);
+    leads = subst (λ (asked : List Told). Leads store true is.begun asked (store_of new)) (sym notes.1) (leads_then store true (open_of mid) (applied more) is.begun (store_of mid) (store_of new) is.leads (leads_applied store more (store_of mid) (store_of new) does));
   }
 
-  served_continues : (old mid new : Served S) → IsServed old mid → Continues store mid new → IsServed old new
-  served_continues old mid new (inl is) more = inl (alone_continues old mid new more.more is (subst (λ b. Notes b more.more mid new) is.alone more.notes) (subst (λ b. Leads store b (store_of mid) more.more (store_of new)) is.alone more.leads) more.shares)
-  served_continues old mid new (inr is) more = inr (round_continues old mid new more.more is (subst (λ b. Notes b more.more mid new) is.shared more.notes) (subst (λ b. Leads store b (store_of mid) more.more (store_of new)) is.shared more.leads) more.shares)
+  pub served_continues : (old mid new : Served S) → IsServed old mid → Continues store mid new → IsServed old new
+  served_continues old mid new (inl is) on = inl (alone_continues old mid new on.more is (subst (λ b. Notes b on.more mid new) is.alone on.notes) (subst (λ b. DoesEach store b (store_of mid) on.more (store_of new)) is.alone on.does) on.shares)
+  served_continues old mid new (inr is) on = inr (round_continues old mid new on.more is (subst (λ b. Notes b on.more mid new) is.shared on.notes) (subst (λ b. DoesEach store b (store_of mid) on.more (store_of new)) is.shared on.does) on.shares)
 
   -- ---- what proofs alone read, and the moment, may be another
 
   -- the same journal, over the same tables
-  record IsAsServed (old new : Served S) : Type 0 where
+  pub record IsAsServed (old new : Served S) : Type 0 where
     pub rounds : rounds_of new ≡ rounds_of old
     pub left : open_of new ≡ open_of old
     pub tables : store_of new ≡ store_of old
     pub shares : shares_of new ≡ shares_of old
 
-  as_served : (old mid new : Served S) → IsServed old mid → IsAsServed mid new → IsServed old new
+  pub as_served : (old mid new : Served S) → IsServed old mid → IsAsServed mid new → IsServed old new
   as_served old mid new (inl is) same = inl (record {
     alone = same.shares ∙ is.alone;
     none_left = same.left ∙ is.none_left;
@@ -150,7 +209,7 @@ module _ {S : Type 0} (store : Ghosts S) where
     leads = subst (λ (held : Held S). Leads store true is.begun (open_of new) held) (sym same.tables) (subst (λ (asked : List Told). Leads store true is.begun asked (store_of mid)) (sym same.left) is.leads);
   })
 
-  like : (old new other : Served S) → new ≡ other → IsAsServed old other → IsAsServed old new
+  pub like : (old new other : Served S) → new ≡ other → IsAsServed old other → IsAsServed old new
   like old new other is same = subst (IsAsServed old) (sym is) same
 
   -- ---- steps
@@ -174,6 +233,9 @@ module _ {S : Type 0} (store : Ghosts S) where
         | inr gone ↦ subst (λ (served : Served S). IsServed old served) (sym gone.1) is
       ]
 
+  refused_looks : (old new : Held S) → IsRefused store old new → OnlyLooks store old new
+  refused_looks old new refused = record { unchanged = λ clean has shown. refused.unchanged clean shown; connection = refused.connection }
+
   begins_served : (old mid new : Served S) → IsServed old mid → BeginsRound store mid new → IsServed old new
   begins_served old mid new is (inl under_way) = subst (λ (served : Served S). IsServed old served) (sym under_way.1) is
   begins_served old mid new (inr is) (inr (inl begun)) = absurd (true≢false (sym is.shared ∙ begun.alone))
@@ -191,7 +253,7 @@ module _ {S : Type 0} (store : Ghosts S) where
   begins_served old mid new (inl is) (inr (inr not_begun)) = inl (record {
     alone = ap (λ (served : Served S). shares_of served) not_begun.same ∙ is.alone;
     none_left = ap (λ (served : Served S). open_of served) not_begun.same ∙ is.none_left;
-    follows = follow_then old mid new (([], false) ∷ []) is.follows not_begun.over (store_of new, inr (inr (refl, not_begun.refused)), refl);
+    follows = follow_then old mid new (([], false) ∷ []) is.follows not_begun.over (store_of new, inr (inr (refl, refused_looks (store_of mid) (store_of new) not_begun.refused)), refl);
   })
 
   settles_served : (old mid new : Served S) → IsServed old mid → SettlesRound store mid new → IsServed old new
@@ -209,7 +271,7 @@ module _ {S : Type 0} (store : Ghosts S) where
         };
       })
 
-  step_served : (step : Step) (a b : Slab Guest) (old mid new : Served S) → IsServed old mid → Does store step a b mid new → IsServed old new
+  pub step_served : (step : Step) (a b : Slab Guest) (old mid new : Served S) → IsServed old mid → Does store step a b mid new → IsServed old new
   step_served Begin a b old mid new is does = begins_served old mid new is does.2
   step_served (Ask key) a b old mid new is does = serves_served _ _ old mid new is does.1
   step_served Settle a b old mid new is does = settles_served old mid new is does.1

@@ -10,7 +10,8 @@ use Rattle.mio.specs.Event.{event_token}
 use Rattle.mio.specs.declared.event.event.Event.{Event}
 use Rattle.slab.specs.Slab.{Slab, SameValues, Updates, get}
 use Rattle.sqlite_trees.specs.declared.store.Store.{Ghosts}
-use Rattle.room_served.specs.Journals.{IsBegun, IsNotBegun, IsSettled, list_of, moment_of, shares_of}
+use Rattle.room_served.specs.Journals.{list_of, moment_of, shares_of}
+use Rattle.room_served.specs.Rounds.{IsBegun, IsNotBegun, IsSettled}
 use Rattle.room_served.specs.declared.entry.Entry.{Entry}
 use Rattle.room_served.specs.declared.served.Served.{Served}
 use Rattle.room_served.specs.declared.step.Next.{Next}

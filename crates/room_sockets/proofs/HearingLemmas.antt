@@ -7,7 +7,8 @@ use Rattle.std.specs.Bool.{⊤}
 use Rattle.std.specs.List.{All, Contains}
 use Rattle.slab.specs.Slab.{Slab, get}
 use Rattle.sqlite_trees.specs.declared.store.Store.{Ghosts}
-use Rattle.room_served.specs.Journals.{Continues, Notes, Round, Told, by_themselves, is_lost_of, list_of, open_of, rounds_of, shares_of}
+use Rattle.room_served.specs.Journals.{Notes, Round, Told, applied, by_themselves, is_lost_of, list_of, open_of, round_alone, rounds_of, shares_of}
+use Rattle.room_served.specs.Turns.{Continues}
 use Rattle.room_served.specs.declared.entry.Entry.{Entry}
 use Rattle.room_served.specs.declared.served.Served.{Served}
 use Rattle.room_served.specs.declared.step.Next.{Next}
@@ -61,16 +62,16 @@ module _ {S : Type 0} where
 
   -- ---- what is noted
 
-  stands_noted : (shares : Bool) (more : List Told) (entry : Entry) (old new : Served S) → Notes shares more old new → is_lost_of new ≡ is_lost_of old → StandsInRound shares entry old → StandsInRound shares entry new
+  stands_noted : (shares : Bool) (more : List (Option Told)) (entry : Entry) (old new : Served S) → Notes shares more old new → is_lost_of new ≡ is_lost_of old → StandsInRound shares entry old → StandsInRound shares entry new
   stands_noted true more entry old new notes lost stands =
-      subst (λ (asked : List Entry). Contains asked entry) (sym (ap entries_of notes.1 ∙ map-append (λ (told : Told). told.0) (open_of old) more)) (Contains-append_left (entries_of (open_of old)) (entries_of more) entry stands)
+      subst (λ (asked : List Entry). Contains asked entry) (sym (ap entries_of notes.1 ∙ map-append (λ (told : Told). told.0) (open_of old) (applied more))) (Contains-append_left (entries_of (open_of old)) (entries_of (applied more)) entry stands)
   stands_noted false more entry old new notes lost stands =
       let round : Bool → Round = λ b. (stands.1, not b) in (
         stands.0,
         stands.1,
         stands.2 ++ more,
         notes.0 ∙ ap (λ x. x ++ by_themselves more) stands.3 ∙ append_assoc stands.0 (round (is_lost_of old) ∷ by_themselves stands.2) (by_themselves more)
-            ∙ ap (λ x. stands.0 ++ round (is_lost_of old) ∷ x) (sym (map-append (λ (told : Told). (told ∷ [], true)) stands.2 more))
+            ∙ ap (λ x. stands.0 ++ round (is_lost_of old) ∷ x) (sym (map-append round_alone stands.2 more))
             ∙ ap (λ b. stands.0 ++ round b ∷ by_themselves (stands.2 ++ more)) (sym lost),
         stands.4,
       )
@@ -108,14 +109,14 @@ module _ {S : Type 0} (store : Ghosts S) where
   serves_keeps (Some guest) now old new (inr gone) = same_keeps old new gone.1
 
   -- what it asked before, and what it asks now, stands in the round that is under way
-  asks_in_round : (guest left : Guest) (old mid : Served S) (more : List Told) → Notes true more (record old { asked = guest.asked }) mid → left.asked ≡ mid.asked → All (λ entry. Contains (entries_of (open_of old)) entry) (asked_in guest) → All (λ entry. Contains (entries_of (open_of mid)) entry) (asked_in left)
+  asks_in_round : (guest left : Guest) (old mid : Served S) (more : List (Option Told)) → Notes true more (record old { asked = guest.asked }) mid → left.asked ≡ mid.asked → All (λ entry. Contains (entries_of (open_of old)) entry) (asked_in guest) → All (λ entry. Contains (entries_of (open_of mid)) entry) (asked_in left)
   asks_in_round guest left old mid more notes asked hears =
-      let all : List Entry = entries_of (open_of old) ++ entries_of more in
-      let grown : entries_of (open_of mid) ≡ all = ap entries_of notes.1 ∙ map-append (λ (told : Told). told.0) (open_of old) more in
-      let before : All (λ entry. Contains all entry) (asked_in guest) = All-weaker (λ entry. Contains (entries_of (open_of old)) entry) (λ entry. Contains all entry) (λ entry is. Contains-append_left (entries_of (open_of old)) (entries_of more) entry is) (asked_in guest) hears in
-      let after : All (λ entry. Contains all entry) (entries_of more) = All-weaker (λ entry. Contains (entries_of more) entry) (λ entry. Contains all entry) (λ entry is. Contains-append_right (entries_of (open_of old)) (entries_of more) entry is) (entries_of more) (All-contains_itself (entries_of more)) in
-      let both : All (λ entry. Contains all entry) (asked_in guest ++ entries_of more) = All-append (λ entry. Contains all entry) (asked_in guest) (entries_of more) before after in
-      subst (λ (xs : List Entry). All (λ entry. Contains (entries_of (open_of mid)) entry) xs) (sym (ap (λ (asked : Option Entry). list_of asked) asked ∙ notes.2)) (subst (λ (xs : List Entry). All (λ entry. Contains xs entry) (asked_in guest ++ entries_of more)) (sym grown) both)
+      let all : List Entry = entries_of (open_of old) ++ entries_of (applied more) in
+      let grown : entries_of (open_of mid) ≡ all = ap entries_of notes.1 ∙ map-append (λ (told : Told). told.0) (open_of old) (applied more) in
+      let before : All (λ entry. Contains all entry) (asked_in guest) = All-weaker (λ entry. Contains (entries_of (open_of old)) entry) (λ entry. Contains all entry) (λ entry is. Contains-append_left (entries_of (open_of old)) (entries_of (applied more)) entry is) (asked_in guest) hears in
+      let after : All (λ entry. Contains all entry) (entries_of (applied more)) = All-weaker (λ entry. Contains (entries_of (applied more)) entry) (λ entry. Contains all entry) (λ entry is. Contains-append_right (entries_of (open_of old)) (entries_of (applied more)) entry is) (entries_of (applied more)) (All-contains_itself (entries_of (applied more))) in
+      let both : All (λ entry. Contains all entry) (asked_in guest ++ entries_of (applied more)) = All-append (λ entry. Contains all entry) (asked_in guest) (entries_of (applied more)) before after in
+      subst (λ (xs : List Entry). All (λ entry. Contains (entries_of (open_of mid)) entry) xs) (sym (ap (λ (asked : Option Entry). list_of asked) asked ∙ notes.2)) (subst (λ (xs : List Entry). All (λ entry. Contains xs entry) (asked_in guest ++ entries_of (applied more))) (sym grown) both)
 
   turn_hears : (shares : Bool) (turn : Turn) (next : Next) (guest left : Guest) (old new : Served S) → shares ≡ true → shares_of old ≡ true → Turns store shares turn next guest left old new → Hears (Some guest) old → Hears (Some left) new
   turn_hears false turn next guest left old new is shared turns hears = absurd (true≢false (sym is))

@@ -1,5 +1,6 @@
 pub mod HallSteps
 pub mod Drives
 mod HearingLemmas
+mod Inquiring
 mod Answering
 mod WholeRuns

@@ -1,30 +1,38 @@
 -- From one end to the other: what came on each connection, what goes out on it, and what became of
 -- the tables (all this project's own).
-use Rattle.std.specs.Prelude.{◌≡◌, ◌≢◌, ◌≤◌, ◌⊎◌, ⊤, ℕ, suc, true, false, slice_get, IsTrue, List, [], ◌∷◌, ◌++◌, Some, None, Result, Ok, Err}
+use Rattle.std.specs.Prelude.{◌≡◌, ◌≢◌, ◌≤◌, ◌⊎◌, ⊤, ℕ, suc, true, false, length, slice_get, take, IfOk, IsTrue, Option, List, [], ◌∷◌, ◌++◌, Some, None, Result, Ok, Err}
 use Rattle.std.specs.List.{Contains}
 use Rattle.http.specs.Request.{body_of}
 use Rattle.http_server.specs.Connection.{config_of, history}
 use Rattle.http_server.specs.Exchange.{Call}
 use Rattle.http_server.specs.History as http
 use Rattle.slab.specs.Slab.{Slab, get}
-use Rattle.sqlite.specs.Held.{state}
+use Rattle.sqlite.specs.Held.{Held, state}
 use Rattle.sqlite_trees.specs.Tree.{Trees}
 use Rattle.sqlite_trees.specs.declared.store.Store.{Ghosts}
 use Rattle.ipp_coding.specs.Reading.{header_in}
 use Rattle.room_http.specs.declared.refusal.Refusal.{Refusal}
-use Rattle.room_laws.specs.Lives.{Life}
+use Rattle.room_laws.specs.Lives.{IsLife, Life}
+use Rattle.room_lines.specs.Saying.{IsQuestionOf}
+use Rattle.room_questions.specs.Questions.{answer_to}
+use Rattle.room_questions.specs.declared.question.Question.{Question}
+use Rattle.room_questions.specs.declared.question.Question.TheVariants.{Left, Ping}
+use Rattle.room_rules.specs.Devices.{Devices}
+use Rattle.room_state.specs.Rooms.{RoomValue}
+use Rattle.room_store.specs.declared.fault.StoreFault.{StoreFault}
 use Rattle.room_tables.specs.Calls.{IfOurTables}
 use Rattle.room_tables.specs.Crashes.{IsOnDisk}
 use Rattle.room_serve.specs.Crashes.{IsFound}
 use Rattle.room_serve.specs.LivesInFiles.{IsLifeIn}
 use Rattle.room_served.specs.Answers.{IsLost, IsRefusal, IsTold}
 use Rattle.room_served.specs.HttpPeers.{calls_of, connection_of}
-use Rattle.room_served.specs.Journals.{IsRunOf, Told, journal_of, open_of, rounds_of, shares_of, store_of}
+use Rattle.room_served.specs.Journals.{Told, journal_of, open_of, rounds_of, shares_of, store_of}
+use Rattle.room_served.specs.ServedRuns.{IsRunOf}
 use Rattle.room_served.specs.LastPeers.{left_of}
 use Rattle.room_served.specs.LastTexts.{last_text}
 use Rattle.room_served.specs.LinePeers.{LineCall, bytes_told, lines_of, taken}
 use Rattle.room_served.specs.Lines.{IsEntryOf, grammar_of, input_of, output_of, received_of, sent_of, side_of}
-use Rattle.room_served.specs.LineTexts.{bad_line_text, line_text}
+use Rattle.room_served.specs.LineTexts.{answer_text, bad_line_text, line_text}
 use Rattle.room_served.specs.Requests.{asked, has_long_body}
 use Rattle.room_served.specs.ServedLives.{told_to}
 use Rattle.room_served.specs.declared.entry.Entry.TheVariants as entry
@@ -32,6 +40,7 @@ use Rattle.room_served.specs.declared.http_peer.HttpPeer.{HttpPeer}
 use Rattle.room_served.specs.declared.last_peer.LastPeer.{LastPeer}
 use Rattle.room_served.specs.declared.line_connection.LineConnection.{LineConnection}
 use Rattle.room_served.specs.declared.line_connection.Side.{Side}
+use Rattle.room_served.specs.declared.line_connection.Side.TheVariants.{Operator}
 use Rattle.room_served.specs.declared.served.Served.{Served}
 use Rattle.room_sockets.specs.Guests.{asked_in, peer_of}
 use Rattle.room_sockets.specs.Halls.{DoesAll, Step}
@@ -88,27 +97,52 @@ pub record TellsLine (side : Side) (call : LineCall) (told : Told) : Type 0 wher
   pub said : IsEntryOf (grammar_of side moment) line told.0
   pub says : call.1 ≡ line_text told.1
 
--- a line is told to be a bad one and asks nothing, or it is answered by the first of these
-abbrev pub AnswersLineCall : (side : Side) (call : LineCall) (mine rest : List Told) → Type 0
-AnswersLineCall side call mine rest = ((call.1 ≡ bad_line_text) × (mine ≡ rest))
-    ⊎ ((told : Told) × TellsLine side call told × (mine ≡ told ∷ rest))
+-- the question is about this account
+abbrev pub Concerns : Question → (name : List ℕ) → Type 0
+Concerns Ping name = ⊤
+Concerns (Left account month) name = name ≡ account
 
--- the lines are answered by these, in order
-abbrev pub AnswersLineCalls : (side : Side) → List LineCall → (mine : List Told) → Type 0
-AnswersLineCalls side [] mine = mine ≡ []
-AnswersLineCalls side (call ∷ calls) mine = (rest : List Told)
-    × AnswersLineCall side call mine rest × AnswersLineCalls side calls rest
+module _ {S : Type 0} (store : Ghosts S) (first last : Held S) where
+  -- by the room and the devices that the account's life has left, as far as it was told this
+  abbrev pub AnswersBy : (so_far : List Told) → Question → Result (List ℕ) StoreFault → Type 0
+  AnswersBy so_far question told = IfOurTables store first last (λ db. (name : List ℕ) (life : Life)
+      → Concerns question name → IsLifeIn db true name life
+      → IfOk told (λ text. (room : Option RoomValue) × (devices : Devices)
+      × IsLife (life ++ told_to name so_far) room devices × (text ≡ answer_to question room devices)))
 
--- All that came are these lines, and what is no whole line yet; all that went, and what waits to go, is
--- what is told of them, in order. It stands in the journal at these places, in the same order.
-pub record HasAnsweredLines (connection : LineConnection) (places : List ℕ) (journal : List Told)
-    : Type 0 where
-  pub calls : List LineCall
-  pub came : received_of connection ≡ taken calls ++ input_of connection
-  pub goes : bytes_told calls ≡ sent_of connection ++ output_of connection
-  pub mine : List Told
-  pub answered : AnswersLineCalls (side_of connection) calls mine
-  pub stand : StandAt 0 places mine journal
+  -- the line is an operator's question, and what is told of it answers that
+  pub record TellsAnswer (side : Side) (call : LineCall) (so_far : List Told) : Type 0 where
+    pub line : List ℕ
+    pub ended : call.0 ≡ line ++ 10 ∷ []
+    pub operators : side ≡ Operator
+    pub question : Question
+    pub said : IsQuestionOf line question
+    pub told : Result (List ℕ) StoreFault
+    pub says : call.1 ≡ answer_text told
+    pub answers : AnswersBy so_far question told
+
+  -- Each line is told what stands in the journal at the next of these places, which rise from the
+  -- least on. Two have no place: a question, which is answered by what stands there up to then, with
+  -- all that was told on the connection before; and a bad line, which is told to be one.
+  abbrev pub AnswersLineCalls : (side : Side) → List LineCall
+      → (least : ℕ) (places : List ℕ) (journal : List Told) → Type 0
+  AnswersLineCalls side [] least places journal = places ≡ []
+  AnswersLineCalls side (call ∷ calls) least places journal =
+      ((told : Told) × TellsLine side call told × (place : ℕ) × (rest : List ℕ)
+      × (places ≡ place ∷ rest) × (least ≤ place) × (slice_get journal place ≡ Some told)
+      × AnswersLineCalls side calls (suc place) rest journal)
+      ⊎ (((n : ℕ) × (least ≤ n) × (n ≤ length journal) × TellsAnswer side call (take n journal)
+      × AnswersLineCalls side calls n places journal)
+      ⊎ ((call.1 ≡ bad_line_text) × AnswersLineCalls side calls least places journal))
+
+  -- All that came are these lines, and what is no whole line yet; all that went, and what waits to
+  -- go, is what is told of them, in order.
+  pub record HasAnsweredLines (connection : LineConnection) (places : List ℕ) (journal : List Told)
+      : Type 0 where
+    pub calls : List LineCall
+    pub came : received_of connection ≡ taken calls ++ input_of connection
+    pub goes : bytes_told calls ≡ sent_of connection ++ output_of connection
+    pub answered : AnswersLineCalls (side_of connection) calls 0 places journal
 
 -- ---- what goes last
 
@@ -121,10 +155,12 @@ pub record TellsLast (peer : LastPeer) (places : List ℕ) (journal : List Told)
 
 -- ---- everybody
 
-abbrev pub IsAnswered : Peer → (places : List ℕ) (journal : List Told) → Type 0
-IsAnswered (Http peer) places journal = HasAnsweredRequests peer places journal
-IsAnswered (Lines peer) places journal = HasAnsweredLines (lines_of peer) places journal
-IsAnswered (Last peer) places journal = TellsLast peer places journal
+module _ {S : Type 0} (store : Ghosts S) (first last : Held S) where
+  abbrev pub IsAnswered : Peer → (places : List ℕ) (journal : List Told) → Type 0
+  IsAnswered (Http peer) places journal = HasAnsweredRequests peer places journal
+  IsAnswered (Lines peer) places journal =
+      HasAnsweredLines store first last (lines_of peer) places journal
+  IsAnswered (Last peer) places journal = TellsLast peer places journal
 
 -- no place is in both
 abbrev pub AreApart : (first second : List ℕ) → Type 0
@@ -165,7 +201,8 @@ module _ {S : Type 0} (store : Ghosts S) where
     pub places : (key : ℕ) → List ℕ
     pub apart : (key other : ℕ) → key ≢ other → AreApart (places key) (places other)
     pub answered : (key : ℕ) (guest : Guest) → get guests key ≡ Some guest → asked_in guest ≡ []
-        → IsAnswered (peer_of guest) (places key) (journal_of after)
+        → IsAnswered store (store_of before) (store_of after) (peer_of guest) (places key)
+        (journal_of after)
     pub runs : shares_of after ≡ false
         → IsRunOf store (journal_of after) (store_of before) (store_of after)
     pub lives : shares_of after ≡ false → LivesOn before after

@@ -7,7 +7,8 @@ use Rattle.mio.specs.declared.event.event.Event.{Event}
 use Rattle.mio.specs.declared.token.Token.{Token}
 use Rattle.slab.specs.Slab.{Slab, SameValues, get}
 use Rattle.sqlite_trees.specs.declared.store.Store.{Ghosts}
-use Rattle.room_served.specs.Journals.{IsBegun, IsNotBegun, IsSettled, shares_of}
+use Rattle.room_served.specs.Journals.{shares_of}
+use Rattle.room_served.specs.Rounds.{IsBegun, IsNotBegun, IsSettled}
 use Rattle.room_served.specs.declared.served.Served.{Served}
 use Rattle.room_served.specs.declared.step.Next.{Next}
 use Rattle.room_served.specs.declared.step.Next.TheVariants.{Again, Close, Part}

@@ -1,5 +1,5 @@
 -- Which round a peer hears of (this project's own).
-use Rattle.std.specs.Prelude.{◌≡◌, ℕ, Bool, true, false, List, ◌∷◌, ◌++◌, map, not, Some}
+use Rattle.std.specs.Prelude.{◌≡◌, ℕ, Bool, true, false, List, ◌∷◌, ◌++◌, map, not, Option, Some}
 use Rattle.std.specs.List.{Contains}
 use Rattle.slab.specs.Slab.{Slab, get}
 use Rattle.sqlite_trees.specs.declared.store.Store.{Ghosts}
@@ -14,12 +14,12 @@ use Rattle.room_sockets.specs.declared.guest.Guest.{Guest}
 abbrev pub entries_of : List Told → List Entry
 entries_of tolds = map (λ (told : Told). told.0) tolds
 
--- It was asked in the round that is under way; or in the last that was shared, behind which each was
--- applied by itself, and that was lost exactly where what is served says so.
+-- It was asked in the round that is under way; or in the last that was shared, behind which nothing was
+-- done but by itself, and that was lost exactly where what is served says so.
 abbrev pub StandsInRound : {S : Type 0} (shares : Bool) (entry : Entry) (served : Served S) → Type 0
 StandsInRound true entry served = Contains (entries_of (open_of served)) entry
 StandsInRound false entry served =
-    (before : List Round) × (shared : List Told) × (alone : List Told)
+    (before : List Round) × (shared : List Told) × (alone : List (Option Told))
     × (rounds_of served
     ≡ before ++ (shared, not (is_lost_of served)) ∷ by_themselves alone)
     × Contains (entries_of shared) entry

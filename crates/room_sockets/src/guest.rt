@@ -1,7 +1,8 @@
 //! A peer that came in: its socket, and what it speaks.
 
 ghost use Rattle.std.specs.Prelude.{◌≡◌, [], false, IsFalse};
-ghost use Rattle.room_served.specs.Journals.{Continues, is_lost_of, shares_of};
+ghost use Rattle.room_served.specs.Journals.{is_lost_of, shares_of};
+ghost use Rattle.room_served.specs.Turns.{Continues};
 ghost use Rattle.room_sockets.specs.Guests.{AsksAgain, AsksTurn, HasTurn, IsAtRest, TakesTurn, Turns, asked_in, peer_of, turns_of};
 
 use crate::stream::{Stream, Unsent};

@@ -3,7 +3,8 @@
 ghost use Rattle.std.specs.Prelude.{◌≡◌, ◌≢◌, ◌≤◌, [], ◌∷◌, false, IfOk, None, Some, IsFalse, IsTrue};
 ghost use Rattle.mio.specs.Events.{items};
 ghost use Rattle.slab.specs.Slab.{SameValues, get};
-ghost use Rattle.room_served.specs.Journals.{Follows, open_of, shares_of};
+ghost use Rattle.room_served.specs.Journals.{open_of, shares_of};
+ghost use Rattle.room_served.specs.Rounds.{Follows};
 ghost use Rattle.room_sockets.specs.Guests.{NobodyWaits};
 
 use crate::clock::{moment, ticks};

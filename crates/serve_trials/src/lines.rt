@@ -4,7 +4,7 @@ use crate::expecting::{expect, expect_bytes};
 use crate::fault::Fault;
 use crate::report::Report;
 use crate::rooms::{exchange, exchange_lines, hear_lines, new_rooms};
-use room_served::{LineConnection, MOST_LINE, Served, Side};
+use room_served::{Front, LineConnection, MOST_LINE, Served, Side};
 use sqlite::MemStore;
 use std::io::Write;
 
@@ -18,24 +18,31 @@ pub const PRINT: &[u8] =
 
 const OPERATOR: &[u8] = b"open alice\nopen alice\ndevice d1 on\nrate d1 2\nrate d9 2\n\
     grant alice 2026-09 100\ngrant alice 2026-09 100\ngrant alice 2026-09 90\ngrant carol 2026-09 1\n\
-    rate d1 101\nrelease d1 alice 1 - -\nipp alice 00\n\nopen alice \n";
+    rate d1 101\nrelease d1 alice 1 - -\nipp alice 00\n\nopen alice \n\
+    ping\nleft alice 2026-08\nleft alice 2026-09\nleft carol 2026-09\nleft alice\nping \n";
 
 const OPERATOR_TOLD: &[u8] = b"ok\nexists\nok\nok\nno-device\nok\nsame\nconflict 100\nno-account\n\
-    bad-line\nbad-line\nbad-line\nbad-line\nbad-line\n";
+    bad-line\nbad-line\nbad-line\nbad-line\nbad-line\n\
+    ok\nok granted 0 reserved 0 charged 0 left 0\nok granted 100 reserved 0 charged 0 left 100\n\
+    no-account\nbad-line\nbad-line\n";
 
 const STATION: &[u8] =
     b"start d1 alice 1\nrelease d1 alice 1 - 12\nstart d1 alice 1\nsettle d1 alice 1 5 done\n\
-    settle d1 alice 1 5 done\nopen bob\nrelease d1 bob 1 - -\nrelease d1 alice 1 - - -\r\n";
+    settle d1 alice 1 5 done\nopen bob\nrelease d1 bob 1 - -\nrelease d1 alice 1 - - -\r\nping\n";
 
 const STATION_TOLD: &[u8] =
     b"not-pending\nok reserved 24 left 76\ndocuments 1\ndocument 1 1 application/octet-stream 5\nHello\n\
-    ok charged 10 left 90\nnot-processing\nbad-line\nno-account\nbad-line\n";
+    ok charged 10 left 90\nnot-processing\nbad-line\nno-account\nbad-line\nbad-line\n";
+
+/// What is left of alice's quota behind those lines.
+const LEFT: &[u8] = b"ok granted 100 reserved 0 charged 10 left 90\n";
 
 /// Runs each trial of this file, and tells how it ended.
 pub fn run_all<W: Write>(rt: &HostRuntime, report: &mut Report<'_, W>) {
     report.tell("lines in pieces of each size", in_pieces_of_each_size(rt));
     report.tell("a line that is cut off", a_line_that_is_cut_off(rt));
     report.tell("long lines", long_lines(rt));
+    report.tell("a question in a round", a_question_in_a_round(rt));
 }
 
 /// Shows that an operator's lines, a job and a station's lines are answered the same a byte at a
@@ -63,7 +70,36 @@ fn expect_all_told(
     expect_bytes(rt, told.as_slice(), OPERATOR_TOLD)?;
     exchange(rt, rooms, PRINT, piece)?;
     let told = exchange_lines(rt, rooms, Side::Station, STATION, piece)?;
-    expect_bytes(rt, told.as_slice(), STATION_TOLD)
+    expect_bytes(rt, told.as_slice(), STATION_TOLD)?;
+    let told = exchange_lines(rt, rooms, Side::Operator, b"left alice 2026-09\n", piece)?;
+    expect_bytes(rt, told.as_slice(), LEFT)
+}
+
+/// Shows that a question that comes within a round is answered once the round is over.
+fn a_question_in_a_round(rt: &HostRuntime) -> Result<(), Fault> {
+    let mut rooms = new_rooms(rt)?;
+    let mut connection = LineConnection::new(rt.alloc(), Side::Operator);
+    expect_put_off(rt, &mut connection, &mut rooms)
+}
+
+/// Asks a question within a round. Expects its answer behind the round, and not before.
+fn expect_put_off(
+    rt: &HostRuntime,
+    connection: &mut LineConnection,
+    rooms: &mut Served<MemStore>,
+) -> Result<(), Fault> {
+    connection.read_from(&mut b"left alice 2026-09\n".as_slice())?;
+    rooms.begin();
+    expect(rt, rooms.is_shared(), "a round is under way")?;
+    let front = connection.answer(rooms)?;
+    expect(rt, front == Front::PutOff, "the question is put off")?;
+    expect(rt, !connection.wants_write(), "nothing is told of it")?;
+    rooms.settle();
+    let front = connection.answer(rooms)?;
+    expect(rt, front == Front::Answered, "the question is answered")?;
+    let mut output = Vec::new(rt.alloc());
+    connection.write_to(&mut output)?;
+    expect_bytes(rt, output.as_slice(), b"no-account\n")
 }
 
 /// Shows that a line that no line feed ends changes nothing, even if it is one of the grammar.
@@ -80,7 +116,8 @@ fn expect_not_done(
     rooms: &mut Served<MemStore>,
 ) -> Result<(), Fault> {
     connection.read_from(&mut b"open alice".as_slice())?;
-    expect(rt, !connection.answer(rooms)?, "the line waits for its end")?;
+    let front = connection.answer(rooms)?;
+    expect(rt, front == Front::Unended, "the line waits for its end")?;
     expect(rt, connection.has_rest(), "it is kept")?;
     connection.refuse_rest()?;
     let mut output = Vec::new(rt.alloc());

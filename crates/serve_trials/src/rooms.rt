@@ -2,7 +2,7 @@
 
 use crate::fault::Fault;
 use http_server::Connection;
-use room_served::{LineConnection, Served, Side, answer_requests, connection_config};
+use room_served::{Front, LineConnection, Served, Side, answer_requests, connection_config};
 use room_store::Store;
 use sqlite::{Alter, MemStore};
 use std::alloc::Global;
@@ -148,7 +148,7 @@ pub fn hear_lines(
 /// Lets the connection answer each line that came.
 fn answer_all(connection: &mut LineConnection, rooms: &mut Served<MemStore>) -> Result<(), Fault> {
     for _ in 0..MANY {
-        if !connection.answer(rooms)? {
+        if connection.answer(rooms)? != Front::Answered {
             break;
         }
     }

@@ -3,7 +3,7 @@
 ghost use Rattle.std.specs.Prelude.{◌≤◌, IfOk, length};
 
 use crate::rooms::MANY;
-use room_served::{LineConnection, Served, Side};
+use room_served::{Front, LineConnection, Served, Side};
 use sqlite::MemStore;
 use std::alloc::Global;
 use std::cell::RefCell;
@@ -56,7 +56,7 @@ impl Ends {
         let mut reader = bytes;
         let count = self.connection.read_from(&mut reader)?;
         for _ in 0..MANY {
-            if !self.connection.answer(&mut self.rooms)? {
+            if self.connection.answer(&mut self.rooms)? != Front::Answered {
                 break;
             }
         }

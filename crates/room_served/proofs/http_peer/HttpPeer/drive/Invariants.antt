@@ -1,6 +1,6 @@
 use Rattle.http_server.specs.Connection.{history}
 use Rattle.room_served.specs.HttpPeers.{GoesOn, KeepsLimits, MakesCalls, connection_of}
-use Rattle.room_served.specs.Journals.{Continues}
+use Rattle.room_served.specs.Turns.{Continues}
 use Rattle.room_served.proofs.http_peer.HttpPeer.drive.Given as goal
 
 abbrev pub invariant-loop : goal.invariant-loop

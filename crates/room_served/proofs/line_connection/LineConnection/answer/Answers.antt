@@ -19,11 +19,6 @@ returns-in_err-put_told-in-Some-2-clause-lost g c =
     let said : IsEntryOf (grammar_of c.args.self.now.side (moment_of c.args.served.now)) (take c.in-Some.end input) c.in-Some-2.entry = subst (λ (text : List ℕ). IsEntryOf (grammar_of c.args.self.now.side (moment_of c.args.served.now)) (take c.in-Some.end text) c.in-Some-2.entry) c.as_slice-2.ensures (subst (λ (grammar : Grammar). IsEntryOf grammar (take c.in-Some.end c.as_slice-2.result.now) c.in-Some-2.entry) c.grammar-grammar.ensures (rw c.in-Some-2.is at c.in_ok-entry.ensures)) in
     on_err _ _ (inr (_, takes_entry g.S.Store _ _ _ _ _ _ _ first c.advance.ensures.items said c.in_ok-told-in-Some-2.ensures.applies))
 
-pub returns-in_err-put_bad-in-None-clause-lost : goal.returns-in_err-put_bad-in-None-clause-lost
-returns-in_err-put_bad-in-None-clause-lost g c =
-    let first : line_end (input_of c.args.self.now) ≡ Some c.in-Some.end = ap line_end (sym c.as_slice.ensures) ∙ sym c.in-Some.ensures.place in
-    on_err _ _ (inr (_, takes_bad g.S.Store _ _ _ _ first c.advance-in-None.ensures.items))
-
 pub returns-in_ok-put_told-in-Some-2-clause-taken : goal.returns-in_ok-put_told-in-Some-2-clause-taken
 returns-in_ok-put_told-in-Some-2-clause-taken g c = λ _.
     let input = input_of c.args.self.now in

@@ -1,6 +1,6 @@
 use Rattle.room_served.specs.LinePeers.{TakesLines, lines_of}
 use Rattle.room_served.specs.Lines.{output_of}
-use Rattle.room_served.specs.Journals.{Continues}
+use Rattle.room_served.specs.Turns.{Continues}
 use Rattle.room_served.proofs.line_peer.LinePeer.drive.Given as goal
 
 abbrev pub invariant-loop : goal.invariant-loop

@@ -1,0 +1,86 @@
+-- What a question is answered is what the journal so far has left.
+use Rattle.std.proofs.Common.{◌≡◌, ℕ, true, false, if◌then◌else◌, List, [], ◌∷◌, ◌++◌, Option, None, Some, IsTrue, IfOk, Result, Ok, Err, refl, sym, ap, subst, ◌∙◌, append-nil, inl, inr}
+use Rattle.std.proofs.lemmas.Bool.{true≢false}
+use Rattle.std.proofs.lemmas.Grind.{flat_map-append}
+use Rattle.sqlite.specs.Effect.{Database}
+use Rattle.sqlite.specs.Held.{Held, state}
+use Rattle.sqlite.specs.State.{HasCleanDisk}
+use Rattle.sqlite_trees.specs.declared.store.Store.{Ghosts}
+use Rattle.room_laws.specs.Lives.{IsLife, Life}
+use Rattle.room_questions.specs.Questions.{answer_to}
+use Rattle.room_questions.specs.declared.question.Question.{Question}
+use Rattle.room_questions.specs.declared.question.Question.TheVariants.{Left, Ping}
+use Rattle.room_rules.specs.Devices.{Devices}
+use Rattle.room_serve.specs.LivesInFiles.{IsLifeIn}
+use Rattle.room_served.proofs.Finding as finding
+use Rattle.room_served.proofs.Running.{runs, was_clean}
+use Rattle.room_served.specs.Journals.{Round, Told, applied, by_themselves, journal_of, kept_in, open_of, rounds_of, shares_of, store_of}
+use Rattle.room_served.specs.Turns.{AnswersNext}
+use Rattle.room_served.specs.ServedRuns.{IsRunOf}
+use Rattle.room_served.specs.ServedLives.{told_to}
+use Rattle.room_served.specs.declared.served.Served.{Served}
+use Rattle.room_sockets.proofs.Drives.{IsClean, IsServed}
+use Rattle.room_sockets.specs.EndToEnd.{AnswersBy, Concerns, IsFresh, LivesOn}
+use Rattle.room_state.specs.Rooms.{RoomValue}
+use Rattle.room_store.specs.Questions.{AnswersQuestion, IsAbout}
+use Rattle.room_store.specs.declared.fault.StoreFault.{StoreFault}
+use Rattle.room_tables.specs.Accounts.{Holds}
+use Rattle.room_tables.specs.Calls.{KeepsConnection}
+use Rattle.room_tables.specs.Keyed.{HasSchema}
+
+-- ---- the journal
+
+each_kept : (more : List (Option Told)) → kept_in (by_themselves more) ≡ applied more
+each_kept [] = refl
+each_kept (Some told ∷ more) = ap (λ (l : List Told). told ∷ l) (each_kept more)
+each_kept (None ∷ more) = each_kept more
+
+-- what is kept of a round
+abbrev pub kept_of : Round → List Told
+kept_of round = if round.1 then round.0 else []
+
+pub kept_then : (first more : List Round) → kept_in (first ++ more) ≡ kept_in first ++ kept_in more
+kept_then first more = flat_map-append kept_of first more
+
+module _ {S : Type 0} where
+  pub grown_alone : (more : List (Option Told)) (old new : Served S) → rounds_of new ≡ rounds_of old ++ by_themselves more → journal_of new ≡ journal_of old ++ applied more
+  grown_alone more old new over = ap kept_in over ∙ kept_then (rounds_of old) (by_themselves more) ∙ ap (λ x. journal_of old ++ x) (each_kept more)
+
+  pub grown_by : (round : Round) (old new : Served S) → rounds_of new ≡ rounds_of old ++ round ∷ [] → journal_of new ≡ journal_of old ++ kept_of round
+  grown_by round old new over = ap kept_in over ∙ kept_then (rounds_of old) (round ∷ []) ∙ ap (λ x. journal_of old ++ x) (append-nil (kept_of round))
+
+module _ {S : Type 0} (store : Ghosts S) (before : Served S) (fresh : IsFresh before) where
+  -- ---- the tables
+
+  -- the journal is what the rounds kept
+  pub journal_is : (after : Served S) (more : List Round) → rounds_of after ≡ rounds_of before ++ more → journal_of after ≡ kept_in more
+  journal_is after more over = ap kept_in (over ∙ ap (λ x. x ++ more) fresh.none_over)
+
+  pub runs_so : (after : Served S) → IsServed store before after → shares_of after ≡ false → IsRunOf store (journal_of after) (store_of before) (store_of after)
+  runs_so after (inl is) alone = subst (λ (journal : List Told). IsRunOf store journal (store_of before) (store_of after)) (sym (journal_is after is.follows.more is.follows.over)) (runs store is.follows.more (store_of before) (store_of after) is.follows.settles)
+  runs_so after (inr is) alone = absurd (true≢false (sym is.shared ∙ alone))
+
+  pub lives_on : (after : Served S) → IsServed store before after → shares_of after ≡ false → LivesOn store before after
+  lives_on after (inl is) alone clean has name life lived =
+      subst (λ (journal : List Told). IsLifeIn (state store (store_of after)).now (state store (store_of after)).is_open name (life ++ told_to name journal)) (sym (journal_is after is.follows.more is.follows.over)) (finding.always_lives store is.follows.more (store_of before) (store_of after) is.follows.settles clean has name life lived)
+  lives_on after (inr is) alone clean has name life lived = absurd (true≢false (sym is.shared ∙ alone))
+
+  -- ---- a question
+
+  about : (question : Question) (name : List ℕ) (room : Option RoomValue) (devices : Devices) (db : Database) → Concerns question name → Holds db name room → IsAbout question room devices db
+  about Ping name room devices db concerns holds = tt
+  about (Left account month) name room devices db concerns holds = subst (λ (n : List ℕ). Holds db n room) concerns holds
+
+  module _ (last : Held S) (question : Question) (old new : Served S) (served : IsServed store before old) (alone : shares_of old ≡ false) (clean : HasCleanDisk (state store last) → IsClean store new) where
+    answers_so : (told : Result (List ℕ) StoreFault) → AnswersQuestion store question (store_of old) (store_of new) told → AnswersBy store (store_of before) last (journal_of old) question told
+    answers_so (Err fault) answers honest has name life concerns lived = tt
+    answers_so (Ok text) answers honest has name life concerns lived =
+        let new_clean = clean honest in
+        let old_clean = was_clean store (store_of old) (store_of new) answers.connection new_clean in
+        let shown : IsTrue (state store (store_of old)).is_open = answers.opened new_clean in
+        let schema : HasSchema (state store (store_of old)).now = (runs_so old served alone).schema old_clean has shown in
+        let lives = lives_on old served alone old_clean has name life lived in
+        (lives.room, lives.devices, lives.is_life, answers.told new_clean schema lives.room lives.devices (about question name lives.room lives.devices (state store (store_of old)).now concerns (lives.rows shown)))
+
+  pub answered_so : (last : Held S) (question : Question) (told : Result (List ℕ) StoreFault) (old new : Served S) → IsServed store before old → (HasCleanDisk (state store last) → IsClean store new) → AnswersNext store question told old new → AnswersBy store (store_of before) last (journal_of old) question told
+  answered_so last question told old new served clean next = answers_so last question old new served next.alone clean told next.answers
