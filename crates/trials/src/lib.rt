@@ -5,6 +5,7 @@
 mod accounts;
 mod comparing;
 mod fault;
+mod printing;
 mod steps;
 mod tables;
 mod wires;

@@ -7,9 +7,8 @@ ghost use Rattle.room_events.specs.Fits.{fits};
 
 use crate::fault::Fault;
 use crate::wires::{ServedCalls, Sides, serve};
-use room_events::{Event, Name, Reply};
+use room_events::{Event, Reply};
 use room_lines::Line;
-use room_rows::print_hex;
 use room_serve::{Outcome, run_events};
 use room_store::{Refused, Rounds, Store, StoreFault};
 use sqlite::types::ValueRef;
@@ -24,24 +23,6 @@ use table_trials::FileTables;
 pub const FILE: &str = "worked_rows.db";
 
 const LOG: &str = "worked_rows.db-wal";
-
-/// The queries of an account's rows, each under the name of its table.
-const OF_ACCOUNT: [(&str, &str); 4] = [
-    ("account", "SELECT * FROM account WHERE name = ?1"),
-    ("job", "SELECT * FROM job WHERE account = ?1 ORDER BY job"),
-    (
-        "document",
-        "SELECT * FROM document WHERE account = ?1 ORDER BY job, number",
-    ),
-    (
-        "grants",
-        "SELECT * FROM grants WHERE account = ?1 ORDER BY month",
-    ),
-];
-
-/// That of the devices, in the order in which they became known.
-const OF_DEVICES: &str =
-    "SELECT name, accepting, units FROM device, rates WHERE device = name ORDER BY device.rowid";
 
 /// Tables of any store. The connection is away during a use.
 pub struct Tables<S: Alter> {
@@ -212,23 +193,8 @@ impl<S: Alter + Drop> Tables<S> {
         }
     }
 
-    /// Prints the rows of the account, each on a line: the table, and the columns in their order.
-    pub fn print_account(&mut self, account: Name, output: &mut Vec<u8>) -> Result<(), Fault> {
-        for (table, query) in OF_ACCOUNT {
-            let rows = self.query(query, &[ValueRef::Text(account.bytes())])?;
-            print_table_rows(output, table, rows.as_slice())?;
-        }
-        Ok(())
-    }
-
-    /// Prints the rows of the devices: the name, whether it is on, and the rate.
-    pub fn print_devices(&mut self, output: &mut Vec<u8>) -> Result<(), Fault> {
-        let rows = self.query(OF_DEVICES, &[])?;
-        print_table_rows(output, "device", rows.as_slice())
-    }
-
     /// Answers the rows that an SQL query finds.
-    fn query(&mut self, sql: &str, values: &[ValueRef<'_>]) -> Result<Vec<Row>, Fault> {
+    pub(crate) fn query(&mut self, sql: &str, values: &[ValueRef<'_>]) -> Result<Vec<Row>, Fault> {
         match &mut self.waiting {
             Some(connection) => Ok(connection.query_all(sql, values)?),
             None => Err(Fault::Away),
@@ -294,28 +260,4 @@ fn event_of_line(line: &Line) -> (u64, Event<'_>)
     ensures { IsTrue (fits (plain_event result.1)) }
 {
     (line.moment, line.event())
-}
-
-/// Prints rows, each on a line: the table's name, and the columns in their order.
-fn print_table_rows(output: &mut Vec<u8>, table: &str, rows: &[Row]) -> Result<(), Fault> {
-    for row in rows {
-        output.write_all(table.as_bytes())?;
-        for at in 0..row.column_count() {
-            output.write_all(b" ")?;
-            print_value(output, row.get_ref(at)?)?;
-        }
-        output.write_all(b"\n")?;
-    }
-    Ok(())
-}
-
-/// Prints a column's value, bytes as digits. Answers `Fault::Column` if no table has such a value.
-fn print_value(output: &mut Vec<u8>, value: ValueRef<'_>) -> Result<(), Fault> {
-    match value {
-        ValueRef::Int(integer) => write!(output, "{integer}")?,
-        ValueRef::Text(text) => output.write_all(text)?,
-        ValueRef::Blob(bytes) => print_hex(output, bytes)?,
-        ValueRef::Null | ValueRef::Real(_) => return Err(Fault::Column),
-    }
-    Ok(())
 }
