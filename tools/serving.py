@@ -28,11 +28,12 @@ def create(path, accounts=(), lines=()):
 class Serving:
     """A run of `serve` up to the end of the block, on free ports or at the paths that are named.
 
-    `descriptors` is how many files it may have open, and `variables` are put among those of its environment.
+    `options` are words behind these, `descriptors` is how many files it may have open, and `variables` are put among
+    those of its environment. `doors` has of each door whose it is and its address, in their order.
     """
 
-    def __init__(self, path, stations='0', operators='0', descriptors=4096, variables=None):
-        self.words = [PROGRAM, 'serve', path, '0', stations, operators]
+    def __init__(self, path, stations='0', operators='0', options=(), descriptors=4096, variables=None):
+        self.words = [PROGRAM, 'serve', path, '0', stations, operators, *options]
         self.descriptors = descriptors
         self.environment = {**os.environ, **(variables or {})}
 
@@ -41,10 +42,12 @@ class Serving:
             resource.setrlimit(resource.RLIMIT_NOFILE, (self.descriptors, self.descriptors))
         self.process = subprocess.Popen(self.words, stdout=subprocess.PIPE, preexec_fn=limit, env=self.environment)
         told = self.process.stdout.readline().decode().split()
-        if len(told) != 4 or told[0] != 'serving':
+        if told[:1] != ['serving']:
             raise OSError(f'serve told {told}, status {self.process.wait()}')
         self.pid = self.process.pid
-        self.port, self.stations, self.operators = int(told[1]), told[2], told[3]
+        self.doors = [tuple(door.split('=', 1)) for door in told[1:]]
+        first = dict(reversed(self.doors))
+        self.port, self.stations, self.operators = int(first['clients']), first['stations'], first['operators']
         return self
 
     def __exit__(self, *_):

@@ -4,8 +4,8 @@
 use http_server::Connection;
 use room_events::Event;
 use room_lines::Line;
+use room_peers::{LineConnection, Served, Side, answer_requests, connection_config};
 use room_rows::line_text;
-use room_served::{LineConnection, Served, Side, answer_requests, connection_config};
 use sqlite::MemStore;
 use std::alloc::Global;
 use std::hash::RandomState;

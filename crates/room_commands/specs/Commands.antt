@@ -1,13 +1,13 @@
 -- The numbers that a command line may say (this project's own).
-use Rattle.std.specs.Prelude.{◌≡◌, ℕ, Bool, true, ◌&&◌, nat_le, ⊤, List, Some, IsSomeAnd, slice_get}
+use Rattle.std.specs.Prelude.{◌≡◌, ℕ, Bool, true, ◌&&◌, nat_le, ⊤, List, Some, drop, slice_get}
 use Rattle.room_rules.specs.Limits.{most_rate}
 use Rattle.room_commands.specs.declared.command.Command.{Command}
 use Rattle.room_commands.specs.declared.command.Command.TheVariants as command
 use Rattle.room_commands.specs.declared.listening.Listening.{Listening}
 use Rattle.room_commands.specs.declared.sending.Sending.{Sending}
 use Rattle.room_commands.specs.declared.serving.Serving.{Serving}
-use Rattle.room_commands.specs.declared.address.Address.TheVariants.{Port}
-use Rattle.room_commands.specs.Addresses.{has_port_from, IsAddressOf}
+use Rattle.room_commands.specs.Addresses.{has_port_from}
+use Rattle.room_commands.specs.Visitors.{AreDoors}
 
 -- connections of one run of `listen`
 abbrev pub most_connections : ℕ
@@ -22,13 +22,11 @@ is_listening_in_range listening =
 abbrev pub is_sending_in_range : Sending → Bool
 is_sending_in_range sending = has_port_from 1 sending.address
 
--- what the words of `serve` say, each by its place: the database, and each of three addresses, of
--- which the first is a port
+-- what the words of `serve` say: by their places the database and the addresses of three doors, and
+-- behind them the options of further ones
 pub record SaysServing (words : List (List ℕ)) (serving : Serving) : Type 0 where
   pub database : slice_get words 1 ≡ Some serving.database.now
-  pub port : IsSomeAnd (slice_get words 2) (λ word. IsAddressOf word 0 (Port serving.port))
-  pub stations : IsSomeAnd (slice_get words 3) (λ word. IsAddressOf word 0 serving.stations)
-  pub operators : IsSomeAnd (slice_get words 4) (λ word. IsAddressOf word 0 serving.operators)
+  pub doors : AreDoors (drop 2 words) serving.doors.items
 
 abbrev pub IsSaidBy : (words : List (List ℕ)) → Command → Type 0
 IsSaidBy words (command.Serve serving) = SaysServing words serving

@@ -4,4 +4,5 @@ pub mod Faults
 pub mod FileFaults
 pub mod Grants
 pub mod Statuses
+pub mod Visitors
 pub mod Words

@@ -1,6 +1,6 @@
 //! The command line: its commands, and what their words may be.
-ghost use Rattle.std.specs.Prelude.{◌≤◌, ℕ, List, IfOk, IsSomeAnd, IsTrue, slice_get};
-ghost use Rattle.room_commands.specs.Addresses.{has_port_from, IsAddressOf};
+ghost use Rattle.std.specs.Prelude.{◌≤◌, ℕ, List, IfOk, IsTrue};
+ghost use Rattle.room_commands.specs.Addresses.{has_port_from};
 ghost use Rattle.room_commands.specs.Commands.{is_in_range, IsSaidBy};
 ghost use Rattle.room_commands.specs.Words.{placed, texts};
 
@@ -9,13 +9,14 @@ use crate::fault::Fault;
 use crate::listening::Listening;
 use crate::parser::program;
 use crate::sending::Sending;
+use crate::served_door::doors_of;
 use crate::serving::Serving;
+use crate::unfit::Unfit;
 use crate::words::{
     ACCOUNT, ADDRESS, COUNT, CREATE, DATABASE, DEVICE, EXPLAIN, FOLDER, GRANTS, LISTEN, MIGRATE,
-    NAME, ON, OPEN, PORT, RATE, SCRIPT, SEND, SERVE, STATION, SWITCH, UNITS, word_at,
+    NAME, ON, OPEN, PORT, RATE, SCRIPT, SEND, SERVE, STATION, SWITCH, UNITS, placed_words,
 };
 use clap::ArgMatches;
-use clap::error::ErrorKind;
 use room_events::{MOST_RATE, Name};
 use std::alloc::Global;
 
@@ -79,50 +80,6 @@ pub enum Command<'a> {
     Send(Sending<'a>),
 }
 
-// Why words are no command line, where the parser does not find it.
-#[derive(Clone, Copy)]
-enum Unfit {
-    Missing,
-    Text,
-    Units,
-    Port,
-    Count,
-    ServedPort,
-    ServedAddress,
-    Address,
-    Name,
-}
-
-impl Unfit {
-    // What is wrong with the words, or `None` where a name is.
-    fn usage(self) -> Option<&'static str> {
-        match self {
-            Unfit::Missing => Some("a word is missing"),
-            Unfit::Text => Some("a word is not UTF-8"),
-            Unfit::Units => Some("UNITS is a number from 1 to 100"),
-            Unfit::Port => Some("PORT is a number from 1 to 65535"),
-            Unfit::Count => Some("COUNT is a number from 0 to 1000000"),
-            Unfit::ServedPort => Some("PORT is a number from 0 to 65535"),
-            Unfit::ServedAddress => {
-                Some("STATIONS and OPERATORS are ports from 0 to 65535, or paths")
-            }
-            Unfit::Address => Some("ADDRESS is a port from 1 to 65535, or a path"),
-            Unfit::Name => None,
-        }
-    }
-
-    // The fault, with the usage of the program where the words are no command line of it.
-    fn fault(self, program: &mut clap::Command<'_>) -> Fault {
-        let Some(text) = self.usage() else {
-            return Fault::Name;
-        };
-        match program.error(ErrorKind::ValueValidation, text) {
-            Ok(error) => Fault::Usage(error),
-            Err(error) => Fault::from(error),
-        }
-    }
-}
-
 /// Why words of which one is not UTF-8 are no command line.
 pub(crate) fn not_text(alloc: Global) -> Fault {
     match program(alloc) {
@@ -152,7 +109,7 @@ fn read_by<'a>(
     ensures said { IfOk result (IsSaidBy (placed (texts words.now))) }
 {
     match program.try_get_matches_from_mut(words) {
-        Ok(matches) => of_matches(&matches, words).map_err(|unfit| unfit.fault(program)),
+        Ok(matches) => of_matches(alloc, &matches, words).map_err(|unfit| unfit.fault(program)),
         Err(error) => help_of(alloc, error),
     }
 }
@@ -169,12 +126,16 @@ fn help_of<'a>(alloc: Global, told: clap::Error) -> Result<Command<'a>, Fault>
     Ok(Command::Help { text })
 }
 
-fn of_matches<'a>(matches: &ArgMatches<'a>, words: &[&'a str]) -> Result<Command<'a>, Unfit>
+fn of_matches<'a>(
+    alloc: Global,
+    matches: &ArgMatches<'a>,
+    words: &[&'a str],
+) -> Result<Command<'a>, Unfit>
     ensures range { IfOk result (λ command. IsTrue (is_in_range command)) }
     ensures said { IfOk result (IsSaidBy (placed (texts words.now))) }
 {
     match matches.subcommand() {
-        Some((SERVE, _)) => serving(words),
+        Some((SERVE, _)) => serving(alloc, words),
         Some((SEND, found)) => sending(found),
         Some((EXPLAIN, _)) => Ok(Command::Explain),
         Some((command, found)) => on_database(command, found, word(found, DATABASE)?),
@@ -245,36 +206,19 @@ fn listening<'a>(words: &ArgMatches<'a>, database: &'a str) -> Result<Command<'a
     }))
 }
 
-// The words of `serve` are read by their places.
-fn serving<'a>(words: &[&'a str]) -> Result<Command<'a>, Unfit>
+// The words of `serve` are read by their places, and its options behind them.
+fn serving<'a>(alloc: Global, words: &[&'a str]) -> Result<Command<'a>, Unfit>
     ensures range { IfOk result (λ command. IsTrue (is_in_range command)) }
     ensures said { IfOk result (IsSaidBy (placed (texts words.now))) }
 {
+    let placed = placed_words(alloc, words)?;
+    let [_, database, doors @ ..] = placed.as_slice() else {
+        return Err(Unfit::Missing);
+    };
     Ok(Command::Serve(Serving {
-        database: word_at(words, 1).ok_or(Unfit::Missing)?,
-        port: served_port(words, 2)?,
-        stations: served_address(words, 3)?,
-        operators: served_address(words, 4)?,
+        database,
+        doors: doors_of(alloc, doors)?,
     }))
-}
-
-fn served_port(words: &[&str], place: usize) -> Result<u16, Unfit>
-    ensures { IfOk result (λ port. IsSomeAnd (slice_get (placed (texts words.now)) place)
-        (λ word. IsAddressOf word 0 (Address.Port port))) }
-{
-    let word = word_at(words, place).ok_or(Unfit::Missing)?;
-    match Address::read(word, 0) {
-        Some(Address::Port(port)) => Ok(port),
-        _ => Err(Unfit::ServedPort),
-    }
-}
-
-fn served_address<'a>(words: &[&'a str], place: usize) -> Result<Address<'a>, Unfit>
-    ensures { IfOk result (λ address. IsSomeAnd (slice_get (placed (texts words.now)) place)
-        (λ word. IsAddressOf word 0 address)) }
-{
-    let word = word_at(words, place).ok_or(Unfit::Missing)?;
-    Address::read(word, 0).ok_or(Unfit::ServedAddress)
 }
 
 fn sending<'a>(words: &ArgMatches<'a>) -> Result<Command<'a>, Unfit>

@@ -60,6 +60,7 @@ fn argument_of<'a>(alloc: Global, argument: &Argument) -> Result<Arg<'a>, AllocE
             .action(ArgAction::SetTrue)
             .conflicts_with(other),
         Kind::After(flag) => Ok(named.long(flag)),
+        Kind::Named(word) => Ok(named.long(argument.name).value_name(word)),
     }
 }
 

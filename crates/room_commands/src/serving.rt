@@ -3,22 +3,18 @@ ghost use Rattle.std.specs.Prelude.{◌≡◌, ◌≢◌, IfOk, IfSome, None, Ok
 ghost use Rattle.room_commands.specs.Commands.{SaysServing};
 ghost use Rattle.room_commands.specs.Words.{first_word, placed, texts};
 
-use crate::address::Address;
 use crate::command::Command;
 use crate::fault::Fault;
+use crate::served_door::ServedDoor;
 use crate::words::{SERVE, is_command};
 use std::alloc::Global;
 
-/// The command `serve`: HTTP on a port of 127.0.0.1, or on a free one where it is 0, and lines at
-/// two further addresses.
-#[derive(Clone, Copy, Debug)]
+/// The command `serve`.
+#[derive(Debug, Drop)]
 pub struct Serving<'a> {
     pub database: &'a str,
-    pub port: u16,
-    /// Where the lines of stations come.
-    pub stations: Address<'a>,
-    /// Where the lines of operators come.
-    pub operators: Address<'a>,
+    /// Of clients, of stations, of operators, and those that options name, in their order.
+    pub doors: Vec<ServedDoor<'a>>,
 }
 
 impl<'a> Serving<'a> {

@@ -1,6 +1,8 @@
 //! The words of the command line, as its parser and its help know them.
-ghost use Rattle.std.specs.Prelude.{◌≡◌, ◌↔◌, IsTrue, Some, option_map, slice_get};
+ghost use Rattle.std.specs.Prelude.{◌≡◌, ◌↔◌, ◌++◌, IfOk, IsTrue, OnOk, Some};
 ghost use Rattle.room_commands.specs.Words.{first_word, placed, texts};
+
+use std::alloc::{AllocError, Global};
 
 pub(crate) const CREATE: &str = "create";
 
@@ -52,6 +54,12 @@ pub(crate) const STATIONS: &str = "STATIONS";
 
 pub(crate) const OPERATORS: &str = "OPERATORS";
 
+const CLIENTS_TOO: &str = "clients";
+
+const STATIONS_TOO: &str = "stations";
+
+const OPERATORS_TOO: &str = "operators";
+
 pub(crate) const ADDRESS: &str = "ADDRESS";
 
 pub(crate) const FOLDER: &str = "FOLDER";
@@ -82,6 +90,8 @@ pub(crate) enum Kind {
     FlagWithout(&'static str),
     /// A word that follows this flag.
     After(&'static str),
+    /// A word that follows the flag of the argument's own name. The help calls it so.
+    Named(&'static str),
 }
 
 const ON_DATABASE: Argument = Argument {
@@ -142,6 +152,24 @@ const FOR_OPERATORS: Argument = Argument {
     name: OPERATORS,
     help: Some("A port, or the path of a socket"),
     kind: Kind::Required,
+};
+
+const MORE_CLIENTS: Argument = Argument {
+    name: CLIENTS_TOO,
+    help: Some("A further port of clients"),
+    kind: Kind::Named(PORT),
+};
+
+const MORE_STATIONS: Argument = Argument {
+    name: STATIONS_TOO,
+    help: Some("A further address of stations"),
+    kind: Kind::Named(STATIONS),
+};
+
+const MORE_OPERATORS: Argument = Argument {
+    name: OPERATORS_TOO,
+    help: Some("A further address of operators"),
+    kind: Kind::Named(OPERATORS),
 };
 
 const TO_ADDRESS: Argument = Argument {
@@ -212,7 +240,15 @@ pub(crate) const COMMANDS: [CommandWords; 12] = [
     CommandWords {
         name: SERVE,
         about: "Serves HTTP and lines on this machine",
-        arguments: &[ON_DATABASE, AT_ANY_PORT, FOR_STATIONS, FOR_OPERATORS],
+        arguments: &[
+            ON_DATABASE,
+            AT_ANY_PORT,
+            FOR_STATIONS,
+            FOR_OPERATORS,
+            MORE_CLIENTS,
+            MORE_STATIONS,
+            MORE_OPERATORS,
+        ],
     },
     CommandWords {
         name: SEND,
@@ -236,17 +272,26 @@ pub(crate) fn is_command(words: &[&str], command: &str) -> bool
     }
 }
 
-/// The word in this place, where the first `--` has none: behind it a word that begins with a dash
-/// is no flag.
-pub(crate) fn word_at<'a>(words: &[&'a str], place: usize) -> Option<&'a str>
-    ensures { option_map (λ word. word.now) result ≡ slice_get (placed (texts words.now)) place }
+/// The words by their places, of which the first `--` has none: behind it a word that begins with a
+/// dash is no flag.
+pub(crate) fn placed_words<'a>(alloc: Global, words: &[&'a str]) -> Result<Vec<&'a str>, AllocError>
+    ensures { IfOk result (λ found. texts found.items ≡ placed (texts words.now)) }
 {
-    let (word, rest) = words.split_first()?;
-    if *word == ESCAPE {
-        return rest.get(place).copied();
+    let mut found = Vec::with_capacity(alloc, words.len())?;
+    put_placed(words, &mut found)?;
+    Ok(found)
+}
+
+fn put_placed<'a>(words: &[&'a str], found: &mut Vec<&'a str>) -> Result<(), AllocError>
+    ensures { OnOk result
+        (texts found.new.items ≡ texts found.old.items ++ placed (texts words.now)) }
+{
+    match words {
+        [] => Ok(()),
+        [word, rest @ ..] if *word == ESCAPE => found.extend_from_slice(rest),
+        [word, rest @ ..] => {
+            found.push(*word)?;
+            put_placed(rest, found)
+        }
     }
-    if place == 0 {
-        return Some(word);
-    }
-    word_at(rest, place - 1)
 }

@@ -2,30 +2,27 @@
 
 use crate::database::serve_over;
 use crate::front::Front;
-use room_commands::{Address, Fault, Serving};
-use room_served::Served;
-use room_sockets::{Door, Doors, Hall, moment};
+use room_commands::{Address, Fault, ServedDoor, Serving, Visitors};
+use room_peers::Served;
+use room_sockets::{Door, Entrance, Hall, Kind, moment};
 use room_store::Store;
 use sqlite::{Alter, Connection};
 use std::hash::RandomState;
 use std::io;
 use std::io::Write;
 
-/// Serves everybody until the process is ended. Writes `serving PORT STATIONS OPERATORS` once all
-/// can connect.
+/// Serves everybody until the process is ended. Once all can connect it writes `serving`, and behind
+/// it of each door `VISITORS=ADDRESS`.
 pub fn serve<W: Write>(rt: &HostRuntime, asked: &Serving<'_>, output: &mut W) -> Result<(), Fault> {
     let moment = moment(rt).ok_or(Fault::Io)?;
-    let front = Begun {
-        asked: *asked,
-        moment,
-    };
+    let front = Begun { asked, moment };
     serve_over(rt, asked.database, &front, output)
 }
 
 // The command, begun at a moment.
 #[derive(Clone, Copy)]
 struct Begun<'a> {
-    asked: Serving<'a>,
+    asked: &'a Serving<'a>,
     moment: u64,
 }
 
@@ -37,7 +34,7 @@ impl Front for Begun<'_> {
         output: &mut W,
     ) -> (Connection<S>, Result<(), Fault>) {
         let mut served = Served::new(rt.alloc(), store, self.moment);
-        let ended = serve_all(rt, &mut served, &self.asked, output);
+        let ended = serve_all(rt, &mut served, self.asked, output);
         (served.close(), ended)
     }
 }
@@ -52,19 +49,19 @@ fn serve_all<S: Alter, W: Write>(
     Ok(hall.run(rt, served)?)
 }
 
-/// The hall behind the three doors, at which all can connect.
+/// The hall behind the doors, at which all can connect.
 fn open<W: Write>(rt: &HostRuntime, asked: &Serving<'_>, output: &mut W) -> io::Result<Hall> {
-    let doors = doors_at(rt, asked)?;
-    tell(output, asked, &doors)?;
+    let doors = doors_at(rt, asked.doors.as_slice())?;
+    tell(output, asked.doors.as_slice(), doors.as_slice())?;
     Hall::open(rt, doors, RandomState::new(rt)?)
 }
 
-fn doors_at(rt: &HostRuntime, asked: &Serving<'_>) -> io::Result<Doors> {
-    Ok(Doors {
-        http: Door::at_port(rt, asked.port)?,
-        stations: door_at(rt, asked.stations)?,
-        operators: door_at(rt, asked.operators)?,
-    })
+fn doors_at(rt: &HostRuntime, asked: &[ServedDoor<'_>]) -> io::Result<Vec<Entrance>> {
+    let mut doors = Vec::with_capacity(rt.alloc(), asked.len())?;
+    for door in asked {
+        doors.push(Entrance::new(door_at(rt, door.address)?, kind_of(door.visitors)))?;
+    }
+    Ok(doors)
 }
 
 fn door_at(rt: &HostRuntime, address: Address<'_>) -> io::Result<Door> {
@@ -74,17 +71,28 @@ fn door_at(rt: &HostRuntime, address: Address<'_>) -> io::Result<Door> {
     }
 }
 
+fn kind_of(visitors: Visitors) -> Kind {
+    match visitors {
+        Visitors::Clients => Kind::CLIENTS,
+        Visitors::Stations => Kind::STATIONS,
+        Visitors::Operators => Kind::OPERATORS,
+    }
+}
+
 /// Tells where each can connect, a free port that was taken among them.
-fn tell<W: Write>(output: &mut W, asked: &Serving<'_>, doors: &Doors) -> io::Result<()> {
-    let http = named(Address::Port(asked.port), &doors.http);
-    let stations = named(asked.stations, &doors.stations);
-    let operators = named(asked.operators, &doors.operators);
-    writeln!(output, "serving {http} {stations} {operators}")?;
+fn tell<W: Write>(output: &mut W, asked: &[ServedDoor<'_>], doors: &[Entrance]) -> io::Result<()> {
+    write!(output, "serving")?;
+    for (asked, door) in asked.iter().zip(doors) {
+        let visitors = asked.visitors.name();
+        let address = named(asked.address, door);
+        write!(output, " {visitors}={address}")?;
+    }
+    writeln!(output)?;
     output.flush()
 }
 
 /// The address, with the port that was taken for it.
-fn named<'a>(address: Address<'a>, door: &Door) -> Address<'a> {
+fn named<'a>(address: Address<'a>, door: &Entrance) -> Address<'a> {
     match door.port() {
         Some(port) => Address::Port(port),
         None => address,

@@ -13,27 +13,27 @@ use Rattle.http_server.specs.Exchange.{Call, Chain}
 use Rattle.sqlite_trees.specs.declared.store.Store.{Ghosts}
 use Rattle.http.specs.Request.{body_of}
 use Rattle.room_http.specs.declared.refusal.Refusal.{Refusal}
-use Rattle.room_served.proofs.Journaling.{applied_then, line_chain, looked, one_more, stays, then}
-use Rattle.room_served.specs.Answers.{Answers, Gives}
-use Rattle.room_served.specs.HttpPeers as http
-use Rattle.room_served.specs.HttpPeers.{calls_of, connection_of}
-use Rattle.room_served.specs.Journals.{Notes, Told, applied, journal_of, moment_of, shares_of, store_of}
-use Rattle.room_served.specs.Turns.{Continues}
-use Rattle.room_served.specs.LastPeers.{SaysLast, left_of}
-use Rattle.room_served.specs.LinePeers as lines
-use Rattle.room_served.specs.LinePeers.{LineCall, TakesLines, bytes_told, lines_of, taken}
-use Rattle.room_served.specs.Lines.{Asks, Inquires, IsBad, IsTold, input_of, output_of, sent_of, side_of}
-use Rattle.room_served.specs.Requests.{asked}
-use Rattle.room_served.specs.Streams.{Ends}
-use Rattle.room_served.specs.declared.entry.Entry.TheVariants as entry
-use Rattle.room_served.specs.declared.http_peer.HttpPeer.{HttpPeer}
-use Rattle.room_served.specs.declared.last_peer.LastPeer.{LastPeer}
-use Rattle.room_served.specs.declared.line_connection.LineConnection.{LineConnection}
-use Rattle.room_served.specs.declared.line_connection.Side.{Side}
-use Rattle.room_served.specs.declared.line_peer.LinePeer.{LinePeer}
-use Rattle.room_served.specs.declared.served.Served.{Served}
-use Rattle.room_served.specs.declared.step.Next.{Next}
-use Rattle.room_served.specs.declared.step.Next.TheVariants.{Close}
+use Rattle.room_peers.proofs.Journaling.{applied_then, line_chain, looked, one_more, stays, then}
+use Rattle.room_peers.specs.Answers.{Answers, Gives}
+use Rattle.room_peers.specs.HttpPeers as http
+use Rattle.room_peers.specs.HttpPeers.{calls_of, connection_of}
+use Rattle.room_peers.specs.Journals.{Notes, Told, applied, journal_of, moment_of, shares_of, store_of}
+use Rattle.room_peers.specs.Turns.{Continues}
+use Rattle.room_peers.specs.LastPeers.{SaysLast, left_of}
+use Rattle.room_peers.specs.LinePeers as lines
+use Rattle.room_peers.specs.LinePeers.{LineCall, TakesLines, bytes_told, lines_of, taken}
+use Rattle.room_peers.specs.Lines.{Asks, Inquires, IsBad, IsTold, input_of, output_of, sent_of, side_of}
+use Rattle.room_peers.specs.Requests.{asked}
+use Rattle.room_peers.specs.Streams.{Ends}
+use Rattle.room_peers.specs.declared.entry.Entry.TheVariants as entry
+use Rattle.room_peers.specs.declared.http_peer.HttpPeer.{HttpPeer}
+use Rattle.room_peers.specs.declared.last_peer.LastPeer.{LastPeer}
+use Rattle.room_peers.specs.declared.line_connection.LineConnection.{LineConnection}
+use Rattle.room_peers.specs.declared.line_connection.Side.{Side}
+use Rattle.room_peers.specs.declared.line_peer.LinePeer.{LinePeer}
+use Rattle.room_peers.specs.declared.served.Served.{Served}
+use Rattle.room_peers.specs.declared.step.Next.{Next}
+use Rattle.room_peers.specs.declared.step.Next.TheVariants.{Close}
 use Rattle.room_sockets.proofs.Drives.{IsClean, IsServed, continues_clean, served_continues}
 use Rattle.room_sockets.proofs.Inquiring.{answered_so, grown_alone}
 use Rattle.room_sockets.specs.EndToEnd.{AnswersBy, AnswersCall, AnswersCalls, AnswersLineCalls, HasAnsweredLines, IsAnswered, IsFresh, StandAt, TellsAnswer}

@@ -5,19 +5,19 @@ use Rattle.sqlite.specs.Held.{Held, state}
 use Rattle.sqlite.specs.State.{HasCleanDisk}
 use Rattle.sqlite_trees.specs.declared.store.Store.{Ghosts}
 use Rattle.std.proofs.lemmas.Bool.{true≢false}
-use Rattle.room_served.proofs.Journaling.{chain, leads_applied, leads_then, line_chain, one_more, stays}
-use Rattle.room_served.specs.Journals.{Notes, Round, Told, applied, by_themselves, open_of, rounds_of, shares_of, store_of}
-use Rattle.room_served.specs.Applying.{DoesEach, DoesOne, Leads, OnlyLooks}
-use Rattle.room_served.specs.Turns.{Continues}
-use Rattle.room_served.specs.Rounds.{AllSettle, Begins, Follows, IsRefused}
-use Rattle.room_served.proofs.Running.{entry_keeps, was_clean}
-use Rattle.room_served.specs.LinePeers as lines
-use Rattle.room_served.specs.Streams.{Ends}
-use Rattle.room_served.specs.declared.entry.Entry.{Entry}
-use Rattle.room_served.specs.declared.line_peer.LinePeer.{LinePeer}
-use Rattle.room_served.specs.declared.served.Served.{Served}
-use Rattle.room_served.specs.declared.step.Next.{Next}
-use Rattle.room_served.specs.declared.step.Turn.{Turn}
+use Rattle.room_peers.proofs.Journaling.{chain, leads_applied, leads_then, line_chain, one_more, stays}
+use Rattle.room_peers.specs.Journals.{Notes, Round, Told, applied, by_themselves, open_of, rounds_of, shares_of, store_of}
+use Rattle.room_peers.specs.Applying.{DoesEach, DoesOne, Leads, OnlyLooks}
+use Rattle.room_peers.specs.Turns.{Continues}
+use Rattle.room_peers.specs.Rounds.{AllSettle, Begins, Follows, IsRefused}
+use Rattle.room_peers.proofs.Running.{entry_keeps, was_clean}
+use Rattle.room_peers.specs.LinePeers as lines
+use Rattle.room_peers.specs.Streams.{Ends}
+use Rattle.room_peers.specs.declared.entry.Entry.{Entry}
+use Rattle.room_peers.specs.declared.line_peer.LinePeer.{LinePeer}
+use Rattle.room_peers.specs.declared.served.Served.{Served}
+use Rattle.room_peers.specs.declared.step.Next.{Next}
+use Rattle.room_peers.specs.declared.step.Turn.{Turn}
 use Rattle.room_sockets.specs.Guests.{AsksAgain, TakesTurn, Turns, in_round, of_socket}
 use Rattle.room_sockets.specs.Halls.{Ask, Begin, BeginsRound, Does, DoesAll, Drop, Enter, GoesOn, Leave, Serve, Serves, Settle, SettlesRound, Step}
 use Rattle.room_sockets.specs.declared.guest.Guest.{Guest}

@@ -10,20 +10,20 @@ use Rattle.mio.specs.Event.{event_token}
 use Rattle.mio.specs.declared.event.event.Event.{Event}
 use Rattle.slab.specs.Slab.{Slab, SameValues, Updates, get}
 use Rattle.sqlite_trees.specs.declared.store.Store.{Ghosts}
-use Rattle.room_served.specs.Journals.{list_of, moment_of, shares_of}
-use Rattle.room_served.specs.Rounds.{IsBegun, IsNotBegun, IsSettled}
-use Rattle.room_served.specs.declared.entry.Entry.{Entry}
-use Rattle.room_served.specs.declared.served.Served.{Served}
-use Rattle.room_served.specs.declared.step.Next.{Next}
-use Rattle.room_served.specs.declared.step.Next.TheVariants.{Close}
-use Rattle.room_served.specs.declared.step.Turn.{Turn}
+use Rattle.room_peers.specs.Journals.{list_of, moment_of, shares_of}
+use Rattle.room_peers.specs.Rounds.{IsBegun, IsNotBegun, IsSettled}
+use Rattle.room_peers.specs.declared.entry.Entry.{Entry}
+use Rattle.room_peers.specs.declared.served.Served.{Served}
+use Rattle.room_peers.specs.declared.step.Next.{Next}
+use Rattle.room_peers.specs.declared.step.Next.TheVariants.{Close}
+use Rattle.room_peers.specs.declared.step.Turn.{Turn}
 use Rattle.room_sockets.proofs.Drives.{serves_shares}
 use Rattle.room_sockets.specs.Guests.{CameBy, IsNew, NobodyWaits, Turns, asked_in, is_waiting, peer_of, turns_of}
 use Rattle.room_sockets.specs.Halls.{AreOthersKept, Ask, Begin, BeginsRound, Does, DoesAll, Drop, Enter, GoesOn, IsAtMoment, IsDriven, IsServedFirst, IsSpared, Leave, MayGo, MayLeave, OnlyAsk, OnlyEnter, OnlyLeave, OnlyServe, Serve, Serves, ServesEach, ServesThose, Settle, SettlesRound, SharesRound, StaysAfter, Step, key_told, keys_told}
-use Rattle.room_sockets.specs.declared.doors.Kind.{Kind}
+use Rattle.room_sockets.specs.declared.doors.Speech.{Speech}
 use Rattle.room_sockets.specs.declared.guest.Guest.{Guest}
 use Rattle.room_sockets.specs.declared.guest.Peer.{Peer}
-use Rattle.room_sockets.specs.declared.hall.TheConstants.{FIRST_GUEST}
+use Rattle.room_sockets.specs.declared.hall.TheConstants.{MOST_DOORS}
 
 -- ---- who leaves
 
@@ -88,8 +88,8 @@ one_enters key old new guest vacant there is others other =
       | inr differs ↦ inl (others other differs)
     ]
 
-pub is_new : (kind : Kind) (peer : Peer) (guest begun : Guest) → CameBy kind peer → peer_of begun ≡ peer → turns_of begun ≡ [] → asked_in begun ≡ [] → guest ≡ begun → IsNew guest
-is_new kind peer guest begun came is none asked same = subst (λ (it : Guest). IsNew it) (sym same) (kind, subst (λ (it : Peer). CameBy kind it) (sym is) came, none, asked)
+pub is_new : (speech : Speech) (peer : Peer) (guest begun : Guest) → CameBy speech peer → peer_of begun ≡ peer → turns_of begun ≡ [] → asked_in begun ≡ [] → guest ≡ begun → IsNew guest
+is_new speech peer guest begun came is none asked same = subst (λ (it : Guest). IsNew it) (sym same) (speech, subst (λ (it : Peer). CameBy speech it) (sym is) came, none, asked)
 
 -- an insert lets one in, or fails and changes nobody
 pub inserted : {E : Type 0} → (old new : Slab Guest) (guest : Guest) (r : Result ℕ E) → IsNew guest → IfOk r (λ key. get old key ≡ None) → IfOk r (λ key. Updates old new key (Some guest)) → OnErr r (new ≡ record old { capacity = new.capacity }) → OnlyEnter old new
@@ -461,11 +461,11 @@ module _ {S : Type 0} (store : Ghosts S) where
   goes_on keys a b old new is = (is.0, is.1, is.2)
 
 -- an event tells of the peer of a key
-pub key_named : (event : Event) (token key : ℕ) → token ≡ (event_token event).0 → SomeIff (Some key) (FIRST_GUEST ≤ token) (token - FIRST_GUEST) → keys_told (event ∷ []) ≡ key ∷ []
+pub key_named : (event : Event) (token key : ℕ) → token ≡ (event_token event).0 → SomeIff (Some key) (MOST_DOORS ≤ token) (token - MOST_DOORS) → keys_told (event ∷ []) ≡ key ∷ []
 key_named event token key is some = grind (arith, nat_tests)
 
 -- an event tells of a door
-pub door_named : (event : Event) (token : ℕ) → token ≡ (event_token event).0 → ¬ (FIRST_GUEST ≤ token) → keys_told (event ∷ []) ≡ []
+pub door_named : (event : Event) (token : ℕ) → token ≡ (event_token event).0 → ¬ (MOST_DOORS ≤ token) → keys_told (event ∷ []) ≡ []
 door_named event token is none = grind (arith, nat_tests)
 
 -- one event more

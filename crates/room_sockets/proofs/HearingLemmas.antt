@@ -7,12 +7,12 @@ use Rattle.std.specs.Bool.{⊤}
 use Rattle.std.specs.List.{All, Contains}
 use Rattle.slab.specs.Slab.{Slab, get}
 use Rattle.sqlite_trees.specs.declared.store.Store.{Ghosts}
-use Rattle.room_served.specs.Journals.{Notes, Round, Told, applied, by_themselves, is_lost_of, list_of, open_of, round_alone, rounds_of, shares_of}
-use Rattle.room_served.specs.Turns.{Continues}
-use Rattle.room_served.specs.declared.entry.Entry.{Entry}
-use Rattle.room_served.specs.declared.served.Served.{Served}
-use Rattle.room_served.specs.declared.step.Next.{Next}
-use Rattle.room_served.specs.declared.step.Turn.{Turn}
+use Rattle.room_peers.specs.Journals.{Notes, Round, Told, applied, by_themselves, is_lost_of, list_of, open_of, round_alone, rounds_of, shares_of}
+use Rattle.room_peers.specs.Turns.{Continues}
+use Rattle.room_peers.specs.declared.entry.Entry.{Entry}
+use Rattle.room_peers.specs.declared.served.Served.{Served}
+use Rattle.room_peers.specs.declared.step.Next.{Next}
+use Rattle.room_peers.specs.declared.step.Turn.{Turn}
 use Rattle.room_sockets.proofs.Drives.{again_continues, turn_continues}
 use Rattle.room_sockets.proofs.HallSteps.{new_waits_not, served_waits_not}
 use Rattle.room_sockets.specs.Guests.{Turns, asked_in, in_round, is_waiting, of_socket}

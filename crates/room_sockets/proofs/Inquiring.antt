@@ -12,13 +12,13 @@ use Rattle.room_questions.specs.declared.question.Question.{Question}
 use Rattle.room_questions.specs.declared.question.Question.TheVariants.{Left, Ping}
 use Rattle.room_rules.specs.Devices.{Devices}
 use Rattle.room_serve.specs.LivesInFiles.{IsLifeIn}
-use Rattle.room_served.proofs.Finding as finding
-use Rattle.room_served.proofs.Running.{runs, was_clean}
-use Rattle.room_served.specs.Journals.{Round, Told, applied, by_themselves, journal_of, kept_in, open_of, rounds_of, shares_of, store_of}
-use Rattle.room_served.specs.Turns.{AnswersNext}
-use Rattle.room_served.specs.ServedRuns.{IsRunOf}
-use Rattle.room_served.specs.ServedLives.{told_to}
-use Rattle.room_served.specs.declared.served.Served.{Served}
+use Rattle.room_peers.proofs.Finding as finding
+use Rattle.room_peers.proofs.Running.{runs, was_clean}
+use Rattle.room_peers.specs.Journals.{Round, Told, applied, by_themselves, journal_of, kept_in, open_of, rounds_of, shares_of, store_of}
+use Rattle.room_peers.specs.Turns.{AnswersNext}
+use Rattle.room_peers.specs.ServedRuns.{IsRunOf}
+use Rattle.room_peers.specs.ServedLives.{told_to}
+use Rattle.room_peers.specs.declared.served.Served.{Served}
 use Rattle.room_sockets.proofs.Drives.{IsClean, IsServed}
 use Rattle.room_sockets.specs.EndToEnd.{AnswersBy, Concerns, IsFresh, LivesOn}
 use Rattle.room_state.specs.Rooms.{RoomValue}

@@ -9,36 +9,37 @@ use Rattle.slab.specs.Slab.{Slab, get}
 use Rattle.sqlite.specs.Held.{Held, state}
 use Rattle.sqlite.specs.State.{HasCleanDisk}
 use Rattle.sqlite_trees.specs.declared.store.Store.{Ghosts}
-use Rattle.room_served.proofs.Finding as finding
-use Rattle.room_served.specs.HttpPeers.{connection_of}
-use Rattle.room_served.specs.Journals.{Notes, Round, Told, applied, is_lost_of, journal_of, kept_in, list_of, open_of, rounds_of, shares_of, store_of}
-use Rattle.room_served.specs.Turns.{AppliesNext, Continues}
-use Rattle.room_served.specs.LastPeers.{left_of}
-use Rattle.room_served.specs.LastTexts.{last_text}
-use Rattle.room_served.specs.declared.entry.Entry.{Entry}
-use Rattle.room_served.specs.declared.last_peer.LastPeer.{LastPeer}
-use Rattle.room_served.specs.declared.line_connection.Side.{Side}
-use Rattle.room_served.specs.declared.line_peer.LinePeer.{LinePeer}
-use Rattle.room_served.specs.declared.served.Served.{Served}
-use Rattle.room_served.specs.declared.step.Next.{Next}
-use Rattle.room_served.specs.declared.step.Next.TheVariants.{Close}
-use Rattle.room_served.specs.declared.step.Turn.{Turn}
+use Rattle.room_peers.proofs.Finding as finding
+use Rattle.room_peers.specs.HttpPeers.{connection_of}
+use Rattle.room_peers.specs.Journals.{Notes, Round, Told, applied, is_lost_of, journal_of, kept_in, list_of, open_of, rounds_of, shares_of, store_of}
+use Rattle.room_peers.specs.Turns.{AppliesNext, Continues}
+use Rattle.room_peers.specs.LastPeers.{left_of}
+use Rattle.room_peers.specs.LinePeers.{lines_of}
+use Rattle.room_peers.specs.Lines.{IsNewOf}
+use Rattle.room_peers.specs.LastTexts.{last_text}
+use Rattle.room_peers.specs.declared.entry.Entry.{Entry}
+use Rattle.room_peers.specs.declared.last_peer.LastPeer.{LastPeer}
+use Rattle.room_peers.specs.declared.line_connection.Side.{Side}
+use Rattle.room_peers.specs.declared.line_peer.LinePeer.{LinePeer}
+use Rattle.room_peers.specs.declared.served.Served.{Served}
+use Rattle.room_peers.specs.declared.step.Next.{Next}
+use Rattle.room_peers.specs.declared.step.Next.TheVariants.{Close}
+use Rattle.room_peers.specs.declared.step.Turn.{Turn}
 use Rattle.room_sockets.proofs.Answering.{answered_longer, answered_within, none_there, places_behind, places_from, stand_behind, turn_answered}
 use Rattle.room_sockets.proofs.Drives.{IsClean, IsServed, again_continues, all_clean, as_served, like, served_by, served_continues, step_served, turn_continues}
 use Rattle.room_sockets.proofs.Inquiring.{grown_alone, grown_by, journal_is, lives_on, runs_so}
 use Rattle.room_sockets.specs.EndToEnd.{AnswersCalls, AreApart, StandAt, FromEndToEnd, IsAnswered, IsFoundAgain, IsFresh, TellsLast}
-use Rattle.room_sockets.specs.Guests.{AsksAgain, CameBy, IsNew, IsNewOf, Turns, asked_in, in_round, is_waiting, of_socket, peer_of}
+use Rattle.room_sockets.specs.Guests.{AsksAgain, CameBy, IsNew, Turns, asked_in, in_round, is_waiting, of_socket, peer_of}
 use Rattle.room_sockets.specs.Halls.{AreOthersKept, Ask, Begin, BeginsRound, Does, DoesAll, Drop, Enter, IsAtMoment, Leave, MayGo, Serve, Serves, Settle, SettlesRound, Step}
-use Rattle.room_sockets.specs.declared.doors.Kind.{Kind}
-use Rattle.room_sockets.specs.declared.doors.Kind.TheVariants.{Clients, Operators, Stations}
+use Rattle.room_sockets.specs.declared.doors.Speech.{Speech}
+use Rattle.room_sockets.specs.declared.doors.Speech.TheVariants as speech_is
 use Rattle.room_sockets.specs.declared.guest.Guest.{Guest}
 use Rattle.room_sockets.specs.declared.guest.Peer.{Peer}
 use Rattle.room_sockets.specs.declared.guest.Peer.TheVariants.{Http, Last, Lines}
 use Rattle.http_server.specs.Exchange.{Call}
 use Rattle.room_serve.specs.Crashes.{IsFound}
 use Rattle.room_serve.specs.LivesInFiles.{IsLifeIn}
-use Rattle.room_served.specs.ServedLives.{told_to}
-use Rattle.room_served.specs.declared.line_connection.Side.TheVariants as side_is
+use Rattle.room_peers.specs.ServedLives.{told_to}
 use Rattle.room_sockets.proofs.HearingLemmas.{none_asked}
 use Rattle.room_tables.specs.Crashes.{CrashesFindLastCommit}
 
@@ -99,7 +100,7 @@ module _ {S : Type 0} (store : Ghosts S) (before : Served S) (fresh : IsFresh be
 
   -- ---- who is answered
 
-  new_lines : (whose : Side) (peer : LinePeer) (journal : List Told) → IsNewOf whose peer → HasAnswer (Lines peer) [] journal
+  new_lines : (whose : Side) (peer : LinePeer) (journal : List Told) → IsNewOf whose (lines_of peer) → HasAnswer (Lines peer) [] journal
   new_lines whose peer journal is = record {
     calls = [];
     came = is.received ∙ sym is.input;
@@ -107,15 +108,14 @@ module _ {S : Type 0} (store : Ghosts S) (before : Served S) (fresh : IsFresh be
     answered = refl;
   }
 
-  new_answered : (kind : Kind) (peer : Peer) (journal : List Told) → CameBy kind peer → HasAnswer peer [] journal
-  new_answered Clients (Http peer) journal is = record {
+  new_answered : (speech : Speech) (peer : Peer) (journal : List Told) → CameBy speech peer → HasAnswer peer [] journal
+  new_answered speech_is.Http (Http peer) journal is = record {
     served = always_served (connection_of peer);
     mine = [];
     answered = subst (λ (calls : List Call). AnswersCalls calls []) (sym (ap (λ (h : History). h.calls) is)) refl;
     stand = tt;
   }
-  new_answered Stations (Lines peer) journal is = new_lines side_is.Station peer journal is
-  new_answered Operators (Lines peer) journal is = new_lines side_is.Operator peer journal is
+  new_answered (speech_is.Lines side) (Lines peer) journal is = new_lines side peer journal is
   new_answered _ _ journal is = absurd is
 
   longer : (peer : Peer) (places : List ℕ) (journal more all : List Told) → all ≡ journal ++ more → HasAnswer peer places journal → HasAnswer peer places all

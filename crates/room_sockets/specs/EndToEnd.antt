@@ -24,24 +24,24 @@ use Rattle.room_tables.specs.Calls.{IfOurTables}
 use Rattle.room_tables.specs.Crashes.{IsOnDisk}
 use Rattle.room_serve.specs.Crashes.{IsFound}
 use Rattle.room_serve.specs.LivesInFiles.{IsLifeIn}
-use Rattle.room_served.specs.Answers.{IsLost, IsRefusal, IsTold}
-use Rattle.room_served.specs.HttpPeers.{calls_of, connection_of}
-use Rattle.room_served.specs.Journals.{Told, journal_of, open_of, rounds_of, shares_of, store_of}
-use Rattle.room_served.specs.ServedRuns.{IsRunOf}
-use Rattle.room_served.specs.LastPeers.{left_of}
-use Rattle.room_served.specs.LastTexts.{last_text}
-use Rattle.room_served.specs.LinePeers.{LineCall, bytes_told, lines_of, taken}
-use Rattle.room_served.specs.Lines.{IsEntryOf, grammar_of, input_of, output_of, received_of, sent_of, side_of}
-use Rattle.room_served.specs.LineTexts.{answer_text, bad_line_text, line_text}
-use Rattle.room_served.specs.Requests.{asked, has_long_body}
-use Rattle.room_served.specs.ServedLives.{told_to}
-use Rattle.room_served.specs.declared.entry.Entry.TheVariants as entry
-use Rattle.room_served.specs.declared.http_peer.HttpPeer.{HttpPeer}
-use Rattle.room_served.specs.declared.last_peer.LastPeer.{LastPeer}
-use Rattle.room_served.specs.declared.line_connection.LineConnection.{LineConnection}
-use Rattle.room_served.specs.declared.line_connection.Side.{Side}
-use Rattle.room_served.specs.declared.line_connection.Side.TheVariants.{Operator}
-use Rattle.room_served.specs.declared.served.Served.{Served}
+use Rattle.room_peers.specs.Answers.{IsLost, IsRefusal, IsTold}
+use Rattle.room_peers.specs.HttpPeers.{calls_of, connection_of}
+use Rattle.room_peers.specs.Journals.{Told, journal_of, open_of, rounds_of, shares_of, store_of}
+use Rattle.room_peers.specs.ServedRuns.{IsRunOf}
+use Rattle.room_peers.specs.LastPeers.{left_of}
+use Rattle.room_peers.specs.LastTexts.{last_text}
+use Rattle.room_peers.specs.LinePeers.{LineCall, bytes_told, lines_of, taken}
+use Rattle.room_peers.specs.Lines.{IsEntryOf, grammar_of, input_of, output_of, received_of, sent_of, side_of}
+use Rattle.room_peers.specs.LineTexts.{answer_text, bad_line_text, line_text}
+use Rattle.room_peers.specs.Requests.{asked, has_long_body}
+use Rattle.room_peers.specs.ServedLives.{told_to}
+use Rattle.room_peers.specs.declared.entry.Entry.TheVariants as entry
+use Rattle.room_peers.specs.declared.http_peer.HttpPeer.{HttpPeer}
+use Rattle.room_peers.specs.declared.last_peer.LastPeer.{LastPeer}
+use Rattle.room_peers.specs.declared.line_connection.LineConnection.{LineConnection}
+use Rattle.room_peers.specs.declared.line_connection.Side.{Side}
+use Rattle.room_peers.specs.declared.line_connection.Side.TheVariants.{Operator}
+use Rattle.room_peers.specs.declared.served.Served.{Served}
 use Rattle.room_sockets.specs.Guests.{asked_in, peer_of}
 use Rattle.room_sockets.specs.Halls.{DoesAll, Step}
 use Rattle.room_sockets.specs.declared.guest.Guest.{Guest}

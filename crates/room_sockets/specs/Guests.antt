@@ -4,22 +4,19 @@ use Rattle.http_server.specs.Connection.{history}
 use Rattle.http_server.specs.History.{new_history}
 use Rattle.slab.specs.Slab.{Slab, get}
 use Rattle.sqlite_trees.specs.declared.store.Store.{Ghosts}
-use Rattle.room_served.specs.HttpPeers as http
-use Rattle.room_served.specs.Journals.{is_lost_of, list_of}
-use Rattle.room_served.specs.LastPeers as last
-use Rattle.room_served.specs.LinePeers as lines
-use Rattle.room_served.specs.Streams.{Ends}
-use Rattle.room_served.specs.Lines.{input_of, output_of, received_of, sent_of, side_of}
-use Rattle.room_served.specs.declared.entry.Entry.{Entry}
-use Rattle.room_served.specs.declared.line_connection.Side.{Side}
-use Rattle.room_served.specs.declared.line_connection.Side.TheVariants as side_is
-use Rattle.room_served.specs.declared.line_peer.LinePeer.{LinePeer}
-use Rattle.room_served.specs.declared.served.Served.{Served}
-use Rattle.room_served.specs.declared.step.Next.{Next}
-use Rattle.room_served.specs.declared.step.Next.TheVariants.{Hold, Wait}
-use Rattle.room_served.specs.declared.step.Turn.{Turn}
-use Rattle.room_sockets.specs.declared.doors.Kind.{Kind}
-use Rattle.room_sockets.specs.declared.doors.Kind.TheVariants.{Clients, Operators, Stations}
+use Rattle.room_peers.specs.HttpPeers as http
+use Rattle.room_peers.specs.Journals.{is_lost_of, list_of}
+use Rattle.room_peers.specs.LastPeers as last
+use Rattle.room_peers.specs.LinePeers as lines
+use Rattle.room_peers.specs.Streams.{Ends}
+use Rattle.room_peers.specs.Lines.{IsNewOf}
+use Rattle.room_peers.specs.declared.entry.Entry.{Entry}
+use Rattle.room_peers.specs.declared.served.Served.{Served}
+use Rattle.room_peers.specs.declared.step.Next.{Next}
+use Rattle.room_peers.specs.declared.step.Next.TheVariants.{HeldBack, Wait}
+use Rattle.room_peers.specs.declared.step.Turn.{Turn}
+use Rattle.room_sockets.specs.declared.doors.Speech.{Speech}
+use Rattle.room_sockets.specs.declared.doors.Speech.TheVariants as speech_is
 use Rattle.room_sockets.specs.declared.guest.Guest.{Guest}
 use Rattle.room_sockets.specs.declared.guest.Peer.{Peer}
 use Rattle.room_sockets.specs.declared.guest.Peer.TheVariants.{Http, Last, Lines}
@@ -44,24 +41,15 @@ NobodyWaits guests = (key : ℕ) → is_waiting (get guests key) ≡ false
 abbrev pub turns_of : Guest → List (Turn × Next)
 turns_of guest = guest.turns.items
 
--- nothing came yet, and nothing went, and it is the one side's
-pub record IsNewOf (whose : Side) (peer : LinePeer) : Type 0 where
-  pub side : side_of (lines.lines_of peer) ≡ whose
-  pub input : input_of (lines.lines_of peer) ≡ []
-  pub output : output_of (lines.lines_of peer) ≡ []
-  pub received : received_of (lines.lines_of peer) ≡ []
-  pub sent : sent_of (lines.lines_of peer) ≡ []
-
 -- who came in by a door speaks what that door is for, and nothing came of it yet
-abbrev pub CameBy : Kind → Peer → Type 0
-CameBy Clients (Http peer) = history (http.connection_of peer) ≡ new_history
-CameBy Stations (Lines peer) = IsNewOf side_is.Station peer
-CameBy Operators (Lines peer) = IsNewOf side_is.Operator peer
+abbrev pub CameBy : Speech → Peer → Type 0
+CameBy speech_is.Http (Http peer) = history (http.connection_of peer) ≡ new_history
+CameBy (speech_is.Lines side) (Lines peer) = IsNewOf side (lines.lines_of peer)
 CameBy _ _ = ⊥
 
 -- it came in by a door, and had no turn yet
 abbrev pub IsNew : Guest → Type 0
-IsNew guest = (kind : Kind) × CameBy kind (peer_of guest) × (turns_of guest ≡ [])
+IsNew guest = (speech : Speech) × CameBy speech (peer_of guest) × (turns_of guest ≡ [])
     × (asked_in guest ≡ [])
 
 -- each whole request that came has its call, or no line is whole where nothing waits to go, or what
@@ -113,7 +101,7 @@ module _ {S : Type 0} (store : Ghosts S) where
     pub takes : TakesTurn of_socket of_socket next begun (peer_of after) mid new
     pub asked : asked_in after ≡ []
     pub rests : next ≡ Wait → IsAtRest (peer_of after)
-    pub holds : next ≡ Hold → IsFalse turn.has_room
+    pub holds : next ≡ HeldBack → IsFalse turn.has_room
     pub turns : turns_of after ≡ turns_of before ++ (turn, next) ∷ []
 
   -- The same in a round, of which nothing goes to it. What it asks is kept with it, for its turn
@@ -125,7 +113,7 @@ module _ {S : Type 0} (store : Ghosts S) where
         (record old { asked = before.asked }) left
     pub asked : after.asked ≡ left.asked
     pub same : new ≡ record left { asked = None }
-    pub holds : next ≡ Hold → IsFalse turn.has_room
+    pub holds : next ≡ HeldBack → IsFalse turn.has_room
     pub turns : turns_of after ≡ turns_of before ++ (turn, next) ∷ []
 
   abbrev pub Turns : (shares : Bool) (turn : Turn) (next : Next) (before after : Guest)

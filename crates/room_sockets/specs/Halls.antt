@@ -7,16 +7,16 @@ use Rattle.mio.specs.declared.event.event.Event.{Event}
 use Rattle.mio.specs.declared.token.Token.{Token}
 use Rattle.slab.specs.Slab.{Slab, SameValues, get}
 use Rattle.sqlite_trees.specs.declared.store.Store.{Ghosts}
-use Rattle.room_served.specs.Journals.{shares_of}
-use Rattle.room_served.specs.Rounds.{IsBegun, IsNotBegun, IsSettled}
-use Rattle.room_served.specs.declared.served.Served.{Served}
-use Rattle.room_served.specs.declared.step.Next.{Next}
-use Rattle.room_served.specs.declared.step.Next.TheVariants.{Again, Close, Part}
-use Rattle.room_served.specs.declared.step.Turn.{Turn}
+use Rattle.room_peers.specs.Journals.{shares_of}
+use Rattle.room_peers.specs.Rounds.{IsBegun, IsNotBegun, IsSettled}
+use Rattle.room_peers.specs.declared.served.Served.{Served}
+use Rattle.room_peers.specs.declared.step.Next.{Next}
+use Rattle.room_peers.specs.declared.step.Next.TheVariants.{Again, Close, Part}
+use Rattle.room_peers.specs.declared.step.Turn.{Turn}
 use Rattle.room_sockets.specs.Guests.{IsNew, NobodyWaits, Turns, is_waiting}
 use Rattle.room_sockets.specs.declared.guest.Guest.{Guest}
 use Rattle.room_sockets.specs.declared.hall.Hall.{Hall}
-use Rattle.room_sockets.specs.declared.hall.TheConstants.{FIRST_GUEST}
+use Rattle.room_sockets.specs.declared.hall.TheConstants.{MOST_DOORS}
 
 -- the peers that are there, each with its socket and its connection, by their keys
 abbrev pub guests_of : Hall → Slab Guest
@@ -24,7 +24,7 @@ guests_of hall = hall.peers.guests
 
 -- the key of the peer whose token it is, or none where it is a door's
 abbrev pub key_of : Token → Option ℕ
-key_of token = if nat_le FIRST_GUEST token.0 then Some (token.0 - FIRST_GUEST) else None
+key_of token = if nat_le MOST_DOORS token.0 then Some (token.0 - MOST_DOORS) else None
 
 -- the key of the peer of whom an event tells
 abbrev pub key_told : Event → Option ℕ

@@ -3,9 +3,9 @@ use Rattle.std.specs.Prelude.{◌≡◌, ℕ, Bool, true, false, List, ◌∷◌
 use Rattle.std.specs.List.{Contains}
 use Rattle.slab.specs.Slab.{Slab, get}
 use Rattle.sqlite_trees.specs.declared.store.Store.{Ghosts}
-use Rattle.room_served.specs.Journals.{Round, Told, by_themselves, is_lost_of, open_of, rounds_of, shares_of}
-use Rattle.room_served.specs.declared.entry.Entry.{Entry}
-use Rattle.room_served.specs.declared.served.Served.{Served}
+use Rattle.room_peers.specs.Journals.{Round, Told, by_themselves, is_lost_of, open_of, rounds_of, shares_of}
+use Rattle.room_peers.specs.declared.entry.Entry.{Entry}
+use Rattle.room_peers.specs.declared.served.Served.{Served}
 use Rattle.room_sockets.specs.Guests.{NobodyWaits, asked_in}
 use Rattle.room_sockets.specs.Halls.{DoesAll, Step}
 use Rattle.room_sockets.specs.declared.guest.Guest.{Guest}

@@ -1,3 +1,4 @@
+pub mod Doors
 pub mod Guests
 pub mod Halls
 pub mod Hearing

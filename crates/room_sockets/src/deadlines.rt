@@ -1,7 +1,6 @@
 //! Whom a hall drops since it took too long.
 ghost use Rattle.room_sockets.specs.Halls.{OnlyLeave};
 
-use crate::doors::MOST_GUESTS;
 use crate::hall::Peers;
 
 /// How often, in milliseconds, the deadlines are looked at, and a door where somebody may wait.
@@ -17,7 +16,7 @@ impl Peers {
             return;
         }
         self.dropped_late_at = ticks;
-        for key in 0..MOST_GUESTS {
+        for key in 0..self.most_guests {
             self.drop_if_late(key, ticks);
         }
     }

@@ -1,81 +1,86 @@
 //! The doors of a hall, and who comes in by them.
 
-ghost use Rattle.std.specs.Prelude.{◌≡◌};
+ghost use Rattle.std.specs.Prelude.{◌≡◌, ◌≤◌, IfSome, map, sum};
+ghost use Rattle.room_sockets.specs.Doors.{kind_of, most_of};
 ghost use Rattle.room_sockets.specs.Halls.{OnlyEnter};
 
 use crate::door::Door;
 use crate::guest::{Guest, Peer};
 use crate::hall::Peers;
 use crate::stream::Stream;
-use room_served::{HttpPeer, LinePeer, Side};
+use room_peers::{HttpPeer, LinePeer, Side};
 use std::alloc::Global;
 use std::hash::RandomState;
 use std::io::ErrorKind;
 
-/// The most peers of each door, so that those of one never keep out those of another.
-const MOST_CLIENTS: usize = 768;
+/// The most peers of all doors together.
+pub(crate) const MOST_GUESTS: usize = 4_096;
 
-const MOST_STATIONS: usize = 192;
-
-const MOST_OPERATORS: usize = 64;
-
-/// The most peers of all.
-pub(crate) const MOST_GUESTS: usize = MOST_CLIENTS + MOST_STATIONS + MOST_OPERATORS;
-
-/// The doors by which peers come in.
-#[derive(Drop)]
-pub struct Doors {
-    /// IPP over HTTP.
-    pub http: Door,
-    /// Lines of stations.
-    pub stations: Door,
-    /// Lines of operators.
-    pub operators: Door,
-}
-
-/// Who comes in by a door.
+/// What is spoken by whoever comes in by a door.
 #[derive(Clone, Copy, Debug, PartialEq, Eq)]
-pub(crate) enum Kind {
-    Clients,
-    Stations,
-    Operators,
+pub enum Speech {
+    /// HTTP, with the service of the queues.
+    Http,
+    /// Lines of a side.
+    Lines(Side),
 }
 
-impl Kind {
+impl Speech {
     ghost use Rattle.room_sockets.specs.Guests.{CameBy};
-
-    fn most(self) -> usize {
-        match self {
-            Kind::Clients => MOST_CLIENTS,
-            Kind::Stations => MOST_STATIONS,
-            Kind::Operators => MOST_OPERATORS,
-        }
-    }
 
     /// Who came in just now.
     fn peer(self, alloc: Global, keys: RandomState, ticks: u64) -> Peer
         ensures { CameBy self result }
     {
         match self {
-            Kind::Clients => Peer::Http(HttpPeer::new(alloc, keys, ticks)),
-            Kind::Stations => Peer::Lines(LinePeer::new(alloc, Side::Station, ticks)),
-            Kind::Operators => Peer::Lines(LinePeer::new(alloc, Side::Operator, ticks)),
+            Speech::Http => Peer::Http(HttpPeer::new(alloc, keys, ticks)),
+            Speech::Lines(side) => Peer::Lines(LinePeer::new(alloc, side, ticks)),
         }
     }
 }
 
-/// A door, and how many peers that came in by it are there.
+/// What a door is for.
+#[derive(Clone, Copy, Debug, PartialEq, Eq)]
+pub struct Kind {
+    pub speech: Speech,
+    /// The most peers who came in by the door and are there. So those of one door never keep out
+    /// those of another.
+    pub most: usize,
+}
+
+impl Kind {
+    /// Clients, at the queues.
+    pub const CLIENTS: Kind = Kind {
+        speech: Speech::Http,
+        most: 768,
+    };
+
+    pub const STATIONS: Kind = Kind {
+        speech: Speech::Lines(Side::Station),
+        most: 192,
+    };
+
+    pub const OPERATORS: Kind = Kind {
+        speech: Speech::Lines(Side::Operator),
+        most: 64,
+    };
+}
+
+/// A door of a kind, and how many peers that came in by it are there.
 #[derive(Drop)]
-pub(crate) struct Entrance {
-    pub door: Door,
-    pub kind: Kind,
-    pub guests: usize,
+pub struct Entrance {
+    pub(crate) door: Door,
+    pub(crate) kind: Kind,
+    pub(crate) guests: usize,
     /// Somebody may wait, of whom the system will not tell again.
-    pub waits: bool,
+    pub(crate) waits: bool,
 }
 
 impl Entrance {
-    pub(crate) fn new(door: Door, kind: Kind) -> Entrance {
+    /// A door by which nobody came in yet.
+    pub fn new(door: Door, kind: Kind) -> Entrance
+        ensures { kind_of result ≡ kind }
+    {
         Entrance {
             door,
             kind,
@@ -84,9 +89,28 @@ impl Entrance {
         }
     }
 
-    fn is_full(&self) -> bool {
-        self.guests >= self.kind.most()
+    /// The port on which it listens, if it does on one.
+    pub fn port(&self) -> Option<u16> {
+        self.door.port()
     }
+
+    fn is_full(&self) -> bool {
+        self.guests >= self.kind.most
+    }
+}
+
+/// How many peers the doors let in together, where that is no more than `MOST_GUESTS`.
+pub(crate) fn most_guests(doors: &[Entrance]) -> Option<usize>
+    ensures { IfSome result (λ most. (most ≡ sum (map most_of doors.now)) × (most ≤ MOST_GUESTS)) }
+{
+    let mut most = 0;
+    for entrance in doors {
+        if entrance.kind.most > MOST_GUESTS - most {
+            return None;
+        }
+        most += entrance.kind.most;
+    }
+    Some(most)
 }
 
 impl Peers {
@@ -112,7 +136,7 @@ impl Peers {
     fn admit(&mut self, place: usize, ticks: u64)
         ensures { OnlyEnter self.old.guests self.new.guests }
     {
-        for _ in 0..MOST_GUESTS {
+        for _ in 0..self.most_guests {
             let Some(entrance) = self.entrances.get_mut(place) else {
                 return;
             };
@@ -121,8 +145,8 @@ impl Peers {
             }
             match entrance.door.accept() {
                 Ok(stream) => {
-                    let kind = entrance.kind;
-                    self.take_in(stream, kind, place, ticks);
+                    let speech = entrance.kind.speech;
+                    self.take_in(stream, speech, place, ticks);
                 }
                 Err(error) => {
                     // Where it is for want of descriptors, say, the next tick tries again.
@@ -134,10 +158,10 @@ impl Peers {
     }
 
     /// Takes a peer in, or drops it where the system or the memory has no room.
-    fn take_in(&mut self, stream: Stream, kind: Kind, place: usize, ticks: u64)
+    fn take_in(&mut self, stream: Stream, speech: Speech, place: usize, ticks: u64)
         ensures { OnlyEnter self.old.guests self.new.guests }
     {
-        let peer = kind.peer(self.alloc, self.keys, ticks);
+        let peer = speech.peer(self.alloc, self.keys, ticks);
         let mut guest = Guest::new(stream, peer, place);
         let key = self.guests.vacant_key();
         if guest

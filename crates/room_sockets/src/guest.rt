@@ -1,14 +1,14 @@
 //! A peer that came in: its socket, and what it speaks.
 
 ghost use Rattle.std.specs.Prelude.{◌≡◌, [], false, IsFalse};
-ghost use Rattle.room_served.specs.Journals.{is_lost_of, shares_of};
-ghost use Rattle.room_served.specs.Turns.{Continues};
+ghost use Rattle.room_peers.specs.Journals.{is_lost_of, shares_of};
+ghost use Rattle.room_peers.specs.Turns.{Continues};
 ghost use Rattle.room_sockets.specs.Guests.{AsksAgain, AsksTurn, HasTurn, IsAtRest, TakesTurn, Turns, asked_in, peer_of, turns_of};
 
 use crate::stream::{Stream, Unsent};
 use http_server::Log;
 use mio::{Interest, Registry, Token};
-use room_served::{Entry, HttpPeer, LARGE, LastPeer, LinePeer, Next, Patience, Served, Turn};
+use room_peers::{Entry, HttpPeer, LARGE, LastPeer, LinePeer, Next, Patience, Served, Turn};
 use sqlite::Alter;
 use std::alloc::Global;
 use std::io;
@@ -47,7 +47,7 @@ impl Peer {
             served.old served.new }
         ensures continues { Continues S.Store served.old served.new }
         ensures rests { result ≡ Next.Wait → IsAtRest self.new }
-        ensures holds { result ≡ Next.Hold → IsFalse turn.has_room }
+        ensures holds { result ≡ Next.HeldBack → IsFalse turn.has_room }
     {
         match self {
             Peer::Http(peer) => peer.drive(reader, writer, served, turn),
@@ -187,11 +187,11 @@ impl Guest {
     }
 
     /// How many bytes it holds.
-    pub(crate) fn held(&self) -> usize {
+    pub(crate) fn bytes_held(&self) -> usize {
         match &self.peer {
-            Peer::Http(peer) => peer.held(),
-            Peer::Lines(peer) => peer.held(),
-            Peer::Last(peer) => peer.held(),
+            Peer::Http(peer) => peer.bytes_held(),
+            Peer::Lines(peer) => peer.bytes_held(),
+            Peer::Last(peer) => peer.bytes_held(),
         }
     }
 
@@ -199,8 +199,8 @@ impl Guest {
     pub(crate) fn is_large(&self) -> bool {
         match &self.peer {
             Peer::Http(peer) => peer.is_large(),
-            Peer::Lines(peer) => peer.held() > LARGE,
-            Peer::Last(peer) => peer.held() > LARGE,
+            Peer::Lines(peer) => peer.bytes_held() > LARGE,
+            Peer::Last(peer) => peer.bytes_held() > LARGE,
         }
     }
 
@@ -226,7 +226,7 @@ impl Guest {
 
     /// Whether nothing was begun on it, and it keeps the room of a large request.
     pub(crate) fn rests_on_room(&self) -> bool {
-        self.patience().rests() && self.held() > LARGE
+        self.patience().rests() && self.bytes_held() > LARGE
     }
 }
 

@@ -1,34 +1,37 @@
 //! The peers of all doors, and the loop that waits for them.
 
-ghost use Rattle.std.specs.Prelude.{◌≡◌, ◌≢◌, ◌≤◌, [], ◌∷◌, false, IfOk, None, Some, IsFalse, IsTrue};
+ghost use Rattle.std.specs.Prelude.{◌≡◌, ◌≢◌, ◌≤◌, [], ◌∷◌, false, IfOk, OnOk, None, Some, IsFalse, IsTrue, map, sum, vec_len};
+ghost use Rattle.std.specs.IoError.{error_kind};
 ghost use Rattle.mio.specs.Events.{items};
 ghost use Rattle.slab.specs.Slab.{SameValues, get};
-ghost use Rattle.room_served.specs.Journals.{open_of, shares_of};
-ghost use Rattle.room_served.specs.Rounds.{Follows};
+ghost use Rattle.room_peers.specs.Journals.{open_of, shares_of};
+ghost use Rattle.room_peers.specs.Rounds.{Follows};
+ghost use Rattle.room_sockets.specs.Doors.{most_of};
 ghost use Rattle.room_sockets.specs.Guests.{NobodyWaits};
 
 use crate::clock::{moment, ticks};
 use crate::deadlines::TICK;
-use crate::doors::{Doors, Entrance, Kind, MOST_GUESTS};
+use crate::doors::{Entrance, MOST_GUESTS, most_guests};
 use crate::guest::Guest;
 use crate::pace::Pace;
 use crate::stock::Stock;
 use mio::event::Event;
 use mio::{Events, Interest, Poll, Token};
-use room_served::{Next, Served, Turn};
+use room_peers::{Next, Served, Turn};
 use slab::Slab;
 use sqlite::Alter;
 use std::alloc::Global;
 use std::hash::RandomState;
 use std::io;
+use std::io::ErrorKind;
 use std::net::Net;
 use std::time::{Clock, Duration};
 
 /// How many events are taken from the system at once. So many peers at most share a commit.
 const MOST_EVENTS: usize = 64;
 
-/// The doors have the first tokens, and their guests those from here on.
-pub(crate) const FIRST_GUEST: usize = 3;
+/// The most doors of a hall. They have the tokens below this, and guests those from here on.
+pub(crate) const MOST_DOORS: usize = 64;
 
 /// The peers of all doors, and what the system told of them last.
 #[derive(Drop)]
@@ -47,6 +50,8 @@ pub(crate) struct Peers {
     pub(crate) poll: Poll,
     pub(crate) entrances: Vec<Entrance>,
     pub(crate) guests: Slab<Guest>,
+    /// How many the doors let in together. The keys of guests are below this.
+    pub(crate) most_guests: usize,
     pub(crate) stock: Stock,
     pace: Pace,
     /// When the deadlines were looked at last.
@@ -57,26 +62,39 @@ impl Hall {
     ghost use Rattle.room_sockets.specs.EndToEnd.{IsFresh, IsWhole};
     ghost use Rattle.room_sockets.specs.Halls.{GoesOn, IsEmpty, ServesThose, guests_of, told_by};
 
-    /// A hall with nobody in it. `keys` are secret, since peers choose the names of fields.
+    /// A hall behind these doors, with nobody in it. `keys` are secret, since peers choose the names
+    /// of fields. `InvalidInput` where there are more doors than a hall has, or they let in more
+    /// peers together.
     pub fn open<R: Net + Clock + Alloc<A = Global>>(
         rt: &R,
-        doors: Doors,
+        doors: Vec<Entrance>,
+        keys: RandomState,
+    ) -> io::Result<Hall>
+        ensures empty { IfOk result IsEmpty }
+        ensures doors { OnOk result (vec_len doors ≤ MOST_DOORS) }
+        ensures guests { OnOk result (sum (map most_of doors.items) ≤ MOST_GUESTS) }
+    {
+        if doors.len() > MOST_DOORS {
+            return Err(too_many("a hall has 64 doors at most"));
+        }
+        match most_guests(doors.as_slice()) {
+            Some(most) => Hall::open_for(rt, doors, most, keys),
+            None => Err(too_many("a hall has 4096 peers at most")),
+        }
+    }
+
+    /// A hall behind these doors, which let in so many peers.
+    fn open_for<R: Net + Clock + Alloc<A = Global>>(
+        rt: &R,
+        mut doors: Vec<Entrance>,
+        most_guests: usize,
         keys: RandomState,
     ) -> io::Result<Hall>
         ensures { IfOk result IsEmpty }
     {
         let alloc = rt.alloc();
         let poll = Poll::new(rt)?;
-        let Doors {
-            http,
-            stations,
-            operators,
-        } = doors;
-        let mut entrances = Vec::with_capacity(alloc, FIRST_GUEST)?;
-        entrances.push(Entrance::new(http, Kind::Clients))?;
-        entrances.push(Entrance::new(stations, Kind::Stations))?;
-        entrances.push(Entrance::new(operators, Kind::Operators))?;
-        for (place, entrance) in entrances.iter_mut().enumerate() {
+        for (place, entrance) in doors.iter_mut().enumerate() {
             poll.registry()
                 .register(&mut entrance.door, Token(place), Interest::READABLE)?;
         }
@@ -85,8 +103,9 @@ impl Hall {
             alloc,
             keys,
             poll,
-            entrances,
-            guests: Slab::with_capacity(alloc, MOST_GUESTS)?,
+            entrances: doors,
+            guests: Slab::with_capacity(alloc, most_guests)?,
+            most_guests,
             stock: Stock::new(),
             pace: Pace::new(ticks(rt)?),
             dropped_late_at: 0,
@@ -104,7 +123,7 @@ impl Hall {
             → IsWhole S.Store (guests_of self.new) served.old served.new }
     {
         for _ in 0..u64::MAX {
-            self.turn(clock, served)?;
+            self.pass(clock, served)?;
         }
         Ok(())
     }
@@ -112,7 +131,7 @@ impl Hall {
     /// Waits until something comes, or a deadline may have passed, and serves those who can go on.
     /// Where the system told of several, what they ask shares a commit, and nobody is answered before
     /// it.
-    pub fn turn<S: Alter>(&mut self, clock: &impl Clock, served: &mut Served<S>) -> io::Result<()>
+    pub fn pass<S: Alter>(&mut self, clock: &impl Clock, served: &mut Served<S>) -> io::Result<()>
         ensures goes_on { GoesOn S.Store (guests_of self.old) (guests_of self.new)
             served.old served.new }
         ensures follows { shares_of served.old ≡ false → open_of served.old ≡ []
@@ -130,6 +149,12 @@ impl Hall {
         self.peers.drop_late(ticks);
         Ok(())
     }
+}
+
+fn too_many(words: &str) -> io::Error
+    ensures { error_kind result ≡ ErrorKind.InvalidInput }
+{
+    io::Error::new(ErrorKind::InvalidInput, words)
 }
 
 impl Peers {
@@ -166,7 +191,7 @@ impl Peers {
             self.old.guests self.new.guests served.old served.new }
     {
         let token = event.token().0;
-        match token.checked_sub(FIRST_GUEST) {
+        match token.checked_sub(MOST_DOORS) {
             Some(key) => {
                 self.serve(clock, key, served, event.is_read_closed());
                 self.free_memory(clock, served);
@@ -204,10 +229,10 @@ impl Peers {
         let Some(guest) = self.guests.get_mut(key) else {
             return;
         };
-        let before = guest.held();
+        let before = guest.bytes_held();
         let next = guest.drive(alloc, served, turn);
         self.stock
-            .changed(key, before, guest.held(), guest.is_large());
+            .changed(key, before, guest.bytes_held(), guest.is_large());
         self.after_turn(key, next, shares);
     }
 
@@ -217,14 +242,14 @@ impl Peers {
             (get self.old.guests key) (get self.new.guests key) }
         ensures others { AreOthersKept key self.old.guests self.new.guests }
     {
-        if !self.keeps(key, next, shares) {
+        if !self.goes_on_after(key, next, shares) {
             self.close(key);
         }
     }
 
     /// Whether the peer stays after a turn. A turn in a round is followed by another, so the system
     /// need not tell again.
-    fn keeps(&mut self, key: usize, next: Next, shares: bool) -> bool
+    fn goes_on_after(&mut self, key: usize, next: Next, shares: bool) -> bool
         ensures same { SameValues self.old.guests self.new.guests }
         ensures goes { IsFalse result → MayLeave next }
         ensures stays { IsTrue result → next ≢ Next.Close }
@@ -232,8 +257,8 @@ impl Peers {
         match next {
             Next::Wait | Next::Parted => true,
             Next::Again => shares || self.rearm(key),
-            Next::Hold => {
-                self.stock.hold();
+            Next::HeldBack => {
+                self.stock.hold_back();
                 true
             }
             Next::Part => self.end(key) && self.rearm(key),
@@ -265,7 +290,7 @@ impl Peers {
         ensures others { AreOthersKept key self.old.guests self.new.guests }
     {
         if let Some(guest) = self.guests.try_remove(key) {
-            self.stock.left(key, guest.held());
+            self.stock.left(key, guest.bytes_held());
             if let Some(entrance) = self.entrances.get_mut(guest.door()) {
                 entrance.guests = entrance.guests.saturating_sub(1);
             }
@@ -276,6 +301,6 @@ impl Peers {
     pub(crate) fn token_of(key: usize) -> Token
         ensures { key ≤ MOST_GUESTS → key_of result ≡ Some key }
     {
-        Token(key.saturating_add(FIRST_GUEST))
+        Token(key.saturating_add(MOST_DOORS))
     }
 }

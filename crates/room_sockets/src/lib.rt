@@ -1,5 +1,5 @@
-//! The sockets of one process for everybody: three doors, a connection for each peer that came in
-//! by one, and the loop that waits for them.
+//! The sockets of one process for everybody: doors, a connection for each peer that came in by one,
+//! and the loop that waits for them.
 #![tactic(auto)]
 
 mod clock;
@@ -17,6 +17,6 @@ mod stream;
 
 pub use clock::moment;
 pub use door::Door;
-pub use doors::Doors;
+pub use doors::{Entrance, Kind, Speech};
 pub use hall::Hall;
 pub use laws::{always_hear, from_end_to_end};

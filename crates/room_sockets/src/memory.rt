@@ -5,9 +5,8 @@ ghost use Rattle.std.specs.Prelude.{[]};
 ghost use Rattle.slab.specs.Slab.{get};
 ghost use Rattle.room_sockets.specs.Halls.{AreOthersKept, MayGo, OnlyLeave, ServesEach};
 
-use crate::doors::MOST_GUESTS;
 use crate::hall::Peers;
-use room_served::Served;
+use room_peers::Served;
 use sqlite::Alter;
 use std::time::Clock;
 
@@ -20,7 +19,7 @@ impl Peers {
         if !self.stock.is_over() {
             return;
         }
-        for key in 0..MOST_GUESTS {
+        for key in 0..self.most_guests {
             self.free_memory_of(clock, key, served);
         }
     }
@@ -55,7 +54,7 @@ impl Peers {
     fn resume_all_held_back(&mut self)
         ensures { OnlyLeave self.old.guests self.new.guests }
     {
-        for key in 0..MOST_GUESTS {
+        for key in 0..self.most_guests {
             self.resume_if_held_back(key);
         }
     }
@@ -83,9 +82,9 @@ impl Peers {
     }
 
     fn least_held_back(&self) -> Option<usize> {
-        (0..MOST_GUESTS)
+        (0..self.most_guests)
             .filter(|key| self.is_held_back(*key))
-            .min_by_key(|key| self.guests.get(*key).map(|guest| guest.held()))
+            .min_by_key(|key| self.guests.get(*key).map(|guest| guest.bytes_held()))
     }
 
     fn has_large_answer(&self, key: usize) -> bool {

@@ -4,10 +4,10 @@ ghost use Rattle.std.specs.Prelude.{◌∷◌, []};
 ghost use Rattle.mio.specs.Events.{items};
 ghost use Rattle.room_sockets.specs.Halls.{OnlyAsk, SharesRound, keys_told};
 
-use crate::hall::{FIRST_GUEST, Peers};
+use crate::hall::{MOST_DOORS, Peers};
 use mio::Events;
 use mio::event::Event;
-use room_served::Served;
+use room_peers::Served;
 use sqlite::Alter;
 use std::time::Clock;
 
@@ -48,7 +48,7 @@ impl Peers {
             self.old.guests self.new.guests served.old served.new }
     {
         let token = event.token().0;
-        if let Some(key) = token.checked_sub(FIRST_GUEST) {
+        if let Some(key) = token.checked_sub(MOST_DOORS) {
             if served.is_shared() && !served.is_full() && self.stock.has_room(key) {
                 self.serve(clock, key, served, event.is_read_closed());
             }

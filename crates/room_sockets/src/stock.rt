@@ -3,7 +3,7 @@
 ghost use Rattle.std.specs.Prelude.{◌≡◌, ◌≢◌, ◌⊎◌, ◌↔◌, ◌+◌, ◌-◌, ◌<◌, ◌^◌, true, false, IsFalse, IsSome, IsTrue, None, Some};
 ghost use Rattle.room_sockets.specs.Stocks.{favoured_of, has_plenty, held_of, holds_back_of, most_held};
 
-use room_served::LONGEST;
+use room_peers::LONGEST;
 
 /// The bytes that all connections hold together, at most, but for the documents of one start.
 const MOST_HELD: usize = 268_435_456;
@@ -55,7 +55,7 @@ impl Stock {
     }
 
     /// A peer was held back.
-    pub(crate) fn hold(&mut self)
+    pub(crate) fn hold_back(&mut self)
         ensures holds_back { holds_back_of self.new ≡ true }
         ensures held { held_of self.new ≡ held_of self.old }
         ensures favoured { favoured_of self.new ≡ favoured_of self.old }

@@ -1,12 +1,12 @@
 //! A peer's socket, of TCP or in the file system.
 ghost use Rattle.std.specs.Prelude.{◌≡◌, false};
 ghost use Rattle.std.specs.Io.{ReadsAtMost, WritesAtMost};
-ghost use Rattle.room_served.specs.Journals.{shares_of};
+ghost use Rattle.room_peers.specs.Journals.{shares_of};
 
 use mio::event::Source;
 use mio::net::{TcpStream, UnixStream};
 use mio::{Interest, Registry, Token};
-use room_served::Served;
+use room_peers::Served;
 use sqlite::Alter;
 use std::io;
 use std::io::{ErrorKind, Read, Write};

@@ -7,7 +7,7 @@ use crate::report::Report;
 use crate::sends::Ending;
 use room_client::{ClientFault, HexLines, Keeper, Outcome, Peer, send_grants, send_lines};
 use room_input::Counted;
-use room_served::MOST_LINE;
+use room_peers::MOST_LINE;
 use std::io;
 use std::io::{BufReader, Write};
 

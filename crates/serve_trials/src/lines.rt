@@ -4,7 +4,7 @@ use crate::expecting::{expect, expect_bytes};
 use crate::fault::Fault;
 use crate::report::Report;
 use crate::rooms::{exchange, exchange_lines, hear_lines, new_rooms};
-use room_served::{Front, LineConnection, MOST_LINE, Served, Side};
+use room_peers::{Front, LineConnection, MOST_LINE, Served, Side};
 use sqlite::MemStore;
 use std::io::Write;
 

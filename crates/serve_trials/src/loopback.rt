@@ -7,8 +7,8 @@ use crate::fault::Fault;
 use crate::lines::PRINT;
 use crate::report::Report;
 use crate::rooms::new_rooms;
-use room_served::Served;
-use room_sockets::{Door, Doors, Hall};
+use room_peers::Served;
+use room_sockets::{Door, Entrance, Hall, Kind};
 use sqlite::Alter;
 use std::hash::RandomState;
 use std::io;
@@ -113,7 +113,7 @@ impl<'a> Visitor<'a> {
     }
 
     /// Sends the next piece, and reads what was told meanwhile.
-    fn go_on(&mut self) -> io::Result<()> {
+    pub fn go_on(&mut self) -> io::Result<()> {
         let piece = &self.sends[..self.sends.len().min(PIECE)];
         let count = unless_it_waits(self.stream.write(piece))?.unwrap_or(0);
         self.sends = self.sends.get(count..).unwrap_or(b"");
@@ -131,8 +131,13 @@ impl<'a> Visitor<'a> {
         Ok(())
     }
 
+    /// Ends what the visitor sends.
+    pub fn end(&self) -> io::Result<()> {
+        self.stream.shutdown(Shutdown::Write)
+    }
+
     /// Answers whether the visitor was told as many bytes as are due.
-    fn is_told_enough(&self) -> bool {
+    pub fn is_told_enough(&self) -> bool {
         self.told.len() >= self.due.len()
     }
 
@@ -160,28 +165,36 @@ fn unless_it_waits(count: io::Result<usize>) -> io::Result<Option<usize>> {
 /// let go.
 fn visitors_over_sockets(rt: &HostRuntime) -> Result<(), Fault> {
     let doors = doors_at_free_ports(rt)?;
-    let ports = ports_of(&doors)?;
+    let ports = ports_of(doors.as_slice())?;
     let mut rooms = new_rooms(rt)?;
     let mut hall = Hall::open(rt, doors, RandomState::new(rt)?)?;
     visit(rt, &mut hall, &mut rooms, ports)
 }
 
 /// Opens the three doors, on ports that the system chooses.
-pub fn doors_at_free_ports(rt: &HostRuntime) -> Result<Doors, Fault> {
-    Ok(Doors {
-        http: Door::at_port(rt, 0)?,
-        stations: Door::at_port(rt, 0)?,
-        operators: Door::at_port(rt, 0)?,
+pub fn doors_at_free_ports(rt: &HostRuntime) -> Result<Vec<Entrance>, Fault> {
+    let mut doors = Vec::new(rt.alloc());
+    for kind in [Kind::CLIENTS, Kind::STATIONS, Kind::OPERATORS] {
+        doors.push(Entrance::new(Door::at_port(rt, 0)?, kind))?;
+    }
+    Ok(doors)
+}
+
+/// Answers the ports of the three doors.
+pub fn ports_of(doors: &[Entrance]) -> Result<Ports, Fault> {
+    Ok(Ports {
+        http: port_of(doors, 0)?,
+        stations: port_of(doors, 1)?,
+        operators: port_of(doors, 2)?,
     })
 }
 
-/// Answers the ports of the doors.
-pub fn ports_of(doors: &Doors) -> Result<Ports, Fault> {
-    Ok(Ports {
-        http: doors.http.port().ok_or(Fault::Io)?,
-        stations: doors.stations.port().ok_or(Fault::Io)?,
-        operators: doors.operators.port().ok_or(Fault::Io)?,
-    })
+/// Answers the port of the door in this place.
+pub fn port_of(doors: &[Entrance], place: usize) -> Result<u16, Fault> {
+    doors
+        .get(place)
+        .and_then(|door| door.port())
+        .ok_or(Fault::Io)
 }
 
 /// Lets the operator in, then two people who print, then the station. Expects what each is told.
@@ -217,7 +230,7 @@ pub fn turn_until_told<S: Alter>(
         if visitors.iter().all(|visitor| visitor.is_told_enough()) {
             break;
         }
-        hall.turn(rt, rooms)?;
+        hall.pass(rt, rooms)?;
     }
     for visitor in visitors.iter() {
         visitor.expect_told(rt)?;
@@ -236,7 +249,7 @@ fn turn_until_let_go<S: Alter>(
         return Err(Fault::Io);
     };
     for visitor in others.iter() {
-        visitor.stream.shutdown(Shutdown::Write)?;
+        visitor.end()?;
     }
     turn_until_ended(rt, hall, rooms, others)?;
     operator.hear()?;
@@ -259,7 +272,7 @@ pub fn turn_until_ended<S: Alter>(
         if visitors.iter().all(|visitor| visitor.has_ended) {
             break;
         }
-        hall.turn(rt, rooms)?;
+        hall.pass(rt, rooms)?;
     }
     for visitor in visitors.iter() {
         visitor.expect_told(rt)?;

@@ -10,7 +10,7 @@ use crate::loopback::{
 };
 use crate::report::Report;
 use crate::rooms::rooms_over;
-use room_served::Served;
+use room_peers::Served;
 use room_sockets::Hall;
 use room_store::OpenFault;
 use sqlite::{Alter, Connection};
@@ -72,7 +72,7 @@ fn lose_round_over<S: Alter + Drop>(
     connection: Connection<S>,
 ) -> Result<(), Fault> {
     let doors = doors_at_free_ports(rt)?;
-    let ports = ports_of(&doors)?;
+    let ports = ports_of(doors.as_slice())?;
     let mut rooms = rooms_over(rt, connection)?;
     let mut hall = Hall::open(rt, doors, RandomState::new(rt)?)?;
     lose_round_in(rt, &mut hall, &mut rooms, ports)

@@ -2,7 +2,7 @@
 
 use crate::fault::Fault;
 use http_server::Connection;
-use room_served::{Front, LineConnection, Served, Side, answer_requests, connection_config};
+use room_peers::{Front, LineConnection, Served, Side, answer_requests, connection_config};
 use room_store::Store;
 use sqlite::{Alter, MemStore};
 use std::alloc::Global;

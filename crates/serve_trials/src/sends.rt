@@ -8,7 +8,7 @@ use crate::rooms::{exchange, new_rooms};
 use crate::wired::Wired;
 use room_client::{ClientFault, HexLines, Outcome, Peer, send_grants, send_lines};
 use room_input::Counted;
-use room_served::{Served, Side};
+use room_peers::{Served, Side};
 use sqlite::MemStore;
 use std::io::{BufReader, Write};
 

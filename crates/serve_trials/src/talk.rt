@@ -3,7 +3,7 @@
 use crate::expecting::{expect_bytes, expect_equal};
 use crate::fault::Fault;
 use crate::rooms::open_rooms;
-use room_served::{HttpPeer, LinePeer, Next, Patience, Served, Side, Turn};
+use room_peers::{HttpPeer, LinePeer, Next, Patience, Served, Side, Turn};
 use sqlite::MemStore;
 use std::hash::RandomState;
 use std::io;
@@ -131,8 +131,8 @@ impl<'a> Talk<'a> {
     /// Counts the bytes that the connection holds.
     pub fn bytes_held(&self) -> usize {
         match &self.peer {
-            Peer::Http(peer) => peer.held(),
-            Peer::Lines(peer) => peer.held(),
+            Peer::Http(peer) => peer.bytes_held(),
+            Peer::Lines(peer) => peer.bytes_held(),
         }
     }
 

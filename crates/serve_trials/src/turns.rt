@@ -6,7 +6,7 @@ use crate::expecting::{expect, expect_bytes, expect_equal};
 use crate::fault::Fault;
 use crate::report::Report;
 use crate::talk::Talk;
-use room_served::{MOST_LINE, Next, Turn};
+use room_peers::{MOST_LINE, Next, Turn};
 use std::alloc::{AllocError, Global};
 use std::io::Write;
 
@@ -107,7 +107,7 @@ fn expect_large_one_waits<'a>(
     let valid = valid_answer(rt.alloc())?;
     talk.expect_turn(rt, NO_ROOM, Next::Wait, valid.as_slice())?;
     talk.send(large);
-    expect_equal(rt, talk.turn_while_again(NO_ROOM), Next::Hold)?;
+    expect_equal(rt, talk.turn_while_again(NO_ROOM), Next::HeldBack)?;
     expect(rt, talk.is_large(), "a large request is coming")?;
     expect(rt, talk.bytes_held() < 300_000, "it stops coming")?;
     expect(rt, talk.patience().is_held_back(), "it is held back")?;
@@ -188,11 +188,11 @@ fn lines_in_turns(rt: &HostRuntime) -> Result<(), Fault> {
 
 /// Gives turns with and without room. Expects that only a start is held back.
 fn expect_start_waits(rt: &HostRuntime, talk: &mut Talk<'_>) -> Result<(), Fault> {
-    talk.expect_turn(rt, NO_ROOM, Next::Hold, b"no-device\n")?;
+    talk.expect_turn(rt, NO_ROOM, Next::HeldBack, b"no-device\n")?;
     talk.expect_turn(rt, ROOM, Next::Wait, b"no-device\nno-device\n")?;
     expect(rt, !talk.patience().rests(), "the rest of a line is due")?;
     talk.send(b" 4 done\nstart ");
-    talk.expect_turn(rt, NO_ROOM, Next::Hold, b"no-device\n")?;
+    talk.expect_turn(rt, NO_ROOM, Next::HeldBack, b"no-device\n")?;
     expect(rt, talk.patience().is_held_back(), "a start is held back")?;
     expect_equal(rt, talk.turn(ROOM), Next::Wait)?;
     expect(rt, !talk.patience().is_held_back(), "it is let on")

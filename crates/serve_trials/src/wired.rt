@@ -3,7 +3,7 @@
 ghost use Rattle.std.specs.Prelude.{◌≤◌, IfOk, length};
 
 use crate::rooms::MANY;
-use room_served::{Front, LineConnection, Served, Side};
+use room_peers::{Front, LineConnection, Served, Side};
 use sqlite::MemStore;
 use std::alloc::Global;
 use std::cell::RefCell;

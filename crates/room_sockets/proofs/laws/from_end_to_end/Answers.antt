@@ -1,4 +1,4 @@
-use Rattle.room_served.proofs.Finding.{lasts_by}
+use Rattle.room_peers.proofs.Finding.{lasts_by}
 use Rattle.room_sockets.proofs.WholeRuns.{from_end_to_end}
 use Rattle.room_sockets.proofs.laws.from_end_to_end.Goals as goal
 

@@ -1,5 +1,5 @@
 use Rattle.std.proofs.Common.{ap, subst, ◌∙◌}
-use Rattle.room_served.specs.declared.served.Served.{Served}
+use Rattle.room_peers.specs.declared.served.Served.{Served}
 use Rattle.room_sockets.specs.Guests.{TakesTurn, in_round}
 use Rattle.room_sockets.proofs.guest.Guest.ask.Goals as goal
 

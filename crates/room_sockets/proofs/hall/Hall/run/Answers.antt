@@ -1,5 +1,5 @@
 use Rattle.std.proofs.Common.{refl}
-use Rattle.room_served.proofs.Finding.{lasts_by}
+use Rattle.room_peers.proofs.Finding.{lasts_by}
 use Rattle.room_sockets.proofs.Drives.{follows}
 use Rattle.room_sockets.proofs.HallSteps.{same, then}
 use Rattle.room_sockets.proofs.WholeRuns.{from_end_to_end}
@@ -10,21 +10,21 @@ pub loop-init : goal.loop-init
 loop-init g c = same g.S.Store (guests_of c.args.self.now) (guests_of c.args.self.now) c.args.served.now (λ key. refl)
 
 pub loop-preserved : goal.loop-preserved
-loop-preserved g c = then g.S.Store (guests_of c.args.self.now) (guests_of c.loop.self) (guests_of c.turn.new.self) c.args.served.now c.loop.served c.turn.new.served c.loop.invariant c.turn.ensures.goes_on
+loop-preserved g c = then g.S.Store (guests_of c.args.self.now) (guests_of c.loop.self) (guests_of c.pass.new.self) c.args.served.now c.loop.served c.pass.new.served c.loop.invariant c.pass.ensures.goes_on
 
-pub returns-in_err-turn-clause-goes_on : goal.returns-in_err-turn-clause-goes_on
-returns-in_err-turn-clause-goes_on g c = then g.S.Store (guests_of c.args.self.now) (guests_of c.loop.self) (guests_of c.turn.new.self) c.args.served.now c.loop.served c.turn.new.served c.loop.invariant c.turn.ensures.goes_on
+pub returns-in_err-pass-clause-goes_on : goal.returns-in_err-pass-clause-goes_on
+returns-in_err-pass-clause-goes_on g c = then g.S.Store (guests_of c.args.self.now) (guests_of c.loop.self) (guests_of c.pass.new.self) c.args.served.now c.loop.served c.pass.new.served c.loop.invariant c.pass.ensures.goes_on
 
-pub returns-in_err-turn-clause-follows : goal.returns-in_err-turn-clause-follows
-returns-in_err-turn-clause-follows g c = follows g.S.Store (guests_of c.args.self.now) (guests_of c.turn.new.self) c.args.served.now c.turn.new.served (returns-in_err-turn-clause-goes_on g c)
+pub returns-in_err-pass-clause-follows : goal.returns-in_err-pass-clause-follows
+returns-in_err-pass-clause-follows g c = follows g.S.Store (guests_of c.args.self.now) (guests_of c.pass.new.self) c.args.served.now c.pass.new.served (returns-in_err-pass-clause-goes_on g c)
 
 pub returns-clause-follows : goal.returns-clause-follows
 returns-clause-follows g c = follows g.S.Store (guests_of c.args.self.now) (guests_of c.loop.self) c.args.served.now c.loop.served c.loop.invariant
 
-pub returns-in_err-turn-clause-whole : goal.returns-in_err-turn-clause-whole
-returns-in_err-turn-clause-whole g c empty fresh =
-    let goes = returns-in_err-turn-clause-goes_on g c in
-    from_end_to_end g.S.Store (lasts_by g.S.Store g.met.S.Store.settled g.met.S.Store.stays) goes.0 (guests_of c.args.self.now) (guests_of c.turn.new.self) c.args.served.now c.turn.new.served empty fresh goes.1
+pub returns-in_err-pass-clause-whole : goal.returns-in_err-pass-clause-whole
+returns-in_err-pass-clause-whole g c empty fresh =
+    let goes = returns-in_err-pass-clause-goes_on g c in
+    from_end_to_end g.S.Store (lasts_by g.S.Store g.met.S.Store.settled g.met.S.Store.stays) goes.0 (guests_of c.args.self.now) (guests_of c.pass.new.self) c.args.served.now c.pass.new.served empty fresh goes.1
 
 pub returns-clause-whole : goal.returns-clause-whole
 returns-clause-whole g c empty fresh =

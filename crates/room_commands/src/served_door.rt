@@ -1,0 +1,63 @@
+//! A door that `serve` opens, and the words that say it.
+ghost use Rattle.std.specs.Prelude.{◌≡◌, ◌++◌, IfOk, List, OnOk};
+ghost use Rattle.room_commands.specs.Visitors.{AreDoors, AreOptions, IsDoorOf};
+ghost use Rattle.room_commands.specs.Words.{texts};
+ghost use Rattle.room_commands.specs.declared.served_door.ServedDoor.{ServedDoor as PlainDoor};
+
+use crate::address::Address;
+use crate::unfit::Unfit;
+use crate::visitors::Visitors;
+use std::alloc::Global;
+
+/// A door that `serve` opens. A port of 0 is a free one.
+#[derive(Clone, Copy, Debug)]
+pub struct ServedDoor<'a> {
+    pub visitors: Visitors,
+    pub address: Address<'a>,
+}
+
+impl<'a> ServedDoor<'a> {
+    /// The door at the address that a word is.
+    fn read(visitors: Visitors, word: &'a str) -> Result<ServedDoor<'a>, Unfit>
+        ensures { IfOk result (IsDoorOf visitors word.now) }
+    {
+        match Address::read(word, 0) {
+            Some(Address::Path(_)) | None if visitors.needs_port() => Err(Unfit::ServedPort),
+            Some(address) => Ok(ServedDoor { visitors, address }),
+            None => Err(Unfit::ServedAddress),
+        }
+    }
+}
+
+/// The doors that the words behind the database say: three by their places, and further ones by
+/// options.
+pub(crate) fn doors_of<'a>(alloc: Global, words: &[&'a str]) -> Result<Vec<ServedDoor<'a>>, Unfit>
+    ensures { IfOk result (λ doors. AreDoors (texts words.now) doors.items) }
+{
+    let [port, stations, operators, options @ ..] = words else {
+        return Err(Unfit::Missing);
+    };
+    let mut doors = Vec::new(alloc);
+    doors.push(ServedDoor::read(Visitors::Clients, port)?)?;
+    doors.push(ServedDoor::read(Visitors::Stations, stations)?)?;
+    doors.push(ServedDoor::read(Visitors::Operators, operators)?)?;
+    put_options(options, &mut doors)?;
+    Ok(doors)
+}
+
+/// Puts the doors that options say behind those that are there.
+fn put_options<'a>(options: &[&'a str], doors: &mut Vec<ServedDoor<'a>>) -> Result<(), Unfit>
+    ensures { OnOk result ((further : List PlainDoor)
+        × (doors.new.items ≡ doors.old.items ++ further) × AreOptions (texts options.now) further) }
+{
+    let Some((name, behind)) = options.split_first() else {
+        return Ok(());
+    };
+    let Some((value, rest)) = behind.split_first() else {
+        return Err(Unfit::Option);
+    };
+    let visitors = Visitors::of_option(name).ok_or(Unfit::Option)?;
+    let door = ServedDoor::read(visitors, value)?;
+    doors.push(door)?;
+    put_options(rest, doors)
+}

@@ -1,0 +1,67 @@
+//! What the parser of command lines does not find.
+
+use crate::fault::Fault;
+use clap::error::ErrorKind;
+use std::alloc::{AllocError, AllocFailed};
+
+/// Why words are no command line, where the parser does not find it.
+#[derive(Clone, Copy)]
+pub(crate) enum Unfit {
+    Missing,
+    Text,
+    Units,
+    Port,
+    Count,
+    ServedPort,
+    ServedAddress,
+    Option,
+    Address,
+    Name,
+    Memory,
+}
+
+impl Unfit {
+    /// What is wrong with the words, or `None` where a name is, or memory ran out.
+    fn usage(self) -> Option<&'static str> {
+        match self {
+            Unfit::Missing => Some("a word is missing"),
+            Unfit::Text => Some("a word is not UTF-8"),
+            Unfit::Units => Some("UNITS is a number from 1 to 100"),
+            Unfit::Port => Some("PORT is a number from 1 to 65535"),
+            Unfit::Count => Some("COUNT is a number from 0 to 1000000"),
+            Unfit::ServedPort => Some("PORT is a number from 0 to 65535"),
+            Unfit::ServedAddress => {
+                Some("STATIONS and OPERATORS are ports from 0 to 65535, or paths")
+            }
+            Unfit::Option => Some("options stand behind the words, each with its value"),
+            Unfit::Address => Some("ADDRESS is a port from 1 to 65535, or a path"),
+            Unfit::Name | Unfit::Memory => None,
+        }
+    }
+
+    /// The fault, with the usage of the program where the words are no command line of it.
+    pub(crate) fn fault(self, program: &mut clap::Command<'_>) -> Fault {
+        let Some(text) = self.usage() else {
+            return match self {
+                Unfit::Memory => Fault::Memory,
+                _ => Fault::Name,
+            };
+        };
+        match program.error(ErrorKind::ValueValidation, text) {
+            Ok(error) => Fault::Usage(error),
+            Err(error) => Fault::from(error),
+        }
+    }
+}
+
+impl From<AllocError> for Unfit {
+    fn from(_error: AllocError) -> Unfit {
+        Unfit::Memory
+    }
+}
+
+impl<T: Drop> From<AllocFailed<T>> for Unfit {
+    fn from(_error: AllocFailed<T>) -> Unfit {
+        Unfit::Memory
+    }
+}

@@ -1,0 +1,49 @@
+//! Who comes in by the doors of `serve`, and what the command line calls them.
+ghost use Rattle.std.specs.Prelude.{◌≡◌, IfSome};
+ghost use Rattle.room_commands.specs.Visitors.{name_of, needs_port, option_of};
+
+/// Who comes in by a door.
+#[derive(Clone, Copy, Debug, PartialEq, Eq)]
+pub enum Visitors {
+    /// Over HTTP, at the queues.
+    Clients,
+    /// By lines.
+    Stations,
+    /// By lines.
+    Operators,
+}
+
+impl Visitors {
+    /// The name of their doors.
+    pub fn name(self) -> &'static str
+        ensures { result.now ≡ name_of self }
+    {
+        match self {
+            Visitors::Clients => "clients",
+            Visitors::Stations => "stations",
+            Visitors::Operators => "operators",
+        }
+    }
+
+    /// Whether they come by a port alone.
+    pub(crate) fn needs_port(self) -> bool
+        ensures { result ≡ needs_port self }
+    {
+        match self {
+            Visitors::Clients => true,
+            Visitors::Stations | Visitors::Operators => false,
+        }
+    }
+
+    /// Whose door the option is for that the word is.
+    pub(crate) fn of_option(word: &str) -> Option<Visitors>
+        ensures { IfSome result (λ visitors. word.now ≡ option_of visitors) }
+    {
+        match word {
+            "--clients" => Some(Visitors::Clients),
+            "--stations" => Some(Visitors::Stations),
+            "--operators" => Some(Visitors::Operators),
+            _ => None,
+        }
+    }
+}

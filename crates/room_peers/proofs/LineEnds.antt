@@ -1,0 +1,78 @@
+-- A line and its line feed, as they came.
+use Rattle.std.proofs.Common.{◌≡◌, ◌==◌, ℕ, ◌+◌, List, [], ◌∷◌, ◌++◌, take, drop, get_or, Some, Result, Ok, Err, OnErr, ap, refl, inl, inr, ◌∙◌}
+use Rattle.std.proofs.lemmas.Bool.{eqb-true}
+use Rattle.std.proofs.lemmas.List.{take_more}
+use Rattle.std.proofs.lemmas.List.Quantifiers.{position-Some}
+use Rattle.sqlite_trees.specs.declared.store.Store.{Ghosts}
+use Rattle.room_events.specs.declared.event.Reply.{Reply}
+use Rattle.room_store.specs.declared.fault.StoreFault.{StoreFault}
+use Rattle.room_questions.specs.declared.question.Question.{Question}
+use Rattle.room_peers.specs.Journals.{moment_of}
+use Rattle.room_peers.specs.Turns.{AnswersNext, AppliesNext}
+use Rattle.room_peers.specs.Lines.{IsEntryOf, TakesLine, grammar_of, input_of, line_end, side_of}
+use Rattle.room_peers.specs.LineTexts.{answer_text, bad_line_text, line_text}
+use Rattle.room_lines.specs.Saying.{IsQuestionOf}
+use Rattle.room_peers.specs.declared.line_connection.Side.TheVariants.{Operator}
+use Rattle.room_peers.specs.declared.entry.Entry.{Entry}
+use Rattle.room_peers.specs.declared.line_connection.LineConnection.{LineConnection}
+use Rattle.room_peers.specs.declared.served.Served.{Served}
+
+-- what ends after its line feed is the line and the line feed
+pub ends_with_feed : (input : List ℕ) (end : ℕ) → line_end input ≡ Some end → take (end + 1) input ≡ take end input ++ 10 ∷ []
+ends_with_feed input end is =
+    let found = position-Some (λ b. b == 10) input end 0 is in
+    take_more input end 0 found.0 ∙ ap (λ b. take end input ++ b ∷ []) (eqb-true (get_or input end 0) 10 found.1)
+
+module _ {S : Type 0} (store : Ghosts S) where
+  -- a line of its side's was applied
+  pub takes_entry : (before after : LineConnection) (old new : Served S) (end : ℕ) (entry : Entry) (told : Result Reply StoreFault) → line_end (input_of before) ≡ Some end → input_of after ≡ drop (end + 1) (input_of before)
+      → IsEntryOf (grammar_of (side_of before) (moment_of old)) (take end (input_of before)) entry → AppliesNext store entry told old new
+      → TakesLine store before after old (line_text told) new
+  takes_entry before after old new end entry told first rest said next = record {
+    end = end;
+    first = first;
+    rest = rest;
+    gives = inl (record {
+      line = take end (input_of before);
+      ended = ends_with_feed (input_of before) end first;
+      entry = entry;
+      said = said;
+      told = told;
+      next = next;
+      says = refl;
+    });
+  }
+
+  -- an operator's question was answered
+  pub takes_question : (before after : LineConnection) (old new : Served S) (end : ℕ) (question : Question) (told : Result (List ℕ) StoreFault) → line_end (input_of before) ≡ Some end → input_of after ≡ drop (end + 1) (input_of before)
+      → side_of before ≡ Operator → IsQuestionOf (take end (input_of before)) question → AnswersNext store question told old new
+      → TakesLine store before after old (answer_text told) new
+  takes_question before after old new end question told first rest operators said next = record {
+    end = end;
+    first = first;
+    rest = rest;
+    gives = inr (inl (record {
+      line = take end (input_of before);
+      ended = ends_with_feed (input_of before) end first;
+      operators = operators;
+      question = question;
+      said = said;
+      told = told;
+      next = next;
+      says = refl;
+    }));
+  }
+
+  -- a line that is none of its side's
+  pub takes_bad : (before after : LineConnection) (old : Served S) (end : ℕ) → line_end (input_of before) ≡ Some end → input_of after ≡ drop (end + 1) (input_of before) → TakesLine store before after old bad_line_text old
+  takes_bad before after old end first rest = record {
+    end = end;
+    first = first;
+    rest = rest;
+    gives = inr (inr (refl, refl));
+  }
+
+-- what holds anyway holds after an error
+pub on_err : {T E : Type 0} → (result : Result T E) (P : Type 0) → P → OnErr result P
+on_err (Ok value) P holds = tt
+on_err (Err error) P holds = holds

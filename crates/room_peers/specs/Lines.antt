@@ -1,0 +1,156 @@
+-- What a line is answered, and what it does to the rooms (all this project's own).
+use Rattle.std.specs.Prelude.{◌≡◌, ◌⊎◌, ◌==◌, ◌+◌, ℕ, Bool, List, ◌∷◌, ◌++◌, [], codes, drop, length, take, Option, None, Some, IsTrue, Result}
+use Rattle.std.specs.Io.KnownBytes.{Appends, Consumes}
+use Rattle.std.specs.List.{flat_map, position, starts_with}
+use Rattle.sqlite_trees.specs.declared.store.Store.{Ghosts}
+use Rattle.room_events.specs.declared.event.Reply.{Reply}
+use Rattle.room_lines.specs.Lines.{IsAllowed}
+use Rattle.room_lines.specs.Saying.{IsLineOf, IsQuestionOf}
+use Rattle.room_lines.specs.declared.lines.Grammar.{Grammar}
+use Rattle.room_lines.specs.declared.lines.Grammar.TheVariants as grammar_is
+use Rattle.room_lines.specs.declared.line.Line.{Line}
+use Rattle.room_questions.specs.declared.question.Question.{Question}
+use Rattle.room_store.specs.declared.fault.StoreFault.{StoreFault}
+use Rattle.room_peers.specs.declared.entry.Entry.{Entry}
+use Rattle.room_peers.specs.declared.entry.Entry.TheVariants as entry_is
+use Rattle.room_peers.specs.declared.line_connection.LineConnection.{LineConnection}
+use Rattle.room_peers.specs.declared.line_connection.Side.{Side}
+use Rattle.room_peers.specs.declared.line_connection.Side.TheVariants.{Station, Operator}
+use Rattle.room_peers.specs.declared.served.Served.{Served}
+use Rattle.room_peers.specs.Journals.{moment_of, shares_of}
+use Rattle.room_peers.specs.Turns.{AnswersNext, AppliesNext}
+use Rattle.room_peers.specs.LineTexts.{answer_text, bad_line_text, line_text}
+
+-- ---- a connection
+
+abbrev pub side_of : LineConnection → Side
+side_of connection = connection.side
+
+-- what came and was not answered yet
+abbrev pub input_of : LineConnection → List ℕ
+input_of connection = connection.input.items
+
+-- what waits to go
+abbrev pub output_of : LineConnection → List ℕ
+output_of connection = connection.output.items
+
+-- all that was read on it
+abbrev pub received_of : LineConnection → List ℕ
+received_of connection = flat_map (λ read. drop read.1 read.0.items) connection.reads.items
+
+-- all that was written to it
+abbrev pub sent_of : LineConnection → List ℕ
+sent_of connection = flat_map (λ write. take write.1 write.0.items) connection.writes.items
+
+-- nothing came yet on the side's connection, and nothing went
+pub record IsNewOf (whose : Side) (connection : LineConnection) : Type 0 where
+  pub side : side_of connection ≡ whose
+  pub input : input_of connection ≡ []
+  pub output : output_of connection ≡ []
+  pub received : received_of connection ≡ []
+  pub sent : sent_of connection ≡ []
+
+-- nothing was read on it, and nothing written to it
+abbrev pub IsQuiet : (before after : LineConnection) → Type 0
+IsQuiet before after =
+    (received_of after ≡ received_of before) × (sent_of after ≡ sent_of before)
+
+abbrev pub grammar_of : (side : Side) (moment : ℕ) → Grammar
+grammar_of Station moment = grammar_is.Station moment
+grammar_of Operator moment = grammar_is.Operator moment
+
+-- bytes that a line may have, without the line feed that ends it
+abbrev pub longest_line : ℕ
+longest_line = 65536
+
+-- where the first line feed stands
+abbrev pub line_end : List ℕ → Option ℕ
+line_end input = position (λ b. b == 10) input
+
+-- it begins a line that may be answered with documents
+abbrev pub begins_start : List ℕ → Bool
+begins_start input = starts_with (λ a b. a == b) input (codes "start ")
+
+-- so many bytes that a reader had left came after those that were there
+abbrev pub Comes : (left left2 : Option (List ℕ)) (before after : LineConnection) (n : ℕ) → Type 0
+Comes left left2 before after n = (more : List ℕ) × (length more ≡ n) × Consumes left left2 more
+    × (input_of after ≡ input_of before ++ more)
+    × (received_of after ≡ received_of before ++ more)
+
+-- so many of the bytes that waited went to a writer
+abbrev pub Leaves : (given given2 : Option (List ℕ)) (before after : LineConnection) (n : ℕ)
+    → Type 0
+Leaves given given2 before after n =
+    Appends given given2 (take n (output_of before)) × (output_of after ≡ drop n (output_of before))
+    × (sent_of after ≡ sent_of before ++ take n (output_of before))
+
+-- it is the line that the text says, and one of those of the grammar
+abbrev pub IsEntryOf : (grammar : Grammar) (text : List ℕ) (entry : Entry) → Type 0
+IsEntryOf grammar text entry = (line : Line) × (entry ≡ entry_is.Line line)
+    × IsAllowed grammar line × IsLineOf grammar text line
+
+module _ {S : Type 0} (store : Ghosts S) where
+  -- what a line that came asks for is applied, once, at the moment, and stands in the journal; what
+  -- it came to is told
+  pub record Asks (side : Side) (came : List ℕ) (old : Served S) (text : List ℕ) (new : Served S)
+      : Type 0 where
+    pub line : List ℕ
+    pub ended : came ≡ line ++ 10 ∷ []
+    pub entry : Entry
+    pub said : IsEntryOf (grammar_of side (moment_of old)) line entry
+    pub told : Result Reply StoreFault
+    pub next : AppliesNext store entry told old new
+    pub says : text ≡ line_text told
+
+  -- a question that an operator's line asks outside a round is answered, and nothing is applied
+  pub record Inquires (side : Side) (came : List ℕ) (old : Served S) (text : List ℕ)
+      (new : Served S) : Type 0 where
+    pub line : List ℕ
+    pub ended : came ≡ line ++ 10 ∷ []
+    pub operators : side ≡ Operator
+    pub question : Question
+    pub said : IsQuestionOf line question
+    pub told : Result (List ℕ) StoreFault
+    pub next : AnswersNext store question told old new
+    pub says : text ≡ answer_text told
+
+  -- a line that is none of its side's
+  abbrev pub IsBad : Served S → List ℕ → Served S → Type 0
+  IsBad old text new = (text ≡ bad_line_text) × (new ≡ old)
+
+  -- a line asks for something, or asks a question, or is a bad one
+  abbrev pub IsTold : (side : Side) (came : List ℕ) (old : Served S) (text : List ℕ) (new : Served S)
+      → Type 0
+  IsTold side came old text new = Asks side came old text new
+      ⊎ (Inquires side came old text new ⊎ IsBad old text new)
+
+  -- the first line that came is taken, and this is told of it
+  pub record TakesLine (before after : LineConnection) (old : Served S) (text : List ℕ)
+      (new : Served S) : Type 0 where
+    pub end : ℕ
+    pub first : line_end (input_of before) ≡ Some end
+    pub rest : input_of after ≡ drop (end + 1) (input_of before)
+    pub gives : IsTold (side_of before) (take (end + 1) (input_of before)) old text new
+
+  -- the first line that came is taken, and its answer waits after the others
+  abbrev pub AnswersLine : (before after : LineConnection) (old new : Served S) → Type 0
+  AnswersLine before after old new = (text : List ℕ) × TakesLine before after old text new
+      × (output_of after ≡ output_of before ++ text)
+
+  -- there was no memory for the line, which is left as it came, or for its answer, which is lost
+  abbrev pub LosesAnswer : (before after : LineConnection) (old new : Served S) → Type 0
+  LosesAnswer before after old new = ((input_of after ≡ input_of before) × (new ≡ old))
+      ⊎ ((text : List ℕ) × TakesLine before after old text new)
+
+-- no line is whole yet, and nothing has changed
+pub record IsWaiting {S : Type 0} (before after : LineConnection) (old new : Served S)
+    : Type 0 where
+  pub none : line_end (input_of before) ≡ None
+  pub connection : after ≡ before
+  pub served : new ≡ old
+
+-- A question stands in front, which is asked once the round is over; nothing has changed.
+pub record IsPutOff {S : Type 0} (before after : LineConnection) (old new : Served S) : Type 0 where
+  pub shared : IsTrue (shares_of old)
+  pub connection : after ≡ before
+  pub served : new ≡ old

@@ -1,0 +1,38 @@
+-- What is noted of what a connection asks, and what it does to the tables (all this project's own).
+use Rattle.std.specs.Prelude.{◌≡◌, ℕ, false, List, [], ◌∷◌, ◌++◌, Option, Some, Result}
+use Rattle.sqlite_trees.specs.declared.store.Store.{Ghosts}
+use Rattle.room_events.specs.declared.event.Reply.{Reply}
+use Rattle.room_questions.specs.declared.question.Question.{Question}
+use Rattle.room_store.specs.Questions.{AnswersQuestion}
+use Rattle.room_store.specs.declared.fault.StoreFault.{StoreFault}
+use Rattle.room_peers.specs.declared.entry.Entry.{Entry}
+use Rattle.room_peers.specs.declared.served.Served.{Served}
+use Rattle.room_peers.specs.Journals.{Notes, Told, is_lost_of, moment_of, rounds_of, shares_of, store_of}
+use Rattle.room_peers.specs.Applying.{AppliesEntry, DoesEach}
+
+module _ {S : Type 0} (store : Ghosts S) where
+  -- what came was applied, once, or came too late in a round that is lost; and it is noted
+  pub record AppliesNext (entry : Entry) (told : Result Reply StoreFault) (old new : Served S)
+      : Type 0 where
+    pub notes : Notes (shares_of old) (Some (entry, told) ∷ []) old new
+    pub applies : AppliesEntry store (shares_of old) entry (store_of old) (store_of new) told
+    pub shares : shares_of new ≡ shares_of old
+    pub is_lost : is_lost_of new ≡ is_lost_of old
+    pub moment : moment_of new ≡ moment_of old
+
+  -- Outside a round a question is answered, by the tables as they are. It is an empty round, and
+  -- nothing else is noted of it.
+  pub record AnswersNext (question : Question) (told : Result (List ℕ) StoreFault)
+      (old new : Served S) : Type 0 where
+    pub alone : shares_of old ≡ false
+    pub answers : AnswersQuestion store question (store_of old) (store_of new) told
+    pub over : rounds_of new ≡ rounds_of old ++ ([], false) ∷ []
+    pub same : new ≡ record old { rounds = store_of new; over = new.over }
+
+  -- what came is noted, and it, and nothing else, made of the tables what they are
+  pub record Continues (old new : Served S) : Type 0 where
+    pub more : List (Option Told)
+    pub notes : Notes (shares_of old) more old new
+    pub does : DoesEach store (shares_of old) (store_of old) more (store_of new)
+    pub shares : shares_of new ≡ shares_of old
+    pub is_lost : is_lost_of new ≡ is_lost_of old

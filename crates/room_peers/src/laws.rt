@@ -1,0 +1,36 @@
+//! What holds of all that was served.
+ghost use Rattle.room_peers.specs.ServedRuns.{AlwaysRuns};
+ghost use Rattle.room_peers.specs.ServedLives.{AloneIsFound, AlwaysFound, AlwaysLives, KeptIsFound, RoundIsFound, RoundIsNotFound};
+
+use sqlite::Alter;
+
+/// The rounds that were kept, of whichever connections, made of the tables what `run_events` makes
+/// of them by the list of all that was asked in them: each account is told, and has, what its own
+/// machine alone gives for its own events and those of devices. What was asked in a round that was
+/// lost made nothing of them. So what is promised of lists of events, `isolation` among it, holds for
+/// everybody who is served.
+pub fn always_runs<S: Alter>()
+    ensures { AlwaysRuns S.Store }
+{}
+
+/// Over a crash a round is there whole, or not at all: whole where it was kept, and not at all where
+/// it was lost and the connection is still open.
+pub fn always_found<S: Alter>()
+    ensures { AlwaysFound S.Store }
+{}
+
+/// An account's life goes on with what it was told in the rounds that were kept, in the journal's
+/// order, whatever came on whichever other connection: its rows are what that life has left.
+pub fn always_lives<S: Alter>()
+    ensures { AlwaysLives S.Store }
+{}
+
+/// Over a crash an account's life is found with all that it was told in the rounds that were kept,
+/// each event once and in order, and behind that at most what was under way: the whole round, or the
+/// one event that was applied by itself.
+pub fn lives_are_always_found<S: Alter>()
+    ensures between { KeptIsFound S.Store }
+    ensures inside { RoundIsNotFound S.Store }
+    ensures round { RoundIsFound S.Store }
+    ensures alone { AloneIsFound S.Store }
+{}

@@ -1,0 +1,278 @@
+//! A connection of lines: what came and is no whole line yet, and answers that wait to go.
+ghost use Rattle.std.specs.Prelude.{◌≡◌, ◌≢◌, ◌<◌, ◌≤◌, ◌+◌, ◌++◌, [], length, nat_lt, false, true, IfOk, IfSome, OnErr, OnOk, Ok, Some};
+ghost use Rattle.std.specs.Io.KnownBytes.{Keeps};
+ghost use Rattle.room_lines.specs.Saying.{IsQuestionOf};
+ghost use Rattle.room_peers.specs.LineTexts.{bad_line_text};
+ghost use Rattle.room_peers.specs.Turns.{Continues};
+ghost use Rattle.room_peers.specs.Lines.{AnswersLine, Comes, IsEntryOf, IsNewOf, IsPutOff, IsQuiet, IsWaiting, Leaves, LosesAnswer, begins_start, grammar_of, input_of, line_end, output_of, received_of, sent_of, side_of, longest_line};
+
+use crate::entry::Entry;
+use crate::line_text::{put_answer, put_bad, put_told};
+use crate::served::Served;
+use bytes::{Buf, BufMut, BytesMut};
+use http_server::{Log, Rope};
+use room_input::FieldFault;
+use room_lines::{Grammar, read_question};
+use room_questions::Question;
+use sqlite::Alter;
+use std::alloc::{AllocError, Global};
+use std::io;
+use std::io::{Read, Write};
+
+/// The most bytes of a line, without what ends it.
+pub const MOST_LINE: usize = 65_536;
+
+/// How many bytes are asked for at once.
+const ROOM: usize = 4_096;
+
+/// Whose lines a connection carries.
+#[derive(Clone, Copy, Debug, PartialEq, Eq)]
+pub enum Side {
+    /// `release`, `start` and `settle`.
+    Station,
+    /// `open`, `device`, `rate` and `grant`.
+    Operator,
+}
+
+impl Side {
+    pub(crate) fn grammar(self, moment: u64) -> Grammar
+        ensures { result ≡ grammar_of self moment }
+    {
+        match self {
+            Side::Station => Grammar::Station { moment },
+            Side::Operator => Grammar::Operator { moment },
+        }
+    }
+}
+
+/// What became of the line at the front of what came.
+#[derive(Clone, Copy, Debug, PartialEq, Eq)]
+pub enum Front {
+    /// It was answered.
+    Answered,
+    /// It is not whole yet.
+    Unended,
+    /// It is a question, and a round is under way.
+    PutOff,
+}
+
+/// A connection that carries lines one way and their answers the other. It makes no system call:
+/// the caller moves the bytes.
+pub struct LineConnection {
+    pub(crate) alloc: Global,
+    pub(crate) side: Side,
+    pub(crate) input: BytesMut,
+    pub(crate) output: Rope,
+    /// Each read: what waited after it, and how much of that had waited before. Only proofs read it,
+    /// and what was written.
+    pub(crate) reads: Log<BytesMut, usize>,
+    /// Each write: what waited, and how much of it went.
+    pub(crate) writes: Log<Rope, usize>,
+}
+
+// It is written out, so that a caller does not prove again how each part is dropped.
+impl Drop for LineConnection {
+    fn drop(self) {
+        let LineConnection {
+            alloc: _,
+            side: _,
+            input: _,
+            output: _,
+            reads: _,
+            writes: _,
+        } = self;
+    }
+}
+
+impl LineConnection {
+    /// A connection on which nothing came yet. It takes no memory.
+    pub fn new(alloc: Global, side: Side) -> LineConnection
+        ensures { IsNewOf side result }
+    {
+        LineConnection {
+            alloc,
+            side,
+            input: BytesMut::new(alloc),
+            output: Rope::new(alloc),
+            reads: Log::new(),
+            writes: Log::new(),
+        }
+    }
+
+    /// Reads once. `Ok(0)` tells the end of what comes.
+    pub fn read_from<R: Read>(&mut self, reader: &mut R) -> io::Result<usize>
+        ensures came { IfOk result
+            (Comes (R.remaining reader.old) (R.remaining reader.new) self.old self.new) }
+        ensures nothing { OnErr result (input_of self.new ≡ input_of self.old) }
+        ensures left { OnErr result (Keeps (R.remaining reader.old) (R.remaining reader.new)) }
+        ensures quiet { OnErr result (IsQuiet self.old self.new) }
+        ensures output { output_of self.new ≡ output_of self.old }
+        ensures sent { sent_of self.new ≡ sent_of self.old }
+        ensures side { side_of self.new ≡ side_of self.old }
+    {
+        self.input.reserve(ROOM)?;
+        let waited = self.input.len();
+        let count = self.input.read_from(reader)?;
+        self.reads = self.reads.and(&self.input, &waited);
+        Ok(count)
+    }
+
+    /// Answers the line at the front of what came, at the moment of what is served: what it asks
+    /// for is applied, once, or it is a question, or a bad line, which change nothing. A question is
+    /// put off while a round is under way. Where memory was refused, the connection has to be
+    /// closed; the line is left, or it was taken and its answer is lost.
+    pub fn answer<S: Alter>(&mut self, served: &mut Served<S>) -> Result<Front, AllocError>
+        ensures taken { result ≡ Ok Front.Answered
+            → AnswersLine S.Store self.old self.new served.old served.new }
+        ensures none { result ≡ Ok Front.Unended
+            → IsWaiting self.old self.new served.old served.new }
+        ensures put_off { result ≡ Ok Front.PutOff
+            → IsPutOff self.old self.new served.old served.new }
+        ensures lost { OnErr result
+            (LosesAnswer S.Store self.old self.new served.old served.new) }
+        ensures continues { Continues S.Store served.old served.new }
+        ensures quiet { IsQuiet self.old self.new }
+        ensures side { side_of self.new ≡ side_of self.old }
+    {
+        let Some(end) = line_end(self.input.as_slice()) else {
+            return Ok(Front::Unended);
+        };
+        let grammar = self.side.grammar(served.moment);
+        match entry_of(self.alloc, grammar, &self.input.as_slice()[..end])? {
+            Some(entry) => {
+                let told = served.apply(entry)?;
+                self.input.advance(end + 1);
+                put_told(self.alloc, &mut self.output, told)?;
+                Ok(Front::Answered)
+            }
+            None => self.answer_other(served, end),
+        }
+    }
+
+    /// Answers a line, which ends there, that asks for nothing to be applied.
+    fn answer_other<S: Alter>(
+        &mut self,
+        served: &mut Served<S>,
+        end: usize,
+    ) -> Result<Front, AllocError>
+        requires first { line_end (input_of self.old) ≡ Some end }
+        ensures taken { result ≡ Ok Front.Answered
+            → AnswersLine S.Store self.old self.new served.old served.new }
+        ensures whole { result ≢ Ok Front.Unended }
+        ensures put_off { result ≡ Ok Front.PutOff
+            → IsPutOff self.old self.new served.old served.new }
+        ensures lost { OnErr result
+            (LosesAnswer S.Store self.old self.new served.old served.new) }
+        ensures continues { Continues S.Store served.old served.new }
+        ensures quiet { IsQuiet self.old self.new }
+        ensures side { side_of self.new ≡ side_of self.old }
+    {
+        let Some(question) = question_of(self.side, &self.input.as_slice()[..end]) else {
+            self.input.advance(end + 1);
+            put_bad(&mut self.output)?;
+            return Ok(Front::Answered);
+        };
+        if served.is_shared() {
+            return Ok(Front::PutOff);
+        }
+        let told = served.answer_question(question);
+        self.input.advance(end + 1);
+        put_answer(&mut self.output, told)?;
+        Ok(Front::Answered)
+    }
+
+    /// Whether what came is more than a line may have, and no line yet.
+    pub fn is_too_long(&self) -> bool
+        ensures { result ≡ nat_lt longest_line (length (input_of self.now)) }
+    {
+        self.input.len() > MOST_LINE
+    }
+
+    /// Answers what came and is no line as a bad one.
+    pub fn refuse_rest(&mut self) -> Result<(), AllocError>
+        ensures input { input_of self.new ≡ [] }
+        ensures output { OnOk result
+            (output_of self.new ≡ output_of self.old ++ bad_line_text) }
+        ensures quiet { IsQuiet self.old self.new }
+        ensures side { side_of self.new ≡ side_of self.old }
+    {
+        self.input.clear();
+        put_bad(&mut self.output)
+    }
+
+    /// Whether some of what came was not answered yet.
+    pub fn has_rest(&self) -> bool
+        ensures { result ≡ nat_lt 0 (length (input_of self.now)) }
+    {
+        !self.input.is_empty()
+    }
+
+    /// Whether what came begins a line that may be answered with documents.
+    pub fn begins_start(&self) -> bool
+        ensures { result ≡ begins_start (input_of self.now) }
+    {
+        self.input.as_slice().starts_with(b"start ")
+    }
+
+    /// How many bytes wait: those that came, and those that are to go.
+    pub fn bytes_held(&self) -> usize
+        ensures { result ≤ length (input_of self.now) + length (output_of self.now) }
+    {
+        self.input.len().saturating_add(self.output.len())
+    }
+
+    /// Whether answers wait to go.
+    pub fn wants_write(&self) -> bool
+        ensures { result ≡ nat_lt 0 (length (output_of self.now)) }
+    {
+        !self.output.is_empty()
+    }
+
+    /// Writes once.
+    pub fn write_to<W: Write>(&mut self, writer: &mut W) -> io::Result<usize>
+        ensures went { IfOk result
+            (Leaves (W.contents writer.old) (W.contents writer.new) self.old self.new) }
+        ensures nothing { OnErr result (self.new ≡ self.old) }
+        ensures left { OnErr result (Keeps (W.contents writer.old) (W.contents writer.new)) }
+        ensures input { input_of self.new ≡ input_of self.old }
+        ensures received { received_of self.new ≡ received_of self.old }
+        ensures side { side_of self.new ≡ side_of self.old }
+    {
+        let count = writer.write(self.output.chunk())?;
+        self.writes = self.writes.and(&self.output, &count);
+        self.output.advance(count);
+        Ok(count)
+    }
+}
+
+/// Where the first line ends.
+fn line_end(input: &[u8]) -> Option<usize>
+    ensures place { result ≡ line_end input.now }
+    ensures within { IfSome result (λ place. place < length input.now) }
+{
+    input.iter().position(|byte| *byte == b'\n')
+}
+
+/// What a line asks to be applied, or `None` where it asks for nothing of that kind.
+fn entry_of(alloc: Global, grammar: Grammar, line: &[u8]) -> Result<Option<Entry>, AllocError>
+    ensures { IfOk result (λ entry. IfSome entry (IsEntryOf grammar line.now)) }
+{
+    if line.len() > MOST_LINE {
+        return Ok(None);
+    }
+    match grammar.read_line(alloc, line) {
+        Ok(line) => Ok(Some(Entry::Line(line))),
+        Err(FieldFault::Malformed) => Ok(None),
+        Err(FieldFault::Memory) => Err(AllocError),
+    }
+}
+
+/// The question that a line asks. Operators alone ask any.
+fn question_of(side: Side, line: &[u8]) -> Option<Question>
+    ensures { IfSome result (λ question. (side ≡ Side.Operator) × IsQuestionOf line.now question) }
+{
+    match side {
+        Side::Station => None,
+        Side::Operator => read_question(line).ok(),
+    }
+}

@@ -1,0 +1,54 @@
+//! What a request over HTTP asks for.
+ghost use Rattle.std.specs.Prelude.{◌≡◌, option_copied};
+ghost use Rattle.room_peers.specs.Requests.{asked, has_ipp, has_long_body, is_ipp_value};
+
+use bytes::Bytes;
+use http::{HeaderValue, Request, header};
+use ipp_coding::HEADER_LENGTH;
+use room_events::Name;
+use room_http::{Refusal, account_of, is_ipp_type, is_post};
+
+/// A body of more bytes ends the connection, which would keep the room that it took.
+const LONG_BODY: usize = 1_048_576;
+
+/// Whose queue the message in the request is for, or the first refusal that applies:
+/// `MethodNotAllowed`, `NotFound` for a path of no queue, `UnsupportedMediaType`, and `BadRequest`
+/// for a body that ends within the header of its message.
+pub(crate) fn asked(request: &Request<Bytes>) -> Result<Name, Refusal>
+    ensures { result ≡ asked request.now }
+{
+    if !is_post(request.method().as_str().as_bytes()) {
+        return Err(Refusal::MethodNotAllowed);
+    }
+    let Some(account) = account_of(request.uri().path().as_bytes()) else {
+        return Err(Refusal::NotFound);
+    };
+    if !has_ipp(request) {
+        return Err(Refusal::UnsupportedMediaType);
+    }
+    if request.body().len() < HEADER_LENGTH {
+        return Err(Refusal::BadRequest);
+    }
+    Ok(account)
+}
+
+fn has_ipp(request: &Request<Bytes>) -> bool
+    ensures { result ≡ has_ipp request.now }
+{
+    is_ipp_value(request.headers().get(header::CONTENT_TYPE))
+}
+
+fn is_ipp_value(value: Option<&HeaderValue>) -> bool
+    ensures { result ≡ is_ipp_value (option_copied value.entry) }
+{
+    match value {
+        None => false,
+        Some(value) => is_ipp_type(value.as_bytes()),
+    }
+}
+
+pub(crate) fn has_long_body(request: &Request<Bytes>) -> bool
+    ensures { result ≡ has_long_body request.now }
+{
+    request.body().len() > LONG_BODY
+}

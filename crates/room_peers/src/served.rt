@@ -1,0 +1,234 @@
+//! The rooms as one process serves them to everybody.
+ghost use Rattle.std.specs.Prelude.{◌≡◌, ◌≢◌, ◌⊎◌, [], true, false, IsTrue, None, IfOk, OnErr};
+ghost use Rattle.room_peers.specs.Journals.{asked_of, is_full_of, is_lost_of, moment_of, open_of, rounds_of, shares_of, store_of};
+ghost use Rattle.room_peers.specs.Applying.{AppliesEntry};
+ghost use Rattle.room_peers.specs.Turns.{AnswersNext, AppliesNext};
+ghost use Rattle.room_peers.specs.Rounds.{IsBegun, IsNotBegun, IsSettled};
+
+use crate::entry::Entry;
+use http_server::Log;
+use ipp_coding::List;
+use room_events::{Part, Reply};
+use room_questions::Question;
+use room_store::{Rounds, Store, StoreFault};
+use sqlite::{Alter, Connection};
+use std::alloc::{AllocError, Global};
+
+/// A round is full once more bytes than this were told in it.
+const MOST_TOLD: usize = 8_388_608;
+
+/// The shared tables, the clock's moment, and a journal of all that was applied to them, of
+/// whichever connection. The journal takes no memory: only proofs read it.
+#[derive(Drop)]
+pub struct Served<S: Alter> {
+    pub(crate) alloc: Global,
+    pub(crate) rounds: Rounds<S>,
+    pub(crate) moment: u64,
+    /// The rounds that are over, each with whether it was kept. What is applied by itself is a round
+    /// of one that was kept. A question, and a round that could not begin, is an empty one that was
+    /// not.
+    pub(crate) over: Log<Log<Entry, Result<Reply, StoreFault>>, bool>,
+    /// The round that is under way.
+    pub(crate) under_way: Log<Entry, Result<Reply, StoreFault>>,
+    /// Whether what is applied shares a commit.
+    pub(crate) shares: bool,
+    /// Whether the round that was settled last was lost.
+    pub(crate) is_lost: bool,
+    /// What the peer whose turn it is has asked in the round.
+    pub(crate) asked: Option<Entry>,
+    /// How many bytes were told in the round.
+    pub(crate) bytes_told: usize,
+}
+
+impl<S: Alter> Served<S> {
+    /// Serves a store, from the moment on, in seconds since 1970-01-01T00:00:00Z. No round is under
+    /// way. It takes no memory.
+    pub fn new(alloc: Global, store: Store<S>, moment: u64) -> Served<S>
+        ensures store { store_of result ≡ store }
+        ensures moment { moment_of result ≡ moment }
+        ensures empty { rounds_of result ≡ [] }
+        ensures none_open { open_of result ≡ [] }
+        ensures alone { shares_of result ≡ false }
+        ensures asked { asked_of result ≡ [] }
+    {
+        Served {
+            alloc,
+            rounds: Rounds::over(store),
+            moment,
+            over: Log::new(),
+            under_way: Log::new(),
+            shares: false,
+            is_lost: false,
+            asked: None,
+            bytes_told: 0,
+        }
+    }
+
+    /// The moment at which what comes from now on counts as done.
+    pub fn set_moment(&mut self, moment: u64)
+        ensures { self.new ≡ record self.old { moment = moment } }
+    {
+        self.moment = moment;
+    }
+
+    /// Begins a round: until it is settled what is applied shares a commit. Where none can begin,
+    /// each is applied by itself.
+    pub fn begin(&mut self)
+        ensures under_way { IsTrue (shares_of self.old) → self.new ≡ self.old }
+        ensures begins { shares_of self.old ≡ false
+            → IsBegun S.Store self.old self.new ⊎ IsNotBegun S.Store self.old self.new }
+    {
+        if self.shares {
+            return;
+        }
+        match self.rounds.begin() {
+            Ok(()) => self.shares = true,
+            Err(_) => self.over = self.over.and(&Log::new(), &false),
+        }
+    }
+
+    /// Ends the round, if one is under way: what was applied in it is on the disk, or it is lost,
+    /// which `is_lost` tells, and nothing of it was applied.
+    pub fn settle(&mut self)
+        ensures alone { shares_of self.old ≡ false → self.new ≡ self.old }
+        ensures settles { IsTrue (shares_of self.old) → IsSettled S.Store self.old self.new }
+    {
+        if !self.shares {
+            return;
+        }
+        let kept = self.rounds.commit().is_ok();
+        self.over = self.over.and(&self.under_way, &kept);
+        self.under_way = Log::new();
+        self.shares = false;
+        self.is_lost = !kept;
+        self.bytes_told = 0;
+    }
+
+    /// Whether what is applied shares a commit.
+    pub fn is_shared(&self) -> bool
+        ensures { result ≡ shares_of self.now }
+    {
+        self.shares
+    }
+
+    /// Whether so much was told in the round that nothing more is to be asked in it: all of it waits
+    /// for the commit.
+    pub fn is_full(&self) -> bool
+        ensures { result ≡ is_full_of self.now }
+    {
+        self.bytes_told > MOST_TOLD
+    }
+
+    /// Whether the round that was settled last was lost.
+    pub fn is_lost(&self) -> bool
+        ensures { result ≡ is_lost_of self.now }
+    {
+        self.is_lost
+    }
+
+    /// A peer's turn begins that has asked this in the round.
+    pub fn set_asked(&mut self, asked: Option<Entry>)
+        ensures { self.new ≡ record self.old { asked = asked } }
+    {
+        self.asked = asked;
+    }
+
+    /// What the peer whose turn it was has asked in the round.
+    pub fn take_asked(&mut self) -> Option<Entry>
+        ensures asked { result ≡ self.old.asked }
+        ensures same { self.new ≡ record self.old { asked = None } }
+    {
+        self.asked.take()
+    }
+
+    /// Applies what came, once, and answers what that came to. In a round a peer can ask one thing
+    /// before that is settled; another is not applied, as if there were no memory for it.
+    pub(crate) fn apply(&mut self, entry: Entry) -> Result<Result<Reply, StoreFault>, AllocError>
+        ensures applies { IfOk result (λ told. AppliesNext S.Store entry told self.old self.new) }
+        ensures unchanged { OnErr result (self.new ≡ self.old) }
+        ensures second { OnErr result
+            (IsTrue (shares_of self.old) × (asked_of self.old ≢ [])) }
+    {
+        if self.shares {
+            return self.apply_shared(entry);
+        }
+        Ok(self.apply_alone(&entry))
+    }
+
+    pub(crate) fn apply_alone(&mut self, entry: &Entry) -> Result<Reply, StoreFault>
+        requires { shares_of self.old ≡ false }
+        ensures { AppliesNext S.Store entry.now result self.old self.new }
+    {
+        let told = self
+            .rounds
+            .apply_alone(self.alloc, entry.moment(), &entry.event());
+        self.over = self.over.and(&Log::new().and(entry, &told), &true);
+        told
+    }
+
+    fn apply_shared(&mut self, entry: Entry) -> Result<Result<Reply, StoreFault>, AllocError>
+        requires { IsTrue (shares_of self.old) }
+        ensures applies { IfOk result (λ told. AppliesNext S.Store entry told self.old self.new) }
+        ensures unchanged { OnErr result (self.new ≡ self.old) }
+        ensures second { OnErr result
+            (IsTrue (shares_of self.old) × (asked_of self.old ≢ [])) }
+    {
+        if self.asked.is_some() {
+            return Err(AllocError);
+        }
+        let told = self.apply_in_round(&entry);
+        self.bytes_told = self.bytes_told.saturating_add(size_of(&told));
+        self.under_way = self.under_way.and(&entry, &told);
+        self.asked = Some(entry);
+        Ok(told)
+    }
+
+    /// Once the round is lost nothing is applied in it.
+    fn apply_in_round(&mut self, entry: &Entry) -> Result<Reply, StoreFault>
+        ensures applies { AppliesEntry S.Store true entry.now
+            (store_of self.old) (store_of self.new) result }
+        ensures same { self.new ≡ record self.old { rounds = store_of self.new } }
+    {
+        if !self.rounds.is_under_way() {
+            return Err(StoreFault::Storage);
+        }
+        self.rounds
+            .apply(self.alloc, entry.moment(), &entry.event())
+    }
+
+    /// Answers a question by the tables as they are. No round is under way: what one has changed may
+    /// still be lost.
+    pub(crate) fn answer_question(&mut self, question: Question) -> Result<List<u8>, StoreFault>
+        requires { shares_of self.old ≡ false }
+        ensures { AnswersNext S.Store question result self.old self.new }
+    {
+        let told = self.rounds.answer(self.alloc, question);
+        self.over = self.over.and(&Log::new(), &false);
+        told
+    }
+
+    /// The connection to the tables as they are. What a round that is under way has changed is on the
+    /// disk only once it is settled. It takes no memory.
+    pub fn close(self) -> Connection<S>
+        ensures { result ≡ store_of self }
+    {
+        self.rounds.close()
+    }
+}
+
+/// About how many bytes it takes to tell the outcome.
+fn size_of(told: &Result<Reply, StoreFault>) -> usize {
+    match told {
+        Ok(Reply::Ipp(answer)) => answer.items.len(),
+        Ok(Reply::Documents(parts)) => size_of_parts(parts.items.as_slice()),
+        _ => 0,
+    }
+}
+
+fn size_of_parts(parts: &[Part]) -> usize {
+    let mut size: usize = 0;
+    for part in parts {
+        size = size.saturating_add(part.bytes.items.len());
+    }
+    size
+}

@@ -1,0 +1,128 @@
+//! Trials of further doors: a fourth one whose kind is made here, and doors that no hall takes.
+
+use crate::expecting::{expect, expect_equal};
+use crate::fault::Fault;
+use crate::loopback::{
+    Ports, Visitor, doors_at_free_ports, port_of, ports_of, turn_until_ended, turn_until_told,
+};
+use crate::report::Report;
+use crate::rooms::new_rooms;
+use room_peers::{Served, Side};
+use room_sockets::{Door, Entrance, Hall, Kind, Speech};
+use sqlite::Alter;
+use std::hash::RandomState;
+use std::io::{ErrorKind, Write};
+
+/// A door for one station at a time.
+const FOR_ONE: Kind = Kind {
+    speech: Speech::Lines(Side::Station),
+    most: 1,
+};
+
+/// More doors than a hall has.
+const DOORS: u32 = 65;
+
+/// A door that lets in more than all doors together.
+const FOR_TOO_MANY: Kind = Kind {
+    speech: Speech::Http,
+    most: 4_097,
+};
+
+const OPERATOR: &[u8] = b"open alice\ndevice d1 on\n";
+
+const OPERATOR_TOLD: &[u8] = b"ok\nok\n";
+
+const STATION: &[u8] = b"release d1 alice 1 - -\nopen bob\n";
+
+const STATION_TOLD: &[u8] = b"no-job\nbad-line\n";
+
+/// Runs each trial of this file, and tells how it ended.
+pub fn run_all<W: Write>(rt: &HostRuntime, report: &mut Report<'_, W>) {
+    report.tell("a fourth door", a_fourth_door(rt));
+    report.tell("too many doors", too_many_doors(rt));
+    report.tell("doors for too many", doors_for_too_many(rt));
+}
+
+/// Shows that who comes in by a fourth door speaks what its kind says, that only so many are let in
+/// as its kind says, and that the other doors stand open meanwhile.
+fn a_fourth_door(rt: &HostRuntime) -> Result<(), Fault> {
+    let mut doors = doors_at_free_ports(rt)?;
+    doors.push(Entrance::new(Door::at_port(rt, 0)?, FOR_ONE))?;
+    let ports = ports_of(doors.as_slice())?;
+    let fourth = port_of(doors.as_slice(), 3)?;
+    let mut rooms = new_rooms(rt)?;
+    let mut hall = Hall::open(rt, doors, RandomState::new(rt)?)?;
+    visit(rt, &mut hall, &mut rooms, ports, fourth)
+}
+
+/// Lets the operator in, then two by the fourth door, of whom the second waits until the first has
+/// gone, and one more station by the door of all stations.
+fn visit<S: Alter>(
+    rt: &HostRuntime,
+    hall: &mut Hall,
+    rooms: &mut Served<S>,
+    ports: Ports,
+    fourth: u16,
+) -> Result<(), Fault> {
+    let operator = Visitor::enter(rt, ports.operators, OPERATOR, OPERATOR_TOLD)?;
+    turn_until_told(rt, hall, rooms, &mut [operator])?;
+    let mut first = [Visitor::enter(rt, fourth, STATION, STATION_TOLD)?];
+    turn_until_told(rt, hall, rooms, &mut first)?;
+    let mut second = [Visitor::enter(rt, fourth, STATION, STATION_TOLD)?];
+    expect_waiting(rt, hall, rooms, ports, &mut second)?;
+    end_all(&first)?;
+    turn_until_ended(rt, hall, rooms, &mut first)?;
+    turn_until_told(rt, hall, rooms, &mut second)
+}
+
+/// Expects that those who came are told nothing while one who comes by another door is told all.
+fn expect_waiting<S: Alter>(
+    rt: &HostRuntime,
+    hall: &mut Hall,
+    rooms: &mut Served<S>,
+    ports: Ports,
+    waiting: &mut [Visitor<'_>],
+) -> Result<(), Fault> {
+    for visitor in waiting.iter_mut() {
+        visitor.go_on()?;
+    }
+    let station = Visitor::enter(rt, ports.stations, STATION, STATION_TOLD)?;
+    turn_until_told(rt, hall, rooms, &mut [station])?;
+    for visitor in waiting.iter_mut() {
+        visitor.go_on()?;
+        expect(rt, !visitor.is_told_enough(), "it waits")?;
+    }
+    Ok(())
+}
+
+/// Ends what each sends.
+fn end_all(visitors: &[Visitor<'_>]) -> Result<(), Fault> {
+    for visitor in visitors {
+        visitor.end()?;
+    }
+    Ok(())
+}
+
+/// Shows that no hall has more doors than it has tokens for.
+fn too_many_doors(rt: &HostRuntime) -> Result<(), Fault> {
+    let mut doors = Vec::new(rt.alloc());
+    for _ in 0..DOORS {
+        doors.push(Entrance::new(Door::at_port(rt, 0)?, FOR_ONE))?;
+    }
+    expect_refused(rt, doors)
+}
+
+/// Shows that the doors of a hall let in no more than it has room for.
+fn doors_for_too_many(rt: &HostRuntime) -> Result<(), Fault> {
+    let mut doors = Vec::new(rt.alloc());
+    doors.push(Entrance::new(Door::at_port(rt, 0)?, FOR_TOO_MANY))?;
+    expect_refused(rt, doors)
+}
+
+/// Expects that a hall behind these doors is refused.
+fn expect_refused(rt: &HostRuntime, doors: Vec<Entrance>) -> Result<(), Fault> {
+    match Hall::open(rt, doors, RandomState::new(rt)?) {
+        Ok(_) => expect(rt, false, "such a hall is refused"),
+        Err(error) => expect_equal(rt, error.kind(), ErrorKind::InvalidInput),
+    }
+}
