@@ -49,7 +49,7 @@ struct Database<'a> {
     printed: Vec<u8>,
 }
 
-// It is written out, so that no caller proves again how each part is dropped.
+// In the place of `#[derive(Drop)]`, so that no caller proves again how each part is dropped.
 impl Drop for Database<'_> {
     fn drop(self) {
         let Database {
@@ -127,8 +127,8 @@ impl<'a> Database<'a> {
         Ok(())
     }
 
-    /// Answers whether what was printed ends with this text and a line feed.
-    fn ends_with(&self, expected: &str) -> bool {
+    /// Answers whether what was printed ends with this text, which lacks its line feed, and one.
+    fn printed_ends_with(&self, expected: &str) -> bool {
         match self.printed.as_slice().strip_suffix(b"\n") {
             Some(printed) => printed.ends_with(expected.as_bytes()),
             None => false,
@@ -161,7 +161,7 @@ pub fn difference_beside(
     let mut alone = Database::new(rt)?;
     alone.add_steps(rt, steps, true)?;
     alone.add_last_steps(rt, last.as_slice())?;
-    if !alone.ends_with(ending.expected()) {
+    if !alone.printed_ends_with(ending.expected()) {
         return Ok(Some(String::from_str(rt.alloc(), "the printer is not stopped")?));
     }
     let due = alone.into_text(account)?;
@@ -215,22 +215,23 @@ fn asked_between(rt: &HostRuntime, account: Name, steps: &[Step]) -> Result<Vec<
             Some(room) => room.account().next_job,
             None => 1,
         };
-        let asked = between(alloc, at, next)?;
+        let asked = other_asks_after(alloc, at, next)?;
         all.push(steps_of(alloc, asked.as_str())?)?;
     }
     Ok(all)
 }
 
-/// Answers what the other asks after the account's step at this place, in turns: a new job, that
-/// the job of the number is canceled, a grant.
-fn between(alloc: Global, at: usize, number: u32) -> Result<String, Fault> {
+/// Answers what the other asks after the account's step at this place, in turns: a new job; that
+/// its own job is canceled which has the number of the account's next job, so that a mix-up would
+/// show; a grant.
+fn other_asks_after(alloc: Global, at: usize, next_job: u32) -> Result<String, Fault> {
     Ok(match at % 3 {
         0 => String::from_str(
             alloc,
             "> ipp bob\n  0101 0002 00000001 01 C U(bob) 03 48656c6c6f",
         )?,
         1 => format!(in alloc;
-            "> ipp bob\n  0101 0008 00000002 01 C U(bob)\n  21 job-id = {number:08x}\n  03"
+            "> ipp bob\n  0101 0008 00000002 01 C U(bob)\n  21 job-id = {next_job:08x}\n  03"
         )?,
         _ => String::from_str(alloc, "> grant bob 2026-09 70")?,
     })

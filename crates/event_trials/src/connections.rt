@@ -26,7 +26,7 @@ pub struct Connections {
     requests: u64,
 }
 
-// It is written out, so that no caller proves again how each part is dropped.
+// In the place of `#[derive(Drop)]`, so that no caller proves again how each part is dropped.
 impl Drop for Connections {
     fn drop(self) {
         let Connections {

@@ -36,8 +36,9 @@ pub fn answer_request(
     carry_request(rt.alloc(), &mut connection, served, request)
 }
 
-// The connection is the caller's: this has many exits, at which it would be dropped.
-/// Sends the request over the connection. Answers what goes out for it.
+// The connection is borrowed, so that this does not prove at each of its exits how it is dropped.
+/// Gives the request to the server's end of a connection, until all of it is read or the server
+/// reads no more. Answers what goes out for it.
 fn carry_request(
     alloc: Global,
     connection: &mut Connection,

@@ -26,7 +26,7 @@ pub struct Trial<S: Alter> {
     is_close: bool,
 }
 
-// It is written out, so that no caller proves again how each part is dropped.
+// In the place of `#[derive(Drop)]`, so that no caller proves again how each part is dropped.
 impl<S: Alter + Drop> Drop for Trial<S> {
     fn drop(self) {
         let Trial {

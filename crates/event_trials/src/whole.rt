@@ -28,7 +28,7 @@ pub struct Whole<'a, S: Alter> {
     waiting: Vec<&'a Line>,
 }
 
-// It is written out, so that no caller proves again how each part is dropped.
+// In the place of `#[derive(Drop)]`, so that no caller proves again how each part is dropped.
 impl<S: Alter + Drop> Drop for Whole<'_, S> {
     fn drop(self) {
         let Whole {

@@ -63,7 +63,8 @@ impl<'a> MessageLine<'a> {
     }
 }
 
-/// The last word of the line, where the line is of one of the three forms, and the words before it.
+/// Where the line is from, the words before its last one, and the last, which need be no digits.
+/// None where the words are of none of the three forms.
 fn parted(line: &[u8]) -> Option<(Origin, &[u8], &[u8])>
     ensures parted { IfSome result (λ x. IsParted x.0 x.1.now x.2.now line.now) }
     ensures other { IsNone result →

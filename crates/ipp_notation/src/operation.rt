@@ -38,7 +38,7 @@ impl Operation {
     }
 }
 
-/// The name, or `operation` and the number in hexadecimal.
+/// The name, or `operation` and the number in four hexadecimal digits.
 impl fmt::Display for Operation {
     fn fmt<W: fmt::Write>(&self, f: &mut fmt::Formatter<W>) -> fmt::Result {
         let id = self.0;

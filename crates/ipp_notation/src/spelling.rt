@@ -223,7 +223,8 @@ fn digits_of(alloc: Global, value: &str) -> Result<String, NotationFault> {
     Ok(digits)
 }
 
-/// A length in two bytes, and the bytes.
+/// Puts the digits of a length in two bytes, and then those of the bytes that have this length: so
+/// a message has a name and a value (RFC 8010 section 3.1.4).
 fn spell_field(alloc: Global, text: &mut String, digits: &str) -> Result<(), NotationFault> {
     let length = format!(in alloc; "{:04x}", digits.len() / 2)?;
     text.push_str(length.as_str())?;

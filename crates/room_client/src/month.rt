@@ -19,6 +19,7 @@ pub(crate) fn month_text(month: u32) -> [u8; 7]
     [a, b, c, d, b'-', e, f]
 }
 
+/// The two digits that write the number.
 fn two_digits(number: u32) -> [u8; 2]
     requires { number < 100 }
     ensures text { result ≡ two_digits number }

@@ -135,8 +135,8 @@ fn of_matches<'a>(
     ensures said { IfOk result (IsSaidBy (placed (texts words.now))) }
 {
     match matches.subcommand() {
-        Some((SERVE, _)) => serving(alloc, words),
-        Some((SEND, found)) => sending(found),
+        Some((SERVE, _)) => serve_command(alloc, words),
+        Some((SEND, found)) => send_command(found),
         Some((EXPLAIN, _)) => Ok(Command::Explain),
         Some((command, found)) => on_database(command, found, word(found, DATABASE)?),
         None => Err(Unfit::Missing),
@@ -153,19 +153,19 @@ fn on_database<'a>(
 {
     match command {
         CREATE => Ok(Command::Create { database }),
-        OPEN => opening(words, database),
+        OPEN => open_command(words, database),
         MIGRATE => Ok(Command::Migrate { database }),
-        DEVICE => turning(words, database),
-        RATE => rating(words, database),
+        DEVICE => device_command(words, database),
+        RATE => rate_command(words, database),
         GRANTS => Ok(Command::Grants { database }),
         STATION => Ok(Command::Station { database }),
         SCRIPT => Ok(Command::Script { database }),
-        LISTEN => listening(words, database),
+        LISTEN => listen_command(words, database),
         _ => Err(Unfit::Missing),
     }
 }
 
-fn opening<'a>(words: &ArgMatches<'a>, database: &'a str) -> Result<Command<'a>, Unfit>
+fn open_command<'a>(words: &ArgMatches<'a>, database: &'a str) -> Result<Command<'a>, Unfit>
     ensures range { IfOk result (λ command. IsTrue (is_in_range command)) }
     ensures said { (given : List (List ℕ)) → IfOk result (IsSaidBy given) }
 {
@@ -173,7 +173,7 @@ fn opening<'a>(words: &ArgMatches<'a>, database: &'a str) -> Result<Command<'a>,
     Ok(Command::Open { database, account })
 }
 
-fn turning<'a>(words: &ArgMatches<'a>, database: &'a str) -> Result<Command<'a>, Unfit>
+fn device_command<'a>(words: &ArgMatches<'a>, database: &'a str) -> Result<Command<'a>, Unfit>
     ensures range { IfOk result (λ command. IsTrue (is_in_range command)) }
     ensures said { (given : List (List ℕ)) → IfOk result (IsSaidBy given) }
 {
@@ -182,7 +182,7 @@ fn turning<'a>(words: &ArgMatches<'a>, database: &'a str) -> Result<Command<'a>,
     Ok(Command::Device { database, name, on })
 }
 
-fn rating<'a>(words: &ArgMatches<'a>, database: &'a str) -> Result<Command<'a>, Unfit>
+fn rate_command<'a>(words: &ArgMatches<'a>, database: &'a str) -> Result<Command<'a>, Unfit>
     ensures range { IfOk result (λ command. IsTrue (is_in_range command)) }
     ensures said { (given : List (List ℕ)) → IfOk result (IsSaidBy given) }
 {
@@ -195,7 +195,7 @@ fn rating<'a>(words: &ArgMatches<'a>, database: &'a str) -> Result<Command<'a>, 
     })
 }
 
-fn listening<'a>(words: &ArgMatches<'a>, database: &'a str) -> Result<Command<'a>, Unfit>
+fn listen_command<'a>(words: &ArgMatches<'a>, database: &'a str) -> Result<Command<'a>, Unfit>
     ensures range { IfOk result (λ command. IsTrue (is_in_range command)) }
     ensures said { (given : List (List ℕ)) → IfOk result (IsSaidBy given) }
 {
@@ -207,7 +207,7 @@ fn listening<'a>(words: &ArgMatches<'a>, database: &'a str) -> Result<Command<'a
 }
 
 // The words of `serve` are read by their places, and its options behind them.
-fn serving<'a>(alloc: Global, words: &[&'a str]) -> Result<Command<'a>, Unfit>
+fn serve_command<'a>(alloc: Global, words: &[&'a str]) -> Result<Command<'a>, Unfit>
     ensures range { IfOk result (λ command. IsTrue (is_in_range command)) }
     ensures said { IfOk result (IsSaidBy (placed (texts words.now))) }
 {
@@ -221,7 +221,7 @@ fn serving<'a>(alloc: Global, words: &[&'a str]) -> Result<Command<'a>, Unfit>
     }))
 }
 
-fn sending<'a>(words: &ArgMatches<'a>) -> Result<Command<'a>, Unfit>
+fn send_command<'a>(words: &ArgMatches<'a>) -> Result<Command<'a>, Unfit>
     ensures range { IfOk result (λ command. IsTrue (is_in_range command)) }
     ensures said { (given : List (List ℕ)) → IfOk result (IsSaidBy given) }
 {

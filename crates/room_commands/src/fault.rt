@@ -33,7 +33,8 @@ pub enum Fault {
     /// grammar.
     #[error("ipp-room: line {0}")]
     Line(usize),
-    /// The database can't be opened, or refused an event.
+    /// The database can't be opened, or an event failed there: its storage failed, its rows are
+    /// damaged, or the moment is past 2099.
     #[error("ipp-room: store")]
     Store,
     /// Memory ran out.

@@ -20,8 +20,8 @@ const LEAST_CACHE_PAGES: usize = 2_000;
 /// How many bytes a page has in a file that the program has made.
 const PAGE_BYTES: u64 = 4_096;
 
-/// A connection to the file, which is made where it is not there. A URI, and `:memory:`, name no
-/// file.
+/// A connection to the file, which is made where it is not there. `Storage` where the path is a URI
+/// or `:memory:`, which name no file, or the file can't be opened; `Memory` where memory ran out.
 pub(crate) fn connect(
     rt: &HostRuntime,
     path: &str,

@@ -10,8 +10,8 @@ use room_events::Event;
 use room_input::GrantLine;
 use std::alloc::{AllocError, Global};
 
-/// The good ones at the moment, in order.
-pub fn grants_of(
+/// An event for each good record, in order, each with the moment. A bad record gives none.
+pub fn grant_events(
     alloc: Global,
     moment: u64,
     lines: &[GrantLine],

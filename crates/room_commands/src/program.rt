@@ -4,7 +4,7 @@ ghost use Rattle.room_lines.specs.Actions.{is_in_range};
 
 use crate::command::Command;
 use crate::fault::Fault;
-use crate::grants::grants_of;
+use crate::grants::grant_events;
 use crate::input::{read_lines, read_records, read_text};
 use crate::opener::Opener;
 use crate::printing::{print_explained, print_grants, print_outcomes, print_text};
@@ -206,7 +206,7 @@ where
 {
     let moment = now.ok_or(Fault::Io)?;
     let records = read_records(alloc, input)?;
-    let events = grants_of(alloc, moment, records.as_slice())?;
+    let events = grant_events(alloc, moment, records.as_slice())?;
     let outcomes = outcomes_of(alloc, opener, database, events.as_slice())?;
     let printed = print_grants(output, records.as_slice(), outcomes.as_slice());
     ended(first_failure(outcomes.as_slice()), printed)

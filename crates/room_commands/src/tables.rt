@@ -14,8 +14,8 @@ use room_store::{Refused, Store};
 use sqlite::{Alter, Connection};
 use std::alloc::Global;
 
-/// How a command comes by the tables. In memory they are made, since no run before can have made
-/// them.
+/// How a command comes by the tables of its database: it makes them, brings them up to date, or
+/// finds them. In memory they are always made, since no run before can have made them.
 #[derive(Clone, Copy)]
 pub enum Begin {
     Create,
@@ -23,7 +23,7 @@ pub enum Begin {
     Open,
 }
 
-/// Makes the tables, or brings them up to date, and no more.
+/// Opens the database, comes by its tables as `how` says, and closes it.
 pub fn prepare<S: Alter + Drop, F: Opener<Kept = Connection<S>> + Drop>(
     mut opener: F,
     database: &str,

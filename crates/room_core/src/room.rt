@@ -13,7 +13,7 @@ ghost use Rattle.room_state.specs.Conditions.{CanAddJob, CanRestand, CanFinish, 
 
 use crate::{documents, grants, jobs};
 use ipp_coding::List;
-use room_rules::{Account, Document, Grant, Job, Standing, may_be_job};
+use room_rules::{Account, Document, Grant, Job, Moment, Standing, may_be_job};
 use room_state::Tally;
 use std::alloc::{AllocError, Global};
 use std::marker::Model;
@@ -63,13 +63,12 @@ impl Model for Room {
 
 impl Room {
     /// A room as it is opened: nothing in it, and its first job to be numbered 1.
-    pub fn new(alloc: Global, now: u64) -> Room
-        requires { now ≤ last_moment }
+    pub fn new(alloc: Global, now: Moment) -> Room
         ensures { result ≡ empty_room now }
     {
         Room {
             account: Account {
-                opened: now,
+                opened: now.seconds(),
                 next_job: 1,
             },
             jobs: List {

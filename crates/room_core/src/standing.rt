@@ -1,7 +1,7 @@
 //! What an act on a job makes of the room.
 
 ghost use Rattle.std.specs.Prelude.{◌≡◌, OnOk, OnErr};
-ghost use Rattle.room_core.specs.Words.{CanMove, with_moved};
+ghost use Rattle.room_core.specs.Prelude.{CanMove, with_moved};
 
 use crate::room::Room;
 use room_rules::Standing;

@@ -2,7 +2,6 @@ pub mod Events
 pub mod Fits
 pub mod Rates
 pub mod Steps
-pub mod Moving
 pub mod JobActs
 pub mod Stations
 pub mod Grants

@@ -16,7 +16,7 @@ pub use event::{Event, Reply};
 pub use fitting::fits;
 pub use laws::shown_are_served;
 pub use making::{has_data, job_made};
-pub use moving::{by_word, canceled, held, released, released_at, settled, started};
+pub use moving::{by_word, released, released_at};
 pub use queue::jobs_told;
 pub use quota::left_with;
 pub use respond::{asked_at, made_names, no_job, wanted_names};
@@ -28,8 +28,8 @@ pub use room_replies::{
 };
 pub use room_rules::{
     Account, CoreFault, Device, Document, FIRST_MONTH, Format, Grant, Job, JobState, LAST_JOB,
-    LAST_MOMENT, LAST_MONTH, MOST_IMPRESSIONS, MOST_PAGES, MOST_RATE, Name, Refusal, Standing,
-    Word, add_document, cancel, hold, left, month_of, release_at_station, release_by_owner,
-    set_device, set_rate, settle, start, within_quota,
+    LAST_MOMENT, LAST_MONTH, MOST_IMPRESSIONS, MOST_PAGES, MOST_RATE, Moment, Name, Refusal,
+    Standing, Word, add_document, cancel, hold, left, month_of, release_at_station,
+    release_by_owner, set_device, set_rate, settle, start, within_quota,
 };
 pub use room_state::Tally;

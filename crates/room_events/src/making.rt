@@ -6,17 +6,16 @@ ghost use Rattle.room_asks.specs.Operations.{is_print_job};
 ghost use Rattle.room_events.specs.JobRequests.{has_data};
 ghost use Rattle.room_events.specs.NewJobs.{new_job};
 ghost use Rattle.room_replies.specs.Limits.{IsShowable};
-ghost use Rattle.room_rules.specs.Limits.{last_moment, last_next_job};
+ghost use Rattle.room_rules.specs.Limits.{last_next_job};
 
 use ipp_coding::List;
 use room_asks::{Ask, new_job};
-use room_rules::Job;
+use room_rules::{Job, Moment};
 use std::alloc::{AllocError, Global};
 
 /// The job that a Print-Job or a Create-Job makes under the number, 1 to 999999.
-pub fn job_made(alloc: Global, number: u32, now: u64, ask: &Ask<'_>) -> Result<Job, AllocError>
+pub fn job_made(alloc: Global, number: u32, now: Moment, ask: &Ask<'_>) -> Result<Job, AllocError>
     requires ask { IsAsk (plain_ask ask.now) }
-    requires moment { now ≤ last_moment }
     requires number { (1 ≤ number) × (number < last_next_job) }
     ensures limits { IfOk result IsShowable }
     ensures job { IfOk result (λ job. job ≡ new_job number (plain_ask ask.entry.now) now) }

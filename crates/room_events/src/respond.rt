@@ -14,13 +14,12 @@ ghost use Rattle.room_replies.specs.Tables.{asked_names};
 
 use room_asks::Ask;
 use room_replies::Place;
-use room_rules::{Name, Refusal, Word};
+use room_rules::{Moment, Name, Refusal, Word};
 
 /// Where and when the request is answered, of an account that was opened then.
-pub fn asked_at<'a>(opened: u64, account: Name, now: u64, ask: &Ask<'a>) -> Place<'a>
+pub fn asked_at<'a>(opened: u64, account: Name, now: Moment, ask: &Ask<'a>) -> Place<'a>
     requires ask { IsAsk (plain_ask ask.now) }
     requires opened { opened ≤ last_moment }
-    requires moment { now ≤ last_moment }
     ensures place { plain_place result ≡ asked_at opened account now (plain_ask ask.entry.now) }
     ensures limits { IsPlace (plain_place result) }
 {
@@ -28,7 +27,7 @@ pub fn asked_at<'a>(opened: u64, account: Name, now: u64, ask: &Ask<'a>) -> Plac
         base: ask.base,
         name: account,
         opened,
-        now,
+        now: now.seconds(),
     }
 }
 

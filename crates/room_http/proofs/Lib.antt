@@ -8,7 +8,6 @@ pub mod Lines
 pub mod Sections
 pub mod ChunkSteps
 pub mod Spelling
-pub mod Joining
 pub mod Openings
 pub mod OneBody
 pub mod OneHead

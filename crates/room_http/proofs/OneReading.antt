@@ -9,8 +9,8 @@ use Rattle.room_http.specs.Judging.{judged, said_by}
 use Rattle.room_http.specs.declared.framing.Framing.{Framing}
 use Rattle.room_http.specs.declared.framing.Framing.TheVariants.{Chunked}
 use Rattle.room_http.specs.declared.judging.Order.{Order}
-use Rattle.room_http.specs.declared.refusal.Refusal.{Refusal}
-use Rattle.room_http.specs.declared.refusal.Refusal.TheVariants.{BadRequest, HeadTooLarge, PayloadTooLarge}
+use Rattle.room_requests.specs.declared.refusal.Refusal.{Refusal}
+use Rattle.room_requests.specs.declared.refusal.Refusal.TheVariants.{BadRequest, HeadTooLarge, PayloadTooLarge}
 use Rattle.room_http.proofs.OneBody.{body_or_long, body_or_none, none_or_long_body, one_body}
 use Rattle.room_http.proofs.OneHead.{head_or_long, head_or_none, head_or_nothing, long_and_none, long_or_nothing, none_or_nothing, one_head}
 

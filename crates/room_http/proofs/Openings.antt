@@ -9,7 +9,7 @@ use Rattle.httparse.specs.declared.spans.RequestSpans.{RequestSpans}
 use Rattle.room_http.specs.Exchange.{AppendsInterim, FailedReceiving, Takes, TakesAtMost, TakesHead, is_asked, is_untold}
 use Rattle.room_http.specs.Http.{Orders}
 use Rattle.room_http.specs.ProofReading.{IsReading}
-use Rattle.room_http.specs.Texts.{interim_text}
+use Rattle.room_requests.specs.Texts.{interim_text}
 use Rattle.room_http.specs.declared.fault.WireFault.{WireFault}
 use Rattle.room_http.specs.declared.fault.WireFault.TheVariants.{Read, Write, Memory, Ended}
 use Rattle.room_http.specs.declared.judging.Order.{Order}

@@ -1,10 +1,8 @@
--- Fields of a name, one more at a time, and parts of a value.
-use Rattle.std.proofs.Common.{◌≡◌, ◌==◌, ◌||◌, ℕ, ◌+◌, ◌<◌, ◌≤◌, Bool, true, false, cond, if◌then◌else◌, nat_lt, List, [], ◌∷◌, ◌++◌, length, map, take, get_or, Some, None, refl, sym, ap, ◌∙◌, arith}
-use Rattle.std.proofs.lemmas.Bool.Decides.{nat_tests}
-use Rattle.std.proofs.lemmas.List.{map_more, append-nil, take_all}
-use Rattle.std.specs.List.{list_any, position, position_or_len}
+-- Fields of a name, one more at a time.
+use Rattle.std.proofs.Common.{◌≡◌, ◌||◌, ℕ, ◌+◌, ◌<◌, Bool, true, false, cond, List, [], ◌∷◌, ◌++◌, length, map, take, get_or, refl, ap, ◌∙◌}
+use Rattle.std.proofs.lemmas.List.{map_more, append-nil}
+use Rattle.std.specs.List.{list_any}
 use Rattle.room_http.specs.Fields.{NameAndValue, is_named, plain_field, values_named}
-use Rattle.room_http.specs.Words.{before}
 use Rattle.room_http.specs.declared.fields.Field.{Field}
 
 one_more : (name : List ℕ) (fields : List NameAndValue) (field : NameAndValue) → values_named name (fields ++ field ∷ []) ≡ values_named name fields ++ cond (is_named name field) (field.1 ∷ []) []
@@ -28,24 +26,6 @@ module _ (name : List ℕ) (fields : List Field) (i : ℕ) (d : Field) (there : 
 
   pub value_same : is_named name (plain_field (get_or fields i d)) ≡ false → values_named name (map plain_field (take (i + 1) fields)) ≡ values_named name (map plain_field (take i fields))
   value_same is = next_value false is ∙ append-nil (values_named name (map plain_field (take i fields)))
-
--- ---- what stands before a mark
-
-pub before_place : (mark : ℕ) (bytes : List ℕ) (place : ℕ) → position (λ b. b == mark) bytes ≡ Some place → take place bytes ≡ before mark bytes
-before_place mark bytes place found =
-    let is : place ≡ position_or_len (λ b. b == mark) bytes = at (nat_lt (position_or_len (λ b. b == mark) bytes) (length bytes)) found in
-    ap (λ n. take n bytes) is
-  where
-    at : (b : Bool) → (if b then Some (position_or_len (λ b. b == mark) bytes) else None) ≡ Some place → place ≡ position_or_len (λ b. b == mark) bytes
-    at true e = cc
-    at false e = cc
-
-pub before_none : (mark : ℕ) (bytes : List ℕ) → position (λ b. b == mark) bytes ≡ None → bytes ≡ before mark bytes
-before_none mark bytes none = sym (take_all (position_or_len (λ b. b == mark) bytes) bytes (past (nat_lt (position_or_len (λ b. b == mark) bytes) (length bytes)) refl none))
-  where
-    past : (b : Bool) → nat_lt (position_or_len (λ b. b == mark) bytes) (length bytes) ≡ b → (if b then Some (position_or_len (λ b. b == mark) bytes) else None) ≡ None → length bytes ≤ position_or_len (λ b. b == mark) bytes
-    past true is e = cc
-    past false is e = grind (arith, nat_tests)
 
 -- ---- a test of fields
 

@@ -1,7 +1,7 @@
 -- What stands after a head in the place of its body.
 use Rattle.std.specs.Prelude.{◌≡◌, ℕ, ◌<◌, ◌≤◌, List, ◌++◌, length}
 use Rattle.httparse.specs.Grammar.{ChunkLine, print_chunk_line}
-use Rattle.room_http.specs.Limits.{longest_body}
+use Rattle.room_requests.specs.Limits.{longest_body}
 use Rattle.room_http.specs.Chunks.{Chunk, AreChunks, IsLast, IsNoChunk, IsTooLongWith}
 use Rattle.room_http.specs.Trailers.{Section, AreTrailers, HasNoTrailers, print_trailers}
 use Rattle.room_http.specs.declared.framing.Framing.{Framing}

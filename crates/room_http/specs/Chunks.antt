@@ -4,7 +4,7 @@ use Rattle.std.specs.Prelude.{◌≡◌, ℕ, ◌+◌, ◌<◌, ◌≤◌, List,
 use Rattle.std.specs.List.{flat_map, AllByRecursion}
 use Rattle.httparse.specs.Ascii.{crlf_bytes}
 use Rattle.httparse.specs.Grammar.{ChunkLine, IsChunkLine, print_chunk_line, chunk_size}
-use Rattle.room_http.specs.Limits.{longest_body, longest_size_line}
+use Rattle.room_requests.specs.Limits.{longest_body, longest_size_line}
 
 pub record IsSizeLine (line : ChunkLine) : Type 0 where
   pub is_line : IsChunkLine line

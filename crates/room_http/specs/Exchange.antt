@@ -1,10 +1,10 @@
 -- What a call takes of an input, and writes.
 use Rattle.std.specs.Prelude.{◌≡◌, ℕ, ◌+◌, ◌*◌, ◌<◌, ◌≤◌, ⊤, Bool, true, List, [], ◌++◌, length, take, Option, Result, Ok, Err}
 use Rattle.std.specs.Io.KnownBytes.{Appends}
-use Rattle.room_http.specs.Limits.{longest_body, longest_head, longest_size_line, longest_trailers, shortest_body}
+use Rattle.room_requests.specs.Limits.{longest_body, longest_head, longest_size_line, longest_trailers, shortest_body}
 use Rattle.room_input.specs.Streams.{Yields}
 use Rattle.room_http.specs.Http.{Http, Nothing, Orders, Refused, Carried}
-use Rattle.room_http.specs.Texts.{interim_text}
+use Rattle.room_requests.specs.Texts.{interim_text}
 use Rattle.room_http.specs.declared.fault.WireFault.{WireFault}
 use Rattle.room_http.specs.declared.fault.WireFault.TheVariants.{Read, Write, Memory, Ended}
 use Rattle.room_http.specs.declared.judging.Order.{Order}

@@ -1,6 +1,6 @@
 -- The fields of a head by their names, which are compared in any case (RFC 9110 section 5.1).
 use Rattle.std.specs.Prelude.{ℕ, Bool, List, [], ◌∷◌, if◌then◌else◌}
-use Rattle.room_http.specs.Words.{is_same_word}
+use Rattle.room_requests.specs.Words.{is_same_word}
 use Rattle.room_http.specs.declared.fields.Field.{Field}
 
 -- a name, and the value without the white space round it

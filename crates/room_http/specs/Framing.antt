@@ -6,7 +6,7 @@ use Rattle.std.specs.Char.{is_ascii_digit}
 use Rattle.std.specs.List.{list_all}
 use Rattle.std.specs.Str.Parse.{digits_value}
 use Rattle.room_http.specs.Fields.{NameAndValue, values_named}
-use Rattle.room_http.specs.Words.{is_same_word}
+use Rattle.room_requests.specs.Words.{is_same_word}
 use Rattle.room_http.specs.declared.framing.Framing.{Framing}
 use Rattle.room_http.specs.declared.framing.Framing.TheVariants.{Length, Chunked}
 

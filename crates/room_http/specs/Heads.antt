@@ -3,7 +3,7 @@
 use Rattle.std.specs.Prelude.{◌≡◌, ◌≢◌, ℕ, ◌<◌, ◌≤◌, List, [], ◌++◌, length}
 use Rattle.httparse.specs.Grammar.{RequestHead, IsRequestHead, print_request, HasNoRequest, MayBecomeRequest, NeverHasRequest}
 use Rattle.httparse.specs.Spans.{RequestExceeds, RequestOverflows}
-use Rattle.room_http.specs.Limits.{longest_head, most_fields}
+use Rattle.room_requests.specs.Limits.{longest_head, most_fields}
 
 -- the head stands at the front, and this after it
 pub record Opens (b : List ℕ) (h : RequestHead) (behind : List ℕ) : Type 0 where

@@ -5,11 +5,11 @@ use Rattle.httparse.specs.Grammar.{RequestHead}
 use Rattle.room_http.specs.Bodies.{HasBody, IsNoBody, IsTooLongBody}
 use Rattle.room_http.specs.Heads.{Opens, IsTooLong, IsNoHead}
 use Rattle.room_http.specs.Judging.{judged, said_by}
-use Rattle.room_http.specs.Limits.{shortest_body}
+use Rattle.room_requests.specs.Limits.{shortest_body}
 use Rattle.room_http.specs.declared.framing.Framing.TheVariants.{Chunked}
 use Rattle.room_http.specs.declared.judging.Order.{Order}
-use Rattle.room_http.specs.declared.refusal.Refusal.{Refusal}
-use Rattle.room_http.specs.declared.refusal.Refusal.TheVariants.{BadRequest, PayloadTooLarge, HeadTooLarge}
+use Rattle.room_requests.specs.declared.refusal.Refusal.{Refusal}
+use Rattle.room_requests.specs.declared.refusal.Refusal.TheVariants.{BadRequest, PayloadTooLarge, HeadTooLarge}
 
 pub data Heard : Type 0 where
   Nothing : Heard

@@ -2,9 +2,9 @@
 use Rattle.std.specs.Prelude.{◌≡◌, ◌⊎◌, ℕ, false, List, ◌++◌, length}
 use Rattle.httparse.specs.Grammar.{EndsInTarget, HasNoRequest, NeverHasRequest}
 use Rattle.httparse.specs.Spans.{RequestExceeds}
-use Rattle.room_http.specs.Limits.{longest_head, most_fields}
+use Rattle.room_requests.specs.Limits.{longest_head, most_fields}
 use Rattle.room_http.specs.Http.{Heard, Http, Refused}
-use Rattle.room_http.specs.declared.refusal.Refusal.TheVariants.{BadRequest, HeadTooLarge}
+use Rattle.room_requests.specs.declared.refusal.Refusal.TheVariants.{BadRequest, HeadTooLarge}
 
 -- The two places where 400 and 431 are both allowed. In each, as many bytes are there as a head may
 -- have, and hold none.

@@ -5,17 +5,18 @@ use Rattle.std.specs.Prelude.{◌==◌, ◌&&◌, ◌||◌, ℕ, ◌≤◌, Bool
 use Rattle.std.specs.List.{list_any}
 use Rattle.httparse.specs.Grammar.{RequestHead}
 use Rattle.httparse.specs.Spans.{name_and_value}
-use Rattle.room_http.specs.Limits.{longest_body}
+use Rattle.room_requests.specs.Limits.{longest_body}
 use Rattle.room_http.specs.Fields.{NameAndValue, is_named, plain_field, values_named}
 use Rattle.room_http.specs.Framing.{framing_of}
-use Rattle.room_http.specs.Targets.{account_of, is_ipp_type}
-use Rattle.room_http.specs.Words.{is_same_word, lists}
+use Rattle.room_requests.specs.Targets.{account_of, is_ipp_type}
+use Rattle.room_requests.specs.Words.{is_same_word}
+use Rattle.room_http.specs.Words.{lists}
 use Rattle.room_http.specs.declared.framing.Framing.{Framing}
 use Rattle.room_http.specs.declared.framing.Framing.TheVariants.{Length, Chunked}
 use Rattle.room_http.specs.declared.judging.Order.{Order}
 use Rattle.room_http.specs.declared.judging.Request.{Request}
-use Rattle.room_http.specs.declared.refusal.Refusal.{Refusal}
-use Rattle.room_http.specs.declared.refusal.Refusal.TheVariants.{BadRequest, MethodNotAllowed, NotFound, UnsupportedMediaType, PayloadTooLarge}
+use Rattle.room_requests.specs.declared.refusal.Refusal.{Refusal}
+use Rattle.room_requests.specs.declared.refusal.Refusal.TheVariants.{BadRequest, MethodNotAllowed, NotFound, UnsupportedMediaType, PayloadTooLarge}
 
 -- ---- what a head says
 

@@ -1,12 +1,9 @@
-pub mod Limits
 pub mod ProofKinds
 pub mod Words
 pub mod Fields
 pub mod ProofFinding
 pub mod Framing
-pub mod Targets
 pub mod Judging
-pub mod Texts
 pub mod Heads
 pub mod Chunks
 pub mod Trailers

@@ -5,7 +5,7 @@ use Rattle.httparse.specs.Grammar.{HasNoRequest, MayBecomeRequest, NeverHasReque
 use Rattle.httparse.specs.Ascii.{crlf_bytes}
 use Rattle.httparse.specs.Spans.{IsRequestOf, IsRequestWithin, RequestExceeds, RequestOverflows}
 use Rattle.httparse.specs.declared.spans.HeaderSpan.{HeaderSpan}
-use Rattle.room_http.specs.Limits.{longest_body, longest_head}
+use Rattle.room_requests.specs.Limits.{longest_body, longest_head}
 use Rattle.room_input.specs.Streams.{IsSpent, Yields}
 use Rattle.room_http.specs.Bodies.{HasBody, IsNoBody, IsTooLongBody, HasBehindChunks}
 use Rattle.room_http.specs.Chunks.{AreChunks, Chunk, HasNoLineEnd, HasNoSizeLine, IsLast, IsNoChunk, IsSizeLine}

@@ -2,7 +2,7 @@
 -- with the empty line after them (this project's limits). What they say is ignored.
 use Rattle.std.specs.Prelude.{◌≡◌, ℕ, ◌≤◌, List, ◌++◌, length, All}
 use Rattle.httparse.specs.Grammar.{Field, IsField, LineEnd, print_section}
-use Rattle.room_http.specs.Limits.{longest_trailers, most_fields}
+use Rattle.room_requests.specs.Limits.{longest_trailers, most_fields}
 
 -- fields, and how the empty line ends
 pub record Section : Type 0 where

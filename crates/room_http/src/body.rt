@@ -18,7 +18,7 @@ pub(crate) const PIECE: usize = 16384;
 #[derive(Drop)]
 pub(crate) enum Body {
     Whole(Vec<u8>),
-    /// Something else.
+    /// The input ended before, or its chunks or trailers are malformed.
     Bad,
     /// Chunks that have more bytes than a body may have.
     TooLong,
@@ -56,7 +56,8 @@ pub(crate) fn read_into<R: Source>(
     Ok(true)
 }
 
-/// Reads a body that is framed so. Room for one whose length is told is taken at once.
+/// Reads the body that the framing announces, and no byte after it. Memory for one whose length is
+/// told is taken at once. `TooLong` comes only of chunks: a length was judged with the head.
 pub(crate) fn read_body<R: Source>(
     alloc: Global,
     reader: &mut R,

@@ -6,10 +6,10 @@ ghost use Rattle.room_http.specs.ProofReading.{ChunksAre, IsReading, LineEndIs, 
 use crate::body::{PIECE, read_into};
 use crate::fault::WireFault;
 use crate::head::read_byte;
-use crate::limits::BODY_LIMIT;
 use arrayvec::ArrayVec;
 use httparse::{Status, parse_chunk_size};
 use room_input::Source;
+use room_requests::BODY_LIMIT;
 
 /// The most bytes of a line that tells a size, its end among them.
 const LINE_LIMIT: usize = 256;

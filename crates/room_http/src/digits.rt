@@ -5,6 +5,8 @@ ghost use Rattle.std.specs.List.{list_all};
 ghost use Rattle.std.specs.Str.Parse.{digits_value};
 ghost use Rattle.room_http.specs.Framing.{is_short_number};
 
+use room_requests::are_digits;
+
 /// The number that 1 to 18 digits spell, and None of anything else.
 pub(crate) fn short_number(digits: &[u8]) -> Option<u64>
     ensures { result
@@ -14,12 +16,6 @@ pub(crate) fn short_number(digits: &[u8]) -> Option<u64>
         return None;
     }
     Some(number_of(digits))
-}
-
-pub(crate) fn are_digits(bytes: &[u8]) -> bool
-    ensures { result ≡ list_all is_ascii_digit bytes.now }
-{
-    bytes.iter().all(|byte| byte.is_ascii_digit())
 }
 
 /// The number that a few digits spell.

@@ -6,10 +6,10 @@ ghost use Rattle.room_http.specs.Exchange.{TakesAtMost, read_faults};
 ghost use Rattle.room_http.specs.ProofReading.{HeadIs, IsReading, byte_list};
 
 use crate::fault::WireFault;
-use crate::limits::HEAD_LIMIT;
 use httparse::spans::{HeaderSpan, RequestSpans, parse_request};
 use httparse::{Error, Status};
 use room_input::Source;
+use room_requests::HEAD_LIMIT;
 
 /// What came in the place of a head.
 #[derive(Clone, Copy, Debug)]

@@ -6,10 +6,8 @@ ghost use Rattle.room_http.specs.Judging.{FitsLimit, closes, expects, is_close, 
 
 use crate::fields::{Field, Found, find_field};
 use crate::framing::{Framing, framing_of};
-use crate::limits::BODY_LIMIT;
-use crate::refusal::Refusal;
-use crate::targets::{account_of, is_ipp_type, is_post};
 use crate::words::lists;
+use room_requests::{BODY_LIMIT, Refusal, account_of, is_ipp_type, is_post};
 use room_rules::Name;
 
 /// The head of a request.
@@ -119,12 +117,14 @@ fn has_close(fields: &[Field<'_>]) -> bool
 }
 
 impl Field<'_> {
+    /// Whether it is `Expect: 100-continue`.
     fn is_expectation(&self) -> bool
         ensures { result ≡ is_expectation (plain_field self.now) }
     {
         self.is_named(b"expect") && self.value.eq_ignore_ascii_case(b"100-continue")
     }
 
+    /// Whether it is a `Connection` field that lists `close`.
     fn is_close(&self) -> bool
         ensures { result ≡ is_close (plain_field self.now) }
     {

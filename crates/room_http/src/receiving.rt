@@ -5,7 +5,7 @@ ghost use Rattle.httparse.specs.Spans.{IsHeaderWithin, IsRequestAt, IsRequestWit
 ghost use Rattle.room_http.specs.Exchange.{FailedReceiving, HasHeader, ReceivedIs, TakesAtMost, most_taken, read_faults, write_faults};
 ghost use Rattle.room_http.specs.Fields.{plain_field};
 ghost use Rattle.room_http.specs.Judging.{FitsLimit, judged, said_by};
-ghost use Rattle.room_http.specs.Limits.{longest_head};
+ghost use Rattle.room_requests.specs.Limits.{longest_head};
 ghost use Rattle.room_http.specs.ProofReading.{IsReading, OpeningIs};
 
 use crate::body::{Body, read_body};
@@ -13,11 +13,11 @@ use crate::fault::WireFault;
 use crate::fields::Field;
 use crate::head::{Head, read_head};
 use crate::judging::{Order, Request, judge};
-use crate::refusal::Refusal;
 use crate::send::send_interim;
 use arrayvec::ArrayVec;
 use httparse::spans::{EMPTY_HEADER_SPAN, HeaderSpan, RequestSpans};
 use room_input::{Sink, Source};
+use room_requests::Refusal;
 use std::alloc::Global;
 
 /// The most fields of a head.

@@ -2,13 +2,12 @@
 ghost use Rattle.std.specs.Prelude.{◌≡◌, ◌+◌, ◌-◌, ◌^◌, ◌<◌, ◌≤◌, ◌++◌, IfErr, OnErr, OnOk, length, true};
 ghost use Rattle.std.specs.Io.KnownBytes.{Appends};
 ghost use Rattle.room_http.specs.Exchange.{AppendsFront, write_faults};
-ghost use Rattle.room_http.specs.Texts.{answer_text, interim_text, refusal_text};
+ghost use Rattle.room_requests.specs.Texts.{answer_text, interim_text, refusal_text};
 
-use crate::answer::{put, put_answer_head, refusal_text};
 use crate::fault::WireFault;
-use crate::refusal::Refusal;
 use arrayvec::ArrayVec;
 use room_input::Sink;
+use room_requests::{Refusal, put, put_answer_head, refusal_text};
 
 /// The most bytes of the first piece of an answer.
 const FIRST_PIECE: usize = 65536;

@@ -6,11 +6,11 @@ ghost use Rattle.room_http.specs.ProofReading.{IsReading, TrailersAre};
 
 use crate::fault::WireFault;
 use crate::head::read_byte;
-use crate::limits::TRAILERS_LIMIT;
 use arrayvec::ArrayVec;
 use httparse::Status;
 use httparse::spans::{EMPTY_HEADER_SPAN, parse_headers};
 use room_input::Source;
+use room_requests::TRAILERS_LIMIT;
 
 /// The most fields of the trailers.
 const MOST_TRAILERS: usize = 64;

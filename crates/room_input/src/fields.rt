@@ -71,6 +71,7 @@ pub fn month(text: &[u8]) -> Option<u32>
     }
 }
 
+/// The number that two digits write.
 fn two_digits(tens: u8, ones: u8) -> Option<u32>
     ensures said { result ≡ two_digits_said tens ones }
     ensures low { IfSome result (λ n. n < 100) }

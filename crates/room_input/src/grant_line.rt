@@ -13,8 +13,8 @@ use room_rules::{MOST_PAGES, Name};
 /// What a record says.
 #[derive(Clone, Copy, Debug, PartialEq)]
 pub enum GrantLine {
-    /// The account is granted pages from the month on: the year times 12, and 0 for January to 11
-    /// for December.
+    /// The account is granted pages once, to be used in the month or later. The month is the year
+    /// times 12, and 0 for January to 11 for December.
     Good {
         account: Name,
         month: u32,

@@ -2,7 +2,7 @@
 use Rattle.std.proofs.Common.{◌≡◌, ◌+◌, ◌<◌, Bool, true, false, if◌then◌else◌, Ok, arith, refl, Result}
 use Rattle.std.proofs.lemmas.Bool.Decides.{nat_tests}
 use Rattle.std.proofs.lemmas.Grind.{common_steps}
-use Rattle.room_events.specs.Moving.{Keeps}
+use Rattle.room_rules.specs.Keeping.{Keeps}
 use Rattle.room_rules.specs.Acts.{Act, SendDocument}
 use Rattle.room_rules.specs.JobStates.{has_ended, is_unfinished}
 use Rattle.room_rules.specs.Moves.{cell, move}

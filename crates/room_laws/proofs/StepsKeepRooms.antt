@@ -10,7 +10,7 @@ use Rattle.room_asks.specs.declared.operation.Operation.TheVariants as asks
 use Rattle.room_events.specs.Events.{AccountEvent, OfAccount, Release, Settle, Grant}
 use Rattle.room_events.specs.Fits.{fits}
 use Rattle.room_events.specs.JobRequests.{has_data, has_password, sent_document}
-use Rattle.room_events.specs.Moving.{Keeps}
+use Rattle.room_rules.specs.Keeping.{Keeps}
 use Rattle.room_events.specs.NewJobs.{accepts, new_document, new_job}
 use Rattle.room_events.specs.Rates.{AreRated}
 use Rattle.room_events.specs.Steps.{with_moved}

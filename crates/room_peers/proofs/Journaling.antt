@@ -10,18 +10,15 @@ use Rattle.room_store.specs.Questions.{AnswersQuestion}
 use Rattle.room_store.specs.declared.fault.StoreFault.{StoreFault}
 use Rattle.room_peers.specs.declared.entry.Entry.{Entry}
 use Rattle.room_peers.specs.declared.served.Served.{Served}
-use Rattle.http.specs.declared.request.Request.{Request}
 use Rattle.http_server.specs.Exchange.{Call, Chain}
-use Rattle.http_server.specs.declared.response.Response.{Response}
-use Rattle.room_http.specs.declared.refusal.Refusal.{Refusal}
-use Rattle.room_peers.specs.Answers.{Answers, Gives}
+use Rattle.room_peers.specs.Answers.{Answers}
 use Rattle.room_peers.specs.LinePeers as line_peers
+use Rattle.room_peers.specs.ProofServices.{answer_continues, one_more, stays}
 use Rattle.room_peers.specs.LinePeers.{LineCall}
 use Rattle.room_peers.specs.declared.line_connection.Side.{Side}
-use Rattle.room_peers.specs.Requests.{asked}
 use Rattle.room_peers.specs.Journals.{Notes, Told, applied, asked_of, by_themselves, is_lost_of, list_of, open_of, round_alone, rounds_of, shares_of, store_of}
-use Rattle.room_peers.specs.Applying.{AppliesEntry, DoesEach, DoesOne, Leads, OnlyLooks}
-use Rattle.room_peers.specs.Turns.{AnswersNext, AppliesNext, Continues}
+use Rattle.room_peers.specs.Applying.{DoesEach, Leads, OnlyLooks}
+use Rattle.room_peers.specs.Turns.{AnswersNext, Continues}
 
 grown : {X : Type 0} (a b c first more : List X) → b ≡ a ++ first → c ≡ b ++ more → c ≡ a ++ (first ++ more)
 grown a b c first more one two = two ∙ ap (λ x. x ++ more) one ∙ append_assoc a first more
@@ -37,10 +34,6 @@ entries_then : (first more : List (Option Told)) → entries (first ++ more) ≡
 entries_then first more = ap (λ (tolds : List Told). map (λ (told : Told). told.0) tolds) (applied_then first more) ∙ map-append (λ (told : Told). told.0) (applied first) (applied more)
 
 module _ {S : Type 0} where
-  pub nothing : (shares : Bool) (served : Served S) → Notes shares [] served served
-  nothing false served = (sym (append-nil (rounds_of served)), refl, refl)
-  nothing true served = (refl, sym (append-nil (open_of served)), sym (append-nil (asked_of served)))
-
   pub notes_then : (shares : Bool) (first more : List (Option Told)) (old mid new : Served S) → Notes shares first old mid → Notes shares more mid new → Notes shares (first ++ more) old new
   notes_then false first more old mid new one two = (
     grown (rounds_of old) (rounds_of mid) (rounds_of new) (by_themselves first) (by_themselves more) one.0 two.0 ∙ ap (λ x. rounds_of old ++ x) (sym (map-append round_alone first more)),
@@ -54,16 +47,6 @@ module _ {S : Type 0} where
   )
 
 module _ {S : Type 0} (store : Ghosts S) where
-  unfoldable pub stays : (served : Served S) → Continues store served served
-  stays served = record { more = []; notes = nothing (shares_of served) served; does = refl; shares = refl; is_lost = refl }
-
-  pub does_one : (shares : Bool) (entry : Entry) (told : Result Reply StoreFault) (old new : Held S) → AppliesEntry store shares entry old new told → DoesOne store shares (Some (entry, told)) old new
-  does_one false entry told old new is = is
-  does_one true entry told old new is = is
-
-  unfoldable pub one_more : (entry : Entry) (told : Result Reply StoreFault) (old new : Served S) → AppliesNext store entry told old new → Continues store old new
-  one_more entry told old new next = record { more = Some (entry, told) ∷ []; notes = next.notes; does = (store_of new, does_one (shares_of old) entry told (store_of old) (store_of new) next.applies, refl); shares = next.shares; is_lost = next.is_lost }
-
   pub looks_only : (question : Question) (told : Result (List ℕ) StoreFault) (old new : Held S) → AnswersQuestion store question old new told → OnlyLooks store old new
   looks_only question told old new answers = record { unchanged = answers.same; connection = answers.connection }
 
@@ -102,24 +85,20 @@ module _ {S : Type 0} (store : Ghosts S) where
 
   -- ---- requests over HTTP
 
-  gives : (asks : Result (List ℕ) Refusal) (old : Served S) (request : Request (List ℕ)) (response : Response) (new : Served S) → Gives store asks old request response new → Continues store old new
-  gives (Ok account) old request response new is = one_more _ is.told old new is.next
-  gives (Err why) old request response new is = subst (λ (served : Served S). Continues store old served) (sym is.1) (stays old)
-
   pub chain : (calls : List Call) (old new : Served S) → Chain (Answers store) old calls new → Continues store old new
-  chain [] old new is = subst (λ (served : Served S). Continues store old served) (sym is) (stays old)
-  chain (call ∷ calls) old new is = then old is.0 new (gives (asked call.0) old call.0 call.1 is.0 is.1) (chain calls is.0 new is.2)
+  chain [] old new is = subst (λ (served : Served S). Continues store old served) (sym is) (stays store old)
+  chain (call ∷ calls) old new is = then old is.0 new (answer_continues store old is.0 call.0 call.1 is.1) (chain calls is.0 new is.2)
 
   -- ---- lines
 
   pub line_chain : (side : Side) (calls : List LineCall) (old new : Served S) → line_peers.Chain store side old calls new → Continues store old new
-  line_chain side [] old new is = subst (λ (served : Served S). Continues store old served) (sym is) (stays old)
+  line_chain side [] old new is = subst (λ (served : Served S). Continues store old served) (sym is) (stays store old)
   line_chain side (call ∷ calls) old new is =
       let first : Continues store old is.0 =
       elim is.1 [
-        | inl asked ↦ one_more asked.entry asked.told old is.0 asked.next
+        | inl asked ↦ one_more store asked.entry asked.told old is.0 asked.next
         | inr (inl looks) ↦ looked looks.question looks.told old is.0 looks.next
-        | inr (inr bad) ↦ subst (λ (served : Served S). Continues store old served) (sym bad.1) (stays old)
+        | inr (inr bad) ↦ subst (λ (served : Served S). Continues store old served) (sym bad.1) (stays store old)
       ]
       in
       then old is.0 new first (line_chain side calls is.0 new is.2)

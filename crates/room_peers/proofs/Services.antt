@@ -4,7 +4,8 @@ use Rattle.http.specs.declared.request.Request.{Request}
 use Rattle.http_server.specs.Exchange.{Call, Chain}
 use Rattle.http_server.specs.declared.response.Response.{Response}
 use Rattle.sqlite_trees.specs.declared.store.Store.{Ghosts}
-use Rattle.room_peers.proofs.Journaling.{stays, then}
+use Rattle.room_peers.specs.ProofServices.{stays}
+use Rattle.room_peers.proofs.Journaling.{then}
 use Rattle.room_peers.specs.Turns.{Continues}
 use Rattle.room_peers.specs.declared.served.Served.{Served}
 

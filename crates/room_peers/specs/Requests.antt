@@ -8,9 +8,9 @@ use Rattle.http_header.specs.FieldValue.{FieldValue}
 use Rattle.http_header.specs.HeaderMap.{get}
 use Rattle.http_uri.specs.Uri.{uri_path}
 use Rattle.ipp_coding.specs.Limits.{header_length}
-use Rattle.room_http.specs.Targets.{account_of, is_ipp_type}
-use Rattle.room_http.specs.declared.refusal.Refusal.{Refusal}
-use Rattle.room_http.specs.declared.refusal.Refusal.TheVariants.{BadRequest, MethodNotAllowed, NotFound, UnsupportedMediaType}
+use Rattle.room_requests.specs.Targets.{account_of, is_ipp_type}
+use Rattle.room_requests.specs.declared.refusal.Refusal.{Refusal}
+use Rattle.room_requests.specs.declared.refusal.Refusal.TheVariants.{BadRequest, MethodNotAllowed, NotFound, UnsupportedMediaType}
 
 -- the first Content-Type counts
 abbrev pub is_ipp_value : Option FieldValue → Bool

@@ -22,7 +22,7 @@ pub enum Entry {
     Line(Line),
 }
 
-// It is written out, so that a caller does not prove again how each part is dropped.
+// In the place of `#[derive(Drop)]`, so that no caller proves again how each part is dropped.
 impl Drop for Entry {
     fn drop(self) {
         match self {

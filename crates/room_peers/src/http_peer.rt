@@ -1,7 +1,7 @@
 //! A connection of HTTP: where it stands, how long it may take, and how much it holds.
 
 ghost use Rattle.std.specs.Prelude.{◌≡◌, ◌≢◌, IsFalse, Some};
-ghost use Rattle.room_http.specs.Limits.{longest_body, longest_head};
+ghost use Rattle.room_requests.specs.Limits.{longest_body, longest_head};
 ghost use Rattle.http_server.specs.Connection.{config_of, history};
 ghost use Rattle.http_server.specs.History.{new_history};
 ghost use Rattle.room_peers.specs.Turns.{Continues};
@@ -27,7 +27,7 @@ pub struct HttpPeer {
     load: Load,
 }
 
-// It is written out, so that a caller does not prove again how each part is dropped.
+// In the place of `#[derive(Drop)]`, so that no caller proves again how each part is dropped.
 impl Drop for HttpPeer {
     fn drop(self) {
         let HttpPeer {
@@ -56,9 +56,11 @@ impl HttpPeer {
         }
     }
 
-    /// Reads, answers and writes as far as it goes now, but a few steps at most. Each request is
-    /// one call of the service. A peer is left to wait only where each request that came has its
-    /// call. A long request commits alone.
+    /// One turn: answers what came, each request by one call of the service, reads and writes, in
+    /// at most `STEPS` steps. Answers what the peer goes on with (`Next`): `Again` too where a long
+    /// request has come and the round is shared, since that is to commit alone, and `Wait` only
+    /// where each request that came has its call. Of a peer that was told of the end it only drops
+    /// what still comes.
     pub fn drive<V: RoomService, R: Read, W: Write>(
         &mut self,
         reader: &mut R,

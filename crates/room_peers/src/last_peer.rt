@@ -23,7 +23,7 @@ pub struct LastPeer {
     progress: Progress,
 }
 
-// It is written out, so that a caller does not prove again how each part is dropped.
+// In the place of `#[derive(Drop)]`, so that no caller proves again how each part is dropped.
 impl Drop for LastPeer {
     fn drop(self) {
         let LastPeer {

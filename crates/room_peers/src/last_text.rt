@@ -9,7 +9,7 @@ use bytes::BufMut;
 use http_server::Rope;
 use ipp_coding::{HEADER_LENGTH, Header, header_in};
 use room_events::{Reply, internal_error};
-use room_http::{Refusal, last_answer_head, refusal_text};
+use room_requests::{Refusal, last_answer_head, refusal_text};
 use room_store::StoreFault;
 use std::alloc::{AllocError, Global};
 

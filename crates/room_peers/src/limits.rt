@@ -1,10 +1,10 @@
 //! The limits of a connection of HTTP.
 ghost use Rattle.std.specs.Prelude.{◌≡◌};
-ghost use Rattle.room_http.specs.Limits.{longest_body, longest_head, longest_trailers};
+ghost use Rattle.room_requests.specs.Limits.{longest_body, longest_head, longest_trailers};
 
 use http_server::Config;
 use http1::Limits;
-use room_http::{BODY_LIMIT, HEAD_LIMIT, TRAILERS_LIMIT};
+use room_requests::{BODY_LIMIT, HEAD_LIMIT, TRAILERS_LIMIT};
 
 /// While more bytes than this wait to go, no request is answered.
 const MOST_PENDING: usize = 0;

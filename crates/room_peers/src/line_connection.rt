@@ -30,7 +30,7 @@ const ROOM: usize = 4_096;
 pub enum Side {
     /// `release`, `start` and `settle`.
     Station,
-    /// `open`, `device`, `rate` and `grant`.
+    /// `open`, `device`, `rate` and `grant`, and the questions `ping` and `left`.
     Operator,
 }
 
@@ -63,14 +63,14 @@ pub struct LineConnection {
     pub(crate) side: Side,
     pub(crate) input: BytesMut,
     pub(crate) output: Rope,
-    /// Each read: what waited after it, and how much of that had waited before. Only proofs read it,
-    /// and what was written.
+    /// Each read: what waited after it, and how much of that had waited before. Only proofs read
+    /// it, and what was written.
     pub(crate) reads: Log<BytesMut, usize>,
     /// Each write: what waited, and how much of it went.
     pub(crate) writes: Log<Rope, usize>,
 }
 
-// It is written out, so that a caller does not prove again how each part is dropped.
+// In the place of `#[derive(Drop)]`, so that no caller proves again how each part is dropped.
 impl Drop for LineConnection {
     fn drop(self) {
         let LineConnection {
@@ -118,8 +118,8 @@ impl LineConnection {
     }
 
     /// Answers the line at the front of what came, at the moment of what is served: what it asks
-    /// for is applied, once, or it is a question, or a bad line, which change nothing. A question is
-    /// put off while a round is under way. Where memory was refused, the connection has to be
+    /// for is applied, once, or it is a question, or a bad line, which change nothing. A question
+    /// is put off while a round is under way. Where memory was refused, the connection has to be
     /// closed; the line is left, or it was taken and its answer is lost.
     pub fn answer<S: Alter>(&mut self, served: &mut Served<S>) -> Result<Front, AllocError>
         ensures taken { result ≡ Ok Front.Answered

@@ -1,6 +1,6 @@
 //! How much a connection holds.
 
-use room_http::{BODY_LIMIT, HEAD_LIMIT};
+use room_requests::{BODY_LIMIT, HEAD_LIMIT};
 
 /// A request, or an answer, of more bytes is a large one.
 pub const LARGE: usize = 65_536;

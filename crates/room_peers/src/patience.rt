@@ -3,7 +3,7 @@ ghost use Rattle.std.specs.Prelude.{◌≡◌, ◌↔◌, IsTrue};
 ghost use Rattle.room_peers.specs.Patience.{after_holding, after_letting_on, after_moving, doing_of, is_over, is_slow, moving, since_of};
 ghost use Rattle.room_peers.specs.declared.patience.Doing.TheVariants.{Holds, Parts, Rests};
 
-/// How many milliseconds a connection may rest on which nothing was begun.
+/// How many milliseconds a connection may rest, with no request under way.
 const MOST_REST: u64 = 60_000;
 
 /// How many milliseconds what was begun may take, or a piece of it.
@@ -24,7 +24,7 @@ const MOST_PAUSE: u64 = 250;
 /// What a connection is at.
 #[derive(Clone, Copy, Debug, PartialEq, Eq)]
 pub enum Doing {
-    /// Nothing was begun.
+    /// No request is under way.
     Rests,
     /// A request comes, or its answer goes; so many bytes of the piece did.
     Moves(u64),
@@ -38,7 +38,7 @@ pub enum Doing {
 /// share.
 #[derive(Clone, Copy, Debug, PartialEq, Eq)]
 pub struct Patience {
-    // When that began, or its last whole piece had moved.
+    // When `doing` began, or its last whole piece had moved.
     since: u64,
     doing: Doing,
 }
@@ -97,7 +97,7 @@ impl Patience {
         }
     }
 
-    /// The peer was told that the connection ends.
+    /// All was said: from now on the peer has `MOST_PARTING` to end the connection too.
     pub fn parted(&mut self, ticks: u64)
         ensures doing { doing_of self.new ≡ Parts }
         ensures since { since_of self.new ≡ ticks }
@@ -108,8 +108,8 @@ impl Patience {
         };
     }
 
-    /// Whether nothing was begun.
-    pub fn rests(&self) -> bool
+    /// Whether no request is under way.
+    pub fn is_at_rest(&self) -> bool
         ensures { IsTrue result ↔ (doing_of self.now ≡ Rests) }
     {
         matches!(self.doing, Doing::Rests)

@@ -6,7 +6,7 @@ use bytes::Bytes;
 use http::{HeaderValue, Request, header};
 use ipp_coding::HEADER_LENGTH;
 use room_events::Name;
-use room_http::{Refusal, account_of, is_ipp_type, is_post};
+use room_requests::{Refusal, account_of, is_ipp_type, is_post};
 
 /// A body of more bytes ends the connection, which would keep the room that it took.
 const LONG_BODY: usize = 1_048_576;

@@ -15,7 +15,7 @@ use http::{HeaderValue, Request, StatusCode, header};
 use http_server::{Response, Service};
 use ipp_coding::{Header, header_in};
 use room_events::{Name, Reply, internal_error};
-use room_http::Refusal;
+use room_requests::Refusal;
 use room_store::StoreFault;
 use sqlite::Alter;
 use std::alloc::AllocError;

@@ -5,8 +5,9 @@ use room_commands::{Begin, Fault, InFile, InMemory, MEMORY, Opener, store_of};
 use sqlite::{Alter, Connection};
 use std::io::Write;
 
-/// Lets the front serve over this machine's memory where the database is `:memory:`, and over its
-/// file otherwise, whose tables have to be there. It is closed once the front has ended.
+/// Opens the database, lets the front serve over it, and closes it once the front has ended. Where
+/// it is `:memory:` its tables are made; in a file they have to be there. Answers what the front
+/// does, or why the database can't be opened.
 pub fn serve_over<T: Front, W: Write>(
     rt: &HostRuntime,
     database: &str,

@@ -7,8 +7,8 @@ use std::io::Write;
 
 /// A command that has the store for as long as it serves.
 pub trait Front {
-    /// Serves to the end, writing what the command tells of itself, and hands the store's connection
-    /// back.
+    /// Serves until the command has done what was asked, or something fails. Writes what the
+    /// command tells of itself, and hands the store's connection back.
     fn serve<S: Alter + Drop, W: Write>(
         &self,
         rt: &HostRuntime,

@@ -61,8 +61,8 @@ impl Front for Listening<'_> {
     }
 }
 
-/// Serves the connections, one after another. What an account was told before, and behind it what it
-/// is told here, is a life, and its rows are what that left.
+/// Serves the connections, one after another. What an account was told before, and behind it what
+/// it is told here, is a life, and its rows are what that left.
 fn serve_all<S: Alter, W: Write>(
     rt: &HostRuntime,
     store: &mut Store<S>,
@@ -82,7 +82,8 @@ fn serve_all<S: Alter, W: Write>(
     Ok(())
 }
 
-/// The next connection. A try that fails says nothing of the next one, which comes after a pause.
+/// The next connection. A try that fails says nothing of the next one, which comes after a pause;
+/// `Io` after `MOST_TRIES` in a row that failed.
 fn accept(rt: &HostRuntime, listener: &TcpListener) -> Result<TcpStream, Fault> {
     for _ in 0..MOST_TRIES {
         match listener.accept() {

@@ -11,8 +11,9 @@ use std::hash::RandomState;
 use std::io;
 use std::io::Write;
 
-/// Serves everybody until the process is ended. Once all can connect it writes `serving`, and behind
-/// it of each door `VISITORS=ADDRESS`.
+/// Serves everybody until a signal ends the process. It answers only where it can't begin, or the
+/// system fails. Once all can connect it writes a line: `serving`, and ` VISITORS=ADDRESS` for each
+/// door.
 pub fn serve<W: Write>(rt: &HostRuntime, asked: &Serving<'_>, output: &mut W) -> Result<(), Fault> {
     let moment = moment(rt).ok_or(Fault::Io)?;
     let front = Begun { asked, moment };

@@ -1,5 +1,5 @@
 -- What is asked and changes nothing, and what is answered (all this project's own).
-use Rattle.std.specs.Prelude.{ℕ, pos, List, ◌++◌, Option, Some, None, codes}
+use Rattle.std.specs.Prelude.{◌≡◌, ℕ, pos, List, ◌++◌, Option, Some, None, codes}
 use Rattle.std.specs.Fmt.{decimal, signed_decimal}
 use Rattle.room_questions.specs.declared.question.Question.{Question}
 use Rattle.room_questions.specs.declared.question.Question.TheVariants.{Ping, Left}
@@ -9,6 +9,20 @@ use Rattle.room_rules.specs.Quota.{left_of}
 use Rattle.room_rules.specs.declared.refusal.Word.TheVariants.{NoAccount}
 use Rattle.room_state.specs.Rooms.{RoomValue}
 use Rattle.room_state.specs.Sums.{charged_in, granted_to, reserved_in}
+
+-- the question is about the rows of this account
+abbrev pub Concerns : Question → (name : List ℕ) → Type 0
+Concerns Ping name = ⊥
+Concerns (Left account month) name = name ≡ account
+
+-- it is about the rows of no account but this
+abbrev pub ConcernsNoOther : Question → (name : List ℕ) → Type 0
+ConcernsNoOther question name = (other : List ℕ) → Concerns question other → other ≡ name
+
+-- it is about the rows of devices
+abbrev pub ConcernsDevices : Question → Type 0
+ConcernsDevices Ping = ⊥
+ConcernsDevices (Left account month) = ⊥
 
 -- a quota: what was granted, what jobs reserve, what they were charged, and what that leaves
 abbrev pub quota_text : (granted reserved charged : ℕ) → List ℕ

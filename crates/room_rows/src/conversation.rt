@@ -151,7 +151,8 @@ impl Conversation {
         Conversation::read(alloc, lines.as_str())
     }
 
-    /// Answers a text of all that is handed in, and then of all that should be printed.
+    /// Answers a text of the lines that are handed in, each once however often it is, and then of
+    /// all that should be printed.
     pub fn said(&self, alloc: Global) -> Result<String, AllocError> {
         let mut said = String::new(alloc);
         for asked in self.asked.as_slice() {

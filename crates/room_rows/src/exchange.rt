@@ -60,8 +60,9 @@ impl Open {
         self.read.is_empty() && self.written.is_empty()
     }
 
-    /// Reads one line of what the call reads or writes: a text behind `>` or `<`, or further bytes.
-    fn read_line(&mut self, alloc: Global, line: &str) -> Result<(), RowFault> {
+    /// Adds a line to the call: a text behind `>` to what it reads, one behind `<` to what it writes,
+    /// and further bytes to the one of these that came last.
+    fn add_line(&mut self, alloc: Global, line: &str) -> Result<(), RowFault> {
         if let Some(text) = line.strip_prefix('>') {
             self.is_written = false;
             return push_line(alloc, &mut self.read, text.trim_start());
@@ -132,7 +133,7 @@ impl Exchange {
                 exchange.calls.push(open.into_call(alloc, "close")?)?;
                 open = Open::new(alloc);
             } else {
-                open.read_line(alloc, line)?;
+                open.add_line(alloc, line)?;
             }
         }
         if !open.is_empty() {

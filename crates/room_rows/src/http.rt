@@ -47,14 +47,15 @@ pub fn http_request(
             write!(text, "Content-Length: {}\r\n\r\n", body.len())?;
             text.extend_from_slice(body)?;
         }
-        Carriage::OneChunk => put_chunks(&mut text, body, body.len().max(1))?,
-        Carriage::Chunks => put_chunks(&mut text, body, FEW)?,
+        Carriage::OneChunk => put_chunked_body(&mut text, body, body.len().max(1))?,
+        Carriage::Chunks => put_chunked_body(&mut text, body, FEW)?,
     }
     Ok(text)
 }
 
-/// Puts the field that announces chunks, and the body in chunks of so many bytes at most.
-fn put_chunks(text: &mut Vec<u8>, body: &[u8], most: usize) -> Result<(), RowFault>
+/// Ends the head with the field that announces chunks, and puts the body in chunks of `most` bytes
+/// at most.
+fn put_chunked_body(text: &mut Vec<u8>, body: &[u8], most: usize) -> Result<(), RowFault>
     requires { 0 < most }
 {
     text.extend_from_slice(b"Transfer-Encoding: chunked\r\n\r\n")?;

@@ -1,5 +1,6 @@
 //! The rows that stand for a room and for devices in the shared tables, each printed on a line: the
-//! table, and the columns in their order, bytes as digits.
+//! table, and the columns in their order, blobs as digits. A device's line has its rate too, which
+//! stands in a table of its own.
 
 use room_core::{Device, FIRST_MONTH, Job, LAST_MONTH, Name, Room, Standing};
 use std::io;

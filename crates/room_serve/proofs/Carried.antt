@@ -8,7 +8,7 @@ use Rattle.room_events.specs.Events.{Timed, PlainEvent, OfAccount, Ipp}
 use Rattle.room_events.specs.declared.event.Reply.{Reply}
 use Rattle.room_http.specs.Exchange.{Takes}
 use Rattle.room_http.specs.Http.{Http, Carried}
-use Rattle.room_http.specs.Texts.{interim_text}
+use Rattle.room_requests.specs.Texts.{interim_text}
 use Rattle.room_http.specs.declared.fault.WireFault.{WireFault}
 use Rattle.room_http.specs.declared.fault.WireFault.TheVariants.{Read, Write, Memory, Ended}
 use Rattle.room_http.specs.declared.judging.Order.{Order}

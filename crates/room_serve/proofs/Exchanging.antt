@@ -6,7 +6,7 @@ use Rattle.sqlite_trees.specs.declared.store.Store.{Ghosts}
 use Rattle.room_events.specs.declared.event.Reply.{Reply}
 use Rattle.room_http.specs.Exchange.{AppendsFront, FailedReceiving, Takes}
 use Rattle.room_http.specs.Http.{Http, Carried}
-use Rattle.room_http.specs.Texts.{interim_text}
+use Rattle.room_requests.specs.Texts.{interim_text}
 use Rattle.room_http.specs.declared.fault.WireFault.{WireFault}
 use Rattle.room_http.specs.declared.fault.WireFault.TheVariants.{Read, Write, Memory, Ended}
 use Rattle.room_http.specs.declared.judging.Order.{Order}

@@ -8,7 +8,7 @@ use Rattle.room_events.specs.Events.{Timed, OfAccount, Ipp}
 use Rattle.room_events.specs.declared.event.Reply.{Reply}
 use Rattle.room_http.specs.Exchange.{Takes}
 use Rattle.room_http.specs.Http.{Http, Carried}
-use Rattle.room_http.specs.Texts.{interim_text}
+use Rattle.room_requests.specs.Texts.{interim_text}
 use Rattle.room_http.specs.declared.judging.Order.{Order}
 use Rattle.room_laws.specs.Lives.{Life}
 use Rattle.room_store.specs.declared.fault.StoreFault.{StoreFault}

@@ -10,12 +10,12 @@ use Rattle.room_events.specs.declared.event.Reply.{Reply}
 use Rattle.room_events.specs.declared.event.Reply.TheVariants as reply_is
 use Rattle.room_http.specs.Exchange.{AppendsFront, AppendsInterim, Takes, TakesHead}
 use Rattle.room_http.specs.Http.{Http, Nothing, Refused, Carried}
-use Rattle.room_http.specs.Texts.{answer_text, interim_text, refusal_text}
+use Rattle.room_requests.specs.Texts.{answer_text, interim_text, refusal_text}
 use Rattle.room_http.specs.declared.fault.WireFault.{WireFault}
 use Rattle.room_http.specs.declared.fault.WireFault.TheVariants.{Read, Write, Memory, Ended}
 use Rattle.room_http.specs.declared.judging.Order.{Order}
-use Rattle.room_http.specs.declared.refusal.Refusal.{Refusal}
-use Rattle.room_http.specs.declared.refusal.Refusal.TheVariants.{NotFound}
+use Rattle.room_requests.specs.declared.refusal.Refusal.{Refusal}
+use Rattle.room_requests.specs.declared.refusal.Refusal.TheVariants.{NotFound}
 use Rattle.room_store.specs.Applied.{Applies}
 use Rattle.room_store.specs.declared.fault.StoreFault.{StoreFault}
 use Rattle.room_replies.specs.Replies.{internal_error_text}

@@ -9,10 +9,11 @@ use Rattle.room_events.specs.declared.event.Reply.{Reply}
 use Rattle.room_laws.specs.Lives.{IsLife, Life}
 use Rattle.room_rules.specs.Devices.{Devices}
 use Rattle.room_state.specs.Rooms.{RoomValue}
+use Rattle.room_store.specs.Opening.{MigratesDevices, OpensDevices, OpensRows}
 use Rattle.room_store.specs.declared.fault.StoreFault.{StoreFault}
-use Rattle.room_tables.specs.Accounts.{AgreeOnRows, Holds}
+use Rattle.room_tables.specs.Accounts.{Holds}
 use Rattle.room_tables.specs.Calls.{IfDiskHonest, IfOurTables}
-use Rattle.room_tables.specs.Devices.{AgreeOnDevices, HoldsDevices}
+use Rattle.room_tables.specs.Devices.{HoldsDevices}
 use Rattle.room_tables.specs.Keyed.{AreNumbered, HasSchema}
 use Rattle.room_tables.specs.Making.{IsNew}
 use Rattle.room_tables.specs.Migrating.{HoldsFirstDevices}
@@ -82,29 +83,13 @@ module _ {S : Type 0} (store : Ghosts S) where
       → AreApplied store first firsts old mid → AreApplied store second seconds mid new
       → AreApplied store (first ++ second) (firsts ++ seconds) old new
 
--- ---- it begins with the file, and stays over each opening
+-- ---- it begins with the file, and stays over each opening, as by `Store::open` and `migrate`
 
 -- where tables are made, as by `Store::create`, nothing was told yet
 abbrev pub LivesBegin : Type 0
 LivesBegin = (db : Database) → IsNew db → (name : List ℕ) → IsLifeIn db true name []
 
 module _ {S : Type 0} (store : Ghosts S) (old new : Held S) where
-  -- what `Store::open` and `Store::migrate` ensure of the rows of accounts and of the schema
-  pub record OpensRows : Type 0 where
-    pub rows : IfDiskHonest store old new
-        (λ db. (name : List ℕ) → AgreeOnRows name db (state store new).now)
-    pub has_schema : IfDiskHonest store old new
-        (λ db. AreNumbered db.schema.tables db → HasSchema (state store new).now)
-
-  -- and of devices: `open` of all, `migrate` of those that do not come from version 1
-  abbrev pub OpensDevices : Type 0
-  OpensDevices = IfDiskHonest store old new (λ db. AgreeOnDevices db (state store new).now)
-
-  -- and `migrate` of those that come from version 1
-  abbrev pub MigratesDevices : Type 0
-  MigratesDevices = IfDiskHonest store old new (λ db. (devices : Devices)
-      → HoldsFirstDevices db devices → HoldsDevices (state store new).now devices)
-
   -- the life is in what was opened, and goes on there
   pub record GoesOnIn (name : List ℕ) (life : Life) : Type 0 where
     pub is_life : IsLifeIn (state store new).now true name life

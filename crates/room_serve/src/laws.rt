@@ -26,9 +26,10 @@ pub fn runs_join()
     ensures { RunsJoin }
 {}
 
-/// An account's life goes on with what it is told. Where its rows are what a life left, and events of
-/// anybody's are applied one after another, its rows afterwards are what that life with all that it
-/// was told in the list behind it has left; and so the devices' rows. A message of HTTP is a list of
+/// Applying events continues each account's life. Where the account's rows are what a life left,
+/// and anybody's events are applied one after another, its rows afterwards are what the longer life
+/// left: behind it stand those of the events that are the account's or of devices and were
+/// answered, each with its answer. So it is of the devices' rows. A message of HTTP is a list of
 /// one event, and lists in a row are one.
 pub fn lives_go_on_in_files<S: Alter>()
     ensures runs { LivesGoOnInRuns }

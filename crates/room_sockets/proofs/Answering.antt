@@ -12,8 +12,9 @@ use Rattle.http_server.proofs.Theorems.{always_served}
 use Rattle.http_server.specs.Exchange.{Call, Chain}
 use Rattle.sqlite_trees.specs.declared.store.Store.{Ghosts}
 use Rattle.http.specs.Request.{body_of}
-use Rattle.room_http.specs.declared.refusal.Refusal.{Refusal}
-use Rattle.room_peers.proofs.Journaling.{applied_then, line_chain, looked, one_more, stays, then}
+use Rattle.room_requests.specs.declared.refusal.Refusal.{Refusal}
+use Rattle.room_peers.specs.ProofServices.{one_more, stays}
+use Rattle.room_peers.proofs.Journaling.{applied_then, line_chain, looked, then}
 use Rattle.room_peers.specs.Answers.{Answers, Gives}
 use Rattle.room_peers.specs.HttpPeers as http
 use Rattle.room_peers.specs.HttpPeers.{calls_of, connection_of}

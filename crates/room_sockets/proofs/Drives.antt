@@ -5,7 +5,8 @@ use Rattle.sqlite.specs.Held.{Held, state}
 use Rattle.sqlite.specs.State.{HasCleanDisk}
 use Rattle.sqlite_trees.specs.declared.store.Store.{Ghosts}
 use Rattle.std.proofs.lemmas.Bool.{true≢false}
-use Rattle.room_peers.proofs.Journaling.{chain, leads_applied, leads_then, line_chain, one_more, stays}
+use Rattle.room_peers.specs.ProofServices.{one_more, stays}
+use Rattle.room_peers.proofs.Journaling.{chain, leads_applied, leads_then, line_chain}
 use Rattle.room_peers.specs.Journals.{Notes, Round, Told, applied, by_themselves, open_of, rounds_of, shares_of, store_of}
 use Rattle.room_peers.specs.Applying.{DoesEach, DoesOne, Leads, OnlyLooks}
 use Rattle.room_peers.specs.Turns.{Continues}

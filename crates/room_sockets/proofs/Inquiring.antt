@@ -7,9 +7,8 @@ use Rattle.sqlite.specs.Held.{Held, state}
 use Rattle.sqlite.specs.State.{HasCleanDisk}
 use Rattle.sqlite_trees.specs.declared.store.Store.{Ghosts}
 use Rattle.room_laws.specs.Lives.{IsLife, Life}
-use Rattle.room_questions.specs.Questions.{answer_to}
+use Rattle.room_questions.specs.Questions.{answer_to, ConcernsNoOther}
 use Rattle.room_questions.specs.declared.question.Question.{Question}
-use Rattle.room_questions.specs.declared.question.Question.TheVariants.{Left, Ping}
 use Rattle.room_rules.specs.Devices.{Devices}
 use Rattle.room_serve.specs.LivesInFiles.{IsLifeIn}
 use Rattle.room_peers.proofs.Finding as finding
@@ -20,12 +19,13 @@ use Rattle.room_peers.specs.ServedRuns.{IsRunOf}
 use Rattle.room_peers.specs.ServedLives.{told_to}
 use Rattle.room_peers.specs.declared.served.Served.{Served}
 use Rattle.room_sockets.proofs.Drives.{IsClean, IsServed}
-use Rattle.room_sockets.specs.EndToEnd.{AnswersBy, Concerns, IsFresh, LivesOn}
+use Rattle.room_sockets.specs.EndToEnd.{AnswersBy, IsFresh, LivesOn}
 use Rattle.room_state.specs.Rooms.{RoomValue}
 use Rattle.room_store.specs.Questions.{AnswersQuestion, IsAbout}
 use Rattle.room_store.specs.declared.fault.StoreFault.{StoreFault}
 use Rattle.room_tables.specs.Accounts.{Holds}
 use Rattle.room_tables.specs.Calls.{KeepsConnection}
+use Rattle.room_tables.specs.Devices.{HoldsDevices}
 use Rattle.room_tables.specs.Keyed.{HasSchema}
 
 -- ---- the journal
@@ -67,9 +67,11 @@ module _ {S : Type 0} (store : Ghosts S) (before : Served S) (fresh : IsFresh be
 
   -- ---- a question
 
-  about : (question : Question) (name : List ℕ) (room : Option RoomValue) (devices : Devices) (db : Database) → Concerns question name → Holds db name room → IsAbout question room devices db
-  about Ping name room devices db concerns holds = tt
-  about (Left account month) name room devices db concerns holds = subst (λ (n : List ℕ). Holds db n room) concerns holds
+  about : (question : Question) (name : List ℕ) (room : Option RoomValue) (devices : Devices) (db : Database) → ConcernsNoOther question name → Holds db name room → HoldsDevices db devices → IsAbout question room devices db
+  about question name room devices db only holds device_rows = record {
+    account = λ other concerns. subst (λ (n : List ℕ). Holds db n room) (sym (only other concerns)) holds;
+    device_rows = λ concerns. device_rows;
+  }
 
   module _ (last : Held S) (question : Question) (old new : Served S) (served : IsServed store before old) (alone : shares_of old ≡ false) (clean : HasCleanDisk (state store last) → IsClean store new) where
     answers_so : (told : Result (List ℕ) StoreFault) → AnswersQuestion store question (store_of old) (store_of new) told → AnswersBy store (store_of before) last (journal_of old) question told
@@ -80,7 +82,7 @@ module _ {S : Type 0} (store : Ghosts S) (before : Served S) (fresh : IsFresh be
         let shown : IsTrue (state store (store_of old)).is_open = answers.opened new_clean in
         let schema : HasSchema (state store (store_of old)).now = (runs_so old served alone).schema old_clean has shown in
         let lives = lives_on old served alone old_clean has name life lived in
-        (lives.room, lives.devices, lives.is_life, answers.told new_clean schema lives.room lives.devices (about question name lives.room lives.devices (state store (store_of old)).now concerns (lives.rows shown)))
+        (lives.room, lives.devices, lives.is_life, answers.told new_clean schema lives.room lives.devices (about question name lives.room lives.devices (state store (store_of old)).now concerns (lives.rows shown) (lives.device_rows shown)))
 
   pub answered_so : (last : Held S) (question : Question) (told : Result (List ℕ) StoreFault) (old new : Served S) → IsServed store before old → (HasCleanDisk (state store last) → IsClean store new) → AnswersNext store question told old new → AnswersBy store (store_of before) last (journal_of old) question told
   answered_so last question told old new served clean next = answers_so last question old new served next.alone clean told next.answers

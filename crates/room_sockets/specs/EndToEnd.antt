@@ -11,12 +11,11 @@ use Rattle.sqlite.specs.Held.{Held, state}
 use Rattle.sqlite_trees.specs.Tree.{Trees}
 use Rattle.sqlite_trees.specs.declared.store.Store.{Ghosts}
 use Rattle.ipp_coding.specs.Reading.{header_in}
-use Rattle.room_http.specs.declared.refusal.Refusal.{Refusal}
+use Rattle.room_requests.specs.declared.refusal.Refusal.{Refusal}
 use Rattle.room_laws.specs.Lives.{IsLife, Life}
 use Rattle.room_lines.specs.Saying.{IsQuestionOf}
-use Rattle.room_questions.specs.Questions.{answer_to}
+use Rattle.room_questions.specs.Questions.{answer_to, ConcernsNoOther}
 use Rattle.room_questions.specs.declared.question.Question.{Question}
-use Rattle.room_questions.specs.declared.question.Question.TheVariants.{Left, Ping}
 use Rattle.room_rules.specs.Devices.{Devices}
 use Rattle.room_state.specs.Rooms.{RoomValue}
 use Rattle.room_store.specs.declared.fault.StoreFault.{StoreFault}
@@ -97,16 +96,11 @@ pub record TellsLine (side : Side) (call : LineCall) (told : Told) : Type 0 wher
   pub said : IsEntryOf (grammar_of side moment) line told.0
   pub says : call.1 ≡ line_text told.1
 
--- the question is about this account
-abbrev pub Concerns : Question → (name : List ℕ) → Type 0
-Concerns Ping name = ⊤
-Concerns (Left account month) name = name ≡ account
-
 module _ {S : Type 0} (store : Ghosts S) (first last : Held S) where
   -- by the room and the devices that the account's life has left, as far as it was told this
   abbrev pub AnswersBy : (so_far : List Told) → Question → Result (List ℕ) StoreFault → Type 0
   AnswersBy so_far question told = IfOurTables store first last (λ db. (name : List ℕ) (life : Life)
-      → Concerns question name → IsLifeIn db true name life
+      → ConcernsNoOther question name → IsLifeIn db true name life
       → IfOk told (λ text. (room : Option RoomValue) × (devices : Devices)
       × IsLife (life ++ told_to name so_far) room devices × (text ≡ answer_to question room devices)))
 

@@ -1,6 +1,6 @@
 -- How much all connections may hold together, and who may go on (all this project's own). In bytes.
 use Rattle.std.specs.Prelude.{ℕ, ◌+◌, ◌-◌, ◌*◌, Bool, Option, nat_lt, not}
-use Rattle.room_http.specs.Limits.{longest_body, longest_head}
+use Rattle.room_requests.specs.Limits.{longest_body, longest_head}
 use Rattle.room_sockets.specs.declared.stock.Stock.{Stock}
 
 abbrev pub held_of : Stock → ℕ
@@ -22,5 +22,5 @@ abbrev pub longest_request : ℕ
 longest_request = longest_head + longest_body
 
 -- there is room for two of the longest requests
-abbrev pub has_plenty : Stock → Bool
-has_plenty stock = not (nat_lt (most_held - 2 * longest_request) stock.held)
+abbrev pub has_room_for_all : Stock → Bool
+has_room_for_all stock = not (nat_lt (most_held - 2 * longest_request) stock.held)

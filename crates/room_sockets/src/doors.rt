@@ -149,7 +149,7 @@ impl Peers {
                     self.take_in(stream, speech, place, ticks);
                 }
                 Err(error) => {
-                    // Where it is for want of descriptors, say, the next tick tries again.
+                    // Where it is for lack of descriptors, say, the next tick tries again.
                     entrance.waits = error.kind() != ErrorKind::WouldBlock;
                     return;
                 }
@@ -157,7 +157,8 @@ impl Peers {
         }
     }
 
-    /// Takes a peer in, or drops it where the system or the memory has no room.
+    /// Takes in a peer who came by the door in this place, or drops it where the system or the
+    /// memory has no room.
     fn take_in(&mut self, stream: Stream, speech: Speech, place: usize, ticks: u64)
         ensures { OnlyEnter self.old.guests self.new.guests }
     {

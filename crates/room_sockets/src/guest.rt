@@ -22,7 +22,7 @@ pub(crate) enum Peer {
     Last(LastPeer),
 }
 
-// It is written out, so that a caller does not prove again how each part is dropped.
+// In the place of `#[derive(Drop)]`, so that no caller proves again how each part is dropped.
 impl Drop for Peer {
     fn drop(self) {
         match self {
@@ -90,7 +90,8 @@ impl Guest {
     }
 
     /// Has a turn: what came by its socket is taken. In a round nothing is written to it; otherwise
-    /// what it is told is, and where the round in which it asked was lost that is asked again first.
+    /// what it is told is, and where the round in which it asked was lost that is asked again
+    /// first.
     pub(crate) fn drive<S: Alter>(
         &mut self,
         alloc: Global,
@@ -136,8 +137,8 @@ impl Guest {
         next
     }
 
-    /// Where the round was lost, what it asked in it is asked again, by itself. From then on it only
-    /// hears what that came to, whatever it spoke.
+    /// Where the round was lost, what it asked in it is asked again, by itself. From then on it
+    /// only hears what that came to, whatever it spoke.
     fn ask_again<S: Alter>(&mut self, alloc: Global, served: &mut Served<S>, ticks: u64)
         requires { shares_of served.old ≡ false }
         ensures again { AsksAgain S.Store (is_lost_of served.old) (asked_in self.old)
@@ -226,7 +227,7 @@ impl Guest {
 
     /// Whether nothing was begun on it, and it keeps the room of a large request.
     pub(crate) fn rests_on_room(&self) -> bool {
-        self.patience().rests() && self.bytes_held() > LARGE
+        self.patience().is_at_rest() && self.bytes_held() > LARGE
     }
 }
 

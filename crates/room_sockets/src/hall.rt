@@ -62,9 +62,9 @@ impl Hall {
     ghost use Rattle.room_sockets.specs.EndToEnd.{IsFresh, IsWhole};
     ghost use Rattle.room_sockets.specs.Halls.{GoesOn, IsEmpty, ServesThose, guests_of, told_by};
 
-    /// A hall behind these doors, with nobody in it. `keys` are secret, since peers choose the names
-    /// of fields. `InvalidInput` where there are more doors than a hall has, or they let in more
-    /// peers together.
+    /// A hall behind these doors, with nobody in it. `keys` are secret, since peers choose the
+    /// names of fields. `InvalidInput` where there are more doors than a hall has, or they let in
+    /// more peers together.
     pub fn open<R: Net + Clock + Alloc<A = Global>>(
         rt: &R,
         doors: Vec<Entrance>,
@@ -113,7 +113,7 @@ impl Hall {
         Ok(Hall { peers, events })
     }
 
-    /// Serves whoever comes, until the system has no more to tell.
+    /// Serves whoever comes, pass after pass. It ends with the first pass that fails.
     pub fn run<S: Alter>(&mut self, clock: &impl Clock, served: &mut Served<S>) -> io::Result<()>
         ensures goes_on { GoesOn S.Store (guests_of self.old) (guests_of self.new)
             served.old served.new }
@@ -128,9 +128,10 @@ impl Hall {
         Ok(())
     }
 
-    /// Waits until something comes, or a deadline may have passed, and serves those who can go on.
-    /// Where the system told of several, what they ask shares a commit, and nobody is answered before
-    /// it.
+    /// Waits until something comes, or a tick is over. Then each of whom the system told is served;
+    /// where it told of several, what they ask shares a commit, and nobody is answered before it.
+    /// Who waits at a door is let in, who was held back goes on where there is room, and who took
+    /// too long is dropped. It fails where the system can't wait, or has no clock.
     pub fn pass<S: Alter>(&mut self, clock: &impl Clock, served: &mut Served<S>) -> io::Result<()>
         ensures goes_on { GoesOn S.Store (guests_of self.old) (guests_of self.new)
             served.old served.new }

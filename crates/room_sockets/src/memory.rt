@@ -12,7 +12,7 @@ use std::time::Clock;
 
 impl Peers {
     /// Where too much is held, has each large answer go on, and drops who hardly reads it, so that
-    /// one turn of the loop gives out few more.
+    /// one pass gives out few more.
     pub(crate) fn free_memory<S: Alter>(&mut self, clock: &impl Clock, served: &mut Served<S>)
         ensures { ServesEach S.Store [] self.old.guests self.new.guests served.old served.new }
     {

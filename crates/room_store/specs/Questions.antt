@@ -4,7 +4,7 @@ use Rattle.sqlite.specs.Effect.{Database}
 use Rattle.sqlite.specs.Held.{Held, state}
 use Rattle.sqlite.specs.State.{HasCleanDisk}
 use Rattle.sqlite_trees.specs.declared.store.Store.{Ghosts}
-use Rattle.room_questions.specs.Questions.{answer_to}
+use Rattle.room_questions.specs.Questions.{answer_to, Concerns, ConcernsDevices}
 use Rattle.room_questions.specs.declared.question.Question.{Question}
 use Rattle.room_questions.specs.declared.question.Question.TheVariants.{Ping, Left}
 use Rattle.room_rules.specs.Devices.{Devices}
@@ -15,11 +15,14 @@ use Rattle.room_store.specs.declared.fault.StoreFault.{StoreFault}
 use Rattle.room_store.specs.declared.fault.StoreFault.TheVariants.{Damaged}
 use Rattle.room_tables.specs.Accounts.{Holds, account_at}
 use Rattle.room_tables.specs.Calls.{IfOurTables, IsUnchanged, KeepsConnection, LeavesNoMore}
+use Rattle.room_tables.specs.Devices.{HoldsDevices}
 
 -- the rows that it is about are those of this room, and of these devices
-abbrev pub IsAbout : Question → (room : Option RoomValue) (devices : Devices) (db : Database) → Type 0
-IsAbout Ping room devices db = ⊤
-IsAbout (Left account month) room devices db = Holds db account room
+pub record IsAbout
+    (question : Question) (room : Option RoomValue) (devices : Devices) (db : Database) : Type 0
+  where
+    pub account : (name : List ℕ) → Concerns question name → Holds db name room
+    pub device_rows : ConcernsDevices question → HoldsDevices db devices
 
 -- all jobs of an account, and the grants up to a month
 pub record SumsAreReadable (name : List ℕ) (month : ℕ) (db : Database) : Type 0 where

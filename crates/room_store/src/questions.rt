@@ -6,7 +6,7 @@ ghost use Rattle.room_questions.specs.declared.question.Question.TheVariants as 
 ghost use Rattle.room_rules.specs.Devices.{Devices};
 ghost use Rattle.room_state.specs.Sums.{charged_in, granted_to, reserved_in};
 ghost use Rattle.room_store.specs.Questions.{IsAbout, LeftIsReadable, QuestionIsReadable, SumsAreReadable};
-ghost use Rattle.room_store.specs.Words.{HoldsRoom, IfOurTables, LooksUp, RoomValue, WasOpen};
+ghost use Rattle.room_store.specs.Prelude.{HoldsRoom, IfOurTables, LooksUp, RoomValue, WasOpen};
 ghost use Rattle.room_tables.specs.Accounts.{Holds};
 
 use crate::events::knock;

@@ -7,7 +7,7 @@ use ipp_coding::{
 };
 use std::test::Fail;
 
-/// Shows that the header of a request is read, and that there is none in seven bytes.
+/// Shows that the header of a request is read, and that seven bytes, one too few, have none.
 #[test]
 fn header_of_a_request(rt: HostRuntime) {
     let header = Header {

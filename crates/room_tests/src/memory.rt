@@ -130,7 +130,8 @@ fn set_device_again(rt: HostRuntime) -> Result<(), Fail> {
     Ok(())
 }
 
-/// Shows what reading a file of grants gives, asked again where memory was refused.
+/// Shows that a file of grants, read again where memory was refused, has a grant and a bad record
+/// 2.
 #[test]
 fn read_grants_again(rt: HostRuntime) -> Result<(), Fail> {
     let file = b"alice,2026-09,100\n\"bob\",2026-09\n";

@@ -1,6 +1,6 @@
 //! Tests of names, media types, months, what is left of a quota, and devices.
 
-use room_rules::{Device, Format, Name, left, month_of, set_device, set_rate};
+use room_rules::{Device, Format, Moment, Name, left, month_of, set_device, set_rate};
 use std::test::Fail;
 
 /// Shows that a text that is empty, too long, begins with no small letter or has other characters
@@ -32,13 +32,14 @@ fn no_media_types(rt: HostRuntime) {
     }
 }
 
-/// Shows the month of the first and the last moment in range, and that a later moment has none.
+/// Shows the month of a moment and of the last one, and that there is no later moment.
 #[test]
 fn months_of_moments(rt: HostRuntime) {
-    assert_eq!(rt; month_of(1_788_220_800), Some(24_320));
-    assert_eq!(rt; month_of(4_102_444_799), Some(25_199));
-    assert_eq!(rt; month_of(4_102_444_800), None);
-    assert_eq!(rt; month_of(u64::MAX), None);
+    let month_at = |seconds| Moment::new(seconds).map(|moment| month_of(moment));
+    assert_eq!(rt; month_at(1_788_220_800), Some(24_320));
+    assert_eq!(rt; month_at(4_102_444_799), Some(25_199));
+    assert_eq!(rt; month_at(4_102_444_800), None);
+    assert_eq!(rt; month_at(u64::MAX), None);
 }
 
 /// Shows that what is left is what was granted less what is reserved.
@@ -64,7 +65,7 @@ fn a_device_is_made(rt: HostRuntime) -> Result<(), Fail> {
 
 /// Shows that of two devices of one name the first gets the rate.
 #[test]
-fn the_first_of_a_name_counts(rt: HostRuntime) -> Result<(), Fail> {
+fn the_rate_goes_to_the_first_of_a_name(rt: HostRuntime) -> Result<(), Fail> {
     let d1 = Name::read(b"d1").ok_or("a name")?;
     let device = &Device {
         name: d1,

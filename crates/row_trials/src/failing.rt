@@ -1,8 +1,8 @@
 //! An exchange over a connection of which one call fails, for each call in turn. The call of
-//! `serve_one` in which that comes tells it, and each after it that the connection has ended. Behind
-//! what the calls before it wrote stands a front of what that call writes otherwise, and not all of
-//! it. Where a read failed, the rows are those before the message; where a write did, those before
-//! or after it.
+//! `serve_one` in which that comes tells it, and each after it that the connection has ended.
+//! Behind what the calls before it wrote stands a front of what that call writes otherwise, and not
+//! all of it. Where a read failed, the rows are those before the message; where a write did, those
+//! before or after it.
 
 use crate::exchanges::{PIECES, Pieces, opened_tables};
 use room_rows::Exchange;
@@ -158,8 +158,10 @@ impl Trial<'_> {
     }
 }
 
-/// Answers whether the calls ended, wrote and changed what they may where this side fails in one of
-/// them.
+/// Answers whether the calls of `serve_one` ended with answers, then with this side's fault, then
+/// as on a connection that has ended; whether they wrote what stands in `states` before the failing
+/// one, and a front of what that one writes; and whether the rows are those before it, or for a
+/// write those after it. `states` has how it stands after each number of calls of which none fails.
 fn is_due(side: Side, served: &ServedCalls, rows: &[u8], states: &[State]) -> bool {
     let mut answered = 0usize;
     let mut has_failed = false;

@@ -1,8 +1,10 @@
 //! Files of rows, held against the print room: rooms in memory, shared tables, connections, and runs
-//! of the program. The program `worked_rows` names the files.
+//! of the program; and trials of the program over readers and writers that fail. The program
+//! `worked_rows` names the files.
 #![tactic(auto)]
 
 mod answers;
+mod ends;
 mod exchanges;
 mod failing;
 mod given;
@@ -11,4 +13,5 @@ mod room_file;
 mod rows;
 mod runs;
 
+pub use ends::all_endings_hold;
 pub use rows::file_holds;

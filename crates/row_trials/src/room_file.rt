@@ -18,7 +18,7 @@ pub struct RoomFile<S: Alter> {
     held: Option<Connection<S>>,
 }
 
-// It is written out, so that no caller proves again how a connection is dropped.
+// In the place of `#[derive(Drop)]`, so that no caller proves again how each part is dropped.
 impl<S: Alter + Drop> Drop for RoomFile<S> {
     fn drop(self) {
         let RoomFile { held: _ } = self;
@@ -75,7 +75,7 @@ impl<S: Alter + Drop> RoomFile<S> {
         Ok(())
     }
 
-    /// Closes the file, if it is held open, and removes it.
+    /// Closes the file, if it is held open, and removes it and its log, as far as that can be done.
     pub fn close_and_remove(self, rt: &HostRuntime) {
         drop(self);
         remove_file_and_log(rt);

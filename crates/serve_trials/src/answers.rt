@@ -77,8 +77,8 @@ fn outcomes(rt: &HostRuntime) -> Result<(), Fault> {
     Ok(())
 }
 
-/// Expects this outcome of the input where these are the answers; the input is sent whole, and a
-/// last line without its end is sent with one.
+/// Expects this outcome of the input where these are the answers, and that they are printed as they
+/// came. The input is sent whole, and a last line without its end is sent with one.
 fn expect_outcome(
     rt: &HostRuntime,
     input: &[u8],

@@ -23,12 +23,20 @@ pub struct Faulty<D: Disk> {
     failed: u64,
 }
 
-/// Opens a connection over an empty database in memory, of whose log one write fails.
-pub fn connect(alloc: Global) -> Result<Connection<FileStore<Faulty<Memory>>>, Error> {
-    let files = Files {
+/// Makes the files of an empty database in memory. One write to the log fails.
+pub fn faulty_files(alloc: Global) -> Files<Faulty<Memory>> {
+    Files {
         log: Faulty::new(Memory::new(alloc), true),
         db: Faulty::new(Memory::new(alloc), false),
-    };
+    }
+}
+
+/// Opens a connection over these files. It is written for any, since a call on faulty ones takes
+/// long to prove.
+pub fn connect<D: Disk + Drop>(
+    alloc: Global,
+    files: Files<D>,
+) -> Result<Connection<FileStore<D>>, Error> {
     if !files.may_be_used() {
         return Err(Error::SqliteFailure(ErrorCode::SystemIoFailure));
     }

@@ -3,7 +3,7 @@
 use crate::expecting::{expect, expect_equal};
 use crate::fault::Fault;
 use crate::loopback::{
-    Ports, Visitor, doors_at_free_ports, port_of, ports_of, turn_until_ended, turn_until_told,
+    Ports, Visitor, doors_at_free_ports, pass_until_ended, pass_until_told, port_of, ports_of,
 };
 use crate::report::Report;
 use crate::rooms::new_rooms;
@@ -65,14 +65,14 @@ fn visit<S: Alter>(
     fourth: u16,
 ) -> Result<(), Fault> {
     let operator = Visitor::enter(rt, ports.operators, OPERATOR, OPERATOR_TOLD)?;
-    turn_until_told(rt, hall, rooms, &mut [operator])?;
+    pass_until_told(rt, hall, rooms, &mut [operator])?;
     let mut first = [Visitor::enter(rt, fourth, STATION, STATION_TOLD)?];
-    turn_until_told(rt, hall, rooms, &mut first)?;
+    pass_until_told(rt, hall, rooms, &mut first)?;
     let mut second = [Visitor::enter(rt, fourth, STATION, STATION_TOLD)?];
     expect_waiting(rt, hall, rooms, ports, &mut second)?;
     end_all(&first)?;
-    turn_until_ended(rt, hall, rooms, &mut first)?;
-    turn_until_told(rt, hall, rooms, &mut second)
+    pass_until_ended(rt, hall, rooms, &mut first)?;
+    pass_until_told(rt, hall, rooms, &mut second)
 }
 
 /// Expects that those who came are told nothing while one who comes by another door is told all.
@@ -87,7 +87,7 @@ fn expect_waiting<S: Alter>(
         visitor.go_on()?;
     }
     let station = Visitor::enter(rt, ports.stations, STATION, STATION_TOLD)?;
-    turn_until_told(rt, hall, rooms, &mut [station])?;
+    pass_until_told(rt, hall, rooms, &mut [station])?;
     for visitor in waiting.iter_mut() {
         visitor.go_on()?;
         expect(rt, !visitor.is_told_enough(), "it waits")?;

@@ -1,12 +1,10 @@
 //! Trials of what one process serves, over memory: requests of HTTP and lines, whole, in pieces and
-//! in turns, and over sockets of this machine, also where a round is lost; of the client of lines;
-//! and of the program over readers and writers that fail. Each says whether what is found is what is
-//! due.
+//! in turns, and over sockets of this machine, also where a round is lost; and of the client of
+//! lines. Each says whether what is found is what is due.
 #![tactic(auto)]
 
 mod answers;
 mod cases;
-mod ends;
 mod expecting;
 mod fault;
 mod faulty;
@@ -52,6 +50,5 @@ pub fn all_trials_hold<W: Write>(rt: &HostRuntime, output: &mut W) -> bool {
     lost::run_all(rt, &mut report);
     sends::run_all(rt, &mut report);
     answers::run_all(rt, &mut report);
-    ends::run_all(rt, &mut report);
     report.all_hold()
 }

@@ -16,6 +16,17 @@ pub const PRINT: &[u8] =
     \x48\x00\x1battributes-natural-language\x00\x02en\
     \x45\x00\x0bprinter-uri\x00\x1fipp://localhost/ipp/print/alice\x03Hello";
 
+/// The answer to `PRINT`, with its head.
+pub const PRINTED: &[u8] =
+    b"HTTP/1.1 200 OK\r\ncontent-type: application/ipp\r\ncontent-length: 197\r\n\r\n\
+    \x01\x01\x00\x00\x00\x00\x00\x02\x01\
+    \x47\x00\x12attributes-charset\x00\x05utf-8\
+    \x48\x00\x1battributes-natural-language\x00\x02en\x02\
+    \x45\x00\x07job-uri\x00\x21ipp://localhost/ipp/print/alice/1\
+    \x21\x00\x06job-id\x00\x04\x00\x00\x00\x01\
+    \x23\x00\x09job-state\x00\x04\x00\x00\x00\x04\
+    \x44\x00\x11job-state-reasons\x00\x18job-hold-until-specified\x03";
+
 const OPERATOR: &[u8] = b"open alice\nopen alice\ndevice d1 on\nrate d1 2\nrate d9 2\n\
     grant alice 2026-09 100\ngrant alice 2026-09 100\ngrant alice 2026-09 90\ngrant carol 2026-09 1\n\
     rate d1 101\nrelease d1 alice 1 - -\nipp alice 00\n\nopen alice \n\
@@ -68,7 +79,8 @@ fn expect_all_told(
 ) -> Result<(), Fault> {
     let told = exchange_lines(rt, rooms, Side::Operator, OPERATOR, piece)?;
     expect_bytes(rt, told.as_slice(), OPERATOR_TOLD)?;
-    exchange(rt, rooms, PRINT, piece)?;
+    let printed = exchange(rt, rooms, PRINT, piece)?;
+    expect_bytes(rt, printed.as_slice(), PRINTED)?;
     let told = exchange_lines(rt, rooms, Side::Station, STATION, piece)?;
     expect_bytes(rt, told.as_slice(), STATION_TOLD)?;
     let told = exchange_lines(rt, rooms, Side::Operator, b"left alice 2026-09\n", piece)?;

@@ -1,10 +1,10 @@
 //! The trial of the loop over all sockets: three doors on free ports of this machine, and visitors
-//! who come in by them. All of it is one thread: between any two turns of the hall each visitor
+//! who come in by them. All of it is one thread: between any two passes of the hall each visitor
 //! goes on.
 
 use crate::expecting::{expect, expect_bytes, with_case};
 use crate::fault::Fault;
-use crate::lines::PRINT;
+use crate::lines::{PRINT, PRINTED};
 use crate::report::Report;
 use crate::rooms::new_rooms;
 use room_peers::Served;
@@ -15,9 +15,9 @@ use std::io;
 use std::io::{ErrorKind, Read, Write};
 use std::net::{Ipv4Addr, Shutdown, SocketAddr, TcpStream};
 
-/// More turns than these visitors need. One lasts a quarter of a second at most, since somebody is
+/// More passes than these visitors need. One lasts a quarter of a second at most, since somebody is
 /// always there.
-const TURNS: u32 = 200;
+const PASSES: u32 = 200;
 
 /// How many bytes a visitor sends at once, so that their requests come in turns.
 const PIECE: usize = 60;
@@ -26,17 +26,6 @@ const OPERATOR: &[u8] =
     b"open alice\nopen bob\ndevice d1 on\nrate d1 2\ngrant alice 2000-01 100\nopen alice\n";
 
 const OPERATOR_TOLD: &[u8] = b"ok\nok\nok\nok\nok\nexists\n";
-
-/// The answer to `PRINT`, with its head.
-const PRINTED: &[u8] =
-    b"HTTP/1.1 200 OK\r\ncontent-type: application/ipp\r\ncontent-length: 197\r\n\r\n\
-    \x01\x01\x00\x00\x00\x00\x00\x02\x01\
-    \x47\x00\x12attributes-charset\x00\x05utf-8\
-    \x48\x00\x1battributes-natural-language\x00\x02en\x02\
-    \x45\x00\x07job-uri\x00\x21ipp://localhost/ipp/print/alice/1\
-    \x21\x00\x06job-id\x00\x04\x00\x00\x00\x01\
-    \x23\x00\x09job-state\x00\x04\x00\x00\x00\x04\
-    \x44\x00\x11job-state-reasons\x00\x18job-hold-until-specified\x03";
 
 /// Print-Job for the queue of bob: 122 bytes.
 const PRINT_OF_BOB: &[u8] =
@@ -198,6 +187,7 @@ pub fn port_of(doors: &[Entrance], place: usize) -> Result<u16, Fault> {
 }
 
 /// Lets the operator in, then two people who print, then the station. Expects what each is told.
+/// Then all but the operator end: they have to be let go, and the operator has to stay.
 fn visit<S: Alter>(
     rt: &HostRuntime,
     hall: &mut Hall,
@@ -206,24 +196,24 @@ fn visit<S: Alter>(
 ) -> Result<(), Fault> {
     let mut visitors = Vec::new(rt.alloc());
     visitors.push(Visitor::enter(rt, ports.operators, OPERATOR, OPERATOR_TOLD)?)?;
-    turn_until_told(rt, hall, rooms, &mut visitors)?;
+    pass_until_told(rt, hall, rooms, &mut visitors)?;
     visitors.push(Visitor::enter(rt, ports.http, PRINT, PRINTED)?)?;
     visitors.push(Visitor::enter(rt, ports.http, PRINT_OF_BOB, PRINTED_OF_BOB)?)?;
-    turn_until_told(rt, hall, rooms, &mut visitors)?;
+    pass_until_told(rt, hall, rooms, &mut visitors)?;
     visitors.push(Visitor::enter(rt, ports.stations, STATION, STATION_TOLD)?)?;
-    turn_until_told(rt, hall, rooms, &mut visitors)?;
-    turn_until_let_go(rt, hall, rooms, &mut visitors)
+    pass_until_told(rt, hall, rooms, &mut visitors)?;
+    pass_until_let_go(rt, hall, rooms, &mut visitors)
 }
 
-/// Lets the hall and the visitors go on until each was told as much as is due, or `TURNS` have
+/// Lets the hall and the visitors go on until each was told as much as is due, or `PASSES` have
 /// passed. Expects that it is what is due.
-pub fn turn_until_told<S: Alter>(
+pub fn pass_until_told<S: Alter>(
     rt: &HostRuntime,
     hall: &mut Hall,
     rooms: &mut Served<S>,
     visitors: &mut [Visitor<'_>],
 ) -> Result<(), Fault> {
-    for _ in 0..TURNS {
+    for _ in 0..PASSES {
         for visitor in visitors.iter_mut() {
             visitor.go_on()?;
         }
@@ -239,7 +229,7 @@ pub fn turn_until_told<S: Alter>(
 }
 
 /// Ends all visitors but the operator. Expects that they hear the end, and that the operator stays.
-fn turn_until_let_go<S: Alter>(
+fn pass_until_let_go<S: Alter>(
     rt: &HostRuntime,
     hall: &mut Hall,
     rooms: &mut Served<S>,
@@ -251,21 +241,21 @@ fn turn_until_let_go<S: Alter>(
     for visitor in others.iter() {
         visitor.end()?;
     }
-    turn_until_ended(rt, hall, rooms, others)?;
+    pass_until_ended(rt, hall, rooms, others)?;
     operator.hear()?;
     operator.expect_told(rt)?;
     expect(rt, !operator.has_ended, "the operator stays")
 }
 
-/// Lets the hall go on until each visitor hears the end, or `TURNS` have passed. Expects that they
+/// Lets the hall go on until each visitor hears the end, or `PASSES` have passed. Expects that they
 /// hear it, and were told what is due and no more.
-pub fn turn_until_ended<S: Alter>(
+pub fn pass_until_ended<S: Alter>(
     rt: &HostRuntime,
     hall: &mut Hall,
     rooms: &mut Served<S>,
     visitors: &mut [Visitor<'_>],
 ) -> Result<(), Fault> {
-    for _ in 0..TURNS {
+    for _ in 0..PASSES {
         for visitor in visitors.iter_mut() {
             visitor.hear()?;
         }

@@ -3,17 +3,18 @@
 
 use crate::expecting::expect;
 use crate::fault::Fault;
-use crate::faulty::{MARK, connect};
+use crate::faulty::{MARK, connect, faulty_files};
 use crate::lines::PRINT;
 use crate::loopback::{
-    Ports, Visitor, doors_at_free_ports, ports_of, turn_until_ended, turn_until_told,
+    Ports, Visitor, doors_at_free_ports, pass_until_ended, pass_until_told, ports_of,
 };
 use crate::report::Report;
 use crate::rooms::rooms_over;
 use room_peers::Served;
 use room_sockets::Hall;
 use room_store::OpenFault;
-use sqlite::{Alter, Connection};
+use sqlite::{Alter, Connection, Files};
+use sqlite_disk::Disk;
 use std::alloc::Global;
 use std::hash::RandomState;
 use std::io::Write;
@@ -60,7 +61,12 @@ pub fn run_all<W: Write>(rt: &HostRuntime, report: &mut Report<'_, W>) {
 /// Shows that who asked in a lost round is told once and let go, and that what each asked was done
 /// once.
 fn a_lost_round(rt: &HostRuntime) -> Result<(), Fault> {
-    match connect(rt.alloc()) {
+    lose_round_in_files(rt, faulty_files(rt.alloc()))
+}
+
+/// Opens a database in these files, and makes the trial over it.
+fn lose_round_in_files<D: Disk + Drop>(rt: &HostRuntime, files: Files<D>) -> Result<(), Fault> {
+    match connect(rt.alloc(), files) {
         Ok(connection) => lose_round_over(rt, connection),
         Err(error) => Err(Fault::from(OpenFault::from(error))),
     }
@@ -140,7 +146,7 @@ fn ask_in_one<'a, S: Alter>(
     for _ in 0..3 {
         visitors.push(Visitor::enter(rt, ports.http, GREETS, GREETED)?)?;
     }
-    turn_until_told(rt, hall, rooms, &mut visitors)?;
+    pass_until_told(rt, hall, rooms, &mut visitors)?;
     let asked = [
         (b"open diane\n".as_slice(), b"ok\n".as_slice()),
         (alices.print.as_slice(), alices.printed_alone.as_slice()),
@@ -151,7 +157,7 @@ fn ask_in_one<'a, S: Alter>(
         visitor.go_on_with(sends, due)?;
     }
     expect(rt, visitors.pop().is_some(), "the last ends")?;
-    turn_until_ended(rt, hall, rooms, &mut visitors)
+    pass_until_ended(rt, hall, rooms, &mut visitors)
 }
 
 /// Asks again, by others who come. Expects one job of each account, also of the one that was told
@@ -169,5 +175,5 @@ fn expect_each_once<S: Alter>(
         visitors.push(Visitor::enter(rt, ports.http, asks, texts.one_job.as_slice())?)?;
     }
     visitors.push(Visitor::enter(rt, ports.operators, b"open diane\n", b"exists\n")?)?;
-    turn_until_told(rt, hall, rooms, &mut visitors)
+    pass_until_told(rt, hall, rooms, &mut visitors)
 }

@@ -12,7 +12,8 @@ use std::io::{ErrorKind, Read};
 /// More turns than any peer here needs.
 const MANY: u32 = 100_000;
 
-/// What a peer sends: what came is there at once, and after it a read has to wait, or finds the end.
+/// What a peer sends: what came is there at once, and after it a read has to wait, or finds the
+/// end.
 #[derive(Drop)]
 struct Tape<'a> {
     comes: &'a [u8],
@@ -102,8 +103,8 @@ impl<'a> Talk<'a> {
         next
     }
 
-    /// Gives the peer one turn. Expects that it answers this, and what went out since it sent
-    /// something.
+    /// Gives the peer one turn. Expects that the turn answers `next`, and that `went` is all that
+    /// went out since the peer last sent something.
     pub fn expect_turn(
         &mut self,
         rt: &HostRuntime,

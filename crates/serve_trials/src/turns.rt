@@ -48,8 +48,8 @@ fn valid_answer(alloc: Global) -> Result<Vec<u8>, AllocError> {
     joined(alloc, &[TAKEN, ANSWER])
 }
 
-/// Answers so many copies of a text as one.
-fn copies(alloc: Global, text: &[u8], count: u32) -> Result<Vec<u8>, AllocError> {
+/// Answers a text that repeats this one so often.
+fn repeated(alloc: Global, text: &[u8], count: u32) -> Result<Vec<u8>, AllocError> {
     let mut all = Vec::new(alloc);
     for _ in 0..count {
         all.extend_from_slice(text)?;
@@ -61,7 +61,7 @@ fn copies(alloc: Global, text: &[u8], count: u32) -> Result<Vec<u8>, AllocError>
 /// the end.
 fn a_few_requests_a_turn(rt: &HostRuntime) -> Result<(), Fault> {
     let request = request(rt.alloc())?;
-    let comes = copies(rt.alloc(), request.as_slice(), 300)?;
+    let comes = repeated(rt.alloc(), request.as_slice(), 300)?;
     let mut talk = Talk::of_client(rt, comes.as_slice())?;
     expect_a_few_a_turn(rt, &mut talk)
 }
@@ -78,7 +78,7 @@ fn expect_a_few_a_turn(rt: &HostRuntime, talk: &mut Talk<'_>) -> Result<(), Faul
         "the first turn answers four",
     )?;
     expect_equal(rt, talk.turn_while_again(ROOM), Next::Wait)?;
-    let all = copies(rt.alloc(), valid.as_slice(), 300)?;
+    let all = repeated(rt.alloc(), valid.as_slice(), 300)?;
     expect_bytes(rt, talk.went_out(), all.as_slice())
 }
 
@@ -113,7 +113,11 @@ fn expect_large_one_waits<'a>(
     expect(rt, talk.patience().is_held_back(), "it is held back")?;
     expect_equal(rt, talk.turn_while_again(ROOM), Next::Wait)?;
     expect_bytes(rt, talk.went_out(), valid.as_slice())?;
-    expect(rt, talk.patience().rests(), "it rests behind its answer")
+    expect(
+        rt,
+        talk.patience().is_at_rest(),
+        "it rests behind its answer",
+    )
 }
 
 /// Shows that a client that was asked for its body has as long for it as for the rest of what it
@@ -128,13 +132,17 @@ fn a_body_that_was_asked_for(rt: &HostRuntime) -> Result<(), Fault> {
 fn expect_body_waited_for(rt: &HostRuntime, talk: &mut Talk<'_>) -> Result<(), Fault> {
     talk.expect_turn(rt, ROOM, Next::Wait, CONTINUED)?;
     let patience = talk.patience();
-    expect(rt, !patience.rests(), "the body is waited for")?;
+    expect(rt, !patience.is_at_rest(), "the body is waited for")?;
     expect(rt, !patience.is_over(10_000), "it has ten seconds")?;
     expect(rt, patience.is_over(10_001), "it has no more")?;
     talk.send(REQUEST);
     let valid = valid_answer(rt.alloc())?;
     talk.expect_turn(rt, ROOM, Next::Wait, valid.as_slice())?;
-    expect(rt, talk.patience().rests(), "it rests behind its answer")
+    expect(
+        rt,
+        talk.patience().is_at_rest(),
+        "it rests behind its answer",
+    )
 }
 
 /// Shows that a connection closes behind its answer where the client sends no more.
@@ -190,7 +198,11 @@ fn lines_in_turns(rt: &HostRuntime) -> Result<(), Fault> {
 fn expect_start_waits(rt: &HostRuntime, talk: &mut Talk<'_>) -> Result<(), Fault> {
     talk.expect_turn(rt, NO_ROOM, Next::HeldBack, b"no-device\n")?;
     talk.expect_turn(rt, ROOM, Next::Wait, b"no-device\nno-device\n")?;
-    expect(rt, !talk.patience().rests(), "the rest of a line is due")?;
+    expect(
+        rt,
+        !talk.patience().is_at_rest(),
+        "the rest of a line is due",
+    )?;
     talk.send(b" 4 done\nstart ");
     talk.expect_turn(rt, NO_ROOM, Next::HeldBack, b"no-device\n")?;
     expect(rt, talk.patience().is_held_back(), "a start is held back")?;

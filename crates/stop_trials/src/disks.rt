@@ -1,5 +1,5 @@
-//! A database in two files, of which one stops after so many calls: each call after these fails, and
-//! changes nothing.
+//! A database in two files, of which one stops after so many calls: each call after these fails,
+//! and changes nothing.
 
 use sqlite::{Connection, Error, ErrorCode, FileStore, Files, Options};
 use sqlite_disk::{Crash, Disk, Fuse, Memory};
@@ -46,7 +46,7 @@ pub trait Disks: Sized {
     type Kept: Drop;
 
     /// Makes an empty log beside a database's file of these bytes. The file named stops after so
-    /// many calls.
+    /// many calls: each one after these fails, and changes nothing.
     fn stopping(alloc: Global, file: DiskFile, calls: u64, database: &[u8]) -> Result<Self, Fault>;
 
     /// Copies the files as they are, as the next run finds them after a program that ended. The
@@ -77,7 +77,7 @@ pub struct InMemory {
     is_stopped: bool,
 }
 
-// It is written out, so that no caller proves again how the files are dropped.
+// In the place of `#[derive(Drop)]`, so that no caller proves again how each part is dropped.
 impl Drop for InMemory {
     fn drop(self) {
         let InMemory {

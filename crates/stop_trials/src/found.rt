@@ -64,8 +64,8 @@ impl Found {
         }
     }
 
-    /// Answers whether these rows, of both accounts and then of the devices, are what is found.
-    pub fn has_rows(&self, rows: &[u8]) -> bool {
+    /// Answers whether just these rows are found: those of both accounts, and then the devices'.
+    pub fn has_just(&self, rows: &[u8]) -> bool {
         match rows.strip_prefix(self.accounts.as_slice()) {
             Some(devices) => devices == self.devices.as_slice(),
             None => false,

@@ -1,5 +1,6 @@
-//! A database of version 1 that is migrated over storage that stops: it is found as one of version
-//! 1 or of version 2 then, and every account has the rows that it had.
+//! A database of version 1 that is migrated over storage of which a file stops: from one call on
+//! each fails, and changes nothing. It is found as one of version 1 or of version 2 then, and every
+//! account has the rows that it had.
 
 use crate::disks::{DISK_FILES, DiskFile, Disks};
 use crate::found::Found;
@@ -19,12 +20,12 @@ where
     S: Alter + Drop,
     D: Disks<Kept = Connection<S>> + Drop,
 {
-    let first = match First::make::<S, D>(rt, talk)? {
+    let first = match VersionOne::make::<S, D>(rt, talk)? {
         Ok(first) => first,
         Err(differs) => return Ok(Some(differs)),
     };
     for file in DISK_FILES {
-        if let Some(calls) = first.first_other_stop::<S, D>(rt.alloc(), file)? {
+        if let Some(calls) = first.first_bad_stop::<S, D>(rt.alloc(), file)? {
             return Ok(Some(format!(in rt.alloc(); "{file} that stops behind {calls} calls")?));
         }
     }
@@ -42,17 +43,20 @@ enum Came {
 
 /// A database of version 1.
 #[derive(Drop)]
-struct First {
+struct VersionOne {
     /// The bytes of its file.
     database: Vec<u8>,
     /// The rows of both accounts.
     rows: Vec<u8>,
 }
 
-impl First {
+impl VersionOne {
     /// Makes the database by the row's steps. Answers the first line that differs if they are
     /// answered otherwise than the row says.
-    fn make<S, D>(rt: &HostRuntime, talk: &Conversation) -> Result<Result<First, String>, Fault>
+    fn make<S, D>(
+        rt: &HostRuntime,
+        talk: &Conversation,
+    ) -> Result<Result<VersionOne, String>, Fault>
     where
         S: Alter + Drop,
         D: Disks<Kept = Connection<S>> + Drop,
@@ -65,15 +69,16 @@ impl First {
         };
         let mut database = Vec::new(alloc);
         database.extend_from_slice(disks.database()?)?;
-        Ok(Ok(First {
+        Ok(Ok(VersionOne {
             database,
             rows: made,
         }))
     }
 
-    /// Migrates with the file stopping after 0 calls, after 1 and so on, until it does not stop.
-    /// Answers the first number of calls that comes to something else than is due, or `None`.
-    fn first_other_stop<S, D>(&self, alloc: Global, file: DiskFile) -> Result<Option<u64>, Fault>
+    /// Migrates with the file stopping after 0 calls, after 1 and so on, until it takes all.
+    /// Answers the first number of calls after which the migration comes to something else than is
+    /// due, or `None`.
+    fn first_bad_stop<S, D>(&self, alloc: Global, file: DiskFile) -> Result<Option<u64>, Fault>
     where
         S: Alter + Drop,
         D: Disks<Kept = Connection<S>> + Drop,

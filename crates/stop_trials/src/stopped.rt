@@ -4,8 +4,8 @@
 //! the event that was stopped or as it is after it.
 //!
 //! A row is a script, which runs on a new database, and once more with all its events in one round.
-//! After the line `migrated` its steps make a database of version 1 instead, and the program migrates
-//! it.
+//! After the line `migrated` its steps make a database of version 1 instead, and the program
+//! migrates it.
 
 use crate::disks::{DISK_FILES, DiskFile, Disks, InMemory, OnDisks};
 use crate::found::Found;
@@ -289,7 +289,7 @@ impl WholeScript {
     /// Answers whether what is found has the rows that stand after so many events.
     fn has_rows_after(&self, events: usize, found: &Found) -> bool {
         match self.rows.get(events) {
-            Some(due) => found.has_rows(due.as_slice()),
+            Some(due) => found.has_just(due.as_slice()),
             None => false,
         }
     }

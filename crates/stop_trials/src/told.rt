@@ -30,7 +30,7 @@ pub struct Told {
 
 impl Told {
     /// Begins with nothing told, and with room for what most runs print, so that no write fails for
-    /// want of memory.
+    /// lack of memory.
     pub fn with_room(alloc: Global) -> Result<Told, Fault> {
         Ok(Told {
             output: Vec::with_capacity(alloc, ROOM)?,

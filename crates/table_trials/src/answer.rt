@@ -29,7 +29,7 @@ pub enum Answer {
     Statement(sqlite::Error),
 }
 
-// It is written out, so that a function makes one call of it at each of its exits.
+// In the place of `#[derive(Drop)]`, so that no caller proves again how each part is dropped.
 impl Drop for Answer {
     fn drop(self) {
         match self {

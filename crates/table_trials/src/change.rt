@@ -65,7 +65,7 @@ pub enum Change {
     },
 }
 
-// It is written out, so that a function makes one call of it at each of its exits.
+// In the place of `#[derive(Drop)]`, so that no caller proves again how each part is dropped.
 impl Drop for Change {
     fn drop(self) {
         match self {

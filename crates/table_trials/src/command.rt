@@ -39,7 +39,7 @@ pub enum StoreCall {
     Migrate,
 }
 
-// It is written out, so that a function makes one call of it at each of its exits.
+// In the place of `#[derive(Drop)]`, so that no caller proves again how each part is dropped.
 impl Drop for Command<'_> {
     fn drop(self) {
         match self {
@@ -83,7 +83,8 @@ impl<'a> Command<'a> {
         }
     }
 
-    /// Reads a command that neither reads nor writes rows by a statement, and calls no store.
+    /// Reads a command that is no `Ask`, no `Change` and no `StoreCall`: its first word is `kind`.
+    /// Answers `Wrong::Command` if there is none of that word.
     fn read_other(kind: &str, fields: &mut Fields<'a>) -> Result<Command<'a>, Fault> {
         match kind {
             "sql" => Ok(Command::Sql(fields.rest_of_line()?)),

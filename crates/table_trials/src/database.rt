@@ -17,7 +17,7 @@ pub enum Database<S: Alter> {
     File(Connection<S>),
 }
 
-// It is written out, so that a function does not prove at each of its exits how either is dropped.
+// In the place of `#[derive(Drop)]`, so that no caller proves again how each part is dropped.
 impl<S: Alter + Drop> Drop for Database<S> {
     fn drop(self) {
         match self {
@@ -106,8 +106,8 @@ fn run_over<S: Alter + Drop>(
     Ok((connection, answer))
 }
 
-/// Runs a command that leaves the connection where it is, once more if memory was refused. What a
-/// table or a statement refuses is an answer.
+/// Runs a command that borrows the connection, and if memory was refused tells so and runs it once
+/// more. Why a table or a statement refuses is an answer; any other fault is one.
 fn answer_of<S: Alter>(
     rt: &HostRuntime,
     connection: &mut Connection<S>,
@@ -133,8 +133,7 @@ fn is_refused_memory(answer: &Result<Answer, Fault>) -> bool {
     }
 }
 
-/// Runs a command that leaves the connection where it is, once. Answers what it found or why it
-/// failed.
+/// Runs a command that borrows the connection, once. Answers what it found or why it failed.
 fn answer_once<S: Alter>(
     rt: &HostRuntime,
     connection: &mut Connection<S>,
@@ -239,8 +238,8 @@ fn store_answer(refused: Option<OpenFault>) -> Answer {
     }
 }
 
-/// Makes a call on a store, once. Answers the connection, and why the call was refused, if it was.
-/// One that is refused has to leave as many tables as there were.
+/// Creates, opens or migrates a store over the connection, once. Answers the connection, and why
+/// the store was refused, if it was; `Changed` if a refused one left another number of tables.
 fn call_store_once<S: Alter + Drop>(
     connection: Connection<S>,
     call: StoreCall,

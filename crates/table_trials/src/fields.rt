@@ -1,4 +1,4 @@
-//! The words of a command, parted by one space. `-` stands for no value, and for no bytes.
+//! The words of a command, parted by one space. Where a word may be missing, `-` stands for it.
 
 use crate::fault::{Fault, Wrong};
 use room_input::{bytes, choice, decimal, number};
@@ -49,7 +49,8 @@ impl<'a> Fields<'a> {
         }
     }
 
-    /// Takes a word that is the name of an account or a device.
+    /// Takes the next word, the name of an account or a device. Answers `Wrong::Name` if it is
+    /// none.
     pub fn name(&mut self) -> Result<Name, Fault> {
         name_of(self.next_word()?)
     }

@@ -138,7 +138,7 @@ where
     }
 }
 
-/// Reads the command of a line. If it is none the line is printed on standard error.
+/// Reads the command of a line. If it is none, prints the line on standard error and answers why.
 fn command_of<'a>(rt: &HostRuntime, line: &'a str) -> Result<Command<'a>, Fault> {
     match Command::read(rt.alloc(), line) {
         Err(Fault::Notation(why)) => {

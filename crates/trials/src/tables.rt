@@ -29,7 +29,7 @@ pub struct Tables<S: Alter> {
     waiting: Option<Connection<S>>,
 }
 
-// It is written out, so that no caller proves again how a connection is dropped.
+// In the place of `#[derive(Drop)]`, so that no caller proves again how each part is dropped.
 impl<S: Alter + Drop> Drop for Tables<S> {
     fn drop(self) {
         let Tables { waiting: _ } = self;

@@ -37,7 +37,8 @@ pub enum Failing {
 /// The calls of a side up to the one that fails, if one does.
 #[derive(Clone, Copy)]
 struct Calls {
-    left: Option<u64>,
+    /// The calls before the one that fails.
+    until_failing: Option<u64>,
     has_failed: bool,
 }
 
@@ -45,20 +46,21 @@ impl Calls {
     /// Begins to count calls. The one of this number fails; with `None` none does.
     fn failing_at(failing: Option<u64>) -> Calls {
         Calls {
-            left: failing,
+            until_failing: failing,
             has_failed: false,
         }
     }
 
-    /// Counts one more call. Answers whether it fails, as each after it does.
+    /// Counts one more call. Answers whether it fails, as each after it does, and keeps that one
+    /// has failed.
     fn next_fails(&mut self) -> bool {
-        match self.left {
+        match self.until_failing {
             Some(0) => {
                 self.has_failed = true;
                 true
             }
-            Some(left) => {
-                self.left = Some(left - 1);
+            Some(count) => {
+                self.until_failing = Some(count - 1);
                 false
             }
             None => false,
@@ -103,7 +105,7 @@ impl Read for Given<'_> {
     }
 }
 
-/// The bytes for which a writer has room from its beginning, so that want of memory is no failed
+/// The bytes for which a writer has room from its beginning, so that lack of memory is no failed
 /// write of most exchanges.
 const ROOM: usize = 65_536;
 

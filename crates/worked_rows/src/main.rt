@@ -4,8 +4,8 @@
 //!   requests to `serve`, `NAME.served`, of runs of the program, `NAME.runs`, of runs over storage
 //!   that stops, `NAME.stops`, of statements, `NAME.tables`, or a list of events, `NAME.events`. It
 //!   prints that the file holds, or of a row that does not what differs.
-//! - At the word `serving` it makes the trials of what is served, and prints of each that it holds
-//!   or what differs.
+//! - At the word `serving` it makes the trials of what is served, at `ending` those of how a run of
+//!   the program ends. It prints of each that it holds or what differs.
 #![tactic(auto)]
 
 use event_trials::list_holds;
@@ -56,20 +56,23 @@ where
     let mut all = true;
     let words: Vec<String> = env::args(rt)?.skip(1).collect(rt.alloc())?;
     for word in words.as_slice() {
-        all &= word_holds(rt, files, word.as_str())?;
+        all &= run_word(rt, files, word.as_str())?;
     }
     Ok(all)
 }
 
-/// Runs what a word names: a file of rows, a list of events, or the trials of `serving`. Answers
-/// whether it holds. `files` has the databases that stand in files.
-fn word_holds<S, F>(rt: &HostRuntime, files: &F, word: &str) -> Result<bool, Fault>
+/// Runs what a word names: a file of rows, a list of events, or the trials of `serving` or
+/// `ending`. Answers whether it holds. `files` has the databases that stand in files.
+fn run_word<S, F>(rt: &HostRuntime, files: &F, word: &str) -> Result<bool, Fault>
 where
     S: Alter + Drop,
     F: FileTables<Kept = Connection<S>>,
 {
     if word == "serving" {
         return Ok(serve_trials::all_trials_hold(rt, &mut rt.stdout()));
+    }
+    if word == "ending" {
+        return row_trials::all_endings_hold(rt);
     }
     if word.ends_with(".served") {
         return Ok(serve_trials::file_holds(rt, word, &mut rt.stdout()));

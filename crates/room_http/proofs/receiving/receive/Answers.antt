@@ -3,7 +3,7 @@ use Rattle.std.proofs.lemmas.Result.{err_from_is_err_and}
 use Rattle.room_http.specs.Bodies.{HasBody, IsNoBody, IsTooLongBody}
 use Rattle.room_http.specs.Exchange.{most_of_body}
 use Rattle.room_http.specs.Http.{Http, Carried, Refused, has_long_body, has_message, has_no_body, has_short_body}
-use Rattle.room_http.specs.declared.refusal.Refusal.TheVariants.{BadRequest, PayloadTooLarge}
+use Rattle.room_requests.specs.declared.refusal.Refusal.TheVariants.{BadRequest, PayloadTooLarge}
 use Rattle.room_http.proofs.Openings.{behind_head, body_failed, head_failed}
 use Rattle.room_http.proofs.Taking.{takes_both}
 use Rattle.room_http.proofs.receiving.receive.Goals as goal

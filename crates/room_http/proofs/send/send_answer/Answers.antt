@@ -1,6 +1,6 @@
 use Rattle.std.proofs.Common.{rules, ◌≡◌, ◌++◌, List, ℕ, OnErr, append_assoc, subst}
 use Rattle.room_http.specs.Exchange.{AppendsFront}
-use Rattle.room_http.specs.Texts.{answer_text}
+use Rattle.room_requests.specs.Texts.{answer_text}
 use Rattle.room_http.proofs.send.send_answer.Goals as goal
 
 -- the two texts are the head, and the answer in two parts

@@ -1,7 +1,7 @@
 use Rattle.std.proofs.Common.{rules, tests}
 use Rattle.std.proofs.lemmas.Iterator.Search.{any_from_yields_List}
 use Rattle.std.proofs.lemmas.Iterator.Splits.{YieldsList-from_slice_split}
-use Rattle.room_http.specs.Words.{is_same_word, without_margin}
+use Rattle.room_requests.specs.Words.{is_same_word, without_margin}
 use Rattle.std.proofs.Common.{[], ◌∷◌}
 use Rattle.room_http.proofs.words.lists.Goals as goal
 

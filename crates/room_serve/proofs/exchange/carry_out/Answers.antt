@@ -5,19 +5,7 @@ use Rattle.room_serve.proofs.exchange.carry_out.Given as goal_given
 
 -- what the call of the store says
 applied : (g : goal_given.Over) (c : goal.Joined-told g) → AppliesMessage g.S.Store c.args.now c.args.order.account c.args.body.now c.args.store.now c.apply-told.new.self c.apply-told.result
-applied g c = let says = c.apply-told.ensures in record {
-  answered = says.answered;
-  crash = says.crash;
-  unchanged = says.unchanged;
-  damaged = says.damaged;
-  moment = says.moment;
-  short = says.short;
-  asked = says.asked;
-  opened = says.opened;
-  on_disk = λ clean _. says.on_disk clean;
-  shut = says.shut;
-  connection = says.connection;
-}
+applied g c = c.apply-told.ensures.applies
 
 pub returns-clause-told : goal.returns-clause-told
 returns-clause-told g c = if_ok_both c.tell.result _ _ _ (λ after sent is. (c.apply-told.result, applied g c, sent, is)) c.tell.ensures.sent c.tell.ensures.after

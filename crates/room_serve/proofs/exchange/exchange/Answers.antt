@@ -1,7 +1,7 @@
 use Rattle.std.proofs.Common.{◌≤◌, ℕ, List, length, refl, sym, subst}
 use Rattle.room_http.specs.Exchange.{Takes}
 use Rattle.room_http.specs.Http.{Http, Carried}
-use Rattle.room_http.specs.Texts.{interim_text, refusal_text}
+use Rattle.room_requests.specs.Texts.{interim_text, refusal_text}
 use Rattle.room_http.proofs.Streams.{Appends_more}
 use Rattle.room_serve.specs.Exchanges.{Breaks, has_nothing, has_refused, in_refusal}
 use Rattle.room_serve.proofs.Exchanging.{answered, behind, broke}

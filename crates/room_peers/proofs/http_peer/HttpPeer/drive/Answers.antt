@@ -6,7 +6,8 @@ use Rattle.http_server.specs.History.{History, Rests}
 use Rattle.http_server.specs.declared.state.Config.{Config}
 use Rattle.room_peers.specs.HttpPeers.{connection_of}
 use Rattle.room_peers.proofs.HttpMoves as moves
-use Rattle.room_peers.proofs.Journaling.{stays, then}
+use Rattle.room_peers.specs.ProofServices.{stays}
+use Rattle.room_peers.proofs.Journaling.{then}
 use Rattle.room_peers.proofs.http_peer.HttpPeer.drive.Goals as goal
 
 pub returns-then-self-clause-later : goal.returns-then-self-clause-later

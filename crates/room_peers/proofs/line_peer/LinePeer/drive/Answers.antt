@@ -2,6 +2,7 @@ use Rattle.std.proofs.Common.{inl, inr, refl}
 use Rattle.std.proofs.KnownBytes.{Appends-nil}
 use Rattle.std.proofs.lemmas.Option.{same_Some}
 use Rattle.room_peers.proofs.LineCalls.{kept, on, stays}
+use Rattle.room_peers.specs.ProofServices as services
 use Rattle.room_peers.proofs.Journaling as journaling
 use Rattle.room_peers.proofs.line_peer.LinePeer.drive.Goals as goal
 
@@ -9,7 +10,7 @@ pub returns-then-self-clause-takes : goal.returns-then-self-clause-takes
 returns-then-self-clause-takes g c = inl (c.drain.ensures.drops.0, c.if-self.true, (c.drain.ensures.drops.1, Appends-nil _), refl, refl)
 
 pub loop-init : goal.loop-init
-loop-init g c = record { takes = stays g.S.Store _ _ _; continues = journaling.stays g.S.Store _ }
+loop-init g c = record { takes = stays g.S.Store _ _ _; continues = services.stays g.S.Store _ }
 
 pub returns-in-Some-clause-takes : goal.returns-in-Some-clause-takes
 returns-in-Some-clause-takes g c =

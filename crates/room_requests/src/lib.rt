@@ -1,0 +1,17 @@
+//! Requests of IPP over HTTP/1.1, however they are read: which account one is for, why one is
+//! refused, how long its parts may be, and the texts of answers.
+#![tactic(auto)]
+
+mod answer;
+mod digits;
+mod limits;
+mod refusal;
+mod targets;
+mod words;
+
+pub use answer::{last_answer_head, put, put_answer_head, refusal_text};
+pub use digits::are_digits;
+pub use limits::{BODY_LIMIT, HEAD_LIMIT, TRAILERS_LIMIT};
+pub use refusal::Refusal;
+pub use targets::{account_of, is_ipp_type, is_post};
+pub use words::without_margin;
