@@ -1,7 +1,6 @@
 pub mod Addresses
 pub mod Commands
 pub mod Faults
-pub mod FileFaults
 pub mod Grants
 pub mod Statuses
 pub mod Visitors

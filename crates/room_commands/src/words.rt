@@ -4,7 +4,7 @@ ghost use Rattle.room_commands.specs.Words.{first_word, placed, texts};
 
 use std::alloc::{AllocError, Global};
 
-pub(crate) const CREATE: &str = "create";
+pub const CREATE: &str = "create";
 
 pub(crate) const OPEN: &str = "open";
 
@@ -263,7 +263,7 @@ pub(crate) const COMMANDS: [CommandWords; 12] = [
 ];
 
 /// Whether the words are a command line of the command.
-pub(crate) fn is_command(words: &[&str], command: &str) -> bool
+pub fn is_command(words: &[&str], command: &str) -> bool
     ensures { IsTrue result ↔ (first_word words.now ≡ Some command.now) }
 {
     match words.first() {

@@ -1,7 +1,8 @@
 //! A front over the database that its command names.
 
 use crate::front::Front;
-use room_commands::{Begin, Fault, InFile, InMemory, MEMORY, Opener, store_of};
+use room_commands::{Begin, Fault, MEMORY, Opener, store_of};
+use room_databases::{InFile, InMemory};
 use sqlite::{Alter, Connection};
 use std::io::Write;
 

@@ -4,7 +4,8 @@ ghost use Rattle.std.specs.Prelude.{◌≤◌, IfOk};
 use crate::listening::listen;
 use crate::sending::send;
 use crate::serving::serve;
-use room_commands::{Fault, Listening, Sending, Serving, run_on, words_of};
+use room_commands::{Fault, Listening, Sending, Serving, words_of};
+use room_databases::run_on;
 use room_sockets::moment;
 use std::io::{BufWriter, Write};
 

@@ -27,10 +27,10 @@ pub fn runs_join()
 {}
 
 /// Applying events continues each account's life. Where the account's rows are what a life left,
-/// and anybody's events are applied one after another, its rows afterwards are what the longer life
-/// left: behind it stand those of the events that are the account's or of devices and were
-/// answered, each with its answer. So it is of the devices' rows. A message of HTTP is a list of
-/// one event, and lists in a row are one.
+/// and anybody's events are applied one after another, its rows afterwards are what a longer life
+/// left. Behind the first that has each of the events that was answered and is the account's own or
+/// of a device, with its answer. The same holds of the devices' rows. A message of HTTP is a list
+/// of one event, and lists in a row are one.
 pub fn lives_go_on_in_files<S: Alter>()
     ensures runs { LivesGoOnInRuns }
     ensures lists { LivesGoOnInLists S.Store }

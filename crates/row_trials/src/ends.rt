@@ -1,7 +1,7 @@
 //! Trials of how a run of the program ends over input that is too long, and over readers and
 //! writers that fail. How it ends on others, rows of runs show.
 
-use room_commands::run_on;
+use room_databases::run_on;
 use std::io;
 use std::io::{ErrorKind, Read, Write};
 use trials::Fault;

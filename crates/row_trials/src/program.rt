@@ -1,6 +1,7 @@
 //! Runs scripts by the program, over memory and over a file.
 
-use room_commands::{MEMORY, run_on};
+use room_commands::MEMORY;
+use room_databases::run_on;
 use room_rows::Step;
 use stop_trials::{Told, count_answered_before_failure};
 use trials::{FILE, Fault, remove_files, tell_again};

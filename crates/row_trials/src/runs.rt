@@ -2,7 +2,8 @@
 
 use crate::given::GivenWords;
 use crate::room_file::RoomFile;
-use room_commands::{Fault as ProgramFault, run_on, words_of};
+use room_commands::{Fault as ProgramFault, words_of};
+use room_databases::run_on;
 use room_rows::{Run, RunStep, read_run_steps};
 use sqlite::{Alter, Connection};
 use table_trials::FileTables;

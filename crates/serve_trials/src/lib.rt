@@ -1,18 +1,13 @@
 //! Trials of what one process serves, over memory: requests of HTTP and lines, whole, in pieces and
-//! in turns, and over sockets of this machine, also where a round is lost; and of the client of
-//! lines. Each says whether what is found is what is due.
+//! in turns; and of the client of lines. Each says whether what is found is what is due.
 #![tactic(auto)]
 
 mod answers;
 mod cases;
 mod expecting;
 mod fault;
-mod faulty;
-mod fourth;
 mod limits;
 mod lines;
-mod loopback;
-mod lost;
 mod notices;
 mod refusals;
 mod report;
@@ -24,7 +19,11 @@ mod talk;
 mod turns;
 mod wired;
 
-use crate::report::Report;
+pub use expecting::{expect, expect_bytes, expect_equal, with_case};
+pub use fault::Fault;
+pub use lines::{PRINT, PRINTED};
+pub use report::Report;
+pub use rooms::{new_rooms, rooms_over};
 use std::io::Write;
 
 /// Runs each row of the file of requests over HTTP, `NAME.served`. Answers whether all hold; prints
@@ -44,10 +43,7 @@ pub fn all_trials_hold<W: Write>(rt: &HostRuntime, output: &mut W) -> bool {
     limits::run_all(rt, &mut report);
     lines::run_all(rt, &mut report);
     turns::run_all(rt, &mut report);
-    loopback::run_all(rt, &mut report);
-    fourth::run_all(rt, &mut report);
     notices::run_all(rt, &mut report);
-    lost::run_all(rt, &mut report);
     sends::run_all(rt, &mut report);
     answers::run_all(rt, &mut report);
     report.all_hold()

@@ -4,8 +4,9 @@
 //!   requests to `serve`, `NAME.served`, of runs of the program, `NAME.runs`, of runs over storage
 //!   that stops, `NAME.stops`, of statements, `NAME.tables`, or a list of events, `NAME.events`. It
 //!   prints that the file holds, or of a row that does not what differs.
-//! - At the word `serving` it makes the trials of what is served, at `ending` those of how a run of
-//!   the program ends. It prints of each that it holds or what differs.
+//! - At the word `serving` it makes the trials of what is served, at `visiting` those of the hall over
+//!   sockets, at `ending` those of how a run of the program ends. It prints of each that it holds or
+//!   what differs.
 #![tactic(auto)]
 
 use event_trials::list_holds;
@@ -61,8 +62,8 @@ where
     Ok(all)
 }
 
-/// Runs what a word names: a file of rows, a list of events, or the trials of `serving` or
-/// `ending`. Answers whether it holds. `files` has the databases that stand in files.
+/// Runs what a word names: a file of rows, a list of events, or the trials of `serving`, `visiting`
+/// or `ending`. Answers whether it holds. `files` has the databases that stand in files.
 fn run_word<S, F>(rt: &HostRuntime, files: &F, word: &str) -> Result<bool, Fault>
 where
     S: Alter + Drop,
@@ -70,6 +71,9 @@ where
 {
     if word == "serving" {
         return Ok(serve_trials::all_trials_hold(rt, &mut rt.stdout()));
+    }
+    if word == "visiting" {
+        return Ok(hall_trials::all_trials_hold(rt, &mut rt.stdout()));
     }
     if word == "ending" {
         return row_trials::all_endings_hold(rt);

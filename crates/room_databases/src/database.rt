@@ -1,11 +1,8 @@
 //! The databases of this machine: in memory, and in files.
 ghost use Rattle.std.specs.Prelude.{◌≤◌};
 
-use crate::command::MEMORY;
 use crate::file::connect;
-use crate::opener::Opener;
-use crate::program::run;
-use crate::words::{CREATE, is_command};
+use room_commands::{CREATE, MEMORY, Opener, is_command, run};
 use room_store::OpenFault;
 use sqlite::{Connection, File, FileStore, MemStore};
 use std::alloc::Global;

@@ -1,8 +1,8 @@
 //! Connections to files of this machine.
 ghost use Rattle.std.specs.Prelude.{◌≡◌, ◌*◌, ◌≤◌, IfOk};
-ghost use Rattle.room_commands.specs.FileFaults.{file_fault};
+ghost use Rattle.room_databases.specs.FileFaults.{file_fault};
 
-use crate::command::MEMORY;
+use room_commands::MEMORY;
 use room_store::OpenFault;
 use sqlite::{Connection, File, FileStore, Options, Unknown};
 use sqlite_std_file::OpenError;

@@ -1,18 +1,14 @@
 //! The trial of a round whose commit fails: each who asked in it is told once what it came to by
 //! itself, and is then let go, and so is one who ended before it could be told.
 
-use crate::expecting::expect;
-use crate::fault::Fault;
 use crate::faulty::{MARK, connect, faulty_files};
-use crate::lines::PRINT;
 use crate::loopback::{
     Ports, Visitor, doors_at_free_ports, pass_until_ended, pass_until_told, ports_of,
 };
-use crate::report::Report;
-use crate::rooms::rooms_over;
 use room_peers::Served;
 use room_sockets::Hall;
 use room_store::OpenFault;
+use serve_trials::{Fault, PRINT, Report, expect, rooms_over};
 use sqlite::{Alter, Connection, Files};
 use sqlite_disk::Disk;
 use std::alloc::Global;

@@ -2,13 +2,9 @@
 //! who come in by them. All of it is one thread: between any two passes of the hall each visitor
 //! goes on.
 
-use crate::expecting::{expect, expect_bytes, with_case};
-use crate::fault::Fault;
-use crate::lines::{PRINT, PRINTED};
-use crate::report::Report;
-use crate::rooms::new_rooms;
 use room_peers::Served;
 use room_sockets::{Door, Entrance, Hall, Kind};
+use serve_trials::{Fault, PRINT, PRINTED, Report, expect, expect_bytes, new_rooms, with_case};
 use sqlite::Alter;
 use std::hash::RandomState;
 use std::io;

@@ -1,14 +1,11 @@
 //! Trials of further doors: a fourth one whose kind is made here, and doors that no hall takes.
 
-use crate::expecting::{expect, expect_equal};
-use crate::fault::Fault;
 use crate::loopback::{
     Ports, Visitor, doors_at_free_ports, pass_until_ended, pass_until_told, port_of, ports_of,
 };
-use crate::report::Report;
-use crate::rooms::new_rooms;
 use room_peers::{Served, Side};
 use room_sockets::{Door, Entrance, Hall, Kind, Speech};
+use serve_trials::{Fault, Report, expect, expect_equal, new_rooms};
 use sqlite::Alter;
 use std::hash::RandomState;
 use std::io::{ErrorKind, Write};
