@@ -1,43 +1,78 @@
 -- What is asked and changes nothing, and what is answered (all this project's own).
-use Rattle.std.specs.Prelude.{◌≡◌, ℕ, pos, List, ◌++◌, Option, Some, None, codes}
-use Rattle.std.specs.Fmt.{decimal, signed_decimal}
+use Rattle.std.specs.Prelude.{◌≡◌, ℕ, ⊤, List, map, Option, Some, None, codes}
+use Rattle.std.specs.FinMap.{entries, values}
+use Rattle.room_events.specs.declared.event.Reply.{Reply}
+use Rattle.room_events.specs.declared.event.Reply.TheVariants as reply
+use Rattle.room_questions.specs.Lists.{accounts_text, devices_text, grants_text, jobs_text}
+use Rattle.room_questions.specs.Quotas.{quota_text}
+use Rattle.room_questions.specs.Summaries.{statement_text, summary_of}
+use Rattle.room_questions.specs.declared.question.About.{About}
+use Rattle.room_questions.specs.declared.question.About.TheVariants.{Left, Statement, Jobs, Ended, Grants, Waiting, Again}
 use Rattle.room_questions.specs.declared.question.Question.{Question}
-use Rattle.room_questions.specs.declared.question.Question.TheVariants.{Ping, Left}
+use Rattle.room_questions.specs.declared.question.Question.TheVariants.{Ping, Devices, Accounts, Account}
+use Rattle.room_questions.specs.Names.{next_names}
+use Rattle.room_questions.specs.Stations.{again_told, waiting_told}
 use Rattle.room_replies.specs.Words.{word_text}
-use Rattle.room_rules.specs.Devices.{Devices}
-use Rattle.room_rules.specs.Quota.{left_of}
+use Rattle.room_rules.specs.Devices.{Devices as DeviceMap}
+use Rattle.room_rules.specs.declared.account.Grant.{Grant}
 use Rattle.room_rules.specs.declared.refusal.Word.TheVariants.{NoAccount}
+use Rattle.room_state.specs.Queues.{at_most, completed, not_completed}
 use Rattle.room_state.specs.Rooms.{RoomValue}
 use Rattle.room_state.specs.Sums.{charged_in, granted_to, reserved_in}
 
--- the question is about the rows of this account
-abbrev pub Concerns : Question → (name : List ℕ) → Type 0
-Concerns Ping name = ⊥
-Concerns (Left account month) name = name ≡ account
+-- ---- which rows a question is about
 
--- it is about the rows of no account but this
+-- those of this account
+abbrev pub Concerns : Question → (name : List ℕ) → Type 0
+Concerns (Account account about) name = name ≡ account
+Concerns _ name = ⊥
+
+-- those of no account but this
 abbrev pub ConcernsNoOther : Question → (name : List ℕ) → Type 0
 ConcernsNoOther question name = (other : List ℕ) → Concerns question other → other ≡ name
 
--- it is about the rows of devices
+-- a station's device has to be known
+abbrev pub NamesDevice : About → Type 0
+NamesDevice (Waiting device) = ⊤
+NamesDevice (Again device job) = ⊤
+NamesDevice _ = ⊥
+
+-- those of devices
 abbrev pub ConcernsDevices : Question → Type 0
-ConcernsDevices Ping = ⊥
-ConcernsDevices (Left account month) = ⊥
+ConcernsDevices Devices = ⊤
+ConcernsDevices (Account account about) = NamesDevice about
+ConcernsDevices _ = ⊥
 
--- a quota: what was granted, what jobs reserve, what they were charged, and what that leaves
-abbrev pub quota_text : (granted reserved charged : ℕ) → List ℕ
-quota_text granted reserved charged =
-    codes "ok granted "
-    ++ (decimal granted
-    ++ (codes " reserved "
-    ++ (decimal reserved
-    ++ (codes " charged "
-    ++ (decimal charged
-    ++ (codes " left " ++ signed_decimal (left_of (pos granted) (pos reserved) (pos charged))))))))
+-- which accounts there are
+abbrev pub ConcernsNames : Question → Type 0
+ConcernsNames (Accounts behind) = ⊤
+ConcernsNames _ = ⊥
 
--- by the room of the account that it is about, if that is open, and by the devices
-abbrev pub answer_to : Question → (room : Option RoomValue) (devices : Devices) → List ℕ
-answer_to Ping room devices = codes "ok"
-answer_to (Left account month) None devices = word_text NoAccount
-answer_to (Left account month) (Some room) devices =
-    quota_text (granted_to room month) (reserved_in room) (charged_in room)
+-- ---- the answer
+
+abbrev pub grant_of : (entry : ℕ × ℕ) → Grant
+grant_of entry = record { month = entry.0; pages = entry.1 }
+
+-- of an account that is open
+abbrev pub answer_about : About → (room : RoomValue) (devices : DeviceMap) → Reply
+answer_about (Left month) room devices =
+    reply.Line (quota_text (granted_to room month) (reserved_in room) (charged_in room))
+answer_about (Statement month) room devices =
+    reply.Line (statement_text (granted_to room month) (summary_of month (values room.jobs)))
+answer_about Jobs room devices = reply.Line (jobs_text (not_completed (values room.jobs)))
+answer_about (Ended most) room devices =
+    reply.Line (jobs_text (at_most (Some most) (completed (values room.jobs))))
+answer_about Grants room devices = reply.Line (grants_text (map grant_of (entries room.grants)))
+answer_about (Waiting device) room devices = waiting_told room devices device
+answer_about (Again device number) room devices = again_told room devices device number
+
+-- by the room of the account that it is about, if that is open, by the devices, and by the names of
+-- all accounts that are open
+abbrev pub answer_to : Question
+    → (room : Option RoomValue) (devices : DeviceMap) (names : List (List ℕ)) → Reply
+answer_to Ping room devices names = reply.Line (codes "ok")
+answer_to Devices room devices names = reply.Line (devices_text (values devices))
+answer_to (Accounts behind) room devices names =
+    reply.Line (accounts_text (next_names behind names))
+answer_to (Account account about) None devices names = reply.Line (word_text NoAccount)
+answer_to (Account account about) (Some room) devices names = answer_about about room devices

@@ -1,9 +1,17 @@
-//! Questions: what is asked and changes nothing, and what an account's room answers. A question is no
-//! event: it changes no room, and no journal has it.
+//! Questions: what is asked and changes nothing, and what is answered, by an account's room, the
+//! devices and the names of accounts. A question is no event: it changes no room, and no journal has
+//! it.
 #![tactic(auto)]
 
+mod job_line;
+mod lists;
 mod question;
+mod station;
+mod summary;
 mod text;
 
-pub use question::Question;
-pub use text::quota_line;
+pub use lists::{accounts_lines, devices_lines, grants_lines, jobs_lines};
+pub use question::{About, Question};
+pub use station::{printed_by, waiting_at};
+pub use summary::Summary;
+pub use text::{quota_line, statement_line};

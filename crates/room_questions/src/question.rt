@@ -7,6 +7,30 @@ use room_rules::Name;
 pub enum Question {
     /// Whether anybody answers.
     Ping,
-    /// The quota of an account up to a month, 23640 (1970-01) to 25199 (2099-12).
-    Left { account: Name, month: u32 },
+    /// The devices, by name.
+    Devices,
+    /// The names of accounts that come next behind a name, or first, at most 100.
+    Accounts { behind: Option<Name> },
+    /// Something about one account.
+    Account { account: Name, about: About },
+}
+
+/// What is asked about an account. A month is the year times 12, and 0 for January to 11 for
+/// December: 23640 (1970-01) to 25199 (2099-12).
+#[derive(Clone, Copy, Debug)]
+pub enum About {
+    /// The quota up to a month.
+    Left { month: u32 },
+    /// The statement of a month.
+    Statement { month: u32 },
+    /// The jobs that have not ended, by number.
+    Jobs,
+    /// The jobs that have ended, the last first, and of them so many.
+    Ended { most: u32 },
+    /// The grants, by month.
+    Grants,
+    /// The jobs that a station may release, start or settle for the owner.
+    Waiting { device: Name },
+    /// The documents of a job that the device started and has not settled, and nobody canceled.
+    Again { device: Name, job: u32 },
 }

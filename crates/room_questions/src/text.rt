@@ -1,9 +1,11 @@
-//! The texts of answers to questions.
+//! Answers of one line.
 
 ghost use Rattle.std.specs.Prelude.{◌≡◌, ◌≤◌, IfOk, string_bytes};
-ghost use Rattle.room_questions.specs.Questions.{quota_text};
+ghost use Rattle.room_questions.specs.Quotas.{quota_text};
+ghost use Rattle.room_questions.specs.Summaries.{statement_text};
 ghost use Rattle.room_rules.specs.Limits.{most_units};
 
+use crate::summary::Summary;
 use ipp_coding::List;
 use room_rules::left;
 use std::alloc::{AllocError, Global};
@@ -21,9 +23,47 @@ pub fn quota_line(
     requires charged { charged ≤ most_units }
     ensures text { IfOk result (λ line. line ≡ quota_text granted reserved charged) }
 {
+    let text = quota_text(alloc, granted, reserved, charged)?;
+    Ok(List {
+        items: text.into_bytes(),
+    })
+}
+
+fn quota_text(
+    alloc: Global,
+    granted: u64,
+    reserved: u64,
+    charged: u64,
+) -> Result<String, AllocError>
+    requires granted { granted ≤ most_units }
+    requires reserved { reserved ≤ most_units }
+    requires charged { charged ≤ most_units }
+    ensures text { IfOk result (λ text. string_bytes text ≡ quota_text granted reserved charged) }
+{
     let left = left(granted as i64, reserved as i64, charged as i64);
+    format!(in alloc; "ok granted {granted} reserved {reserved} charged {charged} left {left}")
+}
+
+/// The line of a statement, without its end: the quota with what was granted up to the month, and
+/// what the summary tells of the month and of now.
+pub fn statement_line(alloc: Global, granted: u64, summary: Summary) -> Result<List<u8>, AllocError>
+    requires granted { granted ≤ most_units }
+    requires reserved { summary.reserved ≤ most_units }
+    requires charged { summary.charged ≤ most_units }
+    ensures text { IfOk result (λ line. line ≡ statement_text granted summary) }
+{
+    let Summary {
+        reserved,
+        charged,
+        charged_then,
+        held,
+        pending,
+        processing,
+        ended_then,
+    } = summary;
+    let quota = quota_text(alloc, granted, reserved, charged)?;
     let text = format!(in alloc;
-        "ok granted {granted} reserved {reserved} charged {charged} left {left}"
+        "{quota} month {charged_then} held {held} pending {pending} processing {processing} ended {ended_then}"
     )?;
     Ok(List {
         items: text.into_bytes(),
