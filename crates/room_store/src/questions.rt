@@ -1,32 +1,39 @@
 //! Questions, which change nothing.
 
-ghost use Rattle.std.specs.Prelude.{◌≡◌, Err, IfOk, Option, codes};
-ghost use Rattle.room_questions.specs.Questions.{answer_to, quota_text};
+ghost use Rattle.std.specs.Prelude.{◌≡◌, ℕ, List, Option, Err, IfOk, codes};
+ghost use Rattle.std.specs.FinMap.{values};
+ghost use Rattle.room_events.specs.declared.event.Reply.TheVariants as reply;
+ghost use Rattle.room_questions.specs.Lists.{accounts_text, devices_text};
+ghost use Rattle.room_questions.specs.Names.{next_names};
+ghost use Rattle.room_questions.specs.Questions.{NamesDevice, answer_to};
 ghost use Rattle.room_questions.specs.declared.question.Question.TheVariants as question;
 ghost use Rattle.room_rules.specs.Devices.{Devices};
-ghost use Rattle.room_state.specs.Sums.{charged_in, granted_to, reserved_in};
-ghost use Rattle.room_store.specs.Questions.{IsAbout, LeftIsReadable, QuestionIsReadable, SumsAreReadable};
-ghost use Rattle.room_store.specs.Prelude.{HoldsRoom, IfOurTables, LooksUp, RoomValue, WasOpen};
+ghost use Rattle.room_statements.specs.SoundRows.{AreNamed, CanBeListed};
+ghost use Rattle.room_store.specs.Questions.{AboutIsReadable, AccountIsAnswerable, IsAbout, OpenNames, QuestionIsReadable, TellsAbout};
+ghost use Rattle.room_store.specs.Prelude.{IfOurTables, LooksUp, RoomValue, WasOpen};
 ghost use Rattle.room_tables.specs.Accounts.{Holds};
+ghost use Rattle.room_tables.specs.Devices.{HoldsDevices};
 
+use crate::account_questions::{tell_ended, tell_grants, tell_jobs, tell_left, tell_statement};
 use crate::events::knock;
-use ipp_coding::List;
-use room_events::{Name, Success, Word, line, success};
-use room_questions::{Question, quota_line};
-use room_statements::{find_account, granted_to, tally_jobs};
+use crate::station_questions::{tell_again, tell_waiting};
+use crate::told::{refusing, telling};
+use room_events::{Name, Reply, Success, Word};
+use room_questions::{About, Question, accounts_lines, devices_lines};
+use room_statements::{find_account, list_devices, next_accounts};
 use room_tables::TableFault;
 use sqlite::{Alter, Connection};
 use std::alloc::Global;
 
-/// Answers a question, without the end of its line.
+/// Answers a question.
 pub(crate) fn answer_question<S: Alter>(
     alloc: Global,
     connection: &mut Connection<S>,
     asked: Question,
-) -> Result<List<u8>, TableFault>
-    ensures told { IfOurTables S.Store connection.old connection.new (λ db. IfOk result (λ text.
-        (room : Option RoomValue) (devices : Devices) → IsAbout asked room devices db
-        → text ≡ answer_to asked room devices)) }
+) -> Result<Reply, TableFault>
+    ensures told { IfOurTables S.Store connection.old connection.new (λ db. IfOk result (λ told.
+        (room : Option RoomValue) (devices : Devices) (names : List (List ℕ))
+        → IsAbout asked room devices names db → told ≡ answer_to asked room devices names)) }
     ensures damaged { IfOurTables S.Store connection.old connection.new
         (λ db. result ≡ Err TableFault.Damaged → QuestionIsReadable asked db → ⊥) }
     ensures looks { LooksUp S.Store connection.old connection.new result }
@@ -34,57 +41,99 @@ pub(crate) fn answer_question<S: Alter>(
 {
     match asked {
         Question::Ping => ping(alloc, connection),
-        Question::Left { account, month } => tell_left(alloc, connection, account, month),
+        Question::Devices => tell_devices(alloc, connection),
+        Question::Accounts { behind } => tell_accounts(alloc, connection, behind),
+        Question::Account { account, about } => tell_account(alloc, connection, account, about),
     }
 }
 
 /// Answers `ok` where the tables can be asked.
-fn ping<S: Alter>(alloc: Global, connection: &mut Connection<S>) -> Result<List<u8>, TableFault>
-    ensures told { IfOk result (λ text. text ≡ codes "ok") }
+fn ping<S: Alter>(alloc: Global, connection: &mut Connection<S>) -> Result<Reply, TableFault>
+    ensures told { IfOk result (λ told. told ≡ reply.Line (codes "ok")) }
     ensures damaged { result ≡ Err TableFault.Damaged → ⊥ }
     ensures looks { LooksUp S.Store connection.old connection.new result }
     ensures asks { WasOpen S.Store connection.old connection.new result }
 {
     knock(connection)?;
-    Ok(success(alloc, Success::Ok)?)
+    telling(alloc, Success::Ok)
 }
 
-/// Tells the quota of an account up to a month, where the account is open.
-fn tell_left<S: Alter>(
+/// Tells the devices.
+fn tell_devices<S: Alter>(
+    alloc: Global,
+    connection: &mut Connection<S>,
+) -> Result<Reply, TableFault>
+    ensures told { IfOurTables S.Store connection.old connection.new (λ db. IfOk result (λ told.
+        (devices : Devices) → HoldsDevices db devices
+        → told ≡ reply.Line (devices_text (values devices)))) }
+    ensures damaged { IfOurTables S.Store connection.old connection.new
+        (λ db. result ≡ Err TableFault.Damaged → CanBeListed db → ⊥) }
+    ensures looks { LooksUp S.Store connection.old connection.new result }
+    ensures asks { WasOpen S.Store connection.old connection.new result }
+{
+    let devices = list_devices(alloc, connection)?;
+    Ok(Reply::Line(devices_lines(alloc, devices.as_slice())?))
+}
+
+/// Tells the names of accounts that come next.
+fn tell_accounts<S: Alter>(
+    alloc: Global,
+    connection: &mut Connection<S>,
+    behind: Option<Name>,
+) -> Result<Reply, TableFault>
+    ensures told { IfOurTables S.Store connection.old connection.new (λ db. IfOk result (λ told.
+        (names : List (List ℕ)) → OpenNames db names
+        → told ≡ reply.Line (accounts_text (next_names behind names)))) }
+    ensures damaged { IfOurTables S.Store connection.old connection.new
+        (λ db. result ≡ Err TableFault.Damaged → AreNamed db → ⊥) }
+    ensures looks { LooksUp S.Store connection.old connection.new result }
+    ensures asks { WasOpen S.Store connection.old connection.new result }
+{
+    let names = next_accounts(alloc, connection, behind)?;
+    Ok(Reply::Line(accounts_lines(alloc, names.as_slice())?))
+}
+
+/// Tells what is asked about an account, where that is open.
+fn tell_account<S: Alter>(
     alloc: Global,
     connection: &mut Connection<S>,
     account: Name,
-    month: u32,
-) -> Result<List<u8>, TableFault>
-    ensures told { IfOurTables S.Store connection.old connection.new (λ db. IfOk result (λ text.
+    about: About,
+) -> Result<Reply, TableFault>
+    ensures told { IfOurTables S.Store connection.old connection.new (λ db. IfOk result (λ told.
         (room : Option RoomValue) (devices : Devices) → Holds db account room
-        → text ≡ answer_to (question.Left account month) room devices)) }
+        → (NamesDevice about → HoldsDevices db devices) → (names : List (List ℕ))
+        → told ≡ answer_to (question.Account account about) room devices names)) }
     ensures damaged { IfOurTables S.Store connection.old connection.new
-        (λ db. result ≡ Err TableFault.Damaged → LeftIsReadable account month db → ⊥) }
+        (λ db. result ≡ Err TableFault.Damaged → AccountIsAnswerable account about db → ⊥) }
     ensures looks { LooksUp S.Store connection.old connection.new result }
     ensures asks { WasOpen S.Store connection.old connection.new result }
 {
     match find_account(connection, account)? {
-        Some(_) => tell_sums(alloc, connection, account, month),
-        None => Ok(line(alloc, Word::NoAccount)?),
+        Some(_) => tell_about(alloc, connection, account, about),
+        None => refusing(alloc, Word::NoAccount),
     }
 }
 
-/// Tells the quota of an account that is open.
-fn tell_sums<S: Alter>(
+/// Tells what is asked about an account that is open.
+fn tell_about<S: Alter>(
     alloc: Global,
     connection: &mut Connection<S>,
     account: Name,
-    month: u32,
-) -> Result<List<u8>, TableFault>
-    ensures told { IfOurTables S.Store connection.old connection.new
-        (λ db. (room : RoomValue) → HoldsRoom db account room → IfOk result (λ text.
-        text ≡ quota_text (granted_to room month) (reserved_in room) (charged_in room))) }
+    about: About,
+) -> Result<Reply, TableFault>
+    ensures told { TellsAbout S.Store connection.old connection.new account about result }
     ensures damaged { IfOurTables S.Store connection.old connection.new
-        (λ db. result ≡ Err TableFault.Damaged → SumsAreReadable account month db → ⊥) }
+        (λ db. result ≡ Err TableFault.Damaged → AboutIsReadable account db about → ⊥) }
     ensures looks { LooksUp S.Store connection.old connection.new result }
 {
-    let tally = tally_jobs(connection, account)?;
-    let granted = granted_to(connection, account, month)?;
-    Ok(quota_line(alloc, granted, tally.reserved, tally.charged)?)
+    match about {
+        About::Left { month } => tell_left(alloc, connection, account, month),
+        About::Statement { month } => tell_statement(alloc, connection, account, month),
+        About::Jobs => tell_jobs(alloc, connection, account),
+        About::Ended { most } => tell_ended(alloc, connection, account, most),
+        About::Grants => tell_grants(alloc, connection, account),
+        About::Waiting { device } => tell_waiting(alloc, connection, account, device),
+        About::Again { device, job } => tell_again(alloc, connection, account, device, job),
+    }
 }

@@ -1,0 +1,100 @@
+//! What a station asks about an account that is open.
+
+ghost use Rattle.std.specs.Prelude.{◌≡◌, Err, IfOk};
+ghost use Rattle.std.specs.FinMap.{get};
+ghost use Rattle.room_questions.specs.Stations.{handed_again, printed_by, said_or};
+ghost use Rattle.room_questions.specs.declared.question.About.TheVariants as about;
+ghost use Rattle.room_store.specs.Questions.{AgainIsReadable, PrintedIsReadable, TellsAbout, WaitingIsReadable};
+ghost use Rattle.room_store.specs.Prelude.{HoldsRoom, IfOurTables, LooksUp, RoomValue};
+ghost use Rattle.room_store.specs.Reading.{DocumentsAreReadable};
+
+use crate::lookup::look_up;
+use crate::stations::parts;
+use crate::told::refusing;
+use room_events::{Job, Name, Reply, Word, known_device};
+use room_questions::{jobs_lines, printed_by, waiting_at};
+use room_statements::{find_device, find_documents, unfinished_jobs};
+use room_tables::TableFault;
+use sqlite::{Alter, Connection};
+use std::alloc::Global;
+
+/// Tells the jobs that a station may release, start or settle for the owner.
+pub(crate) fn tell_waiting<S: Alter>(
+    alloc: Global,
+    connection: &mut Connection<S>,
+    account: Name,
+    device: Name,
+) -> Result<Reply, TableFault>
+    ensures told { TellsAbout S.Store connection.old connection.new account (about.Waiting device) result }
+    ensures damaged { IfOurTables S.Store connection.old connection.new
+        (λ db. result ≡ Err TableFault.Damaged → WaitingIsReadable account device db → ⊥) }
+    ensures looks { LooksUp S.Store connection.old connection.new result }
+{
+    if let Err(word) = known_device(find_device(connection, device)?) {
+        return refusing(alloc, word);
+    }
+    let jobs = unfinished_jobs(alloc, connection, account, None)?;
+    let waiting = waiting_at(alloc, device, jobs)?;
+    Ok(Reply::Line(jobs_lines(alloc, waiting.as_slice())?))
+}
+
+/// Hands the documents of a job to the device once more that started it and has not settled it.
+pub(crate) fn tell_again<S: Alter>(
+    alloc: Global,
+    connection: &mut Connection<S>,
+    account: Name,
+    device: Name,
+    number: u32,
+) -> Result<Reply, TableFault>
+    ensures told { TellsAbout S.Store connection.old connection.new account (about.Again device number) result }
+    ensures damaged { IfOurTables S.Store connection.old connection.new
+        (λ db. result ≡ Err TableFault.Damaged → AgainIsReadable account device number db → ⊥) }
+    ensures looks { LooksUp S.Store connection.old connection.new result }
+{
+    if let Err(word) = known_device(find_device(connection, device)?) {
+        return refusing(alloc, word);
+    }
+    hand_printed(alloc, connection, account, device, number)
+}
+
+/// Hands the documents of a job over that the device prints.
+fn hand_printed<S: Alter>(
+    alloc: Global,
+    connection: &mut Connection<S>,
+    account: Name,
+    device: Name,
+    number: u32,
+) -> Result<Reply, TableFault>
+    ensures told { IfOurTables S.Store connection.old connection.new (λ db.
+        (room : RoomValue) → HoldsRoom db account room → IfOk result (λ told.
+        told ≡ said_or (printed_by device (get room.jobs number)) (handed_again room))) }
+    ensures damaged { IfOurTables S.Store connection.old connection.new (λ db.
+        result ≡ Err TableFault.Damaged → PrintedIsReadable account device number db → ⊥) }
+    ensures looks { LooksUp S.Store connection.old connection.new result }
+{
+    let found = look_up(connection, account, number)?;
+    hand_again(alloc, connection, account, printed_by(device, found))
+}
+
+/// Hands the job's documents over, as they are.
+fn hand_again<S: Alter>(
+    alloc: Global,
+    connection: &mut Connection<S>,
+    account: Name,
+    decided: Result<Job, Word>,
+) -> Result<Reply, TableFault>
+    ensures told { IfOurTables S.Store connection.old connection.new (λ db.
+        (room : RoomValue) → HoldsRoom db account room
+        → IfOk result (λ told. told ≡ said_or decided (handed_again room))) }
+    ensures damaged { IfOurTables S.Store connection.old connection.new
+        (λ db. result ≡ Err TableFault.Damaged
+        → IfOk decided (λ job. DocumentsAreReadable account job.job db) → ⊥) }
+    ensures looks { LooksUp S.Store connection.old connection.new result }
+{
+    let job = match decided {
+        Ok(job) => job,
+        Err(word) => return refusing(alloc, word),
+    };
+    let documents = find_documents(alloc, connection, account, job.job)?;
+    Ok(Reply::Documents(parts(alloc, job.standing.copies, documents)?))
+}
