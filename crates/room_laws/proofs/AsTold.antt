@@ -620,7 +620,7 @@ pub record SameDevices (before after : AccountTold) : Type 0 where
 same_devices : (told : AccountTold) → SameDevices told told
 same_devices told = record { on = refl; rates = refl }
 
-of_a_job : (told : AccountTold) (number : ℕ) (change : JobTold → JobTold) → SameDevices told (with_job told number change)
+pub of_a_job : (told : AccountTold) (number : ℕ) (change : JobTold → JobTold) → SameDevices told (with_job told number change)
 of_a_job told number change =
     elim (get told.jobs number) as (λ (o : Option JobTold). SameDevices told (option_map_or (λ (job : JobTold). record told { jobs = insert told.jobs number (change job) }) o told))
     [ None ↦ same_devices told | Some job ↦ record { on = refl; rates = refl } ]

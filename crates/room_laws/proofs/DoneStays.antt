@@ -27,7 +27,7 @@ use Rattle.room_laws.specs.Lives.{Exchange, Life}
 -- ---- a job that is there, at a deed
 
 -- the deed is on the job
-abbrev acts_on : ℕ → Deed → Bool
+abbrev pub acts_on : ℕ → Deed → Bool
 acts_on q (Brought ask) = q == ask.job
 acts_on q (Canceled number) = q == number
 acts_on q (HeldBack number) = q == number
@@ -41,7 +41,7 @@ abbrev IsWaitingJob : JobTold → Type 0
 IsWaitingJob job = job.stage ≡ Waits
 
 -- what it finds then
-abbrev FindsOf : Exchange → Deed → JobTold → Type 0
+abbrev pub FindsOf : Exchange → Deed → JobTold → Type 0
 FindsOf x (Brought ask) job = TakesDocuments job
 FindsOf x (Canceled number) job = is_over job.stage ≡ false
 FindsOf x (HeldBack number) job = CanBeHeld job.stage
@@ -52,7 +52,7 @@ FindsOf x (Settled device number impressions failed) job = IsPrinted job.stage
 FindsOf x _ job = Unit {0}
 
 -- and what it makes of it
-abbrev changed : (now : ℕ) (told : AccountTold) → Deed → JobTold → JobTold
+abbrev pub changed : (now : ℕ) (told : AccountTold) → Deed → JobTold → JobTold
 changed now told (Brought ask) job = job_brought ask job
 changed now told (Canceled number) job = job_canceled now job
 changed now told (HeldBack number) job = job_held job
@@ -76,7 +76,7 @@ module _ (now : ℕ) (told : AccountTold) (x : Exchange) (q : ℕ) (job : JobTol
   changes_it : (b : Bool) (change : JobTold → JobTold) → b ≡ true → cond b (option_map change (get told.jobs q)) (get told.jobs q) ≡ Some (change job)
   changes_it b change on = ap (λ (b : Bool). cond b (option_map change (get told.jobs q)) (get told.jobs q)) on ∙ ap (option_map change) here
 
-  turned_on : (deed : Deed) → acts_on q deed ≡ true → turned now told q deed ≡ Some (changed now told deed job)
+  pub turned_on : (deed : Deed) → acts_on q deed ≡ true → turned now told q deed ≡ Some (changed now told deed job)
   turned_on (Brought ask) on = changes_it (q == ask.job) (job_brought ask) on
   turned_on (Canceled number) on = changes_it (q == number) (job_canceled now) on
   turned_on (HeldBack number) on = changes_it (q == number) job_held on
@@ -135,7 +135,7 @@ module _ (q : ℕ) (Is : JobTold → Type 0) (ends : Deed → Bool)
         is = goes.is;
       }
 
-  goes_on : (past later : Life) → never_ends later ≡ false → FindAll (account_told past) later → Goes q Is past → Goes q Is (past ++ later)
+  pub goes_on : (past later : Life) → never_ends later ≡ false → FindAll (account_told past) later → Goes q Is past → Goes q Is (past ++ later)
   goes_on past [] never all goes = subst (Goes q Is) (sym (append-nil past)) goes
   goes_on past (x ∷ later) never all goes =
       let each = or_parts (ends (deed_of x)) (never_ends later) never in
@@ -159,7 +159,7 @@ nothing_ends [] = refl
 nothing_ends (x ∷ later) = nothing_ends later
 
 -- from an exchange on that is on the job
-goes_from : (q : ℕ) (Is : JobTold → Type 0) (past : Life) (x : Exchange) (job : JobTold) → turned (moment_of x) (account_told past) q (deed_of x) ≡ Some job → Is job → Goes q Is (past ++ x ∷ [])
+pub goes_from : (q : ℕ) (Is : JobTold → Type 0) (past : Life) (x : Exchange) (job : JobTold) → turned (moment_of x) (account_told past) q (deed_of x) ≡ Some job → Is job → Goes q Is (past ++ x ∷ [])
 goes_from q Is past x job there such = record {
   job = job;
   is_there = ap (λ (told : AccountTold). get told.jobs q) (told_more past x) ∙ turned_so (moment_of x) (account_told past) q (deed_of x) ∙ there;
@@ -229,11 +229,11 @@ not_handed q past x (Started device number) goes finds = by (q == number) refl
 not_handed q past x _ goes finds = refl
 
 -- the job that was canceled
-record Was (q : ℕ) (told : AccountTold) : Type 0 where
+pub record Was (q : ℕ) (told : AccountTold) : Type 0 where
   pub job : JobTold
   pub is_there : get told.jobs q ≡ Some job
 
-was_there : (q : ℕ) (told : AccountTold) (Is : JobTold → Type 0) → IsSomeAnd (get told.jobs q) Is → Was q told
+pub was_there : (q : ℕ) (told : AccountTold) (Is : JobTold → Type 0) → IsSomeAnd (get told.jobs q) Is → Was q told
 was_there q told Is is = by (get told.jobs q) refl is
   where
     by : (o : Option JobTold) → get told.jobs q ≡ o → IsSomeAnd o Is → Was q told

@@ -37,6 +37,7 @@ pub mod DeedTurns
 pub mod HandedByLeave
 pub mod HandedAtStarts
 pub mod HandedOnce
+pub mod HandedAgain
 pub mod NewNumbers
 pub mod LastingJobs
 pub mod SpelledAttributes
@@ -44,6 +45,7 @@ pub mod SpelledAsks
 pub mod SpelledFields
 pub mod SpelledTargets
 pub mod DoneStays
+pub mod HandsAgain
 pub mod ItsOwnJob
 pub mod AlikeBodies
 pub mod AlikeGuesses

@@ -12,7 +12,7 @@ use Rattle.room_laws.specs.JobsTold.{JobTold, is_over}
 use Rattle.room_laws.specs.Lives.{Exchange, Life, OfLives}
 
 -- Once a cancel is told as done, the job's documents are handed out no more. (A device that prints
--- the job then has them already.)
+-- the job then has them already; it is not handed them again, as HandedAgain says.)
 abbrev pub CanceledIsNotHandedOut : Type 0
 CanceledIsNotHandedOut = OfLives (λ life.
     (past later : Life) (cancel : Exchange) (number : ℕ)

@@ -13,6 +13,7 @@ pub mod JobsMade
 pub mod HandedByLeave
 pub mod HandedOnce
 pub mod HandedAsSent
+pub mod HandedAgain
 pub mod DoneStays
 pub mod ItsOwnJob
 pub mod PasswordsStaySecret

@@ -13,7 +13,7 @@ pub use laws::{asks_lie_within, leaves_as_told, lives_go_on, rooms_stay};
 pub use operators::{devices_are_set_by_their_lines, months_are_granted_once};
 pub use page_account::{accounts_balance, releases_owe_nothing, settlements_charge};
 pub use printing::{
-    done_stays, handed_as_sent, handed_by_leave, handed_once, its_own_job_alone,
+    done_stays, handed_again, handed_as_sent, handed_by_leave, handed_once, its_own_job_alone,
     passwords_stay_secret,
 };
 pub use requests::{asks_are_spelled, jobs_are_counted, jobs_last, requests_are_answered};

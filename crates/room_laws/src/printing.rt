@@ -1,5 +1,6 @@
 //! What is printed, by what was asked and answered.
 
+ghost use Rattle.room_laws.specs.HandedAgain.{HandedAgain, HandsAgain};
 ghost use Rattle.room_laws.specs.HandedByLeave.{HandedByLeave};
 ghost use Rattle.room_laws.specs.HandedOnce.{HandedOnce, SettledOnceAtMost};
 ghost use Rattle.room_laws.specs.HandedAsSent.{HandedAsSent, HandedAtStarts};
@@ -24,15 +25,23 @@ pub fn handed_by_leave()
 
 /// What a device is handed is what you sent for your job: each document, whole, in the order in which
 /// you sent them, byte for byte, and with the copies that you asked for when you made the job. No
-/// other answer has documents.
+/// other event is answered with documents.
 pub fn handed_as_sent()
     ensures all { HandedAsSent }
     ensures alone { HandedAtStarts }
 {}
 
-/// What you are told as done is done: a job that you canceled is handed out no more; one that you
-/// held waits for another release; one that is closed takes no document more; and of one that has
-/// ended nothing changes.
+/// Who asks for your documents again and is handed any is the device that started your job and has
+/// not settled it, and is handed what it was handed at the start; and you did not cancel the job
+/// since. That device is handed them whenever it asks, until it settles the job or you cancel it.
+pub fn handed_again()
+    ensures alone { HandedAgain }
+    ensures always { HandsAgain }
+{}
+
+/// What you are told as done is done: a job that you canceled is handed out no more (nor again, as
+/// `handed_again` says); one that you held waits for another release; one that is closed takes no
+/// document more; and of one that has ended nothing changes.
 pub fn done_stays()
     ensures canceled { CanceledIsNotHandedOut }
     ensures held { HeldWaitsForRelease }
