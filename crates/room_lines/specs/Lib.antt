@@ -1,4 +1,5 @@
 pub mod Actions
+pub mod Asking
 pub mod Lines
 pub mod Saying
 pub mod ProofTaking

@@ -1,7 +1,7 @@
 -- For the proof of the code alone: how the fields of a line are taken, one after another.
 use Rattle.std.specs.Prelude.{◌≡◌, ℕ, List, [], ◌∷◌, ◌++◌, Option, Some, None, option_copied}
 use Rattle.room_lines.specs.Saying.{HasNoSpace}
-use Rattle.room_lines.specs.declared.lines.Fields.{Fields}
+use Rattle.room_lines.specs.declared.fields.Fields.{Fields}
 
 -- what is left of a line, if a field is
 abbrev pub left : Fields → Option (List ℕ)

@@ -9,10 +9,13 @@ use Rattle.room_lines.specs.declared.action.Action.TheVariants.{Open, Device, Ra
 use Rattle.room_lines.specs.declared.lines.Grammar.{Grammar}
 use Rattle.room_lines.specs.declared.lines.Grammar.TheVariants.{Script, Station, Operator}
 use Rattle.room_lines.specs.declared.line.Line.{Line}
-use Rattle.room_questions.specs.declared.question.Question.{Question}
-use Rattle.room_questions.specs.declared.question.Question.TheVariants.{Ping, Left}
 
 -- ---- what one field says; a name is said by its own bytes
+
+-- a dash where there is none
+abbrev pub name_said : Option (List ℕ) → List ℕ
+name_said None = codes "-"
+name_said (Some name) = name
 
 -- a number, in decimal
 abbrev pub SaysNumber : (field : List ℕ) → ℕ → Type 0
@@ -90,17 +93,6 @@ SaysLine (Operator moment) fields line = Says fields line.action
 abbrev pub IsLineOf : Grammar → (text : List ℕ) → Line → Type 0
 IsLineOf grammar text line =
     (fields : List (List ℕ)) × AreFields text fields × SaysLine grammar fields line
-
--- ---- what a question says
-
-abbrev pub SaysQuestion : (fields : List (List ℕ)) → Question → Type 0
-SaysQuestion fields Ping = fields ≡ codes "ping" ∷ []
-SaysQuestion fields (Left account month) =
-    (upto : List ℕ) × (fields ≡ codes "left" ∷ account ∷ upto ∷ []) × SaysMonth upto month
-
-abbrev pub IsQuestionOf : (text : List ℕ) → Question → Type 0
-IsQuestionOf text question =
-    (fields : List (List ℕ)) × AreFields text fields × SaysQuestion fields question
 
 -- ---- what an input says
 

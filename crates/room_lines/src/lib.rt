@@ -1,14 +1,18 @@
-//! The lines of scripts, stations and operators: what each asks for, and what is printed of the answers.
+//! The lines of scripts, stations and operators: what each asks for, and what is printed of the
+//! answers.
 #![tactic(auto)]
 
 mod action;
 mod fault;
+mod fields;
 mod line;
 mod lines;
 mod printing;
+mod questions;
 
 pub use action::Action;
 pub use fault::LineFault;
 pub use line::{Line, events_of};
-pub use lines::{Grammar, read_question};
+pub use lines::Grammar;
 pub use printing::print_answer;
+pub use questions::{read_question, read_station_question};

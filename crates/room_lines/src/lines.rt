@@ -1,19 +1,18 @@
 //! The grammar of lines: fields parted by one space, lines ended by a line feed, the last of which
 //! may be missing. Nothing is trimmed, so a carriage return, a tab or a further space makes a line
 //! bad.
-ghost use Rattle.std.specs.Prelude.{◌≡◌, ◌==◌, ◌∷◌, ◌≤◌, ◌<◌, None, All, IfOk, IfSome, IsTrue, OnOk, length, position};
-ghost use Rattle.room_rules.specs.Limits.{first_month, last_moment, last_month};
-ghost use Rattle.room_lines.specs.Actions.{are_impressions, is_in_range, is_of_operator, is_of_station};
+ghost use Rattle.std.specs.Prelude.{◌∷◌, All, IfOk, IsTrue};
+ghost use Rattle.room_lines.specs.Actions.{is_in_range, is_of_operator, is_of_station};
 ghost use Rattle.room_lines.specs.Lines.{IsAllowed};
-ghost use Rattle.room_lines.specs.Saying.{AreLinesOf, IsLineOf, IsQuestionOf, Says, SaysBytes, SaysImpressions, SaysMonth, SaysNumber, SaysPassword, SaysQuestion, SaysWord};
-ghost use Rattle.room_lines.specs.ProofTaking.{TakesField, TakesOne, TakesSome, left};
+ghost use Rattle.room_lines.specs.Saying.{AreLinesOf, IsLineOf, Says};
+ghost use Rattle.room_lines.specs.ProofTaking.{TakesSome, left};
 
 use crate::action::Action;
 use crate::fault::LineFault;
+use crate::fields::Fields;
 use crate::line::Line;
-use room_events::{LAST_JOB, LAST_MOMENT, MOST_IMPRESSIONS, MOST_PAGES, MOST_RATE, Name};
+use room_events::{LAST_JOB, MOST_IMPRESSIONS, MOST_PAGES, MOST_RATE};
 use room_input::FieldFault;
-use room_questions::Question;
 use std::alloc::Global;
 
 /// Which lines an input may have.
@@ -73,31 +72,6 @@ impl Grammar {
         };
         fields.end()?;
         Ok(line)
-    }
-}
-
-/// A question of an operator, without what ends its line. `Malformed` where the line is none.
-pub fn read_question(line: &[u8]) -> Result<Question, FieldFault>
-    ensures said { IfOk result (IsQuestionOf line.now) }
-{
-    let mut fields = Fields { rest: Some(line) };
-    let kind = fields.take()?;
-    let question = question_of(kind, &mut fields)?;
-    fields.end()?;
-    Ok(question)
-}
-
-fn question_of(kind: &[u8], fields: &mut Fields<'_>) -> Result<Question, FieldFault>
-    ensures said { IfOk result (λ question. TakesSome (left fields.old) (left fields.new)
-        (λ taken. SaysQuestion (kind.now ∷ taken) question)) }
-{
-    match kind {
-        b"ping" => Ok(Question::Ping),
-        b"left" => Ok(Question::Left {
-            account: fields.name()?,
-            month: fields.month()?,
-        }),
-        _ => Err(FieldFault::Malformed),
     }
 }
 
@@ -171,115 +145,4 @@ fn station_action(alloc: Global, kind: &[u8], fields: &mut Fields<'_>) -> Result
         }),
         _ => Err(FieldFault::Malformed),
     }
-}
-
-// The fields of a line that are still to be read: `None` once the last one was.
-#[derive(Drop)]
-struct Fields<'a> {
-    rest: Option<&'a [u8]>,
-}
-
-impl<'a> Fields<'a> {
-    fn take(&mut self) -> Result<&'a [u8], FieldFault>
-        ensures took { IfOk result (λ field. TakesField (left self.old) (left self.new) field.now) }
-    {
-        let rest = self.rest.ok_or(FieldFault::Malformed)?;
-        match first_space(rest) {
-            Some(end) => {
-                self.rest = Some(&rest[end + 1..]);
-                Ok(&rest[..end])
-            }
-            None => {
-                self.rest = None;
-                Ok(rest)
-            }
-        }
-    }
-
-    fn end(&self) -> Result<(), FieldFault>
-        ensures none_left { OnOk result (left self.now ≡ None) }
-    {
-        match self.rest {
-            None => Ok(()),
-            Some(_) => Err(FieldFault::Malformed),
-        }
-    }
-
-    fn moment(&mut self) -> Result<u64, FieldFault>
-        ensures range { IfOk result (λ moment. moment ≤ last_moment) }
-        ensures said { IfOk result (λ moment.
-            TakesOne (left self.old) (left self.new) (λ field. SaysNumber field moment)) }
-    {
-        match room_input::decimal(self.take()?) {
-            Some(moment) if moment <= LAST_MOMENT => Ok(moment),
-            _ => Err(FieldFault::Malformed),
-        }
-    }
-
-    fn name(&mut self) -> Result<Name, FieldFault>
-        ensures said { IfOk result (λ name. TakesField (left self.old) (left self.new) name) }
-    {
-        Name::read(self.take()?).ok_or(FieldFault::Malformed)
-    }
-
-    fn number(&mut self, least: u32, most: u32) -> Result<u32, FieldFault>
-        ensures range { IfOk result (λ number. (least ≤ number) × (number ≤ most)) }
-        ensures said { IfOk result (λ number.
-            TakesOne (left self.old) (left self.new) (λ field. SaysNumber field number)) }
-    {
-        room_input::number(self.take()?, least, most).ok_or(FieldFault::Malformed)
-    }
-
-    fn month(&mut self) -> Result<u32, FieldFault>
-        ensures range { IfOk result (λ month. (first_month ≤ month) × (month ≤ last_month)) }
-        ensures said { IfOk result (λ month.
-            TakesOne (left self.old) (left self.new) (λ field. SaysMonth field month)) }
-    {
-        room_input::month(self.take()?).ok_or(FieldFault::Malformed)
-    }
-
-    fn choice(&mut self, yes: &[u8], no: &[u8]) -> Result<bool, FieldFault>
-        ensures said { IfOk result (λ it.
-            TakesOne (left self.old) (left self.new) (λ field. SaysWord yes.now no.now field it)) }
-    {
-        room_input::choice(self.take()?, yes, no).ok_or(FieldFault::Malformed)
-    }
-
-    fn bytes(&mut self, alloc: Global) -> Result<Vec<u8>, FieldFault>
-        ensures said { IfOk result (λ bytes.
-            TakesOne (left self.old) (left self.new) (λ field. SaysBytes field bytes.items)) }
-    {
-        room_input::bytes(alloc, self.take()?)
-    }
-
-    fn password(&mut self, alloc: Global) -> Result<Vec<u8>, FieldFault>
-        ensures said { IfOk result (λ password.
-            TakesOne (left self.old) (left self.new) (λ field. SaysPassword field password.items)) }
-    {
-        match self.take()? {
-            b"-" => Ok(Vec::new(alloc)),
-            digits => room_input::bytes(alloc, digits),
-        }
-    }
-
-    fn impressions(&mut self) -> Result<Option<u32>, FieldFault>
-        ensures range { IfOk result (λ impressions. IsTrue (are_impressions impressions)) }
-        ensures said { IfOk result (λ impressions.
-            TakesOne (left self.old) (left self.new) (λ field. SaysImpressions field impressions)) }
-    {
-        match self.take()? {
-            b"-" => Ok(None),
-            digits => {
-                let impressions = room_input::number(digits, 1, MOST_IMPRESSIONS);
-                Ok(Some(impressions.ok_or(FieldFault::Malformed)?))
-            }
-        }
-    }
-}
-
-fn first_space(text: &[u8]) -> Option<usize>
-    ensures place { result ≡ position (λ b. b == 32) text.now }
-    ensures within { IfSome result (λ end. end < length text.now) }
-{
-    text.iter().position(|byte| *byte == b' ')
 }

@@ -1,5 +1,5 @@
 -- What comes to a journal, one after another.
-use Rattle.std.proofs.Common.{◌≡◌, ℕ, Bool, true, false, Option, None, Some, List, [], ◌∷◌, ◌++◌, map, Result, Ok, Err, refl, subst, sym, ap, ◌∙◌, append_assoc, append-nil, inl, inr}
+use Rattle.std.proofs.Common.{◌≡◌, Bool, true, false, Option, None, Some, List, [], ◌∷◌, ◌++◌, map, Result, refl, subst, sym, ap, ◌∙◌, append_assoc, inl, inr}
 use Rattle.std.proofs.lemmas.Grind.{flat_map-append}
 use Rattle.std.proofs.lemmas.List.{map-append}
 use Rattle.sqlite.specs.Held.{Held}
@@ -47,11 +47,11 @@ module _ {S : Type 0} where
   )
 
 module _ {S : Type 0} (store : Ghosts S) where
-  pub looks_only : (question : Question) (told : Result (List ℕ) StoreFault) (old new : Held S) → AnswersQuestion store question old new told → OnlyLooks store old new
+  pub looks_only : (question : Question) (told : Result Reply StoreFault) (old new : Held S) → AnswersQuestion store question old new told → OnlyLooks store old new
   looks_only question told old new answers = record { unchanged = answers.same; connection = answers.connection }
 
   -- a question
-  unfoldable pub looked : (question : Question) (told : Result (List ℕ) StoreFault) (old new : Served S) → AnswersNext store question told old new → Continues store old new
+  unfoldable pub looked : (question : Question) (told : Result Reply StoreFault) (old new : Served S) → AnswersNext store question told old new → Continues store old new
   looked question told old new next = record {
     more = None ∷ [];
     notes = subst (λ b. Notes b (None ∷ []) old new) (sym next.alone) (next.over, ap (λ (served : Served S). open_of served) next.same, ap (λ (served : Served S). asked_of served) next.same);

@@ -9,10 +9,9 @@ use Rattle.room_store.specs.declared.fault.StoreFault.{StoreFault}
 use Rattle.room_questions.specs.declared.question.Question.{Question}
 use Rattle.room_peers.specs.Journals.{moment_of}
 use Rattle.room_peers.specs.Turns.{AnswersNext, AppliesNext}
-use Rattle.room_peers.specs.Lines.{IsEntryOf, TakesLine, grammar_of, input_of, line_end, side_of}
-use Rattle.room_peers.specs.LineTexts.{answer_text, bad_line_text, line_text}
-use Rattle.room_lines.specs.Saying.{IsQuestionOf}
-use Rattle.room_peers.specs.declared.line_connection.Side.TheVariants.{Operator}
+use Rattle.room_peers.specs.Lines.{IsEntryOf, MayAsk, TakesLine, grammar_of, input_of, line_end, side_of}
+use Rattle.room_peers.specs.LineTexts.{bad_line_text, line_text}
+use Rattle.room_lines.specs.Asking.{IsQuestionOf}
 use Rattle.room_peers.specs.declared.entry.Entry.{Entry}
 use Rattle.room_peers.specs.declared.line_connection.LineConnection.{LineConnection}
 use Rattle.room_peers.specs.declared.served.Served.{Served}
@@ -43,19 +42,19 @@ module _ {S : Type 0} (store : Ghosts S) where
     });
   }
 
-  -- an operator's question was answered
-  pub takes_question : (before after : LineConnection) (old new : Served S) (end : ℕ) (question : Question) (told : Result (List ℕ) StoreFault) → line_end (input_of before) ≡ Some end → input_of after ≡ drop (end + 1) (input_of before)
-      → side_of before ≡ Operator → IsQuestionOf (take end (input_of before)) question → AnswersNext store question told old new
-      → TakesLine store before after old (answer_text told) new
-  takes_question before after old new end question told first rest operators said next = record {
+  -- a question was answered
+  pub takes_question : (before after : LineConnection) (old new : Served S) (end : ℕ) (question : Question) (told : Result Reply StoreFault) → line_end (input_of before) ≡ Some end → input_of after ≡ drop (end + 1) (input_of before)
+      → MayAsk (side_of before) question → IsQuestionOf (take end (input_of before)) question → AnswersNext store question told old new
+      → TakesLine store before after old (line_text told) new
+  takes_question before after old new end question told first rest asks said next = record {
     end = end;
     first = first;
     rest = rest;
     gives = inr (inl (record {
       line = take end (input_of before);
       ended = ends_with_feed (input_of before) end first;
-      operators = operators;
       question = question;
+      asks = asks;
       said = said;
       told = told;
       next = next;

@@ -26,8 +26,3 @@ line_text (Ok reply_is.NoAccount) = codes "no-account\n"
 line_text (Ok reply_is.Short) = codes "short\n"
 line_text (Ok (reply_is.Ipp answer)) = codes "ipp\n"
 line_text (Err fault) = codes "failed\n"
-
--- what a question is answered
-abbrev pub answer_text : Result (List ℕ) StoreFault → List ℕ
-answer_text (Ok text) = text ++ codes "\n"
-answer_text (Err fault) = codes "failed\n"

@@ -1,11 +1,12 @@
 -- What a line is answered, and what it does to the rooms (all this project's own).
-use Rattle.std.specs.Prelude.{◌≡◌, ◌⊎◌, ◌==◌, ◌+◌, ℕ, Bool, List, ◌∷◌, ◌++◌, [], codes, drop, length, take, Option, None, Some, IsTrue, Result}
+use Rattle.std.specs.Prelude.{◌≡◌, ◌⊎◌, ◌==◌, ◌||◌, ◌+◌, ℕ, Bool, true, false, List, ◌∷◌, ◌++◌, [], codes, drop, length, take, Option, None, Some, IsTrue, Result}
 use Rattle.std.specs.Io.KnownBytes.{Appends, Consumes}
 use Rattle.std.specs.List.{flat_map, position, starts_with}
 use Rattle.sqlite_trees.specs.declared.store.Store.{Ghosts}
 use Rattle.room_events.specs.declared.event.Reply.{Reply}
 use Rattle.room_lines.specs.Lines.{IsAllowed}
-use Rattle.room_lines.specs.Saying.{IsLineOf, IsQuestionOf}
+use Rattle.room_lines.specs.Asking.{IsQuestionOf, is_of_station}
+use Rattle.room_lines.specs.Saying.{IsLineOf}
 use Rattle.room_lines.specs.declared.lines.Grammar.{Grammar}
 use Rattle.room_lines.specs.declared.lines.Grammar.TheVariants as grammar_is
 use Rattle.room_lines.specs.declared.line.Line.{Line}
@@ -19,7 +20,7 @@ use Rattle.room_peers.specs.declared.line_connection.Side.TheVariants.{Station, 
 use Rattle.room_peers.specs.declared.served.Served.{Served}
 use Rattle.room_peers.specs.Journals.{moment_of, shares_of}
 use Rattle.room_peers.specs.Turns.{AnswersNext, AppliesNext}
-use Rattle.room_peers.specs.LineTexts.{answer_text, bad_line_text, line_text}
+use Rattle.room_peers.specs.LineTexts.{bad_line_text, line_text}
 
 -- ---- a connection
 
@@ -67,9 +68,17 @@ longest_line = 65536
 abbrev pub line_end : List ℕ → Option ℕ
 line_end input = position (λ b. b == 10) input
 
+-- who may ask what
+abbrev pub MayAsk : (side : Side) (question : Question) → Type 0
+MayAsk Station question = is_of_station question ≡ true
+MayAsk Operator question = is_of_station question ≡ false
+
+abbrev pub begins_with : (input word : List ℕ) → Bool
+begins_with input word = starts_with (λ a b. a == b) input word
+
 -- it begins a line that may be answered with documents
-abbrev pub begins_start : List ℕ → Bool
-begins_start input = starts_with (λ a b. a == b) input (codes "start ")
+abbrev pub asks_documents : List ℕ → Bool
+asks_documents input = begins_with input (codes "start ") || begins_with input (codes "again ")
 
 -- so many bytes that a reader had left came after those that were there
 abbrev pub Comes : (left left2 : Option (List ℕ)) (before after : LineConnection) (n : ℕ) → Type 0
@@ -102,17 +111,17 @@ module _ {S : Type 0} (store : Ghosts S) where
     pub next : AppliesNext store entry told old new
     pub says : text ≡ line_text told
 
-  -- a question that an operator's line asks outside a round is answered, and nothing is applied
+  -- a question that a line asks outside a round is answered, and nothing is applied
   pub record Inquires (side : Side) (came : List ℕ) (old : Served S) (text : List ℕ)
       (new : Served S) : Type 0 where
     pub line : List ℕ
     pub ended : came ≡ line ++ 10 ∷ []
-    pub operators : side ≡ Operator
     pub question : Question
+    pub asks : MayAsk side question
     pub said : IsQuestionOf line question
-    pub told : Result (List ℕ) StoreFault
+    pub told : Result Reply StoreFault
     pub next : AnswersNext store question told old new
-    pub says : text ≡ answer_text told
+    pub says : text ≡ line_text told
 
   -- a line that is none of its side's
   abbrev pub IsBad : Served S → List ℕ → Served S → Type 0

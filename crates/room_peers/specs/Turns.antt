@@ -1,5 +1,5 @@
 -- What is noted of what a connection asks, and what it does to the tables (all this project's own).
-use Rattle.std.specs.Prelude.{◌≡◌, ℕ, false, List, [], ◌∷◌, ◌++◌, Option, Some, Result}
+use Rattle.std.specs.Prelude.{◌≡◌, false, List, [], ◌∷◌, ◌++◌, Option, Some, Result}
 use Rattle.sqlite_trees.specs.declared.store.Store.{Ghosts}
 use Rattle.room_events.specs.declared.event.Reply.{Reply}
 use Rattle.room_questions.specs.declared.question.Question.{Question}
@@ -22,7 +22,7 @@ module _ {S : Type 0} (store : Ghosts S) where
 
   -- Outside a round a question is answered, by the tables as they are. It is an empty round, and
   -- nothing else is noted of it.
-  pub record AnswersNext (question : Question) (told : Result (List ℕ) StoreFault)
+  pub record AnswersNext (question : Question) (told : Result Reply StoreFault)
       (old new : Served S) : Type 0 where
     pub alone : shares_of old ≡ false
     pub answers : AnswersQuestion store question (store_of old) (store_of new) told

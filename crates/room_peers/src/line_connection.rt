@@ -1,18 +1,18 @@
 //! A connection of lines: what came and is no whole line yet, and answers that wait to go.
-ghost use Rattle.std.specs.Prelude.{◌≡◌, ◌≢◌, ◌<◌, ◌≤◌, ◌+◌, ◌++◌, [], length, nat_lt, false, true, IfOk, IfSome, OnErr, OnOk, Ok, Some};
+ghost use Rattle.std.specs.Prelude.{◌≡◌, ◌≢◌, ◌<◌, ◌≤◌, ◌+◌, ◌++◌, [], length, nat_lt, IfOk, IfSome, OnErr, OnOk, Ok, Some};
 ghost use Rattle.std.specs.Io.KnownBytes.{Keeps};
-ghost use Rattle.room_lines.specs.Saying.{IsQuestionOf};
+ghost use Rattle.room_lines.specs.Asking.{IsQuestionOf};
 ghost use Rattle.room_peers.specs.LineTexts.{bad_line_text};
 ghost use Rattle.room_peers.specs.Turns.{Continues};
-ghost use Rattle.room_peers.specs.Lines.{AnswersLine, Comes, IsEntryOf, IsNewOf, IsPutOff, IsQuiet, IsWaiting, Leaves, LosesAnswer, begins_start, grammar_of, input_of, line_end, output_of, received_of, sent_of, side_of, longest_line};
+ghost use Rattle.room_peers.specs.Lines.{AnswersLine, Comes, IsEntryOf, IsNewOf, IsPutOff, IsQuiet, IsWaiting, Leaves, LosesAnswer, MayAsk, asks_documents, grammar_of, input_of, line_end, output_of, received_of, sent_of, side_of, longest_line};
 
 use crate::entry::Entry;
-use crate::line_text::{put_answer, put_bad, put_told};
+use crate::line_text::{put_bad, put_told};
 use crate::served::Served;
 use bytes::{Buf, BufMut, BytesMut};
 use http_server::{Log, Rope};
 use room_input::FieldFault;
-use room_lines::{Grammar, read_question};
+use room_lines::{Grammar, read_question, read_station_question};
 use room_questions::Question;
 use sqlite::Alter;
 use std::alloc::{AllocError, Global};
@@ -28,9 +28,9 @@ const ROOM: usize = 4_096;
 /// Whose lines a connection carries.
 #[derive(Clone, Copy, Debug, PartialEq, Eq)]
 pub enum Side {
-    /// `release`, `start` and `settle`.
+    /// `release`, `start` and `settle`, and a station's questions.
     Station,
-    /// `open`, `device`, `rate` and `grant`, and the questions `ping` and `left`.
+    /// `open`, `device`, `rate` and `grant`, and an operator's questions.
     Operator,
 }
 
@@ -177,7 +177,7 @@ impl LineConnection {
         }
         let told = served.answer_question(question);
         self.input.advance(end + 1);
-        put_answer(&mut self.output, told)?;
+        put_told(self.alloc, &mut self.output, told)?;
         Ok(Front::Answered)
     }
 
@@ -208,10 +208,11 @@ impl LineConnection {
     }
 
     /// Whether what came begins a line that may be answered with documents.
-    pub fn begins_start(&self) -> bool
-        ensures { result ≡ begins_start (input_of self.now) }
+    pub fn asks_documents(&self) -> bool
+        ensures { result ≡ asks_documents (input_of self.now) }
     {
-        self.input.as_slice().starts_with(b"start ")
+        let input = self.input.as_slice();
+        input.starts_with(b"start ") || input.starts_with(b"again ")
     }
 
     /// How many bytes wait: those that came, and those that are to go.
@@ -267,12 +268,16 @@ fn entry_of(alloc: Global, grammar: Grammar, line: &[u8]) -> Result<Option<Entry
     }
 }
 
-/// The question that a line asks. Operators alone ask any.
+/// The question that a line of the side asks.
 fn question_of(side: Side, line: &[u8]) -> Option<Question>
-    ensures { IfSome result (λ question. (side ≡ Side.Operator) × IsQuestionOf line.now question) }
+    ensures { IfSome result (λ question. MayAsk side question × IsQuestionOf line.now question) }
 {
-    match side {
-        Side::Station => None,
-        Side::Operator => read_question(line).ok(),
+    let read = match side {
+        Side::Station => read_station_question(line),
+        Side::Operator => read_question(line),
+    };
+    match read {
+        Ok(question) => Some(question),
+        Err(_) => None,
     }
 }

@@ -1,6 +1,6 @@
 //! A connection of lines: where it stands, and how long it may take.
 
-ghost use Rattle.std.specs.Prelude.{◌≡◌, ◌≢◌, ◌≤◌, ◌+◌, [], length, IsFalse, Some};
+ghost use Rattle.std.specs.Prelude.{◌≡◌, ◌≢◌, ◌≤◌, ◌+◌, length, IsFalse, Some};
 ghost use Rattle.room_peers.specs.Turns.{Continues};
 ghost use Rattle.room_peers.specs.Lines.{IsNewOf, input_of, output_of};
 
@@ -85,7 +85,7 @@ impl LinePeer {
         if self.connection.wants_write() {
             return self.send(writer, turn.ticks);
         }
-        if !turn.has_room && self.connection.begins_start() {
+        if !turn.has_room && self.connection.asks_documents() {
             return Some(self.progress.hold_back(turn.ticks));
         }
         self.progress.patience.let_on(turn.ticks);

@@ -1,11 +1,10 @@
 //! What is sent for a line.
 ghost use Rattle.std.specs.Prelude.{◌≡◌, ◌++◌, codes, OnOk};
-ghost use Rattle.room_peers.specs.LineTexts.{answer_text, line_text, part_text, parts_text, bad_line_text};
+ghost use Rattle.room_peers.specs.LineTexts.{line_text, part_text, parts_text, bad_line_text};
 
 use crate::shared::shared;
 use bytes::BufMut;
 use http_server::Rope;
-use ipp_coding::List;
 use room_events::{Part, Reply};
 use room_store::StoreFault;
 use std::alloc::{AllocError, Global};
@@ -24,19 +23,6 @@ pub(crate) fn put_told(
         Ok(Reply::NoAccount) => output.put_slice(b"no-account\n"),
         Ok(Reply::Short) => output.put_slice(b"short\n"),
         Ok(Reply::Ipp(_)) => output.put_slice(b"ipp\n"),
-        Err(_) => output.put_slice(b"failed\n"),
-    }
-}
-
-/// Puts what a question is answered after what waits to go.
-pub(crate) fn put_answer(
-    output: &mut Rope,
-    told: Result<List<u8>, StoreFault>,
-) -> Result<(), AllocError>
-    ensures { OnOk result (output.new.items ≡ output.old.items ++ answer_text told) }
-{
-    match told {
-        Ok(text) => put_line(output, text.items.as_slice()),
         Err(_) => output.put_slice(b"failed\n"),
     }
 }

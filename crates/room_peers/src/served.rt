@@ -7,7 +7,6 @@ ghost use Rattle.room_peers.specs.Rounds.{IsBegun, IsNotBegun, IsSettled};
 
 use crate::entry::Entry;
 use http_server::Log;
-use ipp_coding::List;
 use room_events::{Part, Reply};
 use room_questions::Question;
 use room_store::{Rounds, Store, StoreFault};
@@ -19,7 +18,6 @@ const MOST_TOLD: usize = 8_388_608;
 
 /// The shared tables, the clock's moment, and a journal of all that was applied to them, of
 /// whichever connection. The journal takes no memory: only proofs read it.
-#[derive(Drop)]
 pub struct Served<S: Alter> {
     pub(crate) alloc: Global,
     pub(crate) rounds: Rounds<S>,
@@ -38,6 +36,23 @@ pub struct Served<S: Alter> {
     pub(crate) asked: Option<Entry>,
     /// How many bytes were told in the round.
     pub(crate) bytes_told: usize,
+}
+
+// In the place of `#[derive(Drop)]`, so that no caller proves again how each part is dropped.
+impl<S: Alter + Drop> Drop for Served<S> {
+    fn drop(self) {
+        let Served {
+            alloc: _,
+            rounds: _,
+            moment: _,
+            over: _,
+            under_way: _,
+            shares: _,
+            is_lost: _,
+            asked: _,
+            bytes_told: _,
+        } = self;
+    }
 }
 
 impl<S: Alter> Served<S> {
@@ -198,7 +213,7 @@ impl<S: Alter> Served<S> {
 
     /// Answers a question by the tables as they are. No round is under way: what one has changed may
     /// still be lost.
-    pub(crate) fn answer_question(&mut self, question: Question) -> Result<List<u8>, StoreFault>
+    pub(crate) fn answer_question(&mut self, question: Question) -> Result<Reply, StoreFault>
         requires { shares_of self.old ≡ false }
         ensures { AnswersNext S.Store question result self.old self.new }
     {
@@ -212,7 +227,18 @@ impl<S: Alter> Served<S> {
     pub fn close(self) -> Connection<S>
         ensures { result ≡ store_of self }
     {
-        self.rounds.close()
+        let Served {
+            alloc: _,
+            rounds,
+            moment: _,
+            over: _,
+            under_way: _,
+            shares: _,
+            is_lost: _,
+            asked: _,
+            bytes_told: _,
+        } = self;
+        rounds.close()
     }
 }
 

@@ -1,5 +1,5 @@
 -- What is told in a peer's turn stands in the journal.
-use Rattle.std.proofs.Common.{◌≡◌, ◌≢◌, ◌≤◌, ◌<◌, ◌⊎◌, ℕ, suc, false, length, slice_get, take, Option, Some, arith, length-append, List, [], ◌∷◌, ◌++◌, Result, Ok, Err, refl, sym, ap, subst, ◌∙◌, append_assoc, append-nil, inl, inr}
+use Rattle.std.proofs.Common.{◌≡◌, ◌≢◌, ◌≤◌, ◌<◌, ℕ, suc, false, length, slice_get, take, Some, arith, length-append, List, [], ◌∷◌, ◌++◌, Result, Ok, Err, refl, sym, ap, subst, ◌∙◌, append_assoc, append-nil, inl, inr}
 use Rattle.std.specs.List.{Contains}
 use Rattle.std.proofs.Math.Seq.{get_or-append_seam, take-length}
 use Rattle.std.proofs.lemmas.Grind.{flat_map-append}
@@ -226,8 +226,8 @@ module _ {S : Type 0} (store : Ghosts S) (before : Served S) (fresh : IsFresh be
           record {
             line = is.line;
             ended = is.ended;
-            operators = is.operators;
             question = is.question;
+            asks = is.asks;
             said = is.said;
             told = is.told;
             says = is.says;

@@ -1,30 +1,32 @@
 -- What a question is answered is what the journal so far has left.
-use Rattle.std.proofs.Common.{◌≡◌, ℕ, true, false, if◌then◌else◌, List, [], ◌∷◌, ◌++◌, Option, None, Some, IsTrue, IfOk, Result, Ok, Err, refl, sym, ap, subst, ◌∙◌, append-nil, inl, inr}
+use Rattle.std.proofs.Common.{◌≡◌, ℕ, true, false, if◌then◌else◌, List, [], ◌∷◌, ◌++◌, Option, None, Some, IsTrue, IsSome, Result, Ok, Err, refl, sym, ap, subst, ◌∙◌, append-nil, inl, inr}
 use Rattle.std.proofs.lemmas.Bool.{true≢false}
 use Rattle.std.proofs.lemmas.Grind.{flat_map-append}
 use Rattle.sqlite.specs.Effect.{Database}
 use Rattle.sqlite.specs.Held.{Held, state}
 use Rattle.sqlite.specs.State.{HasCleanDisk}
+use Rattle.sqlite_value.specs.Order.{Row}
 use Rattle.sqlite_trees.specs.declared.store.Store.{Ghosts}
+use Rattle.room_events.specs.declared.event.Reply.{Reply}
+use Rattle.room_laws.proofs.LifeLemmas.{lives_leave_one}
 use Rattle.room_laws.specs.Lives.{IsLife, Life}
-use Rattle.room_questions.specs.Questions.{answer_to, ConcernsNoOther}
+use Rattle.room_questions.specs.Questions.{ConcernsNames, ConcernsNoOther}
 use Rattle.room_questions.specs.declared.question.Question.{Question}
 use Rattle.room_rules.specs.Devices.{Devices}
 use Rattle.room_serve.specs.LivesInFiles.{IsLifeIn}
 use Rattle.room_peers.proofs.Finding as finding
 use Rattle.room_peers.proofs.Running.{runs, was_clean}
-use Rattle.room_peers.specs.Journals.{Round, Told, applied, by_themselves, journal_of, kept_in, open_of, rounds_of, shares_of, store_of}
+use Rattle.room_peers.specs.Journals.{Round, Told, applied, by_themselves, journal_of, kept_in, rounds_of, shares_of, store_of}
 use Rattle.room_peers.specs.Turns.{AnswersNext}
 use Rattle.room_peers.specs.ServedRuns.{IsRunOf}
 use Rattle.room_peers.specs.ServedLives.{told_to}
 use Rattle.room_peers.specs.declared.served.Served.{Served}
 use Rattle.room_sockets.proofs.Drives.{IsClean, IsServed}
-use Rattle.room_sockets.specs.EndToEnd.{AnswersBy, IsFresh, LivesOn}
+use Rattle.room_sockets.specs.EndToEnd.{AnswersBy, AreNamesThen, IsFresh, LivesOn}
 use Rattle.room_state.specs.Rooms.{RoomValue}
-use Rattle.room_store.specs.Questions.{AnswersQuestion, IsAbout}
+use Rattle.room_store.specs.Questions.{AnswersQuestion, IsAbout, OpenNames}
 use Rattle.room_store.specs.declared.fault.StoreFault.{StoreFault}
-use Rattle.room_tables.specs.Accounts.{Holds}
-use Rattle.room_tables.specs.Calls.{KeepsConnection}
+use Rattle.room_tables.specs.Accounts.{Holds, account_at}
 use Rattle.room_tables.specs.Devices.{HoldsDevices}
 use Rattle.room_tables.specs.Keyed.{HasSchema}
 
@@ -67,22 +69,52 @@ module _ {S : Type 0} (store : Ghosts S) (before : Served S) (fresh : IsFresh be
 
   -- ---- a question
 
-  about : (question : Question) (name : List ℕ) (room : Option RoomValue) (devices : Devices) (db : Database) → ConcernsNoOther question name → Holds db name room → HoldsDevices db devices → IsAbout question room devices db
-  about question name room devices db only holds device_rows = record {
+  about : (question : Question) (name : List ℕ) (room : Option RoomValue) (devices : Devices) (names : List (List ℕ)) (db : Database) → ConcernsNoOther question name → Holds db name room → HoldsDevices db devices → (ConcernsNames question → OpenNames db names)
+      → IsAbout question room devices names db
+  about question name room devices names db only holds device_rows account_rows = record {
     account = λ other concerns. subst (λ (n : List ℕ). Holds db n room) (sym (only other concerns)) holds;
     device_rows = λ concerns. device_rows;
+    account_rows = account_rows;
   }
 
+  -- an account has a row where its life has left it open
+  is_open : (db : Database) (name : List ℕ) (room opened : Option RoomValue) → room ≡ opened → Holds db name room → IsSome opened → IsSome (account_at db name)
+  is_open db name None None same holds some = absurd (true≢false (sym some))
+  is_open db name None (Some opened) same holds some = absurd (let no = same in cc)
+  is_open db name (Some room) opened same holds some = subst (λ (o : Option Row). IsSome o) (sym holds.rows.account_row) refl
+
+  is_left_open : (db : Database) (name : List ℕ) (life : Life) (room : Option RoomValue) (devices : Devices) → Holds db name room → IsLife life room devices → IsSome (account_at db name) → (opened : RoomValue) × (known : Devices) × IsLife life (Some opened) known
+  is_left_open db name life None devices holds lived some = absurd (true≢false (sym (subst (λ (o : Option Row). IsSome o) holds.no_account some)))
+  is_left_open db name life (Some room) devices holds lived some = (room, devices, lived)
+
   module _ (last : Held S) (question : Question) (old new : Served S) (served : IsServed store before old) (alone : shares_of old ≡ false) (clean : HasCleanDisk (state store last) → IsClean store new) where
-    answers_so : (told : Result (List ℕ) StoreFault) → AnswersQuestion store question (store_of old) (store_of new) told → AnswersBy store (store_of before) last (journal_of old) question told
+    names_then : HasSchema (state store (store_of before)).now → HasCleanDisk (state store (store_of old)) → IsTrue (state store (store_of old)).is_open → (names : List (List ℕ)) → AreNamesThen store (store_of before) last (journal_of old) (state store (store_of before)).now names
+        → OpenNames (state store (store_of old)).now names
+    names_then has old_clean shown names known = record {
+      rise = known.are.rise;
+      exactly = λ name.
+          let left = lives_on old served alone old_clean has name (known.lives name) (known.are_lives name) in
+          let life = known.lives name ++ told_to name (journal_of old) in
+          let db = (state store (store_of old)).now in (
+            λ there. let opened = (known.are.exactly name).0 there in is_open db name left.room (Some opened.0) (lives_leave_one life left.room (Some opened.0) left.devices opened.1 left.is_life opened.2).0 (left.rows shown) refl,
+            λ some. (known.are.exactly name).1 (is_left_open db name life left.room left.devices (left.rows shown) left.is_life some),
+          );
+    }
+
+    answers_so : (told : Result Reply StoreFault) → AnswersQuestion store question (store_of old) (store_of new) told → AnswersBy store (store_of before) last (journal_of old) question told
     answers_so (Err fault) answers honest has name life concerns lived = tt
-    answers_so (Ok text) answers honest has name life concerns lived =
+    answers_so (Ok reply) answers honest has name life concerns lived =
         let new_clean = clean honest in
         let old_clean = was_clean store (store_of old) (store_of new) answers.connection new_clean in
         let shown : IsTrue (state store (store_of old)).is_open = answers.opened new_clean in
         let schema : HasSchema (state store (store_of old)).now = (runs_so old served alone).schema old_clean has shown in
         let lives = lives_on old served alone old_clean has name life lived in
-        (lives.room, lives.devices, lives.is_life, answers.told new_clean schema lives.room lives.devices (about question name lives.room lives.devices (state store (store_of old)).now concerns (lives.rows shown) (lives.device_rows shown)))
+        let now = (state store (store_of old)).now in (
+          lives.room,
+          lives.devices,
+          lives.is_life,
+          λ names are. answers.told new_clean schema lives.room lives.devices names (about question name lives.room lives.devices names now concerns (lives.rows shown) (lives.device_rows shown) (λ asked. names_then has old_clean shown names (are asked))),
+        )
 
-  pub answered_so : (last : Held S) (question : Question) (told : Result (List ℕ) StoreFault) (old new : Served S) → IsServed store before old → (HasCleanDisk (state store last) → IsClean store new) → AnswersNext store question told old new → AnswersBy store (store_of before) last (journal_of old) question told
+  pub answered_so : (last : Held S) (question : Question) (told : Result Reply StoreFault) (old new : Served S) → IsServed store before old → (HasCleanDisk (state store last) → IsClean store new) → AnswersNext store question told old new → AnswersBy store (store_of before) last (journal_of old) question told
   answered_so last question told old new served clean next = answers_so last question old new served next.alone clean told next.answers

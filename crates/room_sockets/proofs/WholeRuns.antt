@@ -38,7 +38,6 @@ use Rattle.room_sockets.specs.declared.guest.Peer.{Peer}
 use Rattle.room_sockets.specs.declared.guest.Peer.TheVariants.{Http, Last, Lines}
 use Rattle.http_server.specs.Exchange.{Call}
 use Rattle.room_serve.specs.Crashes.{IsFound}
-use Rattle.room_serve.specs.LivesInFiles.{IsLifeIn}
 use Rattle.room_peers.specs.ServedLives.{told_to}
 use Rattle.room_sockets.proofs.HearingLemmas.{none_asked}
 use Rattle.room_tables.specs.Crashes.{CrashesFindLastCommit}

@@ -7,14 +7,17 @@ use Rattle.http_server.specs.Connection.{config_of, history}
 use Rattle.http_server.specs.Exchange.{Call}
 use Rattle.http_server.specs.History as http
 use Rattle.slab.specs.Slab.{Slab, get}
+use Rattle.sqlite.specs.Effect.{Database}
 use Rattle.sqlite.specs.Held.{Held, state}
 use Rattle.sqlite_trees.specs.Tree.{Trees}
 use Rattle.sqlite_trees.specs.declared.store.Store.{Ghosts}
 use Rattle.ipp_coding.specs.Reading.{header_in}
 use Rattle.room_requests.specs.declared.refusal.Refusal.{Refusal}
+use Rattle.room_events.specs.declared.event.Reply.{Reply}
 use Rattle.room_laws.specs.Lives.{IsLife, Life}
-use Rattle.room_lines.specs.Saying.{IsQuestionOf}
-use Rattle.room_questions.specs.Questions.{answer_to, ConcernsNoOther}
+use Rattle.room_lines.specs.Asking.{IsQuestionOf}
+use Rattle.room_questions.specs.Names.{AreNames}
+use Rattle.room_questions.specs.Questions.{answer_to, ConcernsNames, ConcernsNoOther}
 use Rattle.room_questions.specs.declared.question.Question.{Question}
 use Rattle.room_rules.specs.Devices.{Devices}
 use Rattle.room_state.specs.Rooms.{RoomValue}
@@ -30,8 +33,8 @@ use Rattle.room_peers.specs.ServedRuns.{IsRunOf}
 use Rattle.room_peers.specs.LastPeers.{left_of}
 use Rattle.room_peers.specs.LastTexts.{last_text}
 use Rattle.room_peers.specs.LinePeers.{LineCall, bytes_told, lines_of, taken}
-use Rattle.room_peers.specs.Lines.{IsEntryOf, grammar_of, input_of, output_of, received_of, sent_of, side_of}
-use Rattle.room_peers.specs.LineTexts.{answer_text, bad_line_text, line_text}
+use Rattle.room_peers.specs.Lines.{IsEntryOf, MayAsk, grammar_of, input_of, output_of, received_of, sent_of, side_of}
+use Rattle.room_peers.specs.LineTexts.{bad_line_text, line_text}
 use Rattle.room_peers.specs.Requests.{asked, has_long_body}
 use Rattle.room_peers.specs.ServedLives.{told_to}
 use Rattle.room_peers.specs.declared.entry.Entry.TheVariants as entry
@@ -39,7 +42,6 @@ use Rattle.room_peers.specs.declared.http_peer.HttpPeer.{HttpPeer}
 use Rattle.room_peers.specs.declared.last_peer.LastPeer.{LastPeer}
 use Rattle.room_peers.specs.declared.line_connection.LineConnection.{LineConnection}
 use Rattle.room_peers.specs.declared.line_connection.Side.{Side}
-use Rattle.room_peers.specs.declared.line_connection.Side.TheVariants.{Operator}
 use Rattle.room_peers.specs.declared.served.Served.{Served}
 use Rattle.room_sockets.specs.Guests.{asked_in, peer_of}
 use Rattle.room_sockets.specs.Halls.{DoesAll, Step}
@@ -97,22 +99,32 @@ pub record TellsLine (side : Side) (call : LineCall) (told : Told) : Type 0 wher
   pub says : call.1 ≡ line_text told.1
 
 module _ {S : Type 0} (store : Ghosts S) (first last : Held S) where
-  -- by the room and the devices that the account's life has left, as far as it was told this
-  abbrev pub AnswersBy : (so_far : List Told) → Question → Result (List ℕ) StoreFault → Type 0
+  -- the names of the accounts that are open, where each has a life, and has been told this
+  pub record AreNamesThen (so_far : List Told) (db : Database) (names : List (List ℕ)) : Type 0 where
+    pub lives : (name : List ℕ) → Life
+    pub are_lives : (name : List ℕ) → IsLifeIn db true name (lives name)
+    pub are : AreNames (λ name. (room : RoomValue) × (devices : Devices)
+        × IsLife (lives name ++ told_to name so_far) (Some room) devices) names
+
+  -- by the room and the devices that the account's life has left, as far as it was told this, and by
+  -- the names of the accounts that are open then
+  abbrev pub AnswersBy : (so_far : List Told) → Question → Result Reply StoreFault → Type 0
   AnswersBy so_far question told = IfOurTables store first last (λ db. (name : List ℕ) (life : Life)
       → ConcernsNoOther question name → IsLifeIn db true name life
-      → IfOk told (λ text. (room : Option RoomValue) × (devices : Devices)
-      × IsLife (life ++ told_to name so_far) room devices × (text ≡ answer_to question room devices)))
+      → IfOk told (λ reply. (room : Option RoomValue) × (devices : Devices)
+      × IsLife (life ++ told_to name so_far) room devices × ((names : List (List ℕ))
+      → (ConcernsNames question → AreNamesThen so_far db names)
+      → reply ≡ answer_to question room devices names)))
 
-  -- the line is an operator's question, and what is told of it answers that
+  -- the line is a question of its side, and what is told of it answers that
   pub record TellsAnswer (side : Side) (call : LineCall) (so_far : List Told) : Type 0 where
     pub line : List ℕ
     pub ended : call.0 ≡ line ++ 10 ∷ []
-    pub operators : side ≡ Operator
     pub question : Question
+    pub asks : MayAsk side question
     pub said : IsQuestionOf line question
-    pub told : Result (List ℕ) StoreFault
-    pub says : call.1 ≡ answer_text told
+    pub told : Result Reply StoreFault
+    pub says : call.1 ≡ line_text told
     pub answers : AnswersBy so_far question told
 
   -- Each line is told what stands in the journal at the next of these places, which rise from the

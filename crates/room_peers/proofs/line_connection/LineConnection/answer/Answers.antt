@@ -1,7 +1,7 @@
 use Rattle.std.proofs.Common.{◌≡◌, ℕ, List, Some, take, sym, ap, ◌∙◌, subst, inr}
 use Rattle.room_lines.specs.declared.lines.Grammar.{Grammar}
 use Rattle.room_peers.specs.ProofServices.{stays}
-use Rattle.room_peers.proofs.LineEnds.{on_err, takes_bad, takes_entry}
+use Rattle.room_peers.proofs.LineEnds.{on_err, takes_entry}
 use Rattle.room_peers.specs.Journals.{moment_of}
 use Rattle.room_peers.specs.Lines.{IsEntryOf, grammar_of, input_of, line_end}
 use Rattle.room_peers.proofs.line_connection.LineConnection.answer.Goals as goal

@@ -5,8 +5,8 @@ use Rattle.room_peers.proofs.line_peer.LinePeer.step.Goals as goal
 pub returns-then-wants_write-clause-takes : goal.returns-then-wants_write-clause-takes
 returns-then-wants_write-clause-takes g c = sent g.S.Store _ _ _ _ _ _ _ c.send.ensures.sends
 
-pub returns-then-begins_start-clause-takes : goal.returns-then-begins_start-clause-takes
-returns-then-begins_start-clause-takes g c = stood g.S.Store _ _ _ _
+pub returns-then-asks_documents-clause-takes : goal.returns-then-asks_documents-clause-takes
+returns-then-asks_documents-clause-takes g c = stood g.S.Store _ _ _ _
 
 pub returns-in-Ok-Answered-clause-takes : goal.returns-in-Ok-Answered-clause-takes
 returns-in-Ok-Answered-clause-takes g c = took g.S.Store _ _ _ _ _ _ (c.in-Ok-Answered.ensures.taken (ap Ok c.in-Ok-Answered.field-0-is)) c.in-Ok-Answered.ensures.side c.in-Ok-Answered.ensures.quiet

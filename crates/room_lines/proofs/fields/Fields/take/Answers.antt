@@ -1,6 +1,6 @@
 use Rattle.std.proofs.Common.{sym, rules}
 use Rattle.room_lines.proofs.Taken.{take_last, take_up_to}
-use Rattle.room_lines.proofs.lines.Fields.take.Goals as goal
+use Rattle.room_lines.proofs.fields.Fields.take.Goals as goal
 
 pub returns-in-Some : goal.returns-in-Some
 returns-in-Some c = record { took = take_up_to _ c.in_ok-rest.rest.now c.in-Some.end (search rules) (sym c.in-Some.ensures.place) }
