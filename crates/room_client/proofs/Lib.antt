@@ -1,4 +1,5 @@
 pub mod Fronts
+pub mod LineCounts
 pub mod Printed
 pub mod PrintedGrants
 pub mod Refused

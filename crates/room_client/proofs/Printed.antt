@@ -11,11 +11,11 @@ use Rattle.room_client.specs.declared.answer.Answer.{Answer}
 use Rattle.room_client.specs.declared.answer.Answer.TheVariants as answer_is
 use Rattle.room_client.specs.declared.outcome.Outcome.{Outcome}
 use Rattle.room_client.specs.declared.outcome.Outcome.TheVariants.{Fine}
-use Rattle.room_client.specs.ProofAnswering.{AnsweredOnce, HearsDocument, PrintsAnswer, SentAndAnswered, TakesDocuments}
+use Rattle.room_client.specs.ProofAnswering.{AnsweredOnce, HearsDocument, PrintsAnswer, SentAndAnswered, TakesDocuments, TakesLines}
 use Rattle.room_client.specs.Answers.{answer_said}
 use Rattle.room_client.specs.Outcomes.{outcome_after}
-use Rattle.room_client.specs.Words.{IsStartOf}
-use Rattle.room_client.specs.Replies.{Answered, Document, IsDocumentOf, IsOfJob, IsReply, asked_of, Known, Reply, Shows, all_printed, document_heard, document_printed, documents_printed, documents_said, heard, outcome_from, printed, printed_as}
+use Rattle.room_client.specs.Words.{AsksDocumentsOf}
+use Rattle.room_client.specs.Replies.{Answered, Document, IsDocumentOf, IsOfJob, IsReply, IsText, asked_of, Known, Reply, Shows, all_printed, document_heard, document_printed, documents_printed, documents_said, heard, lines_said, outcome_from, printed, printed_as, whole_line, whole_lines}
 
 -- a line that was printed, and then what is shown after it
 pub printed-shown : (a b c d : Known) (head : List ℕ) (known : Known) → Appends a b head
@@ -89,19 +89,45 @@ TakesDocuments-more shown ha hb hc pa pb pc account job count done now same take
           (All-cons (IsDocumentOf job) last [] next.3 (All-nil (IsDocumentOf job))),
     )
 
--- an answer that is no documents is its line
-pub printed_as-line : (says : Answer) (documents line : Known)
-    → ((count : ℕ) → says ≡ answer_is.Documents count → ⊥) → printed_as says documents line ≡ line
-printed_as-line answer_is.Failed documents line other = refl
-printed_as-line answer_is.BadLine documents line other = refl
-printed_as-line (answer_is.Documents count) documents line other = absurd (other count refl)
-printed_as-line answer_is.Told documents line other = refl
+pub TakesLines-none : (h p : Known) → TakesLines h h p p 0
+TakesLines-none h p = record {
+  lines = [];
+  line_count = refl;
+  each_text = All-nil IsText;
+  heard_whole = Consumes-nil h;
+  printed_whole = Appends-nil p;
+}
+
+pub TakesLines-more : (ha hb hc pa pb pc : Known) (count : ℕ) (line : List ℕ)
+    → TakesLines ha hb pa pb count → IsText line → Consumes hb hc (line ++ codes "\n")
+    → Appends pb pc (line ++ codes "\n") → TakesLines ha hc pa pc (count + 1)
+TakesLines-more ha hb hc pa pb pc count line done text heard printed =
+    let lines = done.lines in record {
+      lines = lines ++ line ∷ [];
+      line_count = length-append lines (line ∷ []) ∙ ap (λ n. n + 1) done.line_count;
+      each_text = All-append IsText lines (line ∷ []) done.each_text
+          (All-cons IsText line [] text (All-nil IsText));
+      heard_whole = subst (Consumes ha hc) (sym (flat_map-more whole_line lines line))
+          (Consumes-trans ha hb hc (flat_map whole_line lines) (whole_line line) done.heard_whole heard);
+      printed_whole = subst (Appends pa pc) (sym (flat_map-more whole_line lines line))
+          (Appends-trans pa pb pc (flat_map whole_line lines) (whole_line line) done.printed_whole printed);
+    }
+
+-- an answer that is no documents is its lines
+pub printed_as-lines : (says : Answer) (documents lines : Known)
+    → ((count : ℕ) → says ≡ answer_is.Documents count → ⊥) → printed_as says documents lines ≡ lines
+printed_as-lines answer_is.Failed documents lines other = refl
+printed_as-lines answer_is.BadLine documents lines other = refl
+printed_as-lines (answer_is.Documents count) documents lines other = absurd (other count refl)
+printed_as-lines (answer_is.Lines count) documents lines other = refl
+printed_as-lines answer_is.Told documents lines other = refl
 
 pub documents_said-none : (says : Answer)
     → ((count : ℕ) → says ≡ answer_is.Documents count → ⊥) → 0 ≡ documents_said says
 documents_said-none answer_is.Failed other = refl
 documents_said-none answer_is.BadLine other = refl
 documents_said-none (answer_is.Documents count) other = absurd (other count refl)
+documents_said-none (answer_is.Lines count) other = refl
 documents_said-none answer_is.Told other = refl
 
 all_printed-more : (shown : Shows) (replies : List Reply) (last : Reply)
@@ -168,36 +194,52 @@ Answered-more shown sa sb sc ha hb hc pa pb pc outcome answer number done count 
     let long : length (replies ++ last ∷ []) ≡ length replies + 1 = length-append replies (last ∷ []) in
     (more, omega (arith, count, long))
 
--- and needs no line that starts a job
+-- and needs no line that asks for them
 pub IsOfJob-other : (says : Answer) → ((count : ℕ) → says ≡ answer_is.Documents count → ⊥)
     → (asked account : List ℕ) (job : ℕ) → IsOfJob says asked account job
 IsOfJob-other answer_is.Failed other asked account job = tt
 IsOfJob-other answer_is.BadLine other asked account job = tt
 IsOfJob-other (answer_is.Documents count) other asked account job = absurd (other count refl)
+IsOfJob-other (answer_is.Lines count) other asked account job = tt
 IsOfJob-other answer_is.Told other asked account job = tt
 
-pub PrintsAnswer-line : (shown : Shows) (h pa pb pc : Known) (asked text : List ℕ) (says : Answer)
-    → ((count : ℕ) → says ≡ answer_is.Documents count → ⊥) → Appends pa pb text
-    → Appends pb pc (codes "\n") → PrintsAnswer shown h h pa pc asked text says
-PrintsAnswer-line shown h pa pb pc asked text says other first feed = (
-  [],
-  0,
-  IsOfJob-other says other asked [] 0,
-  [],
-  documents_said-none says other,
-  Consumes-nil h,
-  subst (λ o. IfSome o (Appends pa pc))
-      (sym (printed_as-line says (documents_printed shown [] 0 1 []) (Some (text ++ codes "\n")) other))
-      (Appends-trans pa pb pc text (codes "\n") first feed),
-  All-nil (IsDocumentOf 0),
-)
+pub PrintsAnswer-lines : (shown : Shows) (ha hb pa pb pc : Known) (asked text : List ℕ)
+    → (says : Answer) → ((count : ℕ) → says ≡ answer_is.Documents count → ⊥)
+    → Appends pa pb (text ++ codes "\n") → TakesLines ha hb pb pc (lines_said says)
+    → PrintsAnswer shown ha hb pa pc asked text says
+PrintsAnswer-lines shown ha hb pa pb pc asked text says other first taken = record {
+  lines = taken.lines;
+  line_count = taken.line_count;
+  each_text = taken.each_text;
+  account = [];
+  job = 0;
+  of_job = IsOfJob-other says other asked [] 0;
+  documents = [];
+  count = documents_said-none says other;
+  each = All-nil (IsDocumentOf 0);
+  heard_rest = subst (Consumes ha hb) (sym (append-nil (flat_map whole_line taken.lines))) taken.heard_whole;
+  printed_whole = subst (λ o. IfSome o (Appends pa pc))
+      (sym (printed_as-lines says (documents_printed shown [] 0 1 []) (Some (whole_lines text taken.lines)) other))
+      (Appends-trans pa pb pc (whole_line text) (flat_map whole_line taken.lines) first taken.printed_whole);
+}
 
 pub PrintsAnswer-documents : (shown : Shows) (ha hb pa pb : Known) (asked text : List ℕ) (count : ℕ)
-    → (account : List ℕ) × (job : ℕ) × IsStartOf asked account job
+    → (account : List ℕ) × (job : ℕ) × AsksDocumentsOf asked account job
     × TakesDocuments shown ha hb pa pb account job count
     → PrintsAnswer shown ha hb pa pb asked text (answer_is.Documents count)
-PrintsAnswer-documents shown ha hb pa pb asked text count taken =
-    (taken.0, taken.1, taken.2, taken.3.0, taken.3.1, taken.3.2, taken.3.3, taken.3.4)
+PrintsAnswer-documents shown ha hb pa pb asked text count taken = record {
+  lines = [];
+  line_count = refl;
+  each_text = All-nil IsText;
+  account = taken.0;
+  job = taken.1;
+  of_job = taken.2;
+  documents = taken.3.0;
+  count = taken.3.1;
+  each = taken.3.4;
+  heard_rest = taken.3.2;
+  printed_whole = taken.3.3;
+}
 
 printed-kept : (a b c : Known) (known : Known) → IfSome known (Appends a b) → Keeps b c
     → IfSome known (Appends a c)
@@ -225,13 +267,24 @@ AnsweredOnce-of shown ha hb hc pa pb asked line says said first prints = record 
     asked = asked;
     line = line;
     says = says;
-    account = prints.0;
-    job = prints.1;
-    documents = prints.3;
+    lines = prints.lines;
+    account = prints.account;
+    job = prints.job;
+    documents = prints.documents;
   };
   asks = refl;
-  said = record { said = said; count = prints.4; of_job = prints.2; each = prints.7 };
-  heard_whole = Consumes-trans ha hb hc (line ++ codes "\n") (flat_map document_heard prints.3) first prints.5;
-  printed_whole = prints.6;
+  said = record {
+    said = said;
+    line_count = prints.line_count;
+    each_text = prints.each_text;
+    count = prints.count;
+    of_job = prints.of_job;
+    each = prints.each;
+  };
+  heard_whole = subst (Consumes ha hc)
+      (sym (append_assoc (whole_line line) (flat_map whole_line prints.lines) (flat_map document_heard prints.documents)))
+      (Consumes-trans ha hb hc (whole_line line)
+      (flat_map whole_line prints.lines ++ flat_map document_heard prints.documents) first prints.heard_rest);
+  printed_whole = prints.printed_whole;
   came_to = refl;
 }

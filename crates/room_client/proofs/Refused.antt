@@ -1,10 +1,14 @@
--- What holds anyway holds of a call that failed.
+-- What holds anyway holds of a call, whether it failed or not.
 use Rattle.std.proofs.Common.{ap}
 use Rattle.std.specs.Prelude.{Result, Ok, Err, IfOk, IsErrOf, OnErr, OnOk}
 
 pub OnErr-of : {A E : Type 0} (result : Result A E) (P : Type 0) → P → OnErr result P
 OnErr-of (Ok value) P holds = tt
 OnErr-of (Err error) P holds = holds
+
+pub OnOk-of : {A E : Type 0} (result : Result A E) (P : Type 0) → P → OnOk result P
+OnOk-of (Ok value) P holds = holds
+OnOk-of (Err error) P holds = tt
 
 pub IfOk-map : {A E : Type 0} (result : Result A E) (P Q : A → Type 0)
     → ((value : A) → P value → Q value) → IfOk result P → IfOk result Q

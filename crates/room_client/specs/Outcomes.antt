@@ -12,4 +12,5 @@ outcome_after Fine number answer_is.BadLine = BadLine number
 outcome_after (BadLine first) number answer_is.BadLine = BadLine first
 outcome_after Failed number answer_is.BadLine = Failed
 outcome_after outcome number (answer_is.Documents count) = outcome
+outcome_after outcome number (answer_is.Lines count) = outcome
 outcome_after outcome number answer_is.Told = outcome

@@ -6,7 +6,7 @@ use Rattle.room_input.specs.declared.grant_line.GrantLine.{GrantLine}
 use Rattle.room_client.specs.declared.answer.Answer.{Answer}
 use Rattle.room_client.specs.Answers.{answer_said}
 use Rattle.room_client.specs.GrantReplies.{AnswersLine, line_heard, line_printed}
-use Rattle.room_client.specs.Replies.{Document, IsDocumentOf, IsOfJob, IsReply, Known, Reply, Shows, document_heard, document_printed, documents_printed, documents_said, heard, printed, printed_as}
+use Rattle.room_client.specs.Replies.{Document, IsDocumentOf, IsOfJob, IsReply, IsText, Known, Reply, Shows, document_heard, document_printed, documents_printed, documents_said, heard, lines_said, printed, printed_as, whole_line, whole_lines}
 
 -- one answer to the line was heard and printed
 pub record AnsweredOnce (shown : Shows) (heard_before heard_after : Known)
@@ -42,16 +42,31 @@ HearsDocument shown heard_before heard_after printed_before printed_after accoun
     × IfSome (document_printed shown account job number document)
     (Appends printed_before printed_after) × IsDocumentOf job document
 
--- the answer of the text to the line was printed, and its documents heard
-abbrev pub PrintsAnswer : (shown : Shows) (heard_before heard_after : Known)
-    → (printed_before printed_after : Known) (asked text : List ℕ) → Answer → Type 0
-PrintsAnswer shown heard_before heard_after printed_before printed_after asked text says =
-    (account : List ℕ) × (job : ℕ) × IsOfJob says asked account job × (documents : List Document)
-    × (length documents ≡ documents_said says)
-    × Consumes heard_before heard_after (flat_map document_heard documents)
-    × IfSome (printed_as says (documents_printed shown account job 1 documents)
-    (Some (text ++ codes "\n"))) (Appends printed_before printed_after)
-    × All (IsDocumentOf job) documents
+-- so many lines were heard and printed
+pub record TakesLines (heard_before heard_after : Known) (printed_before printed_after : Known)
+    (count : ℕ) : Type 0 where
+  pub lines : List (List ℕ)
+  pub line_count : length lines ≡ count
+  pub each_text : All IsText lines
+  pub heard_whole : Consumes heard_before heard_after (flat_map whole_line lines)
+  pub printed_whole : Appends printed_before printed_after (flat_map whole_line lines)
+
+-- the answer of the text to the line was printed, and what follows the text heard
+pub record PrintsAnswer (shown : Shows) (heard_before heard_after : Known)
+    (printed_before printed_after : Known) (asked text : List ℕ) (says : Answer) : Type 0 where
+  pub lines : List (List ℕ)
+  pub line_count : length lines ≡ lines_said says
+  pub each_text : All IsText lines
+  pub account : List ℕ
+  pub job : ℕ
+  pub of_job : IsOfJob says asked account job
+  pub documents : List Document
+  pub count : length documents ≡ documents_said says
+  pub each : All (IsDocumentOf job) documents
+  pub heard_rest : Consumes heard_before heard_after
+      (flat_map whole_line lines ++ flat_map document_heard documents)
+  pub printed_whole : IfSome (printed_as says (documents_printed shown account job 1 documents)
+      (Some (whole_lines text lines))) (Appends printed_before printed_after)
 
 -- the answer to the record of the number was heard and printed, or it is bad and `bad` was
 pub record GrantAnswered (asked : GrantLine) (number : ℕ) (heard_before heard_after : Known)

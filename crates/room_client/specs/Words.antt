@@ -1,6 +1,6 @@
 -- The words of lines that ask for documents, and of those that come with them (all this project's
 -- own).
-use Rattle.std.specs.Prelude.{◌≡◌, ◌≢◌, ℕ, All, List, ◌++◌, codes}
+use Rattle.std.specs.Prelude.{◌≡◌, ◌≢◌, ◌||◌, ℕ, All, Bool, IsTrue, List, ◌++◌, bytes_eq, codes}
 use Rattle.std.specs.Str.Parse.{digits_value}
 use Rattle.room_input.specs.Fields.{IsDecimal}
 
@@ -11,12 +11,17 @@ HasNoSpace word = All (λ byte. byte ≢ 32) word
 abbrev pub IsNumber : (word : List ℕ) (number : ℕ) → Type 0
 IsNumber word number = IsDecimal word × (digits_value 10 word ≡ number)
 
--- `start DEVICE ACCOUNT JOB`
-pub record IsStartOf (line account : List ℕ) (job : ℕ) : Type 0 where
+-- the first word of a line that is answered by documents
+abbrev pub asks_documents : (word : List ℕ) → Bool
+asks_documents word = bytes_eq word (codes "start") || bytes_eq word (codes "again")
+
+-- `start DEVICE ACCOUNT JOB` or `again DEVICE ACCOUNT JOB`
+pub record AsksDocumentsOf (line account : List ℕ) (job : ℕ) : Type 0 where
+  pub word : List ℕ
   pub device : List ℕ
   pub number : List ℕ
-  pub words : line ≡ codes "start" ++ codes " " ++ device ++ codes " " ++ account
-      ++ codes " " ++ number
+  pub words : line ≡ word ++ codes " " ++ device ++ codes " " ++ account ++ codes " " ++ number
+  pub asks : IsTrue (asks_documents word)
   pub is_word : HasNoSpace device
   pub is_job : IsNumber number job
 

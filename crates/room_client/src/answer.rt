@@ -1,7 +1,13 @@
 //! What the first line of an answer says.
-ghost use Rattle.std.specs.Prelude.{◌≡◌};
+ghost use Rattle.std.specs.Prelude.{◌≡◌, option_map};
 ghost use Rattle.std.specs.List.{list_all};
-ghost use Rattle.room_client.specs.Answers.{answer_said, document_count_said, is_text, is_text_byte};
+ghost use Rattle.room_client.specs.Answers.{after_list_word, answer_said, document_count_said, is_text, is_text_byte, line_count_said, list_or_told};
+ghost use Rattle.room_client.specs.Replies.{lines_said};
+
+use room_input::number;
+
+/// The most lines that may follow the first.
+const MOST_LINES: u32 = 999_999;
 
 /// What the first line of an answer says, as far as it is anything to the client.
 #[derive(Clone, Copy, Debug, PartialEq, Eq)]
@@ -12,12 +18,15 @@ pub(crate) enum Answer {
     BadLine,
     /// So many documents follow, at most 8.
     Documents(u8),
+    /// So many lines follow, at most 999999.
+    Lines(u32),
     /// Any other answer, which is this line.
     Told,
 }
 
 impl Answer {
-    /// What the line says, or `None` where it is to say how many documents follow and does not.
+    /// What the line says, or `None` where it is to say how many documents or lines follow and does
+    /// not.
     pub(crate) fn read(line: &[u8]) -> Option<Answer>
         ensures { result ≡ answer_said line.now }
     {
@@ -29,7 +38,17 @@ impl Answer {
         }
         match line.strip_prefix(b"documents ") {
             Some(count) => Some(Answer::Documents(count_said(count)?)),
-            None => Some(Answer::Told),
+            None => list_or_told(line),
+        }
+    }
+
+    /// How many lines follow, apart from those of documents.
+    pub(crate) fn lines(self) -> u32
+        ensures { result ≡ lines_said self }
+    {
+        match self {
+            Answer::Lines(count) => count,
+            _ => 0,
         }
     }
 }
@@ -42,6 +61,35 @@ fn count_said(text: &[u8]) -> Option<u8>
         [digit @ b'0'..=b'8'] => Some(*digit - b'0'),
         _ => None,
     }
+}
+
+/// What a line says that tells of no documents: how many lines follow, or nothing to the client.
+/// It is `None` where the line begins with the word of a list, and no number follows.
+fn list_or_told(line: &[u8]) -> Option<Answer>
+    ensures { result ≡ list_or_told (after_list_word line.now) }
+{
+    match after_list_word(line) {
+        Some(count) => Some(Answer::Lines(line_count_said(count)?)),
+        None => Some(Answer::Told),
+    }
+}
+
+/// What comes after the word of a list and a space, or `None` where the line begins with no such
+/// word.
+fn after_list_word(line: &[u8]) -> Option<&[u8]>
+    ensures { option_map (λ rest. rest.now) result ≡ after_list_word line.now }
+{
+    line.strip_prefix(b"jobs ")
+        .or(line.strip_prefix(b"grants "))
+        .or(line.strip_prefix(b"accounts "))
+        .or(line.strip_prefix(b"devices "))
+}
+
+/// How many lines there are: 0 to 999999 in decimal.
+fn line_count_said(text: &[u8]) -> Option<u32>
+    ensures { result ≡ line_count_said text.now }
+{
+    number(text, 0, MOST_LINES)
 }
 
 /// Whether a line has something to show, and nothing but spaces and what ASCII prints.

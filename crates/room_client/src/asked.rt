@@ -1,15 +1,15 @@
 //! The job of which a line wants the documents.
 ghost use Rattle.std.specs.Prelude.{◌≡◌, IfOk, IfSome, string_bytes};
 ghost use Rattle.room_client.specs.Names.{document_name};
-ghost use Rattle.room_client.specs.Words.{IsStartOf};
+ghost use Rattle.room_client.specs.Words.{AsksDocumentsOf, asks_documents};
 
-use crate::words::{after_word, first_word};
+use crate::words::first_word;
 use room_input::number;
 use room_rules::{LAST_JOB, Name};
 use std::alloc::{AllocError, Global};
 use std::str;
 
-/// The job that a line `start DEVICE ACCOUNT JOB` names.
+/// The job that a line `start DEVICE ACCOUNT JOB` or `again DEVICE ACCOUNT JOB` names.
 #[derive(Clone, Copy, Debug, PartialEq, Eq)]
 pub(crate) struct Asked {
     pub(crate) account: Name,
@@ -19,9 +19,12 @@ pub(crate) struct Asked {
 impl Asked {
     /// The job that the line names, or `None` where it is no such line.
     pub(crate) fn read(line: &[u8]) -> Option<Asked>
-        ensures { IfSome result (λ asked. IsStartOf line.now asked.account asked.job) }
+        ensures { IfSome result (λ asked. AsksDocumentsOf line.now asked.account asked.job) }
     {
-        let words = after_word(line, b"start")?;
+        let (word, words) = first_word(line)?;
+        if !asks_documents(word) {
+            return None;
+        }
         let (_device, rest) = first_word(words)?;
         let (account, job) = first_word(rest)?;
         let account = Name::read(account)?;
@@ -40,6 +43,13 @@ impl Asked {
             Err(_) => Err(AllocError),
         }
     }
+}
+
+/// Whether a line that begins with the word is answered by documents.
+fn asks_documents(word: &[u8]) -> bool
+    ensures { result ≡ asks_documents word.now }
+{
+    matches!(word, b"start" | b"again")
 }
 
 fn name_of(alloc: Global, account: &str, job: u32, number: u8) -> Result<String, AllocError>

@@ -2,7 +2,7 @@
 ghost use Rattle.std.specs.Prelude.{◌≡◌, ◌≢◌, ◌≤◌, ℕ, List, IfErr, IfSome, OnOk};
 ghost use Rattle.room_rules.specs.Limits.{longest_document};
 ghost use Rattle.room_client.specs.ProofAnswering.{HearsDocument, TakesDocuments};
-ghost use Rattle.room_client.specs.Words.{IsHeadOf, IsStartOf};
+ghost use Rattle.room_client.specs.Words.{AsksDocumentsOf, IsHeadOf};
 
 use crate::asked::Asked;
 use crate::fault::ClientFault;
@@ -25,7 +25,7 @@ pub(crate) fn take_documents<R: BufRead, W: Write, K: Keeper, O: Write>(
     output: &mut O,
 ) -> Result<(), ClientFault>
     ensures taken { OnOk result ((account : List ℕ) × (job : ℕ)
-        × IsStartOf line.now account job × TakesDocuments (K.shown keeper.old)
+        × AsksDocumentsOf line.now account job × TakesDocuments (K.shown keeper.old)
         (R.remaining peer.old.reader) (R.remaining peer.new.reader)
         (O.contents output.old) (O.contents output.new) account job count) }
     ensures same { K.shown keeper.new ≡ K.shown keeper.old }

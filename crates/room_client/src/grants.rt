@@ -135,13 +135,13 @@ fn take_result<R: BufRead, W: Write, O: Write>(
     Ok(answer)
 }
 
-/// What answers a grant: no documents.
+/// What answers a grant: no documents, and no list.
 fn result_said(text: &[u8]) -> Result<Answer, ClientFault>
     ensures said { IfOk result (λ answer. answer_said text.now ≡ Some answer) }
     ensures fault { IfErr result (λ fault. fault ≢ ClientFault.TooLong) }
 {
     match Answer::read(text) {
-        None | Some(Answer::Documents(_)) => Err(ClientFault::Broken),
+        None | Some(Answer::Documents(_) | Answer::Lines(_)) => Err(ClientFault::Broken),
         Some(answer) => Ok(answer),
     }
 }

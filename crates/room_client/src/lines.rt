@@ -1,7 +1,8 @@
 //! Lines that are sent one after another.
 
-ghost use Rattle.std.specs.Prelude.{◌≡◌, ◌≢◌, IfErr, IfOk, IfSome, IfNone, IsErrOf, OnOk, OnErr};
-ghost use Rattle.room_client.specs.ProofAnswering.{AnsweredOnce, PrintsAnswer, SentAndAnswered};
+ghost use Rattle.std.specs.Prelude.{◌≡◌, ◌≢◌, ◌++◌, codes, IfErr, IfOk, IfSome, IfNone, IsErrOf, OnOk, OnErr};
+ghost use Rattle.std.specs.Io.KnownBytes.{Appends};
+ghost use Rattle.room_client.specs.ProofAnswering.{AnsweredOnce, PrintsAnswer, SentAndAnswered, TakesLines};
 ghost use Rattle.room_client.specs.Replies.{Answered};
 ghost use Rattle.room_client.specs.Sending.{HasLongLine, IsAtKnownEnd, SendsAll, SendsFront, SendsOn};
 ghost use Rattle.room_client.specs.ProofTaking.{TakesTooMany};
@@ -18,8 +19,8 @@ use std::alloc::Global;
 use std::io::{BufRead, Write};
 
 /// Sends each line of the input, to its end, and prints its answer before the next one is read: the
-/// line that was answered, or of each document its line and what the keeper prints. No line is
-/// judged here.
+/// line that was answered with those that follow it, or of each document its line and what the
+/// keeper prints. No line is judged here.
 pub fn send_lines<I: BufRead, R: BufRead, W: Write, K: Keeper, O: Write>(
     alloc: Global,
     input: &mut I,
@@ -105,7 +106,7 @@ fn take_answer<R: BufRead, W: Write, K: Keeper, O: Write>(
     Ok(answer)
 }
 
-/// Prints an answer to the line: what it says, or the documents that follow.
+/// Prints an answer to the line: what it says with the lines that follow, or the documents.
 fn print_answer<R: BufRead, W: Write, K: Keeper, O: Write>(
     alloc: Global,
     peer: &mut Peer<R, W>,
@@ -125,7 +126,37 @@ fn print_answer<R: BufRead, W: Write, K: Keeper, O: Write>(
     if let Answer::Documents(count) = answer {
         return take_documents(alloc, peer, line, count, keeper, output);
     }
-    output.write_all(text)?;
+    print_line(text, output)?;
+    take_lines(alloc, peer, answer.lines(), output)
+}
+
+/// Takes so many lines, one after another, and prints each as it is.
+fn take_lines<R: BufRead, W: Write, O: Write>(
+    alloc: Global,
+    peer: &mut Peer<R, W>,
+    count: u32,
+    output: &mut O,
+) -> Result<(), ClientFault>
+    ensures taken { OnOk result (TakesLines
+        (R.remaining peer.old.reader) (R.remaining peer.new.reader)
+        (O.contents output.old) (O.contents output.new) count) }
+    ensures writer { peer.new.writer ≡ peer.old.writer }
+    ensures fault { IfErr result (λ fault. fault ≢ ClientFault.TooLong) }
+{
+    for _ in 0..count {
+        let line = peer.hear(alloc)?;
+        print_line(line.as_slice(), output)?;
+    }
+    Ok(())
+}
+
+/// Prints the line, and a line feed.
+fn print_line<O: Write>(line: &[u8], output: &mut O) -> Result<(), ClientFault>
+    ensures printed { OnOk result (Appends (O.contents output.old) (O.contents output.new)
+        (line.now ++ codes "\n")) }
+    ensures fault { IfErr result (λ fault. fault ≢ ClientFault.TooLong) }
+{
+    output.write_all(line)?;
     output.write_all(b"\n")?;
     Ok(())
 }

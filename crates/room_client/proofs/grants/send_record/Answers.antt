@@ -1,8 +1,9 @@
 use Rattle.std.proofs.Common.{◌++◌, codes, sym, subst}
+use Rattle.std.specs.Io.KnownBytes.{Appends}
 use Rattle.room_client.specs.Sending.{AppendsUpTo}
 use Rattle.room_client.proofs.Fronts.{AppendsUpTo-whole}
 use Rattle.room_client.proofs.PrintedGrants.{GrantAnswered-bad, GrantAnswered-good}
-use Rattle.room_client.proofs.Refused.{IfOk-map}
+use Rattle.room_client.proofs.Refused.{IfOk-map, OnOk-of}
 use Rattle.room_client.proofs.SentRecords.{record_sent-line}
 use Rattle.room_client.proofs.grants.send_record.Goals as goal
 
@@ -18,6 +19,13 @@ returns-clause-front g c =
     let sent = rw (c.as_slice.ensures.value, ← c.take_result.ensures.writer) at c.in_ok-say.ensures.sent in
     subst (AppendsUpTo _ _) (sym (record_sent-line c.args.said.now c.in-Some.line.items asked))
     (AppendsUpTo-whole _ _ (c.in-Some.line.items ++ codes "\n") sent)
+
+pub returns-clause-sent : goal.returns-clause-sent
+returns-clause-sent g c =
+    let asked = rw c.in-Some.is at c.in_ok-line.ensures in
+    let sent = rw (c.as_slice.ensures.value, ← c.take_result.ensures.writer) at c.in_ok-say.ensures.sent in
+    OnOk-of c.take_result.result _
+    (subst (Appends _ _) (sym (record_sent-line c.args.said.now c.in-Some.line.items asked)) sent)
 
 pub returns-in_default-clause-answered : goal.returns-in_default-clause-answered
 returns-in_default-clause-answered g c =

@@ -4,19 +4,22 @@ use Rattle.room_client.proofs.asked.Asked.read.Goals as goal
 
 pub returns : goal.returns
 returns c =
-    let start = codes "start" ++ codes " " in
+    let word = c.in_ok-word.word.now in
+    let front = word ++ codes " " in
     let device = c.in_ok-_device._device.now in
     let account = c.in_ok-account.account.now in
     let number = c.in_ok-account.job.now in
     let job = c.in_ok-job.ensures in
     record {
+      word = word;
       device = device;
       number = number;
-      words = c.in_ok-words.ensures
-          ∙ words-cut start device _ _ c.in_ok-_device.ensures.parts
-          ∙ words-cut (start ++ device ++ codes " ") account _ number c.in_ok-account.ensures.parts
-          ∙ ap (λ name. start ++ device ++ codes " " ++ name ++ codes " " ++ number)
+      words = c.in_ok-word.ensures.parts
+          ∙ words-cut front device _ _ c.in_ok-_device.ensures.parts
+          ∙ words-cut (front ++ device ++ codes " ") account _ number c.in_ok-account.ensures.parts
+          ∙ ap (λ name. front ++ device ++ codes " " ++ name ++ codes " " ++ number)
           (name-read _ account _ c.in_ok-account-2.ensures);
+      asks = sym c.asks_documents.ensures ∙ c.if-not-asks_documents.false;
       is_word = c.in_ok-_device.ensures.word;
       is_job = (job.0.0, sym job.1);
     }
