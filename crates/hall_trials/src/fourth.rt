@@ -43,13 +43,18 @@ pub fn run_all<W: Write>(rt: &HostRuntime, report: &mut Report<'_, W>) {
 /// Shows that who comes in by a fourth door speaks what its kind says, that only so many are let in
 /// as its kind says, and that the other doors stand open meanwhile.
 fn a_fourth_door(rt: &HostRuntime) -> Result<(), Fault> {
+    let mut rooms = new_rooms(rt)?;
+    visit_by_four_doors(rt, &mut rooms)
+}
+
+/// Opens a hall of four doors before the rooms, and makes the trial there.
+fn visit_by_four_doors<S: Alter>(rt: &HostRuntime, rooms: &mut Served<S>) -> Result<(), Fault> {
     let mut doors = doors_at_free_ports(rt)?;
     doors.push(Entrance::new(Door::at_port(rt, 0)?, FOR_ONE))?;
     let ports = ports_of(doors.as_slice())?;
     let fourth = port_of(doors.as_slice(), 3)?;
-    let mut rooms = new_rooms(rt)?;
     let mut hall = Hall::open(rt, doors, RandomState::new(rt)?)?;
-    visit(rt, &mut hall, &mut rooms, ports, fourth)
+    visit(rt, &mut hall, rooms, ports, fourth)
 }
 
 /// Lets the operator in, then two by the fourth door, of whom the second waits until the first has

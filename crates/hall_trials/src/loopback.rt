@@ -149,11 +149,16 @@ fn unless_it_waits(count: io::Result<usize>) -> io::Result<Option<usize>> {
 /// pieces, and a station that hands one job out are told their own each, and that whoever ends is
 /// let go.
 fn visitors_over_sockets(rt: &HostRuntime) -> Result<(), Fault> {
+    let mut rooms = new_rooms(rt)?;
+    visit_by_three_doors(rt, &mut rooms)
+}
+
+/// Opens a hall of three doors before the rooms, and makes the trial there.
+fn visit_by_three_doors<S: Alter>(rt: &HostRuntime, rooms: &mut Served<S>) -> Result<(), Fault> {
     let doors = doors_at_free_ports(rt)?;
     let ports = ports_of(doors.as_slice())?;
-    let mut rooms = new_rooms(rt)?;
     let mut hall = Hall::open(rt, doors, RandomState::new(rt)?)?;
-    visit(rt, &mut hall, &mut rooms, ports)
+    visit(rt, &mut hall, rooms, ports)
 }
 
 /// Opens the three doors, on ports that the system chooses.

@@ -68,16 +68,21 @@ fn lose_round_in_files<D: Disk + Drop>(rt: &HostRuntime, files: Files<D>) -> Res
     }
 }
 
-/// Opens rooms over this connection and a hall before them, and makes the trial there.
+/// Opens rooms over this connection, and makes the trial in a hall before them.
 fn lose_round_over<S: Alter + Drop>(
     rt: &HostRuntime,
     connection: Connection<S>,
 ) -> Result<(), Fault> {
+    let mut rooms = rooms_over(rt, connection)?;
+    lose_round_before(rt, &mut rooms)
+}
+
+/// Opens a hall before the rooms, and makes the trial there.
+fn lose_round_before<S: Alter>(rt: &HostRuntime, rooms: &mut Served<S>) -> Result<(), Fault> {
     let doors = doors_at_free_ports(rt)?;
     let ports = ports_of(doors.as_slice())?;
-    let mut rooms = rooms_over(rt, connection)?;
     let mut hall = Hall::open(rt, doors, RandomState::new(rt)?)?;
-    lose_round_in(rt, &mut hall, &mut rooms, ports)
+    lose_round_in(rt, &mut hall, rooms, ports)
 }
 
 /// Has four ask in one round, whose commit fails. Expects what they are told, and that what each

@@ -93,8 +93,15 @@ impl Open {
         Ok(())
     }
 
-    /// Ends the call: answers it with this end, which also says how often it comes.
-    fn into_call(self, alloc: Global, end: &str) -> Result<Call, RowFault> {
+    /// Begins the next call, which reads and writes nothing yet.
+    fn clear(&mut self) {
+        self.read.clear();
+        self.written.clear();
+        self.is_written = false;
+    }
+
+    /// Answers the call with this end, which also says how often it comes.
+    fn call_ended(&self, alloc: Global, end: &str) -> Result<Call, RowFault> {
         let (end, times) = match end.strip_suffix(" times") {
             Some(end) => end.split_once(' ').ok_or(RowFault::Times)?,
             None => (end, "1"),
@@ -118,28 +125,43 @@ impl Exchange {
         };
         let mut open = Open::new(alloc);
         for line in lines.lines() {
-            if line.is_empty() || line.starts_with("-- ") {
-                continue;
-            }
-            if let Some(moment) = line.strip_prefix("at ") {
-                exchange.moment = moment.parse()?;
-            } else if line == "failing" {
-                exchange.is_failing = true;
-            } else if let Some(end) = line.strip_prefix("= ") {
-                exchange.calls.push(open.into_call(alloc, end)?)?;
-                open = Open::new(alloc);
-            } else if let Some(status) = line.strip_prefix("refused ") {
-                open.add_refusal(alloc, status)?;
-                exchange.calls.push(open.into_call(alloc, "close")?)?;
-                open = Open::new(alloc);
-            } else {
-                open.add_line(alloc, line)?;
-            }
+            exchange.read_line(alloc, &mut open, line)?;
         }
         if !open.is_empty() {
             return Err(RowFault::Call);
         }
         Ok(exchange)
+    }
+
+    /// Reads one line, which may add to the call that is open, or end it. After a fault part of it
+    /// may be added.
+    fn read_line(&mut self, alloc: Global, open: &mut Open, line: &str) -> Result<(), RowFault> {
+        if line.is_empty() || line.starts_with("-- ") {
+            return Ok(());
+        }
+        if let Some(moment) = line.strip_prefix("at ") {
+            self.moment = moment.parse()?;
+            return Ok(());
+        }
+        if line == "failing" {
+            self.is_failing = true;
+            return Ok(());
+        }
+        if let Some(end) = line.strip_prefix("= ") {
+            return self.end_call(alloc, open, end);
+        }
+        if let Some(status) = line.strip_prefix("refused ") {
+            open.add_refusal(alloc, status)?;
+            return self.end_call(alloc, open, "close");
+        }
+        open.add_line(alloc, line)
+    }
+
+    /// Adds the call that is open, with this end, and begins the next.
+    fn end_call(&mut self, alloc: Global, open: &mut Open, end: &str) -> Result<(), RowFault> {
+        self.calls.push(open.call_ended(alloc, end)?)?;
+        open.clear();
+        Ok(())
     }
 
     /// Answers the moment of the calls, in seconds.

@@ -2,11 +2,11 @@
 
 use crate::fault::RowFault;
 use crate::rooms::Rooms;
-use ipp_coding::{HEADER_LENGTH, List, read_header, read_message};
+use ipp_coding::{Group, HEADER_LENGTH, List, read_header, read_message};
 use ipp_notation::Operation;
 use room_core::{Event, Job, JobState, LAST_JOB, Name, Part, Reply, Room, read_ask};
 use room_rules::find_device;
-use std::alloc::Global;
+use std::alloc::{AllocError, Global};
 
 /// The attribute that has the word of a refusal (RFC 8011 section 4.1.6.2).
 const STATUS_MESSAGE: &[u8] = b"status-message";
@@ -86,26 +86,42 @@ impl Act {
         reply: &Reply,
         room: Option<&Room>,
     ) -> Result<Vec<String>, RowFault> {
+        let outcome = self.outcome(alloc, reply, room)?;
         let mut names = Vec::new(alloc);
+        self.add_names(alloc, &mut names, outcome.as_str())?;
+        if let Reply::Documents(parts) = reply {
+            add_parts(alloc, &mut names, parts.as_slice())?;
+        }
+        Ok(names)
+    }
+
+    /// Adds `ACT STATE: OUTCOME`, and that the job had a password where that was not asked for.
+    fn add_names(
+        &self,
+        alloc: Global,
+        names: &mut Vec<String>,
+        outcome: &str,
+    ) -> Result<(), RowFault> {
+        names.push(self.name_with(alloc, outcome)?)?;
+        if self.has_password && self.name == "release" && outcome == "bound" {
+            names.push(String::from_str(alloc, "release of a job with a password")?)?;
+        }
+        Ok(())
+    }
+
+    /// Answers `ACT STATE: OUTCOME`.
+    fn name_with(&self, alloc: Global, outcome: &str) -> Result<String, AllocError> {
         let mut name = String::from_str(alloc, self.name)?;
         if !self.state.is_empty() {
             name.push_str(" ")?;
             name.push_str(self.state)?;
         }
         name.push_str(": ")?;
-        let outcome = self.outcome(alloc, reply, room)?;
-        name.push_str(outcome.as_str())?;
+        name.push_str(outcome)?;
         if self.is_last {
             name.push_str(" after the last number")?;
         }
-        names.push(name)?;
-        if self.has_password && self.name == "release" && outcome.as_str() == "bound" {
-            names.push(String::from_str(alloc, "release of a job with a password")?)?;
-        }
-        if let Reply::Documents(parts) = reply {
-            add_parts(alloc, &mut names, parts.as_slice())?;
-        }
-        Ok(names)
+        Ok(name)
     }
 
     /// Answers the word of a refusal, else the state of the job that was acted on, or what was
@@ -189,7 +205,16 @@ fn answer_said(alloc: Global, answer: &List<u8>) -> Result<(String, bool), RowFa
     let Ok(message) = read_message(alloc, answer.as_slice()) else {
         return Err(RowFault::Answer);
     };
-    for group in message.groups.as_slice() {
+    message_said(alloc, message.code, message.groups.as_slice())
+}
+
+/// Answers the same of an answer with this status and these groups.
+fn message_said(
+    alloc: Global,
+    code: u16,
+    groups: &[Group<'_>],
+) -> Result<(String, bool), RowFault> {
+    for group in groups {
         for attribute in group.attributes.as_slice() {
             if attribute.name == STATUS_MESSAGE
                 && let [value] = attribute.values.as_slice()
@@ -198,7 +223,6 @@ fn answer_said(alloc: Global, answer: &List<u8>) -> Result<(String, bool), RowFa
             }
         }
     }
-    let code = message.code;
     Ok((format!(in alloc; "{code:04x}")?, false))
 }
 
@@ -228,14 +252,20 @@ fn add_parts(alloc: Global, names: &mut Vec<String>, parts: &[Part]) -> Result<(
             return Err(RowFault::Text);
         };
         let words: Vec<&str> = line.split(' ').collect(alloc)?;
-        let [_, _, copies, format, length] = words.as_slice() else {
-            return Err(RowFault::Document);
-        };
-        names.push(format!(in alloc; "handed out: copies {copies}")?)?;
-        names.push(format!(in alloc; "handed out: {format}")?)?;
-        if *length == "0" {
-            names.push(String::from_str(alloc, "handed out: an empty document")?)?;
-        }
+        add_part(alloc, names, words.as_slice())?;
+    }
+    Ok(())
+}
+
+/// Adds what the words of a document's line say but its numbers.
+fn add_part(alloc: Global, names: &mut Vec<String>, words: &[&str]) -> Result<(), RowFault> {
+    let [_, _, copies, format, length] = words else {
+        return Err(RowFault::Document);
+    };
+    names.push(format!(in alloc; "handed out: copies {copies}")?)?;
+    names.push(format!(in alloc; "handed out: {format}")?)?;
+    if *length == "0" {
+        names.push(String::from_str(alloc, "handed out: an empty document")?)?;
     }
     Ok(())
 }

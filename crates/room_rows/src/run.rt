@@ -217,13 +217,18 @@ fn unescaped(alloc: Global, text: &str) -> Result<Vec<u8>, RowFault> {
         bytes.extend_from_slice(first.as_bytes())?;
     }
     for piece in pieces {
-        let piece = piece.as_bytes();
-        let (Some(digits), Some(rest)) = (piece.get(..2), piece.get(2..)) else {
-            return Err(RowFault::Digits);
-        };
-        let byte = hex::decode(alloc, digits)?;
-        bytes.extend_from_slice(byte.as_slice())?;
-        bytes.extend_from_slice(rest)?;
+        add_escaped(alloc, &mut bytes, piece.as_bytes())?;
     }
     Ok(bytes)
+}
+
+/// Adds the byte whose two digits the piece begins with, and the rest of the piece as it is.
+fn add_escaped(alloc: Global, bytes: &mut Vec<u8>, piece: &[u8]) -> Result<(), RowFault> {
+    let (Some(digits), Some(rest)) = (piece.get(..2), piece.get(2..)) else {
+        return Err(RowFault::Digits);
+    };
+    let byte = hex::decode(alloc, digits)?;
+    bytes.extend_from_slice(byte.as_slice())?;
+    bytes.extend_from_slice(rest)?;
+    Ok(())
 }

@@ -66,19 +66,25 @@ impl FileStep {
 pub fn read_run_steps(alloc: Global, lines: &str) -> Result<Vec<RunStep>, RowFault> {
     let mut steps = Vec::new(alloc);
     for line in lines.lines() {
-        if line.is_empty() || line.starts_with("-- ") {
-            continue;
-        }
-        if let Some(run) = Run::begun(alloc, line)? {
-            steps.push(RunStep::Run(run))?;
-            continue;
-        }
-        if let Some(RunStep::Run(run)) = steps.last_mut()
-            && run.read_line(alloc, line)?
-        {
-            continue;
-        }
-        steps.push(RunStep::File(FileStep::read(alloc, line)?))?;
+        read_run_line(alloc, &mut steps, line)?;
     }
     Ok(steps)
+}
+
+/// Reads one line of a row, as `read_run_steps` says. After a fault part of it may be added.
+fn read_run_line(alloc: Global, steps: &mut Vec<RunStep>, line: &str) -> Result<(), RowFault> {
+    if line.is_empty() || line.starts_with("-- ") {
+        return Ok(());
+    }
+    if let Some(run) = Run::begun(alloc, line)? {
+        steps.push(RunStep::Run(run))?;
+        return Ok(());
+    }
+    if let Some(RunStep::Run(run)) = steps.last_mut()
+        && run.read_line(alloc, line)?
+    {
+        return Ok(());
+    }
+    steps.push(RunStep::File(FileStep::read(alloc, line)?))?;
+    Ok(())
 }

@@ -6,7 +6,7 @@ use room_lines::{Grammar, Line};
 use std::alloc::Global;
 
 /// A step of a conversation.
-#[derive(Debug, Drop)]
+#[derive(Drop)]
 pub enum Step {
     /// A line of a script.
     Event(Line),

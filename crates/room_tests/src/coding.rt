@@ -5,6 +5,7 @@ use ipp_coding::{
     Header, PutFault, ReadFault, Value, bool_of, int_of, put_attribute, put_end, put_group,
     put_header, put_more, read_header, read_message, text_of,
 };
+use std::process::Abort;
 use std::test::Fail;
 
 /// Shows that the header of a request is read, and that seven bytes, one too few, have none.
@@ -70,24 +71,34 @@ fn refusals_in_their_order(rt: HostRuntime) -> Result<(), Fail> {
     let mut out = Vec::new(rt.alloc());
     let mut long = Vec::new(rt.alloc());
     long.resize(32_768, b'x')?;
+    expect_refused_attributes(&rt, &mut out, long.as_slice());
+    expect_refused_values(&rt, &mut out, long.as_slice());
+    assert_eq!(rt; out.len(), 0);
+    Ok(())
+}
+
+/// Puts attributes of which a part is bad or too long. Expects the fault of each.
+fn expect_refused_attributes(rt: &impl Abort, out: &mut Vec<u8>, long: &[u8]) {
     let cases: [(u8, &[u8], &[u8], PutFault); 4] = [
-        (0x44, &long, b"b", PutFault::TooLong),
-        (0x00, b"", &long, PutFault::TooLong),
+        (0x44, long, b"b", PutFault::TooLong),
+        (0x00, b"", long, PutFault::TooLong),
         (0x00, b"", b"b", PutFault::EmptyName),
         (0x0f, b"a", b"b", PutFault::BadTag),
     ];
     for (tag, name, value, fault) in cases {
-        let put = put_attribute(&mut out, tag, name, value);
+        let put = put_attribute(out, tag, name, value);
         assert_eq!(rt; put, Err(fault), "{tag} {}", name.len());
     }
-    assert_eq!(rt; put_more(&mut out, 0x00, &long), Err(PutFault::TooLong));
-    assert_eq!(rt; put_more(&mut out, 0x0f, b"b"), Err(PutFault::BadTag));
+}
+
+/// Puts further values and groups that are bad or too long. Expects the fault of each.
+fn expect_refused_values(rt: &impl Abort, out: &mut Vec<u8>, long: &[u8]) {
+    assert_eq!(rt; put_more(out, 0x00, long), Err(PutFault::TooLong));
+    assert_eq!(rt; put_more(out, 0x0f, b"b"), Err(PutFault::BadTag));
     for tag in [0x00, 0x03, 0x10, 0xff] {
-        let put = put_group(&mut out, tag);
+        let put = put_group(out, tag);
         assert_eq!(rt; put, Err(PutFault::BadTag), "group {tag}");
     }
-    assert_eq!(rt; out.len(), 0);
-    Ok(())
 }
 
 /// Shows that an integer or an enum of four bytes is a number, and nothing else is.

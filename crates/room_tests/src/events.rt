@@ -107,12 +107,17 @@ fn an_account_is_opened(rt: HostRuntime) {
     let before = answer_at_1000(&rt, &mut room, &Event::Ipp { account, body });
     assert!(rt; matches!(&before, Reply::NoAccount));
     assert!(rt; room.is_none());
-    match answer_at_1000(&rt, &mut room, &Event::Open { account }) {
-        Reply::Line(text) => assert_eq!(rt; text.as_slice(), b"ok".as_slice()),
-        _ => assert!(rt; false),
-    }
-    match answer_at_1000(&rt, &mut room, &Event::Ipp { account, body }) {
-        Reply::Ipp(message) => assert_eq!(rt; message.as_slice(), ANSWER),
+    let opened = answer_at_1000(&rt, &mut room, &Event::Open { account });
+    expect_bytes(&rt, &opened, b"ok");
+    let after = answer_at_1000(&rt, &mut room, &Event::Ipp { account, body });
+    assert!(rt; matches!(&after, Reply::Ipp(_)));
+    expect_bytes(&rt, &after, ANSWER);
+}
+
+/// Expects a line or a message of these bytes.
+fn expect_bytes(rt: &impl Abort, reply: &Reply, due: &[u8]) {
+    match reply {
+        Reply::Line(bytes) | Reply::Ipp(bytes) => assert_eq!(rt; bytes.as_slice(), due),
         _ => assert!(rt; false),
     }
 }

@@ -1,9 +1,10 @@
 //! Tests of what `explain` prints of messages and lines.
 
-use crate::notation::{explained, spelled};
+use crate::notation::{expect_explained, expect_spelled, explained, spelled};
 use ipp_coding::read_message;
 use ipp_notation::explain;
-use std::alloc::Global;
+use std::alloc::{AllocError, Global};
+use std::process::Abort;
 use std::test::Fail;
 
 /// Digits of a whole message, and what is printed of a line of them alone.
@@ -140,13 +141,18 @@ const NO_MESSAGES: [(&str, usize, &str); 11] = [
 /// Shows what is printed of each kind of message, and that it stands for the same digits.
 #[test]
 fn each_kind_of_message(rt: HostRuntime) -> Result<(), Fail> {
-    let alloc = rt.alloc();
     for (digits, lines) in &MESSAGES {
-        let text = explained(alloc, digits.as_bytes())?;
-        assert_eq!(rt; text.as_str(), *lines);
-        let spelled = spelled(alloc, text.as_str())?;
-        assert!(rt; spelled.eq_ignore_ascii_case(digits), "{spelled}");
+        expect_message(&rt, *digits, *lines)?;
     }
+    Ok(())
+}
+
+/// Expects that these lines are printed of the message, and that they stand for the same digits.
+fn expect_message(rt: &(impl Abort + AllocGlobal), digits: &str, lines: &str) -> Result<(), Fail> {
+    let text = explained(rt.alloc(), digits.as_bytes())?;
+    assert_eq!(rt; text.as_str(), lines);
+    let spelled = spelled(rt.alloc(), text.as_str())?;
+    assert!(rt; spelled.eq_ignore_ascii_case(digits), "{spelled}");
     Ok(())
 }
 
@@ -154,49 +160,64 @@ fn each_kind_of_message(rt: HostRuntime) -> Result<(), Fail> {
 /// the place told is where the longest good front ends.
 #[test]
 fn no_messages(rt: HostRuntime) -> Result<(), Fail> {
-    let alloc = rt.alloc();
     for (digits, place, lines) in &NO_MESSAGES {
-        let text = explained(alloc, digits.as_bytes())?;
-        let space = if lines.ends_with('\n') { "" } else { "  " };
-        let due = format!(in alloc; "{lines}{space}# no message from byte {place} on\n")?;
-        assert_eq!(rt; text.as_str(), due.as_str());
-        assert_eq!(rt; spelled(alloc, text.as_str())?.as_str(), *digits);
-        assert_eq!(rt;
-            longest_front(alloc, hex::decode(alloc, digits.as_bytes())?)?,
-            *place
-        );
+        expect_no_message(&rt, *digits, *place, *lines)?;
     }
+    Ok(())
+}
+
+/// Expects that these lines are printed of the digits, and that this is the place told.
+fn expect_no_message(
+    rt: &(impl Abort + AllocGlobal),
+    digits: &str,
+    place: usize,
+    lines: &str,
+) -> Result<(), Fail> {
+    let space = if lines.ends_with('\n') { "" } else { "  " };
+    let due = format!(in rt.alloc(); "{lines}{space}# no message from byte {place} on\n")?;
+    expect_explained(rt, digits, due.as_str())?;
+    let bytes = hex::decode(rt.alloc(), digits.as_bytes())?;
+    assert_eq!(rt; longest_front(rt.alloc(), bytes.as_slice())?, place);
     Ok(())
 }
 
 /// Answers how long the longest front is that is a message with an end tag after it, 0 where none
 /// is.
-fn longest_front(alloc: Global, bytes: Vec<u8>) -> Result<usize, Fail> {
+fn longest_front(alloc: Global, bytes: &[u8]) -> Result<usize, Fail> {
     let mut longest = 0;
     for length in 0..=bytes.len() {
-        let mut front = Vec::new(alloc);
-        front.extend_from_slice(&bytes[..length])?;
-        front.push(0x03)?;
-        if read_message(alloc, front.as_slice()).is_ok() {
+        if is_message_before_end(alloc, &bytes[..length])? {
             longest = length;
         }
     }
     Ok(longest)
 }
 
+/// Answers whether the bytes are a message with an end tag after them.
+fn is_message_before_end(alloc: Global, bytes: &[u8]) -> Result<bool, Fail> {
+    let mut message = Vec::with_capacity(alloc, bytes.len().saturating_add(1))?;
+    message.extend_from_slice(bytes)?;
+    message.push(0x03)?;
+    Ok(read_message(alloc, message.as_slice()).is_ok())
+}
+
 /// Shows that a value of 32768 bytes, whose length no message can say, is no message.
 #[test]
 fn a_value_that_is_too_long(rt: HostRuntime) -> Result<(), Fail> {
-    let alloc = rt.alloc();
+    let line = line_too_long(rt.alloc())?;
+    let text = explained(rt.alloc(), line.as_bytes())?;
+    assert!(rt; text.ends_with("03  # no message from byte 9 on\n"));
+    expect_spelled(&rt, text.as_str(), line.as_str())
+}
+
+/// Answers the digits of a message with that value.
+fn line_too_long(alloc: Global) -> Result<String, AllocError> {
     let mut line = String::from_str(alloc, "010100040000000101440001618000")?;
     for _ in 0..0x8000 {
         line.push_str("62")?;
     }
     line.push_str("03")?;
-    let text = explained(alloc, line.as_bytes())?;
-    assert!(rt; text.ends_with("03  # no message from byte 9 on\n"));
-    assert_eq!(rt; spelled(alloc, text.as_str())?.as_str(), line.as_str());
-    Ok(())
+    Ok(line)
 }
 
 /// Lines of a script, of its output, and others.
@@ -265,13 +286,15 @@ const LINES_EXPLAINED: &[u8] = b"1788249600 open alice\n\
 /// Shows which lines hold a message that is explained, and that each other line stays as it is.
 #[test]
 fn each_kind_of_line(rt: HostRuntime) -> Result<(), Fail> {
+    expect_lines(&rt, b"", b"")?;
+    expect_lines(&rt, b"\n", b"\n")?;
+    expect_lines(&rt, LINES, LINES_EXPLAINED)
+}
+
+/// Expects that this is printed of the lines.
+fn expect_lines(rt: &(impl Abort + AllocGlobal), lines: &[u8], due: &[u8]) -> Result<(), Fail> {
     let mut output = Vec::new(rt.alloc());
-    explain(rt.alloc(), b"", &mut output)?;
-    assert!(rt; output.is_empty());
-    explain(rt.alloc(), b"\n", &mut output)?;
-    assert_eq!(rt; output.as_slice(), b"\n".as_slice());
-    output.clear();
-    explain(rt.alloc(), LINES, &mut output)?;
-    assert_eq!(rt; output.as_slice(), LINES_EXPLAINED);
+    explain(rt.alloc(), lines, &mut output)?;
+    assert_eq!(rt; output.as_slice(), due);
     Ok(())
 }

@@ -15,8 +15,6 @@ mod examples;
 #[cfg(test)]
 mod explained;
 #[cfg(test)]
-mod library;
-#[cfg(test)]
 mod memory;
 #[cfg(test)]
 mod notation;

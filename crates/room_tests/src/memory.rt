@@ -12,7 +12,7 @@ use ipp_coding::{
     Attribute, Header, List, PutFault, ReadFault, Value, put_attribute, put_end, put_group,
     put_header, put_more, read_message,
 };
-use room_asks::{AskFault, read_ask};
+use room_asks::{Ask, AskFault, read_ask};
 use room_input::{Counted, GrantFault, GrantLine, read_grants};
 use room_replies::{
     Place, PrinterNow, Success, put_job, put_line, put_printer, put_reply, put_success,
@@ -24,11 +24,10 @@ use std::test::Fail;
 /// Shows what reading a message gives, asked again where memory was refused.
 #[test]
 fn read_message_again(rt: HostRuntime) -> Result<(), Fail> {
-    let mut read = read_message(rt.alloc(), REQUEST);
-    if matches!(read, Err(ReadFault::Memory)) {
-        read = read_message(rt.alloc(), REQUEST);
-    }
-    let message = read?;
+    let message = match read_message(rt.alloc(), REQUEST) {
+        Err(ReadFault::Memory) => read_message(rt.alloc(), REQUEST),
+        read => read,
+    }?;
     assert_eq!(rt; message.groups.as_slice().len(), 1);
     assert_eq!(rt; message.payload.len(), 0);
     Ok(())
@@ -99,20 +98,33 @@ const REQUESTED: &[u8] = b"\x01\x01\x00\x0a\x00\x00\x00\x01\x01\
 fn read_ask_again(rt: HostRuntime) -> Result<(), Fail> {
     let alice = Name::read(b"alice").ok_or("a name")?;
     for (body, unsupported, names) in [(TEMPLATES, 2usize, 0usize), (REQUESTED, 0, 2)] {
-        assert!(rt; body.len() >= 8);
-        let mut ask = read_ask(rt.alloc(), body, alice);
-        if matches!(&ask, Err(AskFault::Memory)) {
-            ask = read_ask(rt.alloc(), body, alice);
-        }
-        let ask = ask?;
-        assert_eq!(rt; ask.unsupported.as_slice().len(), unsupported);
-        let wanted = ask
-            .wanted
-            .as_ref()
-            .map_or(0, |names| names.as_slice().len());
-        assert_eq!(rt; wanted, names);
+        let ask = asked_again(&rt, body, alice)?;
+        expect_lists(&rt, &ask, unsupported, names);
     }
     Ok(())
+}
+
+/// Answers what the request asks, read again where memory was refused.
+fn asked_again<'a>(
+    rt: &(impl Abort + AllocGlobal),
+    body: &'a [u8],
+    account: Name,
+) -> Result<Ask<'a>, AskFault<'a>> {
+    assert!(rt; body.len() >= 8);
+    match read_ask(rt.alloc(), body, account) {
+        Err(AskFault::Memory) => read_ask(rt.alloc(), body, account),
+        ask => ask,
+    }
+}
+
+/// Expects so many unsupported attributes and so many wanted names.
+fn expect_lists(rt: &impl Abort, ask: &Ask<'_>, unsupported: usize, names: usize) {
+    assert_eq!(rt; ask.unsupported.as_slice().len(), unsupported);
+    let wanted = ask
+        .wanted
+        .as_ref()
+        .map_or(0, |names| names.as_slice().len());
+    assert_eq!(rt; wanted, names);
 }
 
 /// Shows that a new device is made, asked again where memory was refused.
@@ -120,14 +132,20 @@ fn read_ask_again(rt: HostRuntime) -> Result<(), Fail> {
 fn set_device_again(rt: HostRuntime) -> Result<(), Fail> {
     let d1 = Name::read(b"d1").ok_or("a name")?;
     let mut devices: Vec<Device> = Vec::new(rt.alloc());
-    let mut answer = set_device(&mut devices, d1, true);
-    if answer == Err(CoreFault::Memory) {
-        assert_eq!(rt; devices.len(), 0);
-        answer = set_device(&mut devices, d1, true);
-    }
-    assert_eq!(rt; answer, Ok(()));
+    turn_on_again(&rt, &mut devices, d1)?;
     assert_eq!(rt; devices.len(), 1);
     Ok(())
+}
+
+/// Turns the device on, once more where memory was refused, which has to leave no device.
+fn turn_on_again(rt: &impl Abort, devices: &mut Vec<Device>, name: Name) -> Result<(), CoreFault> {
+    match set_device(devices, name, true) {
+        Err(CoreFault::Memory) => {
+            assert_eq!(rt; devices.len(), 0);
+            set_device(devices, name, true)
+        }
+        answer => answer,
+    }
 }
 
 /// Shows that a file of grants, read again where memory was refused, has a grant and a bad record

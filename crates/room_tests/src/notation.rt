@@ -3,6 +3,7 @@
 
 use ipp_notation::{NotationFault, explain, spell};
 use std::alloc::Global;
+use std::process::Abort;
 use std::test::Fail;
 
 /// An attribute, and the lines that are printed of it.
@@ -233,23 +234,58 @@ pub fn spelled(alloc: Global, lines: &str) -> Result<String, NotationFault> {
     Ok(digits)
 }
 
+/// Expects that this text is printed of the digits, and that it stands for the same digits.
+pub fn expect_explained(
+    rt: &(impl Abort + AllocGlobal),
+    digits: &str,
+    due: &str,
+) -> Result<(), Fail> {
+    let text = explained(rt.alloc(), digits.as_bytes())?;
+    assert_eq!(rt; text.as_str(), due);
+    expect_spelled(rt, text.as_str(), digits)
+}
+
+/// Expects that the lines stand for these digits.
+pub fn expect_spelled(
+    rt: &(impl Abort + AllocGlobal),
+    lines: &str,
+    digits: &str,
+) -> Result<(), Fail> {
+    let spelled = spelled(rt.alloc(), lines)?;
+    assert_eq!(rt; spelled.as_str(), digits);
+    Ok(())
+}
+
+/// Expects that these lines are printed of a message with the attribute, and that they stand for the
+/// same digits.
+fn expect_attribute(
+    rt: &(impl Abort + AllocGlobal),
+    attribute: &[u8],
+    lines: &str,
+) -> Result<(), Fail> {
+    let digits = hex::encode(rt.alloc(), attribute)?;
+    let message = format!(in rt.alloc(); "010100040000000101{digits}03")?;
+    let due = format!(in rt.alloc();
+        "0101 0004 00000001  # IPP 1.1, Validate-Job, request 1\n\
+            01  # operation attributes\n\
+            {lines}\n\
+            03  # end\n"
+    )?;
+    expect_explained(rt, message.as_str(), due.as_str())
+}
+
+/// Expects of each attribute that its lines are printed, and that they stand for the same digits.
+fn expect_attributes(rt: &(impl Abort + AllocGlobal), attributes: &[Printed]) -> Result<(), Fail> {
+    for (attribute, lines) in attributes {
+        expect_attribute(rt, *attribute, *lines)?;
+    }
+    Ok(())
+}
+
 /// Shows what is printed of each kind of value, and that it stands for the same digits.
 #[test]
 fn each_kind_of_value(rt: HostRuntime) -> Result<(), Fail> {
-    let alloc = rt.alloc();
-    for (attribute, lines) in NUMBERS.iter().chain(&TEXTS).chain(&OTHERS) {
-        let digits = hex::encode(alloc, *attribute)?;
-        let message = format!(in alloc; "010100040000000101{digits}03")?;
-        let text = explained(alloc, message.as_bytes())?;
-        let due = format!(in alloc;
-            "0101 0004 00000001  # IPP 1.1, Validate-Job, request 1\n\
-                01  # operation attributes\n\
-                {lines}\n\
-                03  # end\n"
-        )?;
-        assert_eq!(rt; text.as_str(), due.as_str());
-        let spelled = spelled(alloc, text.as_str())?;
-        assert_eq!(rt; spelled.as_str(), message.as_str());
-    }
-    Ok(())
+    expect_attributes(&rt, &NUMBERS)?;
+    expect_attributes(&rt, &TEXTS)?;
+    expect_attributes(&rt, &OTHERS)
 }

@@ -60,18 +60,9 @@ fn job_of_standing(alloc: Global, standing: Standing) -> Result<Job, AllocError>
 /// Shows the bytes that a Print-Job is answered.
 #[test]
 fn a_print_job_answer(rt: HostRuntime) -> Result<(), Fail> {
-    let request = Header {
-        major: 1,
-        minor: 1,
-        code: 0x0002,
-        request_id: 2,
-    };
-    let wanted: [&[u8]; 4] = [b"job-uri", b"job-id", b"job-state", b"job-state-reasons"];
     let job = job_of_standing(rt.alloc(), HELD)?;
     let mut out = Vec::new(rt.alloc());
-    put_reply(&mut out, request, 0x0000, None, &[])?;
-    put_job(&mut out, &place_of_alice(&rt), &job, Some(&wanted))?;
-    put_end(&mut out)?;
+    put_print_job_answer(&mut out, &place_of_alice(&rt), &job)?;
     assert_eq!(rt; out.len(), 197);
     assert_eq!(rt;
         out.as_slice(),
@@ -86,6 +77,24 @@ fn a_print_job_answer(rt: HostRuntime) -> Result<(), Fail> {
             \x03"
             .as_slice()
     );
+    Ok(())
+}
+
+/// Puts what a Print-Job that made the job is answered.
+fn put_print_job_answer(out: &mut Vec<u8>, place: &Place<'_>, job: &Job) -> Result<(), Fail>
+    requires place { IsPlace (plain_place place.now) }
+    requires job { IsShowable job.now }
+{
+    let request = Header {
+        major: 1,
+        minor: 1,
+        code: 0x0002,
+        request_id: 2,
+    };
+    let wanted: [&[u8]; 4] = [b"job-uri", b"job-id", b"job-state", b"job-state-reasons"];
+    put_reply(out, request, 0x0000, None, &[])?;
+    put_job(out, place, job, Some(&wanted))?;
+    put_end(out)?;
     Ok(())
 }
 

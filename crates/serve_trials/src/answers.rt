@@ -66,6 +66,11 @@ const OUTCOMES: &[(&[u8], &[u8], Outcome)] = &[
         Outcome::Failed,
     ),
     (b"a\n", b"conflict 100\n", Outcome::Fine),
+    (
+        b"a\nb\nc\n",
+        b"jobs 2\njob 1\nfailed\ngrants 0\nok\n",
+        Outcome::Fine,
+    ),
 ];
 
 /// Shows that an event that failed counts before a bad line, and that of two bad lines the first
@@ -142,6 +147,9 @@ const BROKEN: &[&[u8]] = &[
     b"ok",
     b"\x1b[2J\n",
     b"o\x00k\n",
+    b"jobs \n",
+    b"grants 01\n",
+    b"devices 1000000\n",
     b"documents \n",
     b"documents 9\n",
     b"documents +1\n",
@@ -167,6 +175,7 @@ const OF_NO_START: &[&[u8]] = &[
     b"start d1 Alice 4\n",
     b"start d1 .. 4\n",
     b"start d1 alice 04\n",
+    b"again d1 alice\n",
     b"settle d1 alice 4\n",
 ];
 

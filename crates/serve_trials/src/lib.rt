@@ -9,6 +9,7 @@ mod fault;
 mod limits;
 mod lines;
 mod notices;
+mod questions;
 mod refusals;
 mod report;
 mod requests;
@@ -42,6 +43,7 @@ pub fn all_trials_hold<W: Write>(rt: &HostRuntime, output: &mut W) -> bool {
     taken::run_all(rt, &mut report);
     limits::run_all(rt, &mut report);
     lines::run_all(rt, &mut report);
+    questions::run_all(rt, &mut report);
     turns::run_all(rt, &mut report);
     notices::run_all(rt, &mut report);
     sends::run_all(rt, &mut report);

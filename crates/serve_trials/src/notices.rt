@@ -14,7 +14,7 @@ use bytes::{BufMut, Bytes};
 use http::Request;
 use http_server::{Response, Service};
 use room_peers::{HttpPeer, Next, RoomService, Served, Turn};
-use sqlite::Alter;
+use sqlite::{Alter, MemStore};
 use std::alloc::AllocError;
 use std::hash::RandomState;
 use std::io::Write;
@@ -73,24 +73,29 @@ impl<S: Alter> RoomService for Notices<'_, S> {
 /// that one who speaks with the queues is answered by the same rooms as before.
 fn a_second_service(rt: &HostRuntime) -> Result<(), Fault> {
     let mut rooms = open_rooms(rt)?;
-    let keys = RandomState::new(rt)?;
-    let mut notices = Notices { rooms: &mut rooms };
-    let peer = HttpPeer::new(rt.alloc(), keys, 0);
-    expect_turn(rt, peer, &mut notices, ASKS, NOTICED)?;
-    let request = joined(rt.alloc(), &[QUEUE, SIZED, REQUEST])?;
-    let valid = joined(rt.alloc(), &[TAKEN, ANSWER])?;
-    let peer = HttpPeer::new(rt.alloc(), keys, 0);
-    expect_turn(rt, peer, &mut rooms, request.as_slice(), valid.as_slice())
+    expect_both_answered(rt, &mut rooms)
 }
 
-/// Gives the peer one turn with the service. Expects that this goes out, and that it is left to wait.
+/// Sends a request for the notice to the second service, and then one to the queues. Expects the
+/// answer of each.
+fn expect_both_answered(rt: &HostRuntime, rooms: &mut Served<MemStore>) -> Result<(), Fault> {
+    let mut notices = Notices { rooms: &mut *rooms };
+    expect_turn(rt, &mut notices, ASKS, NOTICED)?;
+    let request = joined(rt.alloc(), &[QUEUE, SIZED, REQUEST])?;
+    let valid = joined(rt.alloc(), &[TAKEN, ANSWER])?;
+    expect_turn(rt, rooms, request.as_slice(), valid.as_slice())
+}
+
+/// Gives a new peer one turn with the service. Expects that this goes out, and that the peer is left
+/// to wait.
 fn expect_turn<V: RoomService>(
     rt: &HostRuntime,
-    mut peer: HttpPeer,
     service: &mut V,
     comes: &[u8],
     due: &[u8],
 ) -> Result<(), Fault> {
+    let keys = RandomState::new(rt)?;
+    let mut peer = HttpPeer::new(rt.alloc(), keys, 0);
     let mut went = Vec::new(rt.alloc());
     let mut reader = comes;
     let next = peer.drive(&mut reader, &mut went, service, ROOM);

@@ -62,24 +62,29 @@ fn repeated(alloc: Global, text: &[u8], count: u32) -> Result<Vec<u8>, AllocErro
 fn a_few_requests_a_turn(rt: &HostRuntime) -> Result<(), Fault> {
     let request = request(rt.alloc())?;
     let comes = repeated(rt.alloc(), request.as_slice(), 300)?;
+    let valid = valid_answer(rt.alloc())?;
+    let all = repeated(rt.alloc(), valid.as_slice(), 300)?;
     let mut talk = Talk::of_client(rt, comes.as_slice())?;
-    expect_a_few_a_turn(rt, &mut talk)
+    expect_a_few_a_turn(rt, &mut talk, valid.len(), all.as_slice())
 }
 
-/// Expects four answers at most in the first turn, and all 300 in the end.
-fn expect_a_few_a_turn(rt: &HostRuntime, talk: &mut Talk<'_>) -> Result<(), Fault> {
-    let valid = valid_answer(rt.alloc())?;
+/// Expects four answers of this length at most in the first turn, and all in the end.
+fn expect_a_few_a_turn(
+    rt: &HostRuntime,
+    talk: &mut Talk<'_>,
+    length: usize,
+    all: &[u8],
+) -> Result<(), Fault> {
     expect_equal(rt, talk.turn(ROOM), Next::Again)?;
     expect(rt, !talk.went_out().is_empty(), "the first turn answers")?;
-    let most = valid.len().saturating_mul(4);
+    let most = length.saturating_mul(4);
     expect(
         rt,
         talk.went_out().len() <= most,
         "the first turn answers four",
     )?;
     expect_equal(rt, talk.turn_while_again(ROOM), Next::Wait)?;
-    let all = repeated(rt.alloc(), valid.as_slice(), 300)?;
-    expect_bytes(rt, talk.went_out(), all.as_slice())
+    expect_bytes(rt, talk.went_out(), all)
 }
 
 /// Answers a request whose body has a million bytes.
@@ -94,25 +99,27 @@ fn large_request(alloc: Global) -> Result<Vec<u8>, AllocError> {
 fn a_large_request_waits_for_room(rt: &HostRuntime) -> Result<(), Fault> {
     let small = request(rt.alloc())?;
     let large = large_request(rt.alloc())?;
+    let valid = valid_answer(rt.alloc())?;
     let mut talk = Talk::of_client(rt, small.as_slice())?;
-    expect_large_one_waits(rt, &mut talk, large.as_slice())
+    expect_large_one_waits(rt, &mut talk, large.as_slice(), valid.as_slice())
 }
 
-/// Sends the large request behind a small one. Expects that only the large one waits for room.
+/// Sends the large request behind a small one. Expects that only the large one waits for room, and
+/// that each gets the valid answer.
 fn expect_large_one_waits<'a>(
     rt: &HostRuntime,
     talk: &mut Talk<'a>,
     large: &'a [u8],
+    valid: &[u8],
 ) -> Result<(), Fault> {
-    let valid = valid_answer(rt.alloc())?;
-    talk.expect_turn(rt, NO_ROOM, Next::Wait, valid.as_slice())?;
+    talk.expect_turn(rt, NO_ROOM, Next::Wait, valid)?;
     talk.send(large);
     expect_equal(rt, talk.turn_while_again(NO_ROOM), Next::HeldBack)?;
     expect(rt, talk.is_large(), "a large request is coming")?;
     expect(rt, talk.bytes_held() < 300_000, "it stops coming")?;
     expect(rt, talk.patience().is_held_back(), "it is held back")?;
     expect_equal(rt, talk.turn_while_again(ROOM), Next::Wait)?;
-    expect_bytes(rt, talk.went_out(), valid.as_slice())?;
+    expect_bytes(rt, talk.went_out(), valid)?;
     expect(
         rt,
         talk.patience().is_at_rest(),
@@ -124,20 +131,24 @@ fn expect_large_one_waits<'a>(
 /// began.
 fn a_body_that_was_asked_for(rt: &HostRuntime) -> Result<(), Fault> {
     let head = joined(rt.alloc(), &[QUEUE, b"Expect: 100-continue\r\n", SIZED])?;
+    let valid = valid_answer(rt.alloc())?;
     let mut talk = Talk::of_client(rt, head.as_slice())?;
-    expect_body_waited_for(rt, &mut talk)
+    expect_body_waited_for(rt, &mut talk, valid.as_slice())
 }
 
-/// Expects the 100 text and ten seconds of patience, and the answer once the body came.
-fn expect_body_waited_for(rt: &HostRuntime, talk: &mut Talk<'_>) -> Result<(), Fault> {
+/// Expects the 100 text and ten seconds of patience, and the valid answer once the body came.
+fn expect_body_waited_for(
+    rt: &HostRuntime,
+    talk: &mut Talk<'_>,
+    valid: &[u8],
+) -> Result<(), Fault> {
     talk.expect_turn(rt, ROOM, Next::Wait, CONTINUED)?;
     let patience = talk.patience();
     expect(rt, !patience.is_at_rest(), "the body is waited for")?;
     expect(rt, !patience.is_over(10_000), "it has ten seconds")?;
     expect(rt, patience.is_over(10_001), "it has no more")?;
     talk.send(REQUEST);
-    let valid = valid_answer(rt.alloc())?;
-    talk.expect_turn(rt, ROOM, Next::Wait, valid.as_slice())?;
+    talk.expect_turn(rt, ROOM, Next::Wait, valid)?;
     expect(
         rt,
         talk.patience().is_at_rest(),

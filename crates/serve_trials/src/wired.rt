@@ -18,11 +18,21 @@ pub struct Wired {
 }
 
 /// The rooms, the connection to them, and the answers that were not read yet.
-#[derive(Drop)]
 struct Ends {
     rooms: Served<MemStore>,
     connection: LineConnection,
     answers: VecDeque<u8>,
+}
+
+// In the place of `#[derive(Drop)]`, so that no caller proves again how each part is dropped.
+impl Drop for Ends {
+    fn drop(self) {
+        let Ends {
+            rooms: _,
+            connection: _,
+            answers: _,
+        } = self;
+    }
 }
 
 impl Wired {
@@ -39,16 +49,21 @@ impl Wired {
 
     /// Answers the rooms as the lines left them.
     pub fn into_rooms(self) -> Served<MemStore> {
-        let Ends {
-            rooms,
-            connection: _,
-            answers: _,
-        } = self.ends.into_inner();
-        rooms
+        self.ends.into_inner().into_rooms()
     }
 }
 
 impl Ends {
+    /// Answers the rooms as the lines left them.
+    fn into_rooms(self) -> Served<MemStore> {
+        let Ends {
+            rooms,
+            connection: _,
+            answers: _,
+        } = self;
+        rooms
+    }
+
     /// Reads lines of the bytes, and answers them. Answers how many bytes were read.
     fn hear(&mut self, bytes: &[u8]) -> io::Result<usize>
         ensures { IfOk result (λ count. count ≤ length bytes.now) }

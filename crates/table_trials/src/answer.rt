@@ -1,6 +1,8 @@
 //! What commands answer, and how it is printed.
 
 use ipp_coding::List;
+use room_events::Reply;
+use room_lines::print_answer;
 use room_rules::{Account, Document, Job, JobState, Name, Standing};
 use room_state::Tally;
 use room_statements::TableFault;
@@ -23,6 +25,8 @@ pub enum Answer {
     Job(Option<Job>),
     Jobs(List<Job>),
     Documents(List<Document>),
+    /// What a question is answered.
+    Told(Reply),
     /// Why a call was refused.
     Table(TableFault),
     Open(OpenFault),
@@ -45,6 +49,7 @@ impl Drop for Answer {
             Answer::Job(_) => {}
             Answer::Jobs(_) => {}
             Answer::Documents(_) => {}
+            Answer::Told(_) => {}
             Answer::Table(_) => {}
             Answer::Open(_) => {}
             Answer::Statement(_) => {}
@@ -87,6 +92,7 @@ impl Answer {
             Answer::Job(Some(job)) => print_job(output, job),
             Answer::Jobs(jobs) => print_jobs(output, jobs.as_slice()),
             Answer::Documents(documents) => print_documents(output, documents.as_slice()),
+            Answer::Told(reply) => print_answer(output, Some(reply)),
             Answer::Open(fault) => print_open_fault(output, *fault),
             _ => Ok(()),
         }

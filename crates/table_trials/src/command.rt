@@ -23,6 +23,8 @@ pub enum Command<'a> {
     Commit,
     /// `tables` answers how many tables there are.
     Tables,
+    /// `question LINE` answers what an operator or a station is told, or why the store is refused.
+    Question(&'a str),
     /// `file NAME` goes on on the database in a file, opened anew.
     File(&'a str),
     /// `memory` goes on on an empty database in memory.
@@ -52,6 +54,7 @@ impl Drop for Command<'_> {
             Command::Begin => {}
             Command::Commit => {}
             Command::Tables => {}
+            Command::Question(_) => {}
             Command::File(_) => {}
             Command::Memory => {}
             Command::Remove(_) => {}
@@ -93,6 +96,7 @@ impl<'a> Command<'a> {
             "begin" => Ok(Command::Begin),
             "commit" => Ok(Command::Commit),
             "tables" => Ok(Command::Tables),
+            "question" => Ok(Command::Question(fields.rest_of_line()?)),
             "file" => Ok(Command::File(fields.next_word()?)),
             "memory" => Ok(Command::Memory),
             "remove" => Ok(Command::Remove(fields.next_word()?)),

@@ -5,8 +5,10 @@ use crate::answer::Answer;
 use crate::command::{Command, StoreCall};
 use crate::fault::{Fault, Wrong};
 use crate::file_tables::FileTables;
-use room_statements::{begin_round, commit_round};
-use room_store::{OpenFault, Refused, Store};
+use room_events::Reply;
+use room_lines::{read_question, read_station_question};
+use room_statements::{TableFault, begin_round, commit_round};
+use room_store::{OpenFault, Refused, Store, StoreFault};
 use sqlite::{Alter, Connection, MemStore};
 use std::fs;
 use std::io::Write;
@@ -98,8 +100,10 @@ fn run_over<S: Alter + Drop>(
     connection: Connection<S>,
     command: &Command<'_>,
 ) -> Result<(Connection<S>, Answer), Fault> {
-    if let Command::Store(call) = command {
-        return call_store(rt, connection, *call);
+    match command {
+        Command::Store(call) => return call_store(rt, connection, *call),
+        Command::Question(line) => return ask_store(rt, connection, line),
+        _ => {}
     }
     let mut connection = connection;
     let answer = answer_of(rt, &mut connection, command)?;
@@ -157,9 +161,11 @@ fn answer_once<S: Alter>(
             Ok(Answer::Ok)
         }
         Command::Tables => Ok(Answer::Count(count_tables(connection))),
-        Command::Store(_) | Command::File(_) | Command::Memory | Command::Remove(_) => {
-            Err(Fault::Notation(Wrong::Command))
-        }
+        Command::Store(_)
+        | Command::Question(_)
+        | Command::File(_)
+        | Command::Memory
+        | Command::Remove(_) => Err(Fault::Notation(Wrong::Command)),
     }
 }
 
@@ -228,6 +234,63 @@ fn call_store<S: Alter + Drop>(
         told => told,
     };
     Ok((connection, store_answer(refused)))
+}
+
+/// Asks a store over the connection the question of a line. Answers the connection and what is told.
+fn ask_store<S: Alter + Drop>(
+    rt: &HostRuntime,
+    connection: Connection<S>,
+    line: &str,
+) -> Result<(Connection<S>, Answer), Fault> {
+    match Store::open(connection) {
+        Ok(store) => ask_over(rt, store, line),
+        Err(Refused { connection, fault }) => Ok((connection, Answer::Open(fault))),
+    }
+}
+
+fn ask_over<S: Alter + Drop>(
+    rt: &HostRuntime,
+    mut store: Store<S>,
+    line: &str,
+) -> Result<(Connection<S>, Answer), Fault> {
+    let answer = ask_twice(rt, &mut store, line)?;
+    Ok((store.close(), answer))
+}
+
+/// Asks the store, and if memory was refused tells so and asks once more. Answers what is told.
+fn ask_twice<S: Alter>(
+    rt: &HostRuntime,
+    store: &mut Store<S>,
+    line: &str,
+) -> Result<Answer, Fault> {
+    let mut told = ask_once(rt, store, line)?;
+    if let Err(StoreFault::Memory) = told {
+        tell_again(rt);
+        told = ask_once(rt, store, line)?;
+    }
+    match told {
+        Ok(reply) => Ok(Answer::Told(reply)),
+        Err(StoreFault::Damaged) => Ok(Answer::Table(TableFault::Damaged)),
+        Err(StoreFault::Memory) => Ok(Answer::Table(TableFault::Memory)),
+        Err(StoreFault::Storage | StoreFault::Moment) => Ok(Answer::Table(TableFault::Storage)),
+    }
+}
+
+/// Asks the store the question of the line, of an operator or a station.
+fn ask_once<S: Alter>(
+    rt: &HostRuntime,
+    store: &mut Store<S>,
+    line: &str,
+) -> Result<Result<Reply, StoreFault>, Fault> {
+    let line = line.as_bytes();
+    let read = match read_question(line) {
+        Ok(question) => Ok(question),
+        Err(_) => read_station_question(line),
+    };
+    match read {
+        Ok(question) => Ok(store.answer(rt.alloc(), question)),
+        Err(_) => Err(Fault::Notation(Wrong::Command)),
+    }
 }
 
 /// Answers `ok`, or why there is no store.

@@ -62,6 +62,18 @@ impl From<sqlite::Error> for Fault {
     }
 }
 
+impl From<OpenFault> for Fault {
+    fn from(fault: OpenFault) -> Fault {
+        Fault::Open(fault)
+    }
+}
+
+impl From<StoreFault> for Fault {
+    fn from(fault: StoreFault) -> Fault {
+        Fault::Tables(fault)
+    }
+}
+
 impl From<RowFault> for Fault {
     fn from(fault: RowFault) -> Fault {
         Fault::Row(fault)

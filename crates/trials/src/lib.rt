@@ -1,10 +1,11 @@
 //! What trials share: tables over any storage, the events and connections of `serve_one` that they
-//! are given, and their rows, compared with those of rooms in memory.
+//! are given, and their rows, compared with those of rooms in memory; and README's example.
 #![tactic(auto)]
 
 mod accounts;
 mod comparing;
 mod fault;
+mod library;
 mod printing;
 mod steps;
 mod tables;
@@ -15,6 +16,7 @@ pub use comparing::{
     difference_text, first_other_row, print_accounts, print_difference, rows_of, rows_text, text_of,
 };
 pub use fault::Fault;
+pub use library::example_holds;
 pub use steps::{
     answer_by_rooms, apply_step, as_of_rooms, set_next_job_in_rooms, set_next_job_in_tables,
 };
