@@ -4,6 +4,7 @@ use Rattle.std.specs.Prelude.{ℕ, Bool, true, false, ◌&&◌, nat_le, Option, 
 use Rattle.room_events.specs.Events as event
 use Rattle.room_events.specs.Events.{PlainEvent, OfAccount, OfDevice}
 use Rattle.room_rules.specs.Limits.{may_be_job, most_impressions, first_month, last_month, most_pages, most_rate}
+use Rattle.room_lines.specs.OwnerRequests.{request_text}
 use Rattle.room_lines.specs.declared.action.Action.{Action}
 use Rattle.room_lines.specs.declared.action.Action.TheVariants as action
 
@@ -25,6 +26,7 @@ is_in_range (action.Release device account job password impressions) =
 is_in_range (action.Start device account job) = may_be_job job
 is_in_range (action.Settle device account job impressions failed) =
     may_be_job job && nat_le impressions most_impressions
+is_in_range (action.Owner request) = may_be_job request.job
 
 -- ---- whose line it is
 
@@ -39,7 +41,13 @@ is_of_operator (action.Open account) = true
 is_of_operator (action.Device name on) = true
 is_of_operator (action.Rate name units) = true
 is_of_operator (action.Grant account month pages) = true
+is_of_operator (action.Owner request) = true
 is_of_operator _ = false
+
+-- a script asks all that a line may but what is asked in the place of an owner
+abbrev pub is_of_script : Action → Bool
+is_of_script (action.Owner request) = false
+is_of_script _ = true
 
 -- ---- the event
 
@@ -54,3 +62,5 @@ event_of_action (action.Release device account job password impressions) =
 event_of_action (action.Start device account job) = OfAccount account (event.Start device job)
 event_of_action (action.Settle device account job impressions failed) =
     OfAccount account (event.Settle device job impressions failed)
+event_of_action (action.Owner request) = OfAccount request.account
+    (event.Ipp (request_text request.act request.account request.job))

@@ -4,8 +4,9 @@ use Rattle.std.specs.List.{AllZip, join_with_byte}
 use Rattle.std.specs.Str.Parse.{digits_value}
 use Rattle.hex.specs.Hex.{decode_of}
 use Rattle.room_input.specs.Fields.{IsDecimal, choice_said, month_said}
+use Rattle.room_lines.specs.OwnerRequests.{act_word}
 use Rattle.room_lines.specs.declared.action.Action.{Action}
-use Rattle.room_lines.specs.declared.action.Action.TheVariants.{Open, Device, Rate, Grant, Ipp, Release, Start, Settle}
+use Rattle.room_lines.specs.declared.action.Action.TheVariants.{Open, Device, Rate, Grant, Ipp, Release, Start, Settle, Owner}
 use Rattle.room_lines.specs.declared.lines.Grammar.{Grammar}
 use Rattle.room_lines.specs.declared.lines.Grammar.TheVariants.{Script, Station, Operator}
 use Rattle.room_lines.specs.declared.line.Line.{Line}
@@ -71,6 +72,10 @@ Says fields (Settle device account job impressions failed) =
     × (fields ≡ codes "settle" ∷ device ∷ account ∷ number ∷ counted ∷ word ∷ [])
     × SaysNumber number job × SaysNumber counted impressions
     × SaysWord (codes "failed") (codes "done") word failed
+Says fields (Owner request) =
+    (number : List ℕ)
+    × (fields ≡ act_word request.act ∷ request.account ∷ number ∷ [])
+    × SaysNumber number request.job
 
 -- ---- what a line says
 

@@ -1,4 +1,5 @@
 //! What a line asks for.
+use crate::owner_request::OwnerRequest;
 use room_events::{Event, Name};
 
 /// One thing that a line asks the rooms or the devices to do.
@@ -51,6 +52,8 @@ pub enum Action {
         impressions: u32,
         failed: bool,
     },
+    /// Asks about a job, 1 to 999999, what the owner of its account could ask.
+    Owner(OwnerRequest),
 }
 
 impl Action {
@@ -122,6 +125,10 @@ impl Action {
                 job: *job,
                 impressions: *impressions,
                 failed: *failed,
+            },
+            Action::Owner(request) => Event::Ipp {
+                account: request.account,
+                body: request.body.as_slice(),
             },
         }
     }

@@ -7,6 +7,7 @@ mod fault;
 mod fields;
 mod line;
 mod lines;
+mod owner_request;
 mod printing;
 mod questions;
 
@@ -14,5 +15,6 @@ pub use action::Action;
 pub use fault::LineFault;
 pub use line::{Line, events_of};
 pub use lines::Grammar;
+pub use owner_request::{OwnerAct, OwnerRequest};
 pub use printing::print_answer;
 pub use questions::{read_question, read_station_question};

@@ -2,8 +2,9 @@
 //! may be missing. Nothing is trimmed, so a carriage return, a tab or a further space makes a line
 //! bad.
 ghost use Rattle.std.specs.Prelude.{◌∷◌, All, IfOk, IsTrue};
-ghost use Rattle.room_lines.specs.Actions.{is_in_range, is_of_operator, is_of_station};
+ghost use Rattle.room_lines.specs.Actions.{is_in_range, is_of_operator, is_of_script, is_of_station};
 ghost use Rattle.room_lines.specs.Lines.{IsAllowed};
+ghost use Rattle.room_lines.specs.OwnerRequests.{act_word};
 ghost use Rattle.room_lines.specs.Saying.{AreLinesOf, IsLineOf, Says};
 ghost use Rattle.room_lines.specs.ProofTaking.{TakesSome, left};
 
@@ -11,6 +12,7 @@ use crate::action::Action;
 use crate::fault::LineFault;
 use crate::fields::Fields;
 use crate::line::Line;
+use crate::owner_request::{OwnerAct, OwnerRequest};
 use room_events::{LAST_JOB, MOST_IMPRESSIONS, MOST_PAGES, MOST_RATE};
 use room_input::FieldFault;
 use std::alloc::Global;
@@ -22,7 +24,7 @@ pub enum Grammar {
     Script,
     /// `release`, `start` and `settle`, all at one moment.
     Station { moment: u64 },
-    /// `open`, `device`, `rate` and `grant`, all at one moment.
+    /// `open`, `device`, `rate`, `grant`, `cancel` and `hold`, all at one moment.
     Operator { moment: u64 },
 }
 
@@ -66,7 +68,7 @@ impl Grammar {
             }
             Grammar::Operator { moment } => {
                 let kind = fields.take()?;
-                let action = operator_action(kind, &mut fields)?;
+                let action = door_action(alloc, kind, &mut fields)?;
                 Line { moment, action }
             }
         };
@@ -77,6 +79,7 @@ impl Grammar {
 
 fn script_action(alloc: Global, fields: &mut Fields<'_>) -> Result<Action, FieldFault>
     ensures range { IfOk result (λ action. IsTrue (is_in_range action)) }
+    ensures scripts { IfOk result (λ action. IsTrue (is_of_script action)) }
     ensures said { IfOk result
         (λ action. TakesSome (left fields.old) (left fields.new) (λ taken. Says taken action)) }
 {
@@ -90,8 +93,38 @@ fn script_action(alloc: Global, fields: &mut Fields<'_>) -> Result<Action, Field
     }
 }
 
+/// A line at an operator's door is one that a script may have too, or asks in the place of an
+/// account's owner.
+fn door_action(alloc: Global, kind: &[u8], fields: &mut Fields<'_>) -> Result<Action, FieldFault>
+    ensures range { IfOk result (λ action. IsTrue (is_in_range action)) }
+    ensures kind { IfOk result (λ action. IsTrue (is_of_operator action)) }
+    ensures said { IfOk result (λ action. TakesSome (left fields.old) (left fields.new)
+        (λ taken. Says (kind.now ∷ taken) action)) }
+{
+    match kind {
+        b"cancel" => owner_action(alloc, OwnerAct::Cancel, fields),
+        b"hold" => owner_action(alloc, OwnerAct::Hold, fields),
+        kind => operator_action(kind, fields),
+    }
+}
+
+fn owner_action(alloc: Global, act: OwnerAct, fields: &mut Fields<'_>) -> Result<Action, FieldFault>
+    ensures range { IfOk result (λ action. IsTrue (is_in_range action)) }
+    ensures kind { IfOk result (λ action. IsTrue (is_of_operator action)) }
+    ensures said { IfOk result (λ action. TakesSome (left fields.old) (left fields.new)
+        (λ taken. Says (act_word act ∷ taken) action)) }
+{
+    let account = fields.name()?;
+    let job = fields.number(1, LAST_JOB)?;
+    match OwnerRequest::new(alloc, act, account, job) {
+        Ok(request) => Ok(Action::Owner(request)),
+        Err(_) => Err(FieldFault::Memory),
+    }
+}
+
 fn operator_action(kind: &[u8], fields: &mut Fields<'_>) -> Result<Action, FieldFault>
     ensures range { IfOk result (λ action. IsTrue (is_in_range action)) }
+    ensures scripts { IfOk result (λ action. IsTrue (is_of_script action)) }
     ensures kind { IfOk result (λ action. IsTrue (is_of_operator action)) }
     ensures said { IfOk result (λ action. TakesSome (left fields.old) (left fields.new)
         (λ taken. Says (kind.now ∷ taken) action)) }
@@ -119,6 +152,7 @@ fn operator_action(kind: &[u8], fields: &mut Fields<'_>) -> Result<Action, Field
 
 fn station_action(alloc: Global, kind: &[u8], fields: &mut Fields<'_>) -> Result<Action, FieldFault>
     ensures range { IfOk result (λ action. IsTrue (is_in_range action)) }
+    ensures scripts { IfOk result (λ action. IsTrue (is_of_script action)) }
     ensures kind { IfOk result (λ action. IsTrue (is_of_station action)) }
     ensures said { IfOk result (λ action. TakesSome (left fields.old) (left fields.new)
         (λ taken. Says (kind.now ∷ taken) action)) }

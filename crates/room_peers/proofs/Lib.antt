@@ -7,3 +7,4 @@ pub mod Ends
 pub mod Finding
 pub mod LastSteps
 pub mod Services
+pub mod Words

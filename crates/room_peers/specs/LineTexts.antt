@@ -1,5 +1,5 @@
 -- What is sent for a line (all this project's own).
-use Rattle.std.specs.Prelude.{ℕ, List, ◌++◌, codes, decimal, length, Result, Ok, Err}
+use Rattle.std.specs.Prelude.{ℕ, ◌+◌, ◌*◌, ◌==◌, Bool, if◌then◌else◌, List, ◌++◌, codes, decimal, drop, length, slice_index, take, Result, Ok, Err}
 use Rattle.std.specs.List.{flat_map}
 use Rattle.room_replies.specs.declared.part.Part.{Part}
 use Rattle.room_events.specs.declared.event.Reply.{Reply}
@@ -19,10 +19,33 @@ abbrev pub parts_text : List Part → List ℕ
 parts_text parts =
     codes "documents " ++ decimal (length parts) ++ codes "\n" ++ flat_map part_text parts
 
+-- ---- what is told of a response, to what an operator asks in the place of an account's owner
+
+-- its status, in two bytes, is one of success, 0x0000 to 0x00FF (RFC 8011 section B.1.2)
+abbrev pub is_successful : (answer : List ℕ) → Bool
+is_successful answer = slice_index answer 2 == 0
+
+-- where the text of status-message stands in a refusal: behind the header, the tag of a group,
+-- attributes-charset `utf-8`, attributes-natural-language `en`, and its own tag, name and length
+abbrev pub message_place : ℕ
+message_place = 90
+
+-- the two bytes before it
+abbrev pub message_length : (answer : List ℕ) → ℕ
+message_length answer = slice_index answer 88 * 256 + slice_index answer 89
+
+abbrev pub status_message : (answer : List ℕ) → List ℕ
+status_message answer = take (message_length answer) (drop message_place answer)
+
+abbrev pub told_of : (answer : List ℕ) → List ℕ
+told_of answer = if is_successful answer then codes "ok" else status_message answer
+
+-- ---- what is sent
+
 abbrev pub line_text : Result Reply StoreFault → List ℕ
 line_text (Ok (reply_is.Line text)) = text ++ codes "\n"
 line_text (Ok (reply_is.Documents parts)) = parts_text parts
 line_text (Ok reply_is.NoAccount) = codes "no-account\n"
 line_text (Ok reply_is.Short) = codes "short\n"
-line_text (Ok (reply_is.Ipp answer)) = codes "ipp\n"
+line_text (Ok (reply_is.Ipp answer)) = told_of answer ++ codes "\n"
 line_text (Err fault) = codes "failed\n"

@@ -1,4 +1,11 @@
 //! What holds of all that was served.
+ghost use Rattle.std.specs.Prelude.{◌≡◌, ◌<◌, ◌≤◌, ◌^◌, List, codes, length};
+ghost use Rattle.ipp_coding.specs.Plain.{PlainAttribute, PlainGroup};
+ghost use Rattle.ipp_coding.specs.declared.message.Header.{Header};
+ghost use Rattle.room_replies.specs.Responses.{done_text, refused_text};
+ghost use Rattle.room_replies.specs.Words.{word_text};
+ghost use Rattle.room_rules.specs.declared.refusal.Refusal.{Refusal};
+ghost use Rattle.room_peers.specs.LineTexts.{told_of};
 ghost use Rattle.room_peers.specs.ServedRuns.{AlwaysRuns};
 ghost use Rattle.room_peers.specs.ServedLives.{AloneIsFound, AlwaysFound, AlwaysLives, KeptIsFound, RoundIsFound, RoundIsNotFound};
 
@@ -33,4 +40,15 @@ pub fn lives_are_always_found<S: Alter>()
     ensures inside { RoundIsNotFound S.Store }
     ensures round { RoundIsFound S.Store }
     ensures alone { AloneIsFound S.Store }
+{}
+
+/// A line that asks in the place of an account's owner is told `ok` where the request was done, and
+/// where it was refused the word that tells why.
+pub fn lines_tell_words()
+    ensures done { (request : Header) (unsupported : List PlainAttribute) (groups : List PlainGroup)
+        → told_of (done_text request unsupported groups) ≡ codes "ok" }
+    ensures refused { (request : Header) (refusal : Refusal) (unsupported : List PlainAttribute)
+        → 0x0100 ≤ refusal.status → refusal.status < 2 ^ 16
+        → length (word_text refusal.word) < 2 ^ 16
+        → told_of (refused_text request refusal unsupported) ≡ word_text refusal.word }
 {}

@@ -27,7 +27,7 @@ mod turns;
 pub use entry::Entry;
 pub use http_peer::HttpPeer;
 pub use last_peer::LastPeer;
-pub use laws::{always_found, always_lives, always_runs, lives_are_always_found};
+pub use laws::{always_found, always_lives, always_runs, lines_tell_words, lives_are_always_found};
 pub use limits::connection_config;
 pub use line_connection::{Front, LineConnection, MOST_LINE, Side};
 pub use line_peer::LinePeer;

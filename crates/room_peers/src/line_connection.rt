@@ -30,7 +30,7 @@ const ROOM: usize = 4_096;
 pub enum Side {
     /// `release`, `start` and `settle`, and a station's questions.
     Station,
-    /// `open`, `device`, `rate` and `grant`, and an operator's questions.
+    /// `open`, `device`, `rate`, `grant`, `cancel` and `hold`, and an operator's questions.
     Operator,
 }
 

@@ -1,6 +1,6 @@
 //! What is sent for a line.
-ghost use Rattle.std.specs.Prelude.{◌≡◌, ◌++◌, codes, OnOk};
-ghost use Rattle.room_peers.specs.LineTexts.{line_text, part_text, parts_text, bad_line_text};
+ghost use Rattle.std.specs.Prelude.{◌≡◌, ◌++◌, codes, slice_index, OnOk};
+ghost use Rattle.room_peers.specs.LineTexts.{bad_line_text, line_text, part_text, parts_text, status_message, told_of};
 
 use crate::shared::shared;
 use bytes::BufMut;
@@ -8,6 +8,9 @@ use http_server::Rope;
 use room_events::{Part, Reply};
 use room_store::StoreFault;
 use std::alloc::{AllocError, Global};
+
+/// Where the text of the status-message stands in the refusals that the rooms answer.
+const MESSAGE_PLACE: usize = 90;
 
 /// Puts what a line came to after what waits to go.
 pub(crate) fn put_told(
@@ -22,7 +25,7 @@ pub(crate) fn put_told(
         Ok(Reply::Documents(parts)) => put_parts(alloc, output, parts.items),
         Ok(Reply::NoAccount) => output.put_slice(b"no-account\n"),
         Ok(Reply::Short) => output.put_slice(b"short\n"),
-        Ok(Reply::Ipp(_)) => output.put_slice(b"ipp\n"),
+        Ok(Reply::Ipp(answer)) => put_line(output, told_of(answer.items.as_slice())),
         Err(_) => output.put_slice(b"failed\n"),
     }
 }
@@ -53,6 +56,33 @@ fn put_part(output: &mut Rope, part: Part) -> Result<(), AllocError>
     put_line(output, part.line.items.as_slice())?;
     output.push(shared(part.bytes.items)?)?;
     output.put_slice(b"\n")
+}
+
+/// What is told of a response: `ok`, or the text of its status-message, which is the word of the
+/// refusal.
+fn told_of(answer: &[u8]) -> &[u8]
+    ensures { result.now ≡ told_of answer.now }
+{
+    if byte_at(answer, 2) == 0 {
+        b"ok"
+    } else {
+        status_message(answer)
+    }
+}
+
+fn status_message(answer: &[u8]) -> &[u8]
+    ensures { result.now ≡ status_message answer.now }
+{
+    let length = usize::from(byte_at(answer, 88)) * 256 + usize::from(byte_at(answer, 89));
+    let behind = &answer[MESSAGE_PLACE.min(answer.len())..];
+    &behind[..length.min(behind.len())]
+}
+
+/// The byte at a place, and 0 where there is none.
+fn byte_at(bytes: &[u8], place: usize) -> u8
+    ensures { result ≡ slice_index bytes.now place }
+{
+    bytes.get(place).copied().unwrap_or(0)
 }
 
 /// Puts the answer to a bad line after what waits to go.

@@ -10,7 +10,8 @@ use std::io;
 use std::io::Write;
 
 /// Answers the line of a station or an operator that asks for the action, with the line feed that
-/// ends it and without a moment. A message of IPP has no line: it answers `RowFault::Line`.
+/// ends it and without a moment. A message of IPP has no line: it answers
+/// `RowFault::Line`, and so does a request of an account's owner, of which no row has one.
 pub fn line_text(alloc: Global, action: &Action) -> Result<Vec<u8>, RowFault> {
     let mut text = Vec::new(alloc);
     put_action(&mut text, action)?;
@@ -38,7 +39,7 @@ fn put_action(text: &mut Vec<u8>, action: &Action) -> Result<(), RowFault> {
             print_begin(text, "grant", *account)?;
             write!(text, " {:04}-{:02} {pages}", month / 12, month % 12 + 1)?;
         }
-        Action::Ipp { .. } => return Err(RowFault::Line),
+        Action::Ipp { .. } | Action::Owner(_) => return Err(RowFault::Line),
         Action::Release {
             device,
             account,

@@ -79,6 +79,23 @@ const BEHIND: [Asked; 5] = [
     },
 ];
 
+/// What operators ask about the job that alice prints next, in her place.
+const IN_HER_PLACE: [Asked; 2] = [
+    Asked {
+        side: Side::Operator,
+        lines: b"hold alice 2\ncancel alice 2\ncancel alice 2\nhold alice 2\nended alice 1\n\
+            cancel alice 3\nhold carol 1\ncancel alice\nhold alice 0\nhold alice 2 \n",
+        told: b"ok\nok\nended\nended\n\
+            jobs 1\njob 2 canceled - 1788220800 - 1788220800 - 1 0 0 0 1 untitled\n\
+            no-job\nno-account\nbad-line\nbad-line\nbad-line\n",
+    },
+    Asked {
+        side: Side::Station,
+        lines: b"cancel alice 2\nhold alice 2\n",
+        told: b"bad-line\nbad-line\n",
+    },
+];
+
 /// Runs the trial of this file, and tells how it ended.
 pub fn run_all<W: Write>(rt: &HostRuntime, report: &mut Report<'_, W>) {
     report.tell("questions", a_job_and_questions(rt));
@@ -90,7 +107,9 @@ fn a_job_and_questions(rt: &HostRuntime) -> Result<(), Fault> {
     expect_told(rt, &mut rooms, &BEFORE)?;
     let printed = exchange(rt, &mut rooms, PRINT, 100_000)?;
     expect_bytes(rt, printed.as_slice(), PRINTED)?;
-    expect_told(rt, &mut rooms, &BEHIND)
+    expect_told(rt, &mut rooms, &BEHIND)?;
+    exchange(rt, &mut rooms, PRINT, 100_000)?;
+    expect_told(rt, &mut rooms, &IN_HER_PLACE)
 }
 
 /// Sends the lines, one after another. Expects each answer.
