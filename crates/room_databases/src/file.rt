@@ -20,6 +20,10 @@ const LEAST_CACHE_PAGES: usize = 2_000;
 /// How many bytes a page has in a file that the program has made.
 const PAGE_BYTES: u64 = 4_096;
 
+/// How many frames the log has before it is written over from its start. A log that is short takes
+/// less of a full disk: what changes, and the log of it, fit into the space that `serve` keeps.
+const CHECKPOINT_FRAMES: usize = 250;
+
 /// A connection to the file, which is made where it is not there. `Storage` where the path is a URI
 /// or `:memory:`, which name no file, or the file can't be opened; `Memory` where memory ran out.
 pub(crate) fn connect(
@@ -44,6 +48,7 @@ pub(crate) fn connect(
 fn options_for(rt: &HostRuntime, path: &str) -> Result<Options, OpenFault>
     ensures least { IfOk result (λ options. LEAST_CACHE_PAGES ≤ options.cache_pages) }
     ensures most { IfOk result (λ options. options.cache_pages ≤ CACHE_PAGES) }
+    ensures log { IfOk result (λ options. options.checkpoint_frames ≡ CHECKPOINT_FRAMES) }
 {
     // A file that can't be looked at can't be opened either, unless it is made.
     let length = match fs::metadata(rt, path) {
@@ -55,6 +60,7 @@ fn options_for(rt: &HostRuntime, path: &str) -> Result<Options, OpenFault>
     };
     let mut options = Options::new(state.hash_one(&0u8));
     options.cache_pages = cache_pages(length);
+    options.checkpoint_frames = CHECKPOINT_FRAMES;
     Ok(options)
 }
 

@@ -4,7 +4,7 @@ use Rattle.room_lines.specs.Saying.{AreFields, SaysMonth, SaysNumber, name_said}
 use Rattle.room_questions.specs.declared.question.About.{About}
 use Rattle.room_questions.specs.declared.question.About.TheVariants.{Left, Statement, Jobs, Ended, Grants, Waiting, Again}
 use Rattle.room_questions.specs.declared.question.Question.{Question}
-use Rattle.room_questions.specs.declared.question.Question.TheVariants.{Ping, Devices, Accounts, Account}
+use Rattle.room_questions.specs.declared.question.Question.TheVariants.{Ping, End, Devices, Accounts, Account}
 
 -- a station asks what waits for an account, and for a job's documents again; an operator all else
 abbrev pub is_of_station : Question → Bool
@@ -33,6 +33,7 @@ SaysAbout fields account (Again device job) =
 
 abbrev pub SaysQuestion : (fields : List (List ℕ)) → Question → Type 0
 SaysQuestion fields Ping = fields ≡ codes "ping" ∷ []
+SaysQuestion fields End = fields ≡ codes "end" ∷ []
 SaysQuestion fields Devices = fields ≡ codes "devices" ∷ []
 SaysQuestion fields (Accounts behind) = fields ≡ codes "accounts" ∷ name_said behind ∷ []
 SaysQuestion fields (Account account about) = SaysAbout fields account about

@@ -42,6 +42,7 @@ fn operator_question(kind: &[u8], fields: &mut Fields<'_>) -> Result<Question, F
 {
     match kind {
         b"ping" => Ok(Question::Ping),
+        b"end" => Ok(Question::End),
         b"devices" => Ok(Question::Devices),
         b"accounts" => Ok(Question::Accounts {
             behind: fields.name_if_any()?,

@@ -1,3 +1,4 @@
+pub mod Again
 pub mod Journaling
 pub mod Running
 pub mod LineEnds

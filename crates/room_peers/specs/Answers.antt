@@ -12,14 +12,15 @@ use Rattle.room_events.specs.declared.event.Reply.{Reply}
 use Rattle.room_events.specs.declared.event.Reply.TheVariants as reply_is
 use Rattle.room_requests.specs.Texts.{status_of}
 use Rattle.room_requests.specs.declared.refusal.Refusal.{Refusal}
-use Rattle.room_requests.specs.declared.refusal.Refusal.TheVariants.{MethodNotAllowed, NotFound}
+use Rattle.room_requests.specs.declared.refusal.Refusal.TheVariants.{MethodNotAllowed, NoSpace, NotFound}
 use Rattle.room_store.specs.declared.fault.StoreFault.{StoreFault}
 use Rattle.room_replies.specs.Replies.{internal_error_text}
 use Rattle.room_peers.specs.declared.entry.Entry.TheVariants as entry
 use Rattle.room_peers.specs.declared.served.Served.{Served}
 use Rattle.room_peers.specs.Journals.{moment_of}
 use Rattle.room_peers.specs.Turns.{AppliesNext}
-use Rattle.room_peers.specs.Requests.{asked, has_long_body}
+use Rattle.room_peers.specs.Requests.{has_long_body}
+use Rattle.room_peers.specs.Space.{wanted}
 
 -- ---- the fields
 
@@ -29,9 +30,11 @@ close_fields closes = if closes then (codes "connection", codes "close") ∷ [] 
 abbrev pub answer_fields : Bool → List Field
 answer_fields closes = (codes "content-type", codes "application/ipp") ∷ close_fields closes
 
--- a refusal of the method names the one that there is (RFC 9110 section 15.5.6)
+-- a refusal of the method names the one that there is (RFC 9110 section 15.5.6), and one for want of
+-- space tells after how many seconds to ask again (RFC 9110 section 10.2.3)
 abbrev pub refusal_fields : (why : Refusal) (closes : Bool) → List Field
 refusal_fields MethodNotAllowed closes = (codes "allow", codes "POST") ∷ close_fields closes
+refusal_fields NoSpace closes = (codes "retry-after", codes "60") ∷ close_fields closes
 refusal_fields _ closes = close_fields closes
 
 -- ---- the responses
@@ -64,7 +67,7 @@ module _ {S : Type 0} (store : Ghosts S) where
     pub tells : IsTold (header_in (body_of request)) (has_long_body request) told response
         ⊎ IsLost response
 
-  abbrev pub Gives : (asked : Result (List ℕ) Refusal) (old : Served S) (request : Request (List ℕ))
+  abbrev pub Gives : (wants : Result (List ℕ) Refusal) (old : Served S) (request : Request (List ℕ))
       (response : Response) (new : Served S) → Type 0
   Gives (Ok account) old request response new = Sends account old request response new
   Gives (Err why) old request response new =
@@ -73,4 +76,4 @@ module _ {S : Type 0} (store : Ghosts S) where
   -- the one response to a request, and the rooms after it
   abbrev pub Answers : (old : Served S) (request : Request (List ℕ)) (response : Response)
       (new : Served S) → Type 0
-  Answers old request response new = Gives (asked request) old request response new
+  Answers old request response new = Gives (wanted old request) old request response new

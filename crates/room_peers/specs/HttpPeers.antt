@@ -19,6 +19,10 @@ connection_of peer = peer.connection
 abbrev pub patience_of : HttpPeer → Patience
 patience_of peer = peer.progress.patience
 
+-- how many bytes came since the last answer
+abbrev pub came_of : HttpPeer → ℕ
+came_of peer = peer.load.coming
+
 -- its requests so far, each with its answer
 abbrev pub calls_of : HttpPeer → List Call
 calls_of peer = (history (connection_of peer)).calls

@@ -77,6 +77,10 @@ shares_of served = served.shares
 abbrev pub is_lost_of : {S : Type 0} → Served S → Bool
 is_lost_of served = served.is_lost
 
+-- an operator asked that serving ends
+abbrev pub ends_of : {S : Type 0} → Served S → Bool
+ends_of served = served.ends
+
 -- what the peer whose turn it is has asked in the round
 abbrev pub asked_of : {S : Type 0} → Served S → List Entry
 asked_of served = list_of served.asked

@@ -4,6 +4,8 @@ use Rattle.std.specs.Prelude.{◌≡◌, ◌⊎◌, ℕ, List, [], ◌++◌, dro
 use Rattle.std.specs.Io.KnownBytes.{Appends}
 use Rattle.sqlite_trees.specs.declared.store.Store.{Ghosts}
 use Rattle.room_events.specs.declared.event.Reply.{Reply}
+use Rattle.room_requests.specs.Texts.{refusal_text}
+use Rattle.room_requests.specs.declared.refusal.Refusal.{Refusal}
 use Rattle.room_store.specs.declared.fault.StoreFault.{StoreFault}
 use Rattle.room_peers.specs.Turns.{AppliesNext}
 use Rattle.room_peers.specs.LastTexts.{last_text}
@@ -27,6 +29,11 @@ module _ {S : Type 0} (store : Ghosts S) where
     pub told : Result Reply StoreFault
     pub next : AppliesNext store asked told old new
     pub left : (left_of peer ≡ last_text asked told) ⊎ (left_of peer ≡ [])
+
+-- it was refused for this, and that is all that is still to go; or there was no memory for it, and
+-- nothing is
+abbrev pub IsToldOff : (why : Refusal) (peer : LastPeer) → Type 0
+IsToldOff why peer = (left_of peer ≡ refusal_text why) ⊎ (left_of peer ≡ [])
 
 -- so many bytes of what was still to go went
 abbrev pub Leaves : (given given2 : Option (List ℕ)) (before after : LastPeer) (n : ℕ) → Type 0

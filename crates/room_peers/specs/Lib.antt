@@ -6,6 +6,8 @@ pub mod Rounds
 pub mod ServedRuns
 pub mod ServedLives
 pub mod Requests
+pub mod Space
+pub mod Again
 pub mod Answers
 pub mod LineTexts
 pub mod LastTexts

@@ -13,7 +13,7 @@ use Rattle.room_peers.specs.Applying.{AppliesEntry, DoesOne}
 use Rattle.room_peers.specs.Journals.{Notes, asked_of, open_of, rounds_of, shares_of, store_of}
 use Rattle.room_peers.specs.Turns.{AppliesNext, Continues}
 use Rattle.room_peers.specs.declared.entry.Entry.{Entry}
-use Rattle.room_peers.specs.Requests.{asked}
+use Rattle.room_peers.specs.Space.{wanted}
 use Rattle.room_peers.specs.declared.served.Served.{Served}
 
 pub nothing_noted : {S : Type 0} → (shares : Bool) (served : Served S) → Notes shares [] served served
@@ -31,9 +31,9 @@ module _ {S : Type 0} (store : Ghosts S) where
   unfoldable pub one_more : (entry : Entry) (told : Result Reply StoreFault) (old new : Served S) → AppliesNext store entry told old new → Continues store old new
   one_more entry told old new next = record { more = Some (entry, told) ∷ []; notes = next.notes; does = (store_of new, does_one (shares_of old) entry told (store_of old) (store_of new) next.applies, refl); shares = next.shares; is_lost = next.is_lost }
 
-  gives : (asks : Result (List ℕ) Refusal) (old : Served S) (request : Request (List ℕ)) (response : Response) (new : Served S) → Gives store asks old request response new → Continues store old new
+  gives : (wants : Result (List ℕ) Refusal) (old : Served S) (request : Request (List ℕ)) (response : Response) (new : Served S) → Gives store wants old request response new → Continues store old new
   gives (Ok account) old request response new is = one_more _ is.told old new is.next
   gives (Err why) old request response new is = subst (λ (served : Served S). Continues store old served) (sym is.1) (stays old)
 
   pub answer_continues : (old new : Served S) (request : Request (List ℕ)) (response : Response) → Answers store old request response new → Continues store old new
-  answer_continues old new request response is = gives (asked request) old request response new is
+  answer_continues old new request response is = gives (wanted old request) old request response new is

@@ -3,7 +3,9 @@ ghost use Rattle.std.specs.Prelude.{◌≡◌, IsTrue};
 ghost use Rattle.room_events.specs.Events.{plain_event};
 ghost use Rattle.room_events.specs.Fits.{fits};
 ghost use Rattle.room_peers.specs.Entries.{event_of_entry, moment_at};
+ghost use Rattle.room_peers.specs.Space.{entry_needs_space};
 
+use crate::request::needs_space;
 use bytes::Bytes;
 use room_events::{Event, Name};
 use room_lines::Line;
@@ -43,6 +45,16 @@ impl Entry {
         match self {
             Entry::Message { moment, .. } => *moment,
             Entry::Line(line) => line.moment,
+        }
+    }
+
+    /// Whether it brings a job or a document, for which the disk has to have space.
+    pub(crate) fn needs_space(&self) -> bool
+        ensures { result ≡ entry_needs_space self.now }
+    {
+        match self {
+            Entry::Message { body, .. } => needs_space(body.as_slice()),
+            Entry::Line(_) => false,
         }
     }
 

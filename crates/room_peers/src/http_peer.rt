@@ -1,6 +1,6 @@
 //! A connection of HTTP: where it stands, how long it may take, and how much it holds.
 
-ghost use Rattle.std.specs.Prelude.{◌≡◌, ◌≢◌, IsFalse, Some};
+ghost use Rattle.std.specs.Prelude.{◌≡◌, ◌≢◌, ◌+◌, ◌<◌, IsFalse, IsTrue, Some};
 ghost use Rattle.room_requests.specs.Limits.{longest_body, longest_head};
 ghost use Rattle.http_server.specs.Connection.{config_of, history};
 ghost use Rattle.http_server.specs.History.{new_history};
@@ -13,6 +13,7 @@ use crate::room_service::RoomService;
 use crate::step::{Next, STEPS, Turn, after, drain};
 use crate::{answer_requests, connection_config};
 use http_server::{Connection, Reason, State};
+use room_requests::HEAD_LIMIT;
 use std::alloc::Global;
 use std::hash::RandomState;
 use std::io::{Read, Write};
@@ -39,7 +40,7 @@ impl Drop for HttpPeer {
 }
 
 impl HttpPeer {
-    ghost use Rattle.room_peers.specs.HttpPeers.{CallsService, GoesOn, IsAtRest, IsLater, IsStill, KeepsLimits, calls_of, connection_of, patience_of};
+    ghost use Rattle.room_peers.specs.HttpPeers.{CallsService, GoesOn, IsAtRest, IsLater, IsStill, KeepsLimits, calls_of, came_of, connection_of, patience_of};
     ghost use Rattle.room_peers.specs.ProofHttpSteps.{ReadsBytes, WritesBytes};
 
     /// A peer that came just now. It takes no memory.
@@ -196,9 +197,23 @@ impl HttpPeer {
             .saturating_add(waiting.saturating_mul(2))
     }
 
+    /// Whether an answer waits to go.
+    pub fn has_output(&self) -> bool {
+        self.connection.wants_write()
+    }
+
     /// Whether a large answer waits to go.
     pub fn has_large_answer(&self) -> bool {
         self.connection.output().len() > LARGE
+    }
+
+    /// Whether a large request is coming that is longer than this, in bytes of its body, while no
+    /// answer waits to go.
+    pub fn outgrows(&self, most: usize) -> bool
+        ensures { IsTrue result → most + longest_head < came_of self.now }
+    {
+        let longest = most.saturating_add(HEAD_LIMIT);
+        self.load.is_large() && self.load.came_so_far() > longest && !self.has_output()
     }
 
     /// Whether a large request is coming.

@@ -9,8 +9,9 @@ use crate::patience::Patience;
 use crate::progress::Progress;
 use crate::step::{Next, STEPS, Turn, after, drain};
 use crate::{Entry, Served};
-use bytes::Buf;
+use bytes::{Buf, BufMut};
 use http_server::Rope;
+use room_requests::{Refusal, refusal_text};
 use sqlite::Alter;
 use std::alloc::Global;
 use std::io;
@@ -34,7 +35,7 @@ impl Drop for LastPeer {
 }
 
 impl LastPeer {
-    ghost use Rattle.room_peers.specs.LastPeers.{IsToldAgain, Leaves, SaysLast, Sends, left_of, patience_of};
+    ghost use Rattle.room_peers.specs.LastPeers.{IsToldAgain, IsToldOff, Leaves, SaysLast, Sends, left_of, patience_of};
 
     /// What becomes of a peer whose round was lost: what it asked is applied again, by itself, and
     /// that is told it last. Where memory is refused it is told nothing.
@@ -50,6 +51,21 @@ impl LastPeer {
         let told = served.apply_alone(asked);
         let mut output = Rope::new(alloc);
         if put_last(alloc, &mut output, asked, told).is_err() {
+            output.clear();
+        }
+        LastPeer {
+            output,
+            progress: Progress::new(ticks),
+        }
+    }
+
+    /// What becomes of a peer whose request is refused before it is whole: it is told that last.
+    /// Where memory is refused it is told nothing.
+    pub fn turned_away(alloc: Global, refusal: Refusal, ticks: u64) -> LastPeer
+        ensures { IsToldOff refusal result }
+    {
+        let mut output = Rope::new(alloc);
+        if output.put_slice(&refusal_text(refusal)).is_err() {
             output.clear();
         }
         LastPeer {

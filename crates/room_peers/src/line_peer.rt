@@ -1,6 +1,6 @@
 //! A connection of lines: where it stands, and how long it may take.
 
-ghost use Rattle.std.specs.Prelude.{◌≡◌, ◌≢◌, ◌≤◌, ◌+◌, length, IsFalse, Some};
+ghost use Rattle.std.specs.Prelude.{◌≡◌, ◌≢◌, ◌≤◌, ◌+◌, length, nat_lt, IsFalse, Some};
 ghost use Rattle.room_peers.specs.Turns.{Continues};
 ghost use Rattle.room_peers.specs.Lines.{IsNewOf, input_of, output_of};
 
@@ -162,6 +162,13 @@ impl LinePeer {
         ensures { result ≡ patience_of self.now }
     {
         self.progress.patience
+    }
+
+    /// Whether answers wait to go.
+    pub fn has_output(&self) -> bool
+        ensures { result ≡ nat_lt 0 (length (output_of (lines_of self.now))) }
+    {
+        self.connection.wants_write()
     }
 
     /// How many bytes wait: those that came, and those that are to go.

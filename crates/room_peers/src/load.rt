@@ -1,5 +1,7 @@
 //! How much a connection holds.
 
+ghost use Rattle.std.specs.Prelude.{◌≡◌};
+
 use room_requests::{BODY_LIMIT, HEAD_LIMIT};
 
 /// A request, or an answer, of more bytes is a large one.
@@ -51,6 +53,13 @@ impl Load {
     /// longest request.
     pub(crate) fn bytes_held(&self) -> usize {
         self.most.saturating_mul(2).min(LONGEST).max(self.most)
+    }
+
+    /// How many bytes came since the last answer.
+    pub(crate) fn came_so_far(&self) -> usize
+        ensures { result ≡ self.now.coming }
+    {
+        self.coming
     }
 
     /// Whether a large request is coming.

@@ -1,10 +1,11 @@
 //! What a request over HTTP asks for.
 ghost use Rattle.std.specs.Prelude.{◌≡◌, option_copied};
 ghost use Rattle.room_peers.specs.Requests.{asked, has_ipp, has_long_body, is_ipp_value};
+ghost use Rattle.room_peers.specs.Space.{brings_job, needs_space};
 
 use bytes::Bytes;
 use http::{HeaderValue, Request, header};
-use ipp_coding::HEADER_LENGTH;
+use ipp_coding::{HEADER_LENGTH, header_in};
 use room_events::Name;
 use room_requests::{Refusal, account_of, is_ipp_type, is_post};
 
@@ -51,4 +52,20 @@ pub(crate) fn has_long_body(request: &Request<Bytes>) -> bool
     ensures { result ≡ has_long_body request.now }
 {
     request.body().len() > LONG_BODY
+}
+
+/// Whether the body is a message of IPP that brings a job or a document, for which the disk has to
+/// have space.
+pub(crate) fn needs_space(body: &[u8]) -> bool
+    ensures { result ≡ needs_space body.now }
+{
+    body.len() >= HEADER_LENGTH && brings_job(header_in(body).code)
+}
+
+/// Whether it is the operation-id of Print-Job, Create-Job or Send-Document (RFC 8011 section
+/// 5.4.15).
+fn brings_job(id: u16) -> bool
+    ensures { result ≡ brings_job id }
+{
+    id == 0x0002 || id == 0x0005 || id == 0x0006
 }

@@ -1,14 +1,21 @@
 //! The rooms as one process serves them to everybody.
-ghost use Rattle.std.specs.Prelude.{◌≡◌, ◌≢◌, ◌⊎◌, [], true, false, IsTrue, None, IfOk, OnErr};
-ghost use Rattle.room_peers.specs.Journals.{asked_of, is_full_of, is_lost_of, moment_of, open_of, rounds_of, shares_of, store_of};
-ghost use Rattle.room_peers.specs.Applying.{AppliesEntry};
+ghost use Rattle.std.specs.Prelude.{◌≡◌, ◌≢◌, ◌≤◌, ◌⊎◌, [], true, false, IsTrue, None, Err, IfOk, OnErr};
+ghost use Rattle.room_peers.specs.Journals.{asked_of, ends_of, is_full_of, is_lost_of, moment_of, open_of, rounds_of, shares_of, store_of};
+ghost use Rattle.room_peers.specs.Applying.{AppliesAlone, AppliesEntry};
+ghost use Rattle.room_peers.specs.Again.{told_at_last};
+ghost use Rattle.room_peers.specs.Space.{entry_needs_space, lacks_space, spare_of};
+ghost use Rattle.room_space.specs.Spares.{any_length, held_of, takes_of};
 ghost use Rattle.room_peers.specs.Turns.{AnswersNext, AppliesNext};
 ghost use Rattle.room_peers.specs.Rounds.{IsBegun, IsNotBegun, IsSettled};
 
 use crate::entry::Entry;
+use crate::request::needs_space;
+use bytes::Bytes;
+use http::Request;
 use http_server::Log;
 use room_events::{Part, Reply};
 use room_questions::Question;
+use room_space::Spare;
 use room_store::{Rounds, Store, StoreFault};
 use sqlite::{Alter, Connection};
 use std::alloc::{AllocError, Global};
@@ -36,6 +43,10 @@ pub struct Served<S: Alter> {
     pub(crate) asked: Option<Entry>,
     /// How many bytes were told in the round.
     pub(crate) bytes_told: usize,
+    /// The space that is kept for a full disk.
+    pub(crate) spare: Spare,
+    /// Whether an operator asked that serving ends.
+    pub(crate) ends: bool,
 }
 
 // In the place of `#[derive(Drop)]`, so that no caller proves again how each part is dropped.
@@ -51,13 +62,15 @@ impl<S: Alter + Drop> Drop for Served<S> {
             is_lost: _,
             asked: _,
             bytes_told: _,
+            spare: _,
+            ends: _,
         } = self;
     }
 }
 
 impl<S: Alter> Served<S> {
     /// Serves a store, from the moment on, in seconds since 1970-01-01T00:00:00Z. No round is under
-    /// way. It takes no memory.
+    /// way, and no space is kept. It takes no memory.
     pub fn new(alloc: Global, store: Store<S>, moment: u64) -> Served<S>
         ensures store { store_of result ≡ store }
         ensures moment { moment_of result ≡ moment }
@@ -65,6 +78,9 @@ impl<S: Alter> Served<S> {
         ensures none_open { open_of result ≡ [] }
         ensures alone { shares_of result ≡ false }
         ensures asked { asked_of result ≡ [] }
+        ensures no_space { held_of (spare_of result) ≡ 0 }
+        ensures takes_all { takes_of (spare_of result) ≡ any_length }
+        ensures goes_on { ends_of result ≡ false }
     {
         Served {
             alloc,
@@ -76,7 +92,40 @@ impl<S: Alter> Served<S> {
             is_lost: false,
             asked: None,
             bytes_told: 0,
+            spare: Spare::none(),
+            ends: false,
         }
+    }
+
+    /// From now on this space is kept for a full disk.
+    pub fn set_spare(&mut self, spare: Spare)
+        ensures { self.new ≡ record self.old { spare = spare } }
+    {
+        self.spare = spare;
+    }
+
+    /// Takes a piece of the space that is kept where it is not whole.
+    pub fn mend_space(&mut self)
+        ensures same { self.new ≡ record self.old { spare = spare_of self.new } }
+        ensures grows { held_of (spare_of self.old) ≤ held_of (spare_of self.new) }
+        ensures takes { takes_of (spare_of self.old) ≤ takes_of (spare_of self.new) }
+    {
+        self.spare.mend();
+    }
+
+    /// The longest request, in bytes of its body, for which there is space.
+    pub fn takes(&self) -> usize
+        ensures { result ≡ takes_of (spare_of self.now) }
+    {
+        self.spare.takes()
+    }
+
+    /// Whether the disk lacks the space for what the request brings.
+    pub(crate) fn lacks_space(&self, request: &Request<Bytes>) -> bool
+        ensures { result ≡ lacks_space self.now request.now }
+    {
+        let body = request.body().as_slice();
+        needs_space(body) && self.spare.takes() < body.len()
     }
 
     /// The moment at which what comes from now on counts as done.
@@ -141,6 +190,13 @@ impl<S: Alter> Served<S> {
         self.is_lost
     }
 
+    /// Whether an operator asked that serving ends.
+    pub fn has_to_end(&self) -> bool
+        ensures { result ≡ ends_of self.now }
+    {
+        self.ends
+    }
+
     /// A peer's turn begins that has asked this in the round.
     pub fn set_asked(&mut self, asked: Option<Entry>)
         ensures { self.new ≡ record self.old { asked = asked } }
@@ -174,11 +230,48 @@ impl<S: Alter> Served<S> {
         requires { shares_of self.old ≡ false }
         ensures { AppliesNext S.Store entry.now result self.old self.new }
     {
-        let told = self
-            .rounds
-            .apply_alone(self.alloc, entry.moment(), &entry.event());
+        let told = self.apply_with_spare(entry);
         self.over = self.over.and(&Log::new().and(entry, &told), &true);
         told
+    }
+
+    /// Applies what came. Where the storage fails at what needs no space, the space that is kept is
+    /// given up, if there is some, and it is applied once more.
+    fn apply_with_spare(&mut self, entry: &Entry) -> Result<Reply, StoreFault>
+        ensures applies { AppliesAlone S.Store entry.now
+            (store_of self.old) (store_of self.new) result }
+        ensures same { self.new ≡ record self.old {
+          rounds = store_of self.new;
+          spare = spare_of self.new;
+        } }
+    {
+        let told = self.apply_once(entry);
+        if !self.frees_space(entry, &told) {
+            return told;
+        }
+        told_at_last(self.apply_once(entry))
+    }
+
+    /// Gives up the space that is kept where the storage failed at what needs none, and answers
+    /// whether there was some.
+    fn frees_space(&mut self, entry: &Entry, told: &Result<Reply, StoreFault>) -> bool
+        ensures failed { IsTrue result → told.now ≡ Err StoreFault.Storage }
+        ensures small { IsTrue result → entry_needs_space entry.now ≡ false }
+        ensures same { self.new ≡ record self.old { spare = spare_of self.new } }
+    {
+        match told {
+            Err(StoreFault::Storage) => !entry.needs_space() && self.spare.give_up(),
+            _ => false,
+        }
+    }
+
+    fn apply_once(&mut self, entry: &Entry) -> Result<Reply, StoreFault>
+        ensures applies { AppliesAlone S.Store entry.now
+            (store_of self.old) (store_of self.new) result }
+        ensures same { self.new ≡ record self.old { rounds = store_of self.new } }
+    {
+        self.rounds
+            .apply_alone(self.alloc, entry.moment(), &entry.event())
     }
 
     fn apply_shared(&mut self, entry: Entry) -> Result<Result<Reply, StoreFault>, AllocError>
@@ -217,8 +310,10 @@ impl<S: Alter> Served<S> {
         requires { shares_of self.old ≡ false }
         ensures { AnswersNext S.Store question result self.old self.new }
     {
+        let ends = question.asks_end();
         let told = self.rounds.answer(self.alloc, question);
         self.over = self.over.and(&Log::new(), &false);
+        self.ends = self.ends || ends;
         told
     }
 
@@ -237,8 +332,21 @@ impl<S: Alter> Served<S> {
             is_lost: _,
             asked: _,
             bytes_told: _,
+            spare: _,
+            ends: _,
         } = self;
         rounds.close()
+    }
+}
+
+/// What is told of an event that was applied once more: rows that were found damaged only then are
+/// a failure of the storage, as it was at first.
+fn told_at_last(told: Result<Reply, StoreFault>) -> Result<Reply, StoreFault>
+    ensures { result ≡ told_at_last told }
+{
+    match told {
+        Err(StoreFault::Damaged) => Err(StoreFault::Storage),
+        told => told,
     }
 }
 

@@ -30,6 +30,9 @@ impl<S: Alter> Service for Served<S> {
     ) -> Result<(), AllocError> {
         match asked(request) {
             Err(refusal) => refuse(response, refusal, has_long_body(request)),
+            Ok(_) if self.lacks_space(request) => {
+                refuse(response, Refusal::NoSpace, has_long_body(request))
+            }
             Ok(account) => self.answer(account, request, response),
         }
     }
@@ -138,15 +141,23 @@ fn put_close(response: &mut Response, closes: bool) -> Result<(), AllocError>
     Ok(())
 }
 
-/// A refusal has no body. That of another method names the one that there is.
+/// A refusal has no body. That of another method names the one that there is, and that for want of
+/// space tells to ask again after a minute.
 fn refuse(response: &mut Response, refusal: Refusal, closes: bool) -> Result<(), AllocError>
     requires { IsBlank response.old }
     ensures { OnOk result (IsRefusal refusal closes response.new) }
 {
     response.status = refusal.status();
-    if refusal == Refusal::MethodNotAllowed {
-        let post = HeaderValue::from_static("POST");
-        response.add_header(header::ALLOW, post)?;
+    match refusal {
+        Refusal::MethodNotAllowed => {
+            let post = HeaderValue::from_static("POST");
+            response.add_header(header::ALLOW, post)?;
+        }
+        Refusal::NoSpace => {
+            let minute = HeaderValue::from_static("60");
+            response.add_header(header::RETRY_AFTER, minute)?;
+        }
+        _ => {}
     }
     put_close(response, closes)
 }

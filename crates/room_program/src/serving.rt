@@ -2,18 +2,19 @@
 
 use crate::database::serve_over;
 use crate::front::Front;
-use room_commands::{Address, Fault, ServedDoor, Serving, Visitors};
+use room_commands::{Address, Fault, MEMORY, ServedDoor, Serving, Visitors};
 use room_peers::Served;
 use room_sockets::{Door, Entrance, Hall, Kind, moment};
+use room_space::Spare;
 use room_store::Store;
 use sqlite::{Alter, Connection};
 use std::hash::RandomState;
 use std::io;
 use std::io::Write;
 
-/// Serves everybody until a signal ends the process. It answers only where it can't begin, or the
-/// system fails. Once all can connect it writes a line: `serving`, and ` VISITORS=ADDRESS` for each
-/// door.
+/// Serves everybody until an operator asks it to end, or a signal ends the process. It fails where
+/// it can't begin, or the system fails. Once all can connect it writes a line: `serving`, and
+/// ` VISITORS=ADDRESS` for each door.
 pub fn serve<W: Write>(rt: &HostRuntime, asked: &Serving<'_>, output: &mut W) -> Result<(), Fault> {
     let moment = moment(rt).ok_or(Fault::Io)?;
     let front = Begun { asked, moment };
@@ -46,8 +47,19 @@ fn serve_all<S: Alter, W: Write>(
     asked: &Serving<'_>,
     output: &mut W,
 ) -> Result<(), Fault> {
+    served.set_spare(spare_for(rt, asked.database)?);
     let mut hall = open(rt, asked, output)?;
     Ok(hall.run(rt, served)?)
+}
+
+/// The space that is kept for a full disk: a file beside that of the database, whose name has
+/// `-space` behind it. For tables in memory none is kept.
+fn spare_for(rt: &HostRuntime, database: &str) -> io::Result<Spare> {
+    if database == MEMORY {
+        return Ok(Spare::none());
+    }
+    let path = format!(in rt.alloc(); "{database}-space")?;
+    Spare::open(rt, path.as_str())
 }
 
 /// The hall behind the doors, at which all can connect.

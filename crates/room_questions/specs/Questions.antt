@@ -1,5 +1,5 @@
 -- What is asked and changes nothing, and what is answered (all this project's own).
-use Rattle.std.specs.Prelude.{◌≡◌, ℕ, ⊤, List, map, Option, Some, None, codes}
+use Rattle.std.specs.Prelude.{◌≡◌, ℕ, ⊤, Bool, true, false, List, map, Option, Some, None, codes}
 use Rattle.std.specs.FinMap.{entries, values}
 use Rattle.room_events.specs.declared.event.Reply.{Reply}
 use Rattle.room_events.specs.declared.event.Reply.TheVariants as reply
@@ -9,7 +9,7 @@ use Rattle.room_questions.specs.Summaries.{statement_text, summary_of}
 use Rattle.room_questions.specs.declared.question.About.{About}
 use Rattle.room_questions.specs.declared.question.About.TheVariants.{Left, Statement, Jobs, Ended, Grants, Waiting, Again}
 use Rattle.room_questions.specs.declared.question.Question.{Question}
-use Rattle.room_questions.specs.declared.question.Question.TheVariants.{Ping, Devices, Accounts, Account}
+use Rattle.room_questions.specs.declared.question.Question.TheVariants.{Ping, End, Devices, Accounts, Account}
 use Rattle.room_questions.specs.Names.{next_names}
 use Rattle.room_questions.specs.Stations.{again_told, waiting_told}
 use Rattle.room_replies.specs.Words.{word_text}
@@ -48,6 +48,11 @@ abbrev pub ConcernsNames : Question → Type 0
 ConcernsNames (Accounts behind) = ⊤
 ConcernsNames _ = ⊥
 
+-- who serves is asked to end
+abbrev pub asks_end : Question → Bool
+asks_end End = true
+asks_end _ = false
+
 -- ---- the answer
 
 abbrev pub grant_of : (entry : ℕ × ℕ) → Grant
@@ -71,6 +76,7 @@ answer_about (Again device number) room devices = again_told room devices device
 abbrev pub answer_to : Question
     → (room : Option RoomValue) (devices : DeviceMap) (names : List (List ℕ)) → Reply
 answer_to Ping room devices names = reply.Line (codes "ok")
+answer_to End room devices names = reply.Line (codes "ok")
 answer_to Devices room devices names = reply.Line (devices_text (values devices))
 answer_to (Accounts behind) room devices names =
     reply.Line (accounts_text (next_names behind names))

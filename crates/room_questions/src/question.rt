@@ -1,5 +1,8 @@
 //! The questions.
 
+ghost use Rattle.std.specs.Prelude.{◌≡◌};
+ghost use Rattle.room_questions.specs.Questions.{asks_end};
+
 use room_rules::Name;
 
 /// One question.
@@ -7,12 +10,23 @@ use room_rules::Name;
 pub enum Question {
     /// Whether anybody answers.
     Ping,
+    /// Whether anybody answers, who then ends. Who serves sees to the end.
+    End,
     /// The devices, by name.
     Devices,
     /// The names of accounts that come next behind a name, or first, at most 100.
     Accounts { behind: Option<Name> },
     /// Something about one account.
     Account { account: Name, about: About },
+}
+
+impl Question {
+    /// Whether who serves is asked to end.
+    pub fn asks_end(&self) -> bool
+        ensures { result ≡ asks_end self.now }
+    {
+        matches!(self, Question::End)
+    }
 }
 
 /// What is asked about an account. A month is the year times 12, and 0 for January to 11 for

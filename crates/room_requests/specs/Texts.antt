@@ -2,7 +2,7 @@
 use Rattle.std.specs.Prelude.{ℕ, Bool, true, false, List, [], ◌++◌, codes, decimal, if◌then◌else◌, length, unwrap_or}
 use Rattle.http.specs.StatusCode.{code_digits, reason_phrase}
 use Rattle.room_requests.specs.declared.refusal.Refusal.{Refusal}
-use Rattle.room_requests.specs.declared.refusal.Refusal.TheVariants.{BadRequest, MethodNotAllowed, NotFound, UnsupportedMediaType, PayloadTooLarge, HeadTooLarge}
+use Rattle.room_requests.specs.declared.refusal.Refusal.TheVariants.{BadRequest, MethodNotAllowed, NotFound, UnsupportedMediaType, PayloadTooLarge, HeadTooLarge, NoSpace}
 
 abbrev pub status_of : Refusal → ℕ
 status_of BadRequest = 400
@@ -11,19 +11,22 @@ status_of MethodNotAllowed = 405
 status_of PayloadTooLarge = 413
 status_of UnsupportedMediaType = 415
 status_of HeadTooLarge = 431
+status_of NoSpace = 503
 
 unfoldable pub status_line : ℕ → List ℕ
 status_line status = codes "HTTP/1.1 " ++ code_digits status ++ codes " "
     ++ unwrap_or (reason_phrase status) [] ++ codes "\r\n"
 
--- a refusal of the method names the one that there is (RFC 9110 section 15.5.6)
-abbrev pub allowed : Refusal → List ℕ
-allowed MethodNotAllowed = codes "Allow: POST\r\n"
-allowed _ = []
+-- a refusal of the method names the one that there is (RFC 9110 section 15.5.6), and one for want of
+-- space tells after how many seconds to ask again (RFC 9110 section 10.2.3)
+abbrev pub more_fields : Refusal → List ℕ
+more_fields MethodNotAllowed = codes "Allow: POST\r\n"
+more_fields NoSpace = codes "Retry-After: 60\r\n"
+more_fields _ = []
 
 abbrev pub refusal_text : Refusal → List ℕ
 refusal_text refusal = status_line (status_of refusal)
-    ++ codes "Content-Length: 0\r\nConnection: close\r\n" ++ allowed refusal ++ codes "\r\n"
+    ++ codes "Content-Length: 0\r\nConnection: close\r\n" ++ more_fields refusal ++ codes "\r\n"
 
 -- the text that a client may wait for before it sends the body
 abbrev pub interim_text : Bool → List ℕ

@@ -3,7 +3,7 @@ ghost use Rattle.std.specs.Prelude.{◌≡◌, ◌+◌, ◌++◌, ◌≤◌, [],
 ghost use Rattle.room_requests.specs.Limits.{longest_answer_head, longest_status_line, longest_phrase};
 ghost use Rattle.http.specs.StatusCode.{reason_phrase};
 ghost use Rattle.arrayvec.specs.ArrayVec.{array_vec_len};
-ghost use Rattle.room_requests.specs.Texts.{allowed, answer_head, refusal_text, status_line};
+ghost use Rattle.room_requests.specs.Texts.{answer_head, more_fields, refusal_text, status_line};
 
 use crate::refusal::Refusal;
 use arrayvec::ArrayVec;
@@ -44,25 +44,27 @@ fn phrase_of(status: StatusCode) -> &'static str
 }
 
 /// The answer to what is refused, which ends the connection. For the method it names the one that
-/// there is (RFC 9110 section 15.5.6).
+/// there is (RFC 9110 section 15.5.6), and for want of space it tells after how many seconds to ask
+/// again (RFC 9110 section 10.2.3).
 pub fn refusal_text(refusal: Refusal) -> ArrayVec<u8, HEAD_ROOM>
     ensures { result.items ≡ refusal_text refusal }
 {
     let mut text = ArrayVec::new();
     put_status(&mut text, refusal.status());
     put(&mut text, b"Content-Length: 0\r\nConnection: close\r\n");
-    put(&mut text, allowed(refusal));
+    put(&mut text, more_fields(refusal));
     put(&mut text, b"\r\n");
     text
 }
 
-/// The field that names the method that there is.
-fn allowed(refusal: Refusal) -> &'static [u8]
-    ensures value { result.now ≡ allowed refusal }
-    ensures short { length result.now ≤ 13 }
+/// What a refusal tells beside its status.
+fn more_fields(refusal: Refusal) -> &'static [u8]
+    ensures value { result.now ≡ more_fields refusal }
+    ensures short { length result.now ≤ 17 }
 {
     match refusal {
         Refusal::MethodNotAllowed => b"Allow: POST\r\n",
+        Refusal::NoSpace => b"Retry-After: 60\r\n",
         _ => b"",
     }
 }

@@ -22,10 +22,13 @@ pub enum Refusal {
     UnsupportedMediaType,
     /// Its head is longer than 16384 bytes.
     HeadTooLarge,
+    /// The disk has no space for what it brings. Only who keeps space refuses so.
+    NoSpace,
 }
 
 impl Refusal {
-    /// The status of its answer (RFC 9110 section 15.5; RFC 6585 section 5 for `HeadTooLarge`).
+    /// The status of its answer (RFC 9110 section 15.5, and 15.6.4 for `NoSpace`; RFC 6585 section 5
+    /// for `HeadTooLarge`).
     pub fn status(self) -> StatusCode
         ensures value { result ≡ status_of self }
         ensures phrase { length (unwrap_or (reason_phrase result) []) ≤ longest_phrase }
@@ -37,6 +40,7 @@ impl Refusal {
             Refusal::PayloadTooLarge => StatusCode::PAYLOAD_TOO_LARGE,
             Refusal::UnsupportedMediaType => StatusCode::UNSUPPORTED_MEDIA_TYPE,
             Refusal::HeadTooLarge => StatusCode::REQUEST_HEADER_FIELDS_TOO_LARGE,
+            Refusal::NoSpace => StatusCode::SERVICE_UNAVAILABLE,
         }
     }
 }

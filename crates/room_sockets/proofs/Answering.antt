@@ -1,5 +1,5 @@
 -- What is told in a peer's turn stands in the journal.
-use Rattle.std.proofs.Common.{◌≡◌, ◌≢◌, ◌≤◌, ◌<◌, ℕ, suc, false, length, slice_get, take, Some, arith, length-append, List, [], ◌∷◌, ◌++◌, Result, Ok, Err, refl, sym, ap, subst, ◌∙◌, append_assoc, append-nil, inl, inr}
+use Rattle.std.proofs.Common.{◌≡◌, ◌≢◌, ◌≤◌, ◌<◌, ◌&&◌, ℕ, Bool, IsTrue, suc, true, false, length, slice_get, take, Some, arith, length-append, List, [], ◌∷◌, ◌++◌, Result, Ok, Err, refl, sym, ap, subst, ◌∙◌, append_assoc, append-nil, inl, inr}
 use Rattle.std.specs.List.{Contains}
 use Rattle.std.proofs.Math.Seq.{get_or-append_seam, take-length}
 use Rattle.std.proofs.lemmas.Grind.{flat_map-append}
@@ -32,6 +32,7 @@ use Rattle.room_peers.specs.declared.last_peer.LastPeer.{LastPeer}
 use Rattle.room_peers.specs.declared.line_connection.LineConnection.{LineConnection}
 use Rattle.room_peers.specs.declared.line_connection.Side.{Side}
 use Rattle.room_peers.specs.declared.line_peer.LinePeer.{LinePeer}
+use Rattle.room_peers.specs.Space.{lacks_space, needs_space, with_space}
 use Rattle.room_peers.specs.declared.served.Served.{Served}
 use Rattle.room_peers.specs.declared.step.Next.{Next}
 use Rattle.room_peers.specs.declared.step.Next.TheVariants.{Close}
@@ -114,9 +115,14 @@ places_behind n (told ∷ more) place there =
 
 -- ---- one answer after another
 
+and_left : (a b : Bool) → IsTrue (a && b) → IsTrue a
+and_left true b is = refl
+and_left false b is = is
+
 call_then : (wants : Result (List ℕ) Refusal) (call : Call) (mine rest its : List Told) → AnswersCall wants call mine rest → AnswersCall wants call (mine ++ its) (rest ++ its)
 call_then (Err why) call mine rest its is = (is.0, ap (λ (l : List Told). l ++ its) is.1)
-call_then (Ok account) call mine rest its is = (is.0, is.1, ap (λ (l : List Told). l ++ its) is.2)
+call_then (Ok account) call mine rest its (inl is) = inl (is.0, is.1, ap (λ (l : List Told). l ++ its) is.2)
+call_then (Ok account) call mine rest its (inr is) = inr (is.0, is.1, ap (λ (l : List Told). l ++ its) is.2)
 
 calls_then : (first more : List Call) (mine its : List Told) → AnswersCalls first mine → AnswersCalls more its → AnswersCalls (first ++ more) (mine ++ its)
 calls_then [] more mine its none is = subst (λ (l : List Told). AnswersCalls more (l ++ its)) (sym none) is
@@ -160,26 +166,30 @@ module _ {S : Type 0} (store : Ghosts S) (first last : Held S) where
   pub answered_longer : (peer : Peer) (places : List ℕ) (journal more : List Told) → IsAnswered store first last peer places journal → IsAnswered store first last peer places (journal ++ more)
   answered_longer (Http peer) places journal more is = record { served = is.served; mine = is.mine; answered = is.answered; stand = stand_longer 0 places is.mine journal more is.stand }
   answered_longer (Lines peer) places journal more is = record { calls = is.calls; came = is.came; goes = is.goes; answered = lines_longer (side_of (lines_of peer)) is.calls 0 places journal more is.answered }
-  answered_longer (Last peer) places journal more is = record { told = is.told; stands = stand_longer 0 places (is.told ∷ []) journal more is.stands; went = is.went; text = is.text }
+  answered_longer (Last peer) places journal more (inl is) = inl (record { told = is.told; stands = stand_longer 0 places (is.told ∷ []) journal more is.stands; went = is.went; text = is.text })
+  answered_longer (Last peer) places journal more (inr is) = inr is
 
   pub answered_within : (peer : Peer) (places : List ℕ) (journal : List Told) → IsAnswered store first last peer places journal → (place : ℕ) → Contains places place → place < length journal
   answered_within (Http peer) places journal is = stand_within 0 places is.mine journal is.stand
   answered_within (Lines peer) places journal is = lines_within (side_of (lines_of peer)) is.calls 0 places journal is.answered
-  answered_within (Last peer) places journal is = stand_within 0 places (is.told ∷ []) journal is.stands
+  answered_within (Last peer) places journal (inl is) = stand_within 0 places (is.told ∷ []) journal is.stands
+  answered_within (Last peer) places journal (inr is) = subst (λ (at : List ℕ). (place : ℕ) → Contains at place → place < length journal) (sym is.nowhere) (λ place there. absurd (none_there place there))
 
 module _ {S : Type 0} (store : Ghosts S) (before : Served S) (fresh : IsFresh before) (last : Held S) where
   -- ---- what a turn applies, and what is told of it
 
-  gives_told : (wants : Result (List ℕ) Refusal) (call : Call) (old new : Served S) → Gives store wants old call.0 call.1 new → (c : Continues store old new) × ((rest : List Told) → AnswersCall wants call (applied c.more ++ rest) rest)
+  gives_told : (lacks : Bool) (wants : Result (List ℕ) Refusal) (call : Call) (old new : Served S) → (IsTrue lacks → IsTrue (needs_space (body_of call.0))) → Gives store (with_space lacks wants) old call.0 call.1 new → (c : Continues store old new) × ((rest : List Told) → AnswersCall wants call (applied c.more ++ rest) rest)
   unfolding one_more stays
-  gives_told (Ok account) call old new is = (one_more store (entry.Message (moment_of old) account (body_of call.0)) is.told old new is.next, λ rest. ((entry.Message (moment_of old) account (body_of call.0), is.told), record { moment = moment_of old; asked = refl; tells = is.tells }, refl))
-  gives_told (Err why) call old new is = subst (λ (served : Served S). (c : Continues store old served) × ((rest : List Told) → AnswersCall (Err why) call (applied c.more ++ rest) rest)) (sym is.1) (stays store old, λ rest. (is.0, refl))
+  gives_told false (Ok account) call old new needs is = (one_more store (entry.Message (moment_of old) account (body_of call.0)) is.told old new is.next, λ rest. inl ((entry.Message (moment_of old) account (body_of call.0), is.told), record { moment = moment_of old; asked = refl; tells = is.tells }, refl))
+  gives_told true (Ok account) call old new needs is = subst (λ (served : Served S). (c : Continues store old served) × ((rest : List Told) → AnswersCall (Ok account) call (applied c.more ++ rest) rest)) (sym is.1) (stays store old, λ rest. inr (needs refl, is.0, refl))
+  gives_told false (Err why) call old new needs is = subst (λ (served : Served S). (c : Continues store old served) × ((rest : List Told) → AnswersCall (Err why) call (applied c.more ++ rest) rest)) (sym is.1) (stays store old, λ rest. (is.0, refl))
+  gives_told true (Err why) call old new needs is = subst (λ (served : Served S). (c : Continues store old served) × ((rest : List Told) → AnswersCall (Err why) call (applied c.more ++ rest) rest)) (sym is.1) (stays store old, λ rest. (is.0, refl))
 
   pub calls_told : (calls : List Call) (old new : Served S) → Chain (Answers store) old calls new → (c : Continues store old new) × AnswersCalls calls (applied c.more)
   unfolding stays then
   calls_told [] old new is = subst (λ (served : Served S). (c : Continues store old served) × AnswersCalls [] (applied c.more)) (sym is) (stays store old, refl)
   calls_told (call ∷ calls) old new is =
-      let first = gives_told (asked call.0) call old is.0 is.1 in
+      let first = gives_told (lacks_space old call.0) (asked call.0) call old is.0 (and_left (needs_space (body_of call.0)) _) is.1 in
       let rest = calls_told calls is.0 new is.2 in
       (then store old is.0 new first.0 rest.0, (applied rest.0.more, subst (λ (mine : List Told). AnswersCall (asked call.0) call mine (applied rest.0.more)) (sym (applied_then first.0.more rest.0.more)) (first.1 (applied rest.0.more)), rest.1))
 
@@ -326,12 +336,19 @@ module _ {S : Type 0} (store : Ghosts S) (before : Served S) (fresh : IsFresh be
   last_answered ends ends2 was now old new says same =
       subst (λ (it : Served S). Answered (Last was) (Last now) old it) (sym same) (
         stays store old,
-        λ places journal is_journal had. none_applied (Last now) places journal (record {
-          told = had.told;
-          stands = had.stands;
-          went = had.went ++ says.went;
-          text = had.text ∙ ap (λ x. had.went ++ x) says.left ∙ sym (append_assoc had.went says.went (left_of now));
-        }),
+        λ places journal is_journal had. none_applied (Last now) places journal (elim had [
+          | inl tells ↦ inl (record {
+            told = tells.told;
+            stands = tells.stands;
+            went = tells.went ++ says.went;
+            text = tells.text ∙ ap (λ x. tells.went ++ x) says.left ∙ sym (append_assoc tells.went says.went (left_of now));
+          })
+          | inr off ↦ inr (record {
+            nowhere = off.nowhere;
+            went = off.went ++ says.went;
+            text = off.text ∙ ap (λ x. off.went ++ x) says.left ∙ sym (append_assoc off.went says.went (left_of now));
+          })
+        ]),
       )
 
   pub turn_answered : (ends ends2 : Ends) (next : Next) (was now : Peer) (old new : Served S) → IsServed store before old → (HasCleanDisk (state store last) → IsClean store new) → next ≢ Close → TakesTurn store ends ends2 next was now old new → Answered was now old new

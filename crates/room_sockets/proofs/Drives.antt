@@ -16,6 +16,7 @@ use Rattle.room_peers.specs.LinePeers as lines
 use Rattle.room_peers.specs.Streams.{Ends}
 use Rattle.room_peers.specs.declared.entry.Entry.{Entry}
 use Rattle.room_peers.specs.declared.line_peer.LinePeer.{LinePeer}
+use Rattle.room_peers.specs.Space.{spare_of}
 use Rattle.room_peers.specs.declared.served.Served.{Served}
 use Rattle.room_peers.specs.declared.step.Next.{Next}
 use Rattle.room_peers.specs.declared.step.Turn.{Turn}
@@ -225,11 +226,11 @@ module _ {S : Type 0} (store : Ghosts S) where
       as_served old turns.left new on (like turns.left new (record turns.left { asked = None }) turns.same (record { rounds = refl; left = refl; tables = refl; shares = refl }))
 
   serves_served : (was now : Option Guest) (old mid new : Served S) → IsServed old mid → Serves store was now mid new → IsServed old new
-  serves_served None now old mid new is serves = as_served old mid new is (like mid new (record mid { moment = serves.1.0 }) serves.1.1 (record { rounds = refl; left = refl; tables = refl; shares = refl }))
+  serves_served None now old mid new is serves = as_served old mid new is (like mid new (record mid { moment = serves.1.0; spare = spare_of new }) serves.1.1 (record { rounds = refl; left = refl; tables = refl; shares = refl }))
   serves_served (Some guest) now old mid new is serves =
       elim serves [
         | inl driven ↦
-            let begun = as_served old mid driven.begun is (like mid driven.begun (record mid { moment = driven.moment.0 }) driven.moment.1 (record { rounds = refl; left = refl; tables = refl; shares = refl })) in
+            let begun = as_served old mid driven.begun is (like mid driven.begun (record mid { moment = driven.moment.0; spare = spare_of driven.begun }) driven.moment.1 (record { rounds = refl; left = refl; tables = refl; shares = refl })) in
             turn_served _ driven.turn driven.next guest driven.left old driven.begun new begun driven.driven
         | inr gone ↦ subst (λ (served : Served S). IsServed old served) (sym gone.1) is
       ]

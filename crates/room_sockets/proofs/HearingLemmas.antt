@@ -10,6 +10,7 @@ use Rattle.sqlite_trees.specs.declared.store.Store.{Ghosts}
 use Rattle.room_peers.specs.Journals.{Notes, Round, Told, applied, by_themselves, is_lost_of, list_of, open_of, round_alone, rounds_of, shares_of}
 use Rattle.room_peers.specs.Turns.{Continues}
 use Rattle.room_peers.specs.declared.entry.Entry.{Entry}
+use Rattle.room_peers.specs.Space.{spare_of}
 use Rattle.room_peers.specs.declared.served.Served.{Served}
 use Rattle.room_peers.specs.declared.step.Next.{Next}
 use Rattle.room_peers.specs.declared.step.Turn.{Turn}
@@ -86,7 +87,7 @@ module _ {S : Type 0} (store : Ghosts S) where
 
   -- the moment is no matter of rounds
   moment_keeps : (old new : Served S) → IsAtMoment old new → Keeps old new
-  moment_keeps old new at entry stands = same_keeps (record old { moment = at.0 }) new at.1 entry (alike (shares_of old) entry old (record old { moment = at.0 }) refl refl refl stands)
+  moment_keeps old new at entry stands = same_keeps (record old { moment = at.0; spare = spare_of new }) new at.1 entry (alike (shares_of old) entry old (record old { moment = at.0; spare = spare_of new }) refl refl refl stands)
 
   -- what is kept with a peer is no matter of rounds
   without_asked : (old new : Served S) → new ≡ record old { asked = None } → Keeps old new

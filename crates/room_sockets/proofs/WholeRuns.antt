@@ -17,10 +17,14 @@ use Rattle.room_peers.specs.LastPeers.{left_of}
 use Rattle.room_peers.specs.LinePeers.{lines_of}
 use Rattle.room_peers.specs.Lines.{IsNewOf}
 use Rattle.room_peers.specs.LastTexts.{last_text}
+use Rattle.room_requests.specs.Texts.{refusal_text}
+use Rattle.room_requests.specs.declared.refusal.Refusal.TheVariants.{NoSpace}
 use Rattle.room_peers.specs.declared.entry.Entry.{Entry}
 use Rattle.room_peers.specs.declared.last_peer.LastPeer.{LastPeer}
 use Rattle.room_peers.specs.declared.line_connection.Side.{Side}
 use Rattle.room_peers.specs.declared.line_peer.LinePeer.{LinePeer}
+use Rattle.room_peers.specs.Space.{spare_of}
+use Rattle.room_space.specs.declared.spare.Spare.{Spare}
 use Rattle.room_peers.specs.declared.served.Served.{Served}
 use Rattle.room_peers.specs.declared.step.Next.{Next}
 use Rattle.room_peers.specs.declared.step.Next.TheVariants.{Close}
@@ -29,7 +33,7 @@ use Rattle.room_sockets.proofs.Answering.{answered_longer, answered_within, none
 use Rattle.room_sockets.proofs.Drives.{IsClean, IsServed, again_continues, all_clean, as_served, like, served_by, served_continues, step_served, turn_continues}
 use Rattle.room_sockets.proofs.Inquiring.{grown_alone, grown_by, journal_is, lives_on, runs_so}
 use Rattle.room_sockets.specs.EndToEnd.{AnswersCalls, AreApart, StandAt, FromEndToEnd, IsAnswered, IsFoundAgain, IsFresh, TellsLast}
-use Rattle.room_sockets.specs.Guests.{AsksAgain, CameBy, IsNew, Turns, asked_in, in_round, is_waiting, of_socket, peer_of}
+use Rattle.room_sockets.specs.Guests.{AsksAgain, CameBy, IsNew, IsTurnedAway, StaysOrTurnsAway, Turns, asked_in, in_round, is_waiting, of_socket, peer_of}
 use Rattle.room_sockets.specs.Halls.{AreOthersKept, Ask, Begin, BeginsRound, Does, DoesAll, Drop, Enter, IsAtMoment, Leave, MayGo, Serve, Serves, Settle, SettlesRound, Step}
 use Rattle.room_sockets.specs.declared.doors.Speech.{Speech}
 use Rattle.room_sockets.specs.declared.doors.Speech.TheVariants as speech_is
@@ -153,9 +157,9 @@ module _ {S : Type 0} (store : Ghosts S) (before : Served S) (fresh : IsFresh be
   slot_within (Some guest) places served going place there = goes_within (asked_in guest) (shares_of served) (is_lost_of served) (peer_of guest) places served going place there
 
   -- the moment is no matter of places
-  end_at : (shares : Bool) (served : Served S) (moment : ℕ) → end_of shares (record served { moment = moment }) ≡ end_of shares served
-  end_at true served moment = refl
-  end_at false served moment = refl
+  end_at : (shares : Bool) (served : Served S) (moment : ℕ) (spare : Spare) → end_of shares (record served { moment = moment; spare = spare }) ≡ end_of shares served
+  end_at true served moment spare = refl
+  end_at false served moment spare = refl
 
   -- everybody does, each at places of its own
   record AllGo (guests : Slab Guest) (served : Served S) : Type 0 where
@@ -236,7 +240,7 @@ module _ {S : Type 0} (store : Ghosts S) (before : Served S) (fresh : IsFresh be
   same_keeps old new same asked peer places going = subst (λ (served : Served S). Goes asked (shares_of served) (is_lost_of served) peer places served) (sym same) going
 
   moment_keeps : (old new : Served S) → IsAtMoment old new → Keeps old new
-  moment_keeps old new at asked peer places going = same_keeps (record old { moment = at.0 }) new at.1 asked peer places (alike (shares_of old) (is_lost_of old) old (record old { moment = at.0 }) refl refl asked peer places going)
+  moment_keeps old new at asked peer places going = same_keeps (record old { moment = at.0; spare = spare_of new }) new at.1 asked peer places (alike (shares_of old) (is_lost_of old) old (record old { moment = at.0; spare = spare_of new }) refl refl asked peer places going)
 
   without_asked : (old new : Served S) → new ≡ record old { asked = None } → Keeps old new
   without_asked old new same asked peer places going = same_keeps (record old { asked = None }) new same asked peer places (alike (shares_of old) (is_lost_of old) old (record old { asked = None }) refl refl asked peer places going)
@@ -270,23 +274,34 @@ module _ {S : Type 0} (store : Ghosts S) (before : Served S) (fresh : IsFresh be
       let notes : Notes false (Some told ∷ []) old mid = subst (λ b. Notes b (Some told ∷ []) old mid) alone next.notes in
       let its : List ℕ = places_from (length (journal_of old)) (told ∷ []) in
       let stands : StandAt 0 its (told ∷ []) (journal_of mid) = subst (λ (journal : List Told). StandAt 0 its (told ∷ []) journal) (sym (grown_alone (Some told ∷ []) old mid notes.0)) (stand_behind 0 (journal_of old) (told ∷ []) (omega arith)) in
-      let last : TellsLast peer its (journal_of mid) =
+      let tells : TellsLast peer its (journal_of mid) =
       elim left [
         | inl whole ↦ record { told = told; stands = stands; went = []; text = sym whole }
         | inr none ↦ record { told = told; stands = stands; went = last_text told.0 told.1; text = sym (ap (λ x. last_text told.0 told.1 ++ x) none ∙ append-nil (last_text told.0 told.1)) }
       ] in
-      (its, (λ place there. inr (places_behind (length (journal_of old)) (told ∷ []) place there)), last)
+      (its, (λ place there. inr (places_behind (length (journal_of old)) (told ∷ []) place there)), inl tells)
 
   as_before : (before begun : Peer) (places : List ℕ) (end : ℕ) (old mid : Served S) → (begun ≡ before) × (mid ≡ old) → HasAnswer before places (journal_of old) → AnsweredAt places end begun (journal_of mid)
   as_before before begun places end old mid same is = (places, (λ place there. inl there), subst (λ (peer : Peer). HasAnswer peer places (journal_of mid)) (sym same.0) (subst (λ (served : Served S). HasAnswer before places (journal_of served)) (sym same.1) is))
+
+  -- a client that was turned away has no place
+  turned_away : (begun : Peer) (was : List ℕ) (end : ℕ) (journal : List Told) → IsTurnedAway begun → AnsweredAt was end begun journal
+  turned_away (Last peer) was end journal (inl left) = ([], (λ place there. absurd (none_there place there)), inr (record { nowhere = refl; went = []; text = sym left }))
+  turned_away (Last peer) was end journal (inr none) = ([], (λ place there. absurd (none_there place there)), inr (record { nowhere = refl; went = refusal_text NoSpace; text = sym (ap (λ x. refusal_text NoSpace ++ x) none ∙ append-nil (refusal_text NoSpace)) }))
+  turned_away (Http peer) was end journal is = absurd is
+  turned_away (Lines peer) was end journal is = absurd is
+
+  stays_or_not : (most : ℕ) (before begun : Peer) (places : List ℕ) (end : ℕ) (old mid : Served S) → StaysOrTurnsAway most before begun × (mid ≡ old) → HasAnswer before places (journal_of old) → AnsweredAt places end begun (journal_of mid)
+  stays_or_not most before begun places end old mid (inl same, mid_is) is = as_before before begun places end old mid (same, mid_is) is
+  stays_or_not most before begun places end old mid (inr turned, mid_is) is = turned_away begun places end (journal_of mid) turned.1
 
   again_goes : (lost : Bool) (asked : List Entry) (before begun : Peer) (places : List ℕ) (old mid : Served S) → AsksAgain store lost asked before begun old mid → shares_of old ≡ false → Goes asked false lost before places old → AnsweredAt places (length (journal_of old)) begun (journal_of mid)
   again_goes true (entry ∷ more) before (Last begun) places old mid is alone going = told_again (entry, is.told) begun places old mid is.next alone is.left
   again_goes true (entry ∷ more) before (Http begun) places old mid is alone going = absurd is
   again_goes true (entry ∷ more) before (Lines begun) places old mid is alone going = absurd is
-  again_goes true [] before begun places old mid is alone going = as_before before begun places _ old mid is going
-  again_goes false [] before begun places old mid is alone going = as_before before begun places _ old mid is going
-  again_goes false (entry ∷ more) before begun places old mid is alone going = as_before before begun places _ old mid is going
+  again_goes true [] before begun places old mid is alone going = stays_or_not _ before begun places _ old mid is going
+  again_goes false [] before begun places old mid is alone going = stays_or_not _ before begun places _ old mid is going
+  again_goes false (entry ∷ more) before begun places old mid is alone going = stays_or_not _ before begun places _ old mid is going
 
   -- where it asked nothing nothing was told
   nothing_more : (asked its : List Entry) → asked ++ its ≡ [] → (asked ≡ []) × (its ≡ [])
@@ -372,9 +387,9 @@ module _ {S : Type 0} (store : Ghosts S) (before : Served S) (fresh : IsFresh be
   serves_goes None now places old new served clean serves going = grows_not places _ now new serves.0
   serves_goes (Some guest) now places old new served clean (inr gone) going = grows_not places _ now new gone.0
   serves_goes (Some guest) now places old new served clean (inl driven) going =
-      let there : IsServed store before driven.begun = as_served store before old driven.begun served (like store old driven.begun (record old { moment = driven.moment.0 }) driven.moment.1 (record { rounds = refl; left = refl; tables = refl; shares = refl })) in
+      let there : IsServed store before driven.begun = as_served store before old driven.begun served (like store old driven.begun (record old { moment = driven.moment.0; spare = spare_of driven.begun }) driven.moment.1 (record { rounds = refl; left = refl; tables = refl; shares = refl })) in
       let begun = goes_on (Some guest) places old driven.begun (moment_keeps old driven.begun driven.moment) going in
-      let same_end : end_of (shares_of driven.begun) driven.begun ≡ end_of (shares_of old) old = ap (λ (served : Served S). end_of (shares_of served) served) driven.moment.1 ∙ end_at (shares_of old) old driven.moment.0 in
+      let same_end : end_of (shares_of driven.begun) driven.begun ≡ end_of (shares_of old) old = ap (λ (served : Served S). end_of (shares_of served) served) driven.moment.1 ∙ end_at (shares_of old) old driven.moment.0 (spare_of driven.begun) in
       elim driven.stays [
         | inl kept ↦
             let on = turn_goes (shares_of driven.begun) driven.turn driven.next guest driven.left places driven.begun new there clean refl kept.0 driven.driven begun in

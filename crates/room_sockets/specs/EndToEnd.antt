@@ -12,7 +12,9 @@ use Rattle.sqlite.specs.Held.{Held, state}
 use Rattle.sqlite_trees.specs.Tree.{Trees}
 use Rattle.sqlite_trees.specs.declared.store.Store.{Ghosts}
 use Rattle.ipp_coding.specs.Reading.{header_in}
+use Rattle.room_requests.specs.Texts.{refusal_text}
 use Rattle.room_requests.specs.declared.refusal.Refusal.{Refusal}
+use Rattle.room_requests.specs.declared.refusal.Refusal.TheVariants.{NoSpace}
 use Rattle.room_events.specs.declared.event.Reply.{Reply}
 use Rattle.room_laws.specs.Lives.{IsLife, Life}
 use Rattle.room_lines.specs.Asking.{IsQuestionOf}
@@ -37,6 +39,7 @@ use Rattle.room_peers.specs.Lines.{IsEntryOf, MayAsk, grammar_of, input_of, outp
 use Rattle.room_peers.specs.LineTexts.{bad_line_text, line_text}
 use Rattle.room_peers.specs.Requests.{asked, has_long_body}
 use Rattle.room_peers.specs.ServedLives.{told_to}
+use Rattle.room_peers.specs.Space.{needs_space}
 use Rattle.room_peers.specs.declared.entry.Entry.TheVariants as entry
 use Rattle.room_peers.specs.declared.http_peer.HttpPeer.{HttpPeer}
 use Rattle.room_peers.specs.declared.last_peer.LastPeer.{LastPeer}
@@ -65,13 +68,16 @@ pub record TellsCall (account : List ℕ) (call : Call) (told : Told) : Type 0 w
   pub tells : IsTold (header_in (body_of call.0)) (has_long_body call.0) told.1 call.1
       ⊎ IsLost call.1
 
--- a request is refused and asks nothing, or it is answered by the first of these
+-- A request is refused and asks nothing, or it is answered by the first of these. One that needs space
+-- may be refused for want of it.
 abbrev pub AnswersCall : (wants : Result (List ℕ) Refusal) (call : Call) (mine rest : List Told)
     → Type 0
 AnswersCall (Err why) call mine rest =
     IsRefusal why (has_long_body call.0) call.1 × (mine ≡ rest)
 AnswersCall (Ok account) call mine rest =
-    (told : Told) × TellsCall account call told × (mine ≡ told ∷ rest)
+    ((told : Told) × TellsCall account call told × (mine ≡ told ∷ rest))
+    ⊎ (IsTrue (needs_space (body_of call.0)) × IsRefusal NoSpace (has_long_body call.0) call.1
+    × (mine ≡ rest))
 
 -- the requests are answered by these, in order
 abbrev pub AnswersCalls : List Call → (mine : List Told) → Type 0
@@ -159,6 +165,13 @@ pub record TellsLast (peer : LastPeer) (places : List ℕ) (journal : List Told)
   pub went : List ℕ
   pub text : last_text told.0 told.1 ≡ went ++ left_of peer
 
+-- a client was turned away for want of space, and nothing stands in the journal of its request; what
+-- is still to go is the end of what tells it
+pub record TellsOff (peer : LastPeer) (places : List ℕ) : Type 0 where
+  pub nowhere : places ≡ []
+  pub went : List ℕ
+  pub text : refusal_text NoSpace ≡ went ++ left_of peer
+
 -- ---- everybody
 
 module _ {S : Type 0} (store : Ghosts S) (first last : Held S) where
@@ -166,7 +179,7 @@ module _ {S : Type 0} (store : Ghosts S) (first last : Held S) where
   IsAnswered (Http peer) places journal = HasAnsweredRequests peer places journal
   IsAnswered (Lines peer) places journal =
       HasAnsweredLines store first last (lines_of peer) places journal
-  IsAnswered (Last peer) places journal = TellsLast peer places journal
+  IsAnswered (Last peer) places journal = TellsLast peer places journal ⊎ TellsOff peer places
 
 -- no place is in both
 abbrev pub AreApart : (first second : List ℕ) → Type 0

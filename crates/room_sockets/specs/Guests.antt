@@ -1,5 +1,5 @@
 -- A turn of a peer that came in by a door (all this project's own).
-use Rattle.std.specs.Prelude.{◌≡◌, ◌≢◌, ℕ, Bool, true, false, List, [], ◌∷◌, ◌++◌, Option, None, Some, IsFalse, is_some}
+use Rattle.std.specs.Prelude.{◌≡◌, ◌≢◌, ◌⊎◌, ◌+◌, ◌<◌, ℕ, Bool, true, false, List, [], ◌∷◌, ◌++◌, Option, None, Some, IsFalse, is_some}
 use Rattle.http_server.specs.Connection.{history}
 use Rattle.http_server.specs.History.{new_history}
 use Rattle.slab.specs.Slab.{Slab, get}
@@ -10,11 +10,15 @@ use Rattle.room_peers.specs.LastPeers as last
 use Rattle.room_peers.specs.LinePeers as lines
 use Rattle.room_peers.specs.Streams.{Ends}
 use Rattle.room_peers.specs.Lines.{IsNewOf}
+use Rattle.room_peers.specs.Space.{spare_of}
 use Rattle.room_peers.specs.declared.entry.Entry.{Entry}
 use Rattle.room_peers.specs.declared.served.Served.{Served}
 use Rattle.room_peers.specs.declared.step.Next.{Next}
 use Rattle.room_peers.specs.declared.step.Next.TheVariants.{HeldBack, Wait}
 use Rattle.room_peers.specs.declared.step.Turn.{Turn}
+use Rattle.room_requests.specs.Limits.{longest_head}
+use Rattle.room_requests.specs.declared.refusal.Refusal.TheVariants.{NoSpace}
+use Rattle.room_space.specs.Spares.{takes_of}
 use Rattle.room_sockets.specs.declared.doors.Speech.{Speech}
 use Rattle.room_sockets.specs.declared.doors.Speech.TheVariants as speech_is
 use Rattle.room_sockets.specs.declared.guest.Guest.{Guest}
@@ -67,6 +71,20 @@ of_socket = (None, None)
 abbrev pub in_round : Ends
 in_round = (None, Some [])
 
+-- of a client's request more has come than this, in bytes of its body
+abbrev pub HasSentMore : (most : ℕ) → Peer → Type 0
+HasSentMore most (Http peer) = most + longest_head < http.came_of peer
+HasSentMore most _ = ⊥
+
+-- it is told that there is no space, and nothing more
+abbrev pub IsTurnedAway : Peer → Type 0
+IsTurnedAway (Last peer) = last.IsToldOff NoSpace peer
+IsTurnedAway _ = ⊥
+
+abbrev pub StaysOrTurnsAway : (most : ℕ) (before after : Peer) → Type 0
+StaysOrTurnsAway most before after =
+    (after ≡ before) ⊎ (HasSentMore most before × IsTurnedAway after)
+
 module _ {S : Type 0} (store : Ghosts S) where
   -- What came on this connection is taken, by what is spoken on it, and nothing else becomes of the
   -- rooms: each request is a call of the service, and each line is applied, or a bad one. Behind what
@@ -82,14 +100,16 @@ module _ {S : Type 0} (store : Ghosts S) where
   TakesTurn _ _ _ _ _ _ _ = ⊥
 
   -- What was asked in a round that was lost is asked again, by itself, and what that comes to goes
-  -- last on the connection, in the place of what was to go. Otherwise all is as it was.
+  -- last on the connection, in the place of what was to go. Otherwise all is as it was, or a client is
+  -- turned away for want of space.
   abbrev pub AsksAgain : (lost : Bool) (asked : List Entry) (before begun : Peer)
       (old mid : Served S) → Type 0
   AsksAgain true (entry ∷ more) before (Last begun) old mid =
       last.IsToldAgain store entry begun old mid
   AsksAgain true (entry ∷ more) before (Http begun) old mid = ⊥
   AsksAgain true (entry ∷ more) before (Lines begun) old mid = ⊥
-  AsksAgain _ _ before begun old mid = (begun ≡ before) × (mid ≡ old)
+  AsksAgain _ _ before begun old mid =
+      StaysOrTurnsAway (takes_of (spare_of old)) before begun × (mid ≡ old)
 
   -- A guest had this turn where nothing is shared, and this came of it. What it asked in the round
   -- that was settled last it has heard then.

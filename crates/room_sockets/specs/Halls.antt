@@ -9,6 +9,7 @@ use Rattle.slab.specs.Slab.{Slab, SameValues, get}
 use Rattle.sqlite_trees.specs.declared.store.Store.{Ghosts}
 use Rattle.room_peers.specs.Journals.{shares_of}
 use Rattle.room_peers.specs.Rounds.{IsBegun, IsNotBegun, IsSettled}
+use Rattle.room_peers.specs.Space.{spare_of}
 use Rattle.room_peers.specs.declared.served.Served.{Served}
 use Rattle.room_peers.specs.declared.step.Next.{Next}
 use Rattle.room_peers.specs.declared.step.Next.TheVariants.{Again, Close, Part}
@@ -70,9 +71,9 @@ MayLeave _ = ⊥
 abbrev pub StaysAfter : (next : Next) (left now : Option Guest) → Type 0
 StaysAfter next left now = ((next ≢ Close) × (now ≡ left)) ⊎ (MayLeave next × (now ≡ None))
 
--- only the moment may be another
+-- only the moment may be another, and how much space is kept for a full disk
 abbrev pub IsAtMoment : {S : Type 0} → (old new : Served S) → Type 0
-IsAtMoment old new = (moment : ℕ) × (new ≡ record old { moment = moment })
+IsAtMoment old new = (moment : ℕ) × (new ≡ record old { moment = moment; spare = spare_of new })
 
 module _ {S : Type 0} (store : Ghosts S) where
   -- a guest had a turn at a moment, and is there as the turn left it, or was let go after it

@@ -123,10 +123,13 @@ impl Peers {
         }
     }
 
-    /// Lets in who waits at the doors.
+    /// Lets in who waits at the doors, unless nothing more is received.
     pub(crate) fn admit_all(&mut self, ticks: u64)
         ensures { OnlyEnter self.old.guests self.new.guests }
     {
+        if !self.receives {
+            return;
+        }
         for place in 0..self.entrances.len() {
             self.admit(place, ticks);
         }

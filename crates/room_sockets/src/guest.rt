@@ -1,14 +1,15 @@
 //! A peer that came in: its socket, and what it speaks.
 
-ghost use Rattle.std.specs.Prelude.{◌≡◌, [], false, IsFalse};
+ghost use Rattle.std.specs.Prelude.{◌≡◌, [], false, IsFalse, IsTrue};
 ghost use Rattle.room_peers.specs.Journals.{is_lost_of, shares_of};
 ghost use Rattle.room_peers.specs.Turns.{Continues};
-ghost use Rattle.room_sockets.specs.Guests.{AsksAgain, AsksTurn, HasTurn, IsAtRest, TakesTurn, Turns, asked_in, peer_of, turns_of};
+ghost use Rattle.room_sockets.specs.Guests.{AsksAgain, AsksTurn, HasSentMore, HasTurn, IsAtRest, StaysOrTurnsAway, TakesTurn, Turns, asked_in, peer_of, turns_of};
 
 use crate::stream::{Stream, Unsent};
 use http_server::Log;
 use mio::{Interest, Registry, Token};
 use room_peers::{Entry, HttpPeer, LARGE, LastPeer, LinePeer, Next, Patience, Served, Turn};
+use room_requests::Refusal;
 use sqlite::Alter;
 use std::alloc::Global;
 use std::io;
@@ -138,7 +139,8 @@ impl Guest {
     }
 
     /// Where the round was lost, what it asked in it is asked again, by itself. From then on it
-    /// only hears what that came to, whatever it spoke.
+    /// only hears what that came to, whatever it spoke. A client of whose request more has come than
+    /// there is space for is turned away.
     fn ask_again<S: Alter>(&mut self, alloc: Global, served: &mut Served<S>, ticks: u64)
         requires { shares_of served.old ≡ false }
         ensures again { AsksAgain S.Store (is_lost_of served.old) (asked_in self.old)
@@ -148,11 +150,32 @@ impl Guest {
         ensures alone { shares_of served.new ≡ false }
     {
         let Some(asked) = self.asked.take() else {
-            return;
+            return self.turn_away(alloc, served.takes(), ticks);
         };
         if served.is_lost() {
             let peer = LastPeer::told_again(alloc, &asked, served, ticks);
             self.peer = Peer::Last(peer);
+        }
+    }
+
+    /// Turns it away where it is a client of whose request more has come than this.
+    fn turn_away(&mut self, alloc: Global, most: usize, ticks: u64)
+        ensures turned { StaysOrTurnsAway most (peer_of self.old) (peer_of self.new) }
+        ensures asked { asked_in self.new ≡ asked_in self.old }
+        ensures turns { turns_of self.new ≡ turns_of self.old }
+    {
+        if self.outgrows(most) {
+            self.peer = Peer::Last(LastPeer::turned_away(alloc, Refusal::NoSpace, ticks));
+        }
+    }
+
+    /// Whether it is a client of whose request more has come than this.
+    fn outgrows(&self, most: usize) -> bool
+        ensures { IsTrue result → HasSentMore most (peer_of self.now) }
+    {
+        match &self.peer {
+            Peer::Http(peer) => peer.outgrows(most),
+            Peer::Lines(_) | Peer::Last(_) => false,
         }
     }
 
@@ -193,6 +216,15 @@ impl Guest {
             Peer::Http(peer) => peer.bytes_held(),
             Peer::Lines(peer) => peer.bytes_held(),
             Peer::Last(peer) => peer.bytes_held(),
+        }
+    }
+
+    /// Whether something that it was told is still to go.
+    pub(crate) fn has_output(&self) -> bool {
+        match &self.peer {
+            Peer::Http(peer) => peer.has_output(),
+            Peer::Lines(peer) => peer.has_output(),
+            Peer::Last(peer) => peer.bytes_held() > 0,
         }
     }
 

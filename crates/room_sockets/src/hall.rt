@@ -30,6 +30,9 @@ use std::time::{Clock, Duration};
 /// How many events are taken from the system at once. So many peers at most share a commit.
 const MOST_EVENTS: usize = 64;
 
+/// How many milliseconds answers have to go once serving ends.
+const LAST_TICKS: u64 = 5_000;
+
 /// The most doors of a hall. They have the tokens below this, and guests those from here on.
 pub(crate) const MOST_DOORS: usize = 64;
 
@@ -56,6 +59,8 @@ pub(crate) struct Peers {
     pace: Pace,
     /// When the deadlines were looked at last.
     pub(crate) dropped_late_at: u64,
+    /// Whether who waits is let in, and what comes is read.
+    pub(crate) receives: bool,
 }
 
 impl Hall {
@@ -109,11 +114,13 @@ impl Hall {
             stock: Stock::new(),
             pace: Pace::new(ticks(rt)?),
             dropped_late_at: 0,
+            receives: true,
         };
         Ok(Hall { peers, events })
     }
 
-    /// Serves whoever comes, pass after pass. It ends with the first pass that fails.
+    /// Serves whoever comes, pass after pass, until an operator asks it to end. Then what was told
+    /// has some seconds to go. It ends with the first pass that fails.
     pub fn run<S: Alter>(&mut self, clock: &impl Clock, served: &mut Served<S>) -> io::Result<()>
         ensures goes_on { GoesOn S.Store (guests_of self.old) (guests_of self.new)
             served.old served.new }
@@ -123,6 +130,27 @@ impl Hall {
             → IsWhole S.Store (guests_of self.new) served.old served.new }
     {
         for _ in 0..u64::MAX {
+            if served.has_to_end() {
+                break;
+            }
+            self.pass(clock, served)?;
+        }
+        self.finish(clock, served)
+    }
+
+    /// Sends what was told, as far as peers take it in time.
+    fn finish<S: Alter>(&mut self, clock: &impl Clock, served: &mut Served<S>) -> io::Result<()>
+        ensures goes_on { GoesOn S.Store (guests_of self.old) (guests_of self.new)
+            served.old served.new }
+        ensures follows { shares_of served.old ≡ false → open_of served.old ≡ []
+            → Follows S.Store served.old served.new }
+    {
+        self.peers.receives = false;
+        let last = self.peers.ticks(clock)?.saturating_add(LAST_TICKS);
+        for _ in 0..u64::MAX {
+            if !self.peers.has_output() || self.peers.ticks(clock)? > last {
+                break;
+            }
             self.pass(clock, served)?;
         }
         Ok(())
@@ -202,7 +230,8 @@ impl Peers {
     }
 
     /// Lets a peer go on, at the clock's moment, and drops it where it is over. All other peers
-    /// stay as they are. `is_last`: the system may have told that the peer sends no more.
+    /// stay as they are. A piece of the space that is kept is taken where it is not whole.
+    /// `is_last`: the system may have told that the peer sends no more.
     pub(crate) fn serve<S: Alter>(
         &mut self,
         clock: &impl Clock,
@@ -219,11 +248,12 @@ impl Peers {
             return;
         };
         served.set_moment(moment);
+        served.mend_space();
         let turn = Turn {
             ticks,
             has_room: self.stock.has_room(key),
             is_last,
-            reads: true,
+            reads: self.receives,
         };
         let alloc = self.alloc;
         let shares = served.is_shared();
@@ -235,6 +265,11 @@ impl Peers {
         self.stock
             .changed(key, before, guest.bytes_held(), guest.is_large());
         self.after_turn(key, next, shares);
+    }
+
+    /// Whether something that was told is still to go.
+    fn has_output(&self) -> bool {
+        self.guests.iter().any(|(_, guest)| guest.has_output())
     }
 
     /// What a turn came to: the peer stays, or is let go.

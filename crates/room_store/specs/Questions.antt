@@ -12,7 +12,7 @@ use Rattle.room_questions.specs.Stations.{printed_by}
 use Rattle.room_questions.specs.declared.question.About.{About}
 use Rattle.room_questions.specs.declared.question.About.TheVariants.{Left, Statement, Jobs, Ended, Grants, Waiting, Again}
 use Rattle.room_questions.specs.declared.question.Question.{Question}
-use Rattle.room_questions.specs.declared.question.Question.TheVariants.{Ping, Devices, Accounts, Account}
+use Rattle.room_questions.specs.declared.question.Question.TheVariants.{Ping, End, Devices, Accounts, Account}
 use Rattle.room_rules.specs.Devices.{Devices as DeviceMap}
 use Rattle.room_state.specs.RoomRules.{IsGrant}
 use Rattle.room_state.specs.Rooms.{RoomValue}
@@ -86,6 +86,7 @@ pub record AccountIsAnswerable (name : List ℕ) (about : About) (db : Database)
 
 abbrev pub QuestionIsReadable : Question → Database → Type 0
 QuestionIsReadable Ping db = ⊤
+QuestionIsReadable End db = ⊤
 QuestionIsReadable Devices db = CanBeListed db
 QuestionIsReadable (Accounts behind) db = AreNamed db
 QuestionIsReadable (Account name about) db = AccountIsAnswerable name about db

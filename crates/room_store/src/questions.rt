@@ -40,15 +40,15 @@ pub(crate) fn answer_question<S: Alter>(
     ensures asks { WasOpen S.Store connection.old connection.new result }
 {
     match asked {
-        Question::Ping => ping(alloc, connection),
+        Question::Ping | Question::End => tell_ok(alloc, connection),
         Question::Devices => tell_devices(alloc, connection),
         Question::Accounts { behind } => tell_accounts(alloc, connection, behind),
         Question::Account { account, about } => tell_account(alloc, connection, account, about),
     }
 }
 
-/// Answers `ok` where the tables can be asked.
-fn ping<S: Alter>(alloc: Global, connection: &mut Connection<S>) -> Result<Reply, TableFault>
+/// Tells `ok` where the tables can be asked.
+fn tell_ok<S: Alter>(alloc: Global, connection: &mut Connection<S>) -> Result<Reply, TableFault>
     ensures told { IfOk result (λ told. told ≡ reply.Line (codes "ok")) }
     ensures damaged { result ≡ Err TableFault.Damaged → ⊥ }
     ensures looks { LooksUp S.Store connection.old connection.new result }

@@ -1,6 +1,8 @@
 use Rattle.std.proofs.Common.{true, Option, IsSome, ap, refl, subst, sym, ◌∙◌}
 use Rattle.slab.proofs.SlabLemmas.{Updates-with_value}
 use Rattle.slab.specs.Slab.{Slab, get}
+use Rattle.room_peers.specs.Space.{spare_of}
+use Rattle.room_peers.specs.declared.served.Served.{Served}
 use Rattle.room_sockets.proofs.HallSteps.{had_turn, let_go}
 use Rattle.room_sockets.specs.Halls.{StaysAfter}
 use Rattle.room_sockets.specs.declared.guest.Guest.{Guest}
@@ -13,9 +15,9 @@ pub returns-clause-serves : goal.returns-clause-serves
 returns-clause-serves g c =
     let written = Updates-with_value c.ticks.new.self.guests c.args.key c.drive-next.new.self (subst (λ (slot : Option Guest). IsSome slot) c.in-Some.ensures.value refl) in
     had_turn g.S.Store _ _ c.in-Some.guest.now _ _ (ap (λ (guests : Slab Guest). get guests c.args.key) (sym c.ticks.ensures) ∙ sym c.in-Some.ensures.value) (record {
-      begun = c.set_moment.new.self;
-      moment = (c.in-Some-Ok.moment, c.set_moment.ensures);
-      turn = record { ticks = c.in-Some-Ok.ticks; has_room = c.has_room.result; is_last = c.args.is_last; reads = true };
+      begun = c.mend_space.new.self;
+      moment = (c.in-Some-Ok.moment, c.mend_space.ensures.same ∙ ap (λ (served : Served g.row.S.Denot). record served { spare = spare_of c.mend_space.new.self }) c.set_moment.ensures);
+      turn = record { ticks = c.in-Some-Ok.ticks; has_room = c.has_room.result; is_last = c.args.is_last; reads = c.ticks.new.self.receives };
       next = c.drive-next.result;
       left = c.drive-next.new.self;
       driven = c.drive-next.ensures;
