@@ -28,18 +28,24 @@ def create(path, accounts=(), lines=()):
 class Serving:
     """A run of `serve` up to the end of the block, on free ports or at the paths that are named.
 
-    `options` are words behind these, `descriptors` is how many files it may have open, and `variables` are put among
-    those of its environment. `doors` has of each door whose it is and its address, in their order.
+    `options` are words behind these, `descriptors` is how many files it may have open, `longest_file` how many bytes each
+    may have that it writes, and `variables` are put among those of its environment. `doors` has of each door whose it is and
+    its address, in their order.
     """
 
-    def __init__(self, path, stations='0', operators='0', options=(), descriptors=4096, variables=None):
+    def __init__(self, path, stations='0', operators='0', options=(), descriptors=4096, longest_file=None, variables=None):
         self.words = [PROGRAM, 'serve', path, '0', stations, operators, *options]
-        self.descriptors = descriptors
+        self.limits = {resource.RLIMIT_NOFILE: descriptors}
+        if longest_file:
+            self.limits[resource.RLIMIT_FSIZE] = longest_file
         self.environment = {**os.environ, **(variables or {})}
 
     def __enter__(self):
         def limit():
-            resource.setrlimit(resource.RLIMIT_NOFILE, (self.descriptors, self.descriptors))
+            # A write beyond the longest file then fails, as on a full disk.
+            signal.signal(signal.SIGXFSZ, signal.SIG_IGN)
+            for which, most in self.limits.items():
+                resource.setrlimit(which, (most, most))
         self.process = subprocess.Popen(self.words, stdout=subprocess.PIPE, preexec_fn=limit, env=self.environment)
         told = self.process.stdout.readline().decode().split()
         if told[:1] != ['serving']:
