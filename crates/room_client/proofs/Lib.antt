@@ -1,4 +1,5 @@
 pub mod Fronts
+pub mod Heard
 pub mod LineCounts
 pub mod Printed
 pub mod PrintedGrants

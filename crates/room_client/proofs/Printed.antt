@@ -10,10 +10,9 @@ use Rattle.std.specs.Fmt.{option_append}
 use Rattle.room_client.specs.declared.answer.Answer.{Answer}
 use Rattle.room_client.specs.declared.answer.Answer.TheVariants as answer_is
 use Rattle.room_client.specs.declared.outcome.Outcome.{Outcome}
-use Rattle.room_client.specs.declared.outcome.Outcome.TheVariants.{Fine}
 use Rattle.room_client.specs.ProofAnswering.{AnsweredOnce, HearsDocument, PrintsAnswer, SentAndAnswered, TakesDocuments, TakesLines}
 use Rattle.room_client.specs.Answers.{answer_said}
-use Rattle.room_client.specs.Outcomes.{outcome_after}
+use Rattle.room_client.specs.Outcomes.{nothing_sent, outcome_after}
 use Rattle.room_client.specs.Words.{AsksDocumentsOf}
 use Rattle.room_client.specs.Replies.{Answered, Document, IsDocumentOf, IsOfJob, IsReply, IsText, asked_of, Known, Reply, Shows, all_printed, document_heard, document_printed, documents_printed, documents_said, heard, lines_said, outcome_from, printed, printed_as, whole_line, whole_lines}
 
@@ -121,6 +120,7 @@ printed_as-lines answer_is.BadLine documents lines other = refl
 printed_as-lines (answer_is.Documents count) documents lines other = absurd (other count refl)
 printed_as-lines (answer_is.Lines count) documents lines other = refl
 printed_as-lines answer_is.Told documents lines other = refl
+printed_as-lines answer_is.Refused documents lines other = refl
 
 pub documents_said-none : (says : Answer)
     → ((count : ℕ) → says ≡ answer_is.Documents count → ⊥) → 0 ≡ documents_said says
@@ -129,6 +129,7 @@ documents_said-none answer_is.BadLine other = refl
 documents_said-none (answer_is.Documents count) other = absurd (other count refl)
 documents_said-none (answer_is.Lines count) other = refl
 documents_said-none answer_is.Told other = refl
+documents_said-none answer_is.Refused other = refl
 
 all_printed-more : (shown : Shows) (replies : List Reply) (last : Reply)
     → all_printed shown (replies ++ last ∷ [])
@@ -150,9 +151,9 @@ outcome_from-more number outcome (first ∷ rest) last =
     n last.says) same
 
 pub Answered-none : (shown : Shows) (s h p : Known)
-    → (none : Answered shown s s h h p p Fine) × (1 ≡ length none.replies + 1)
+    → (none : Answered shown s s h h p p nothing_sent) × (1 ≡ length none.replies + 1)
 Answered-none shown s h p =
-    let none : Answered shown s s h h p p Fine = record {
+    let none : Answered shown s s h h p p nothing_sent = record {
       replies = [];
       said = All-nil IsReply;
       sent_all = Appends-nil s;
@@ -187,9 +188,9 @@ Answered-more shown sa sb sc ha hb hc pa pb pc outcome answer number done count 
       printed_all = subst (λ o. IfSome o (Appends pa pc)) (sym (all_printed-more shown replies last))
           (printed-both pa pb pc (all_printed shown replies) (printed shown last) done.printed_all next.printed_whole);
       came_to = is ∙ ap (λ o. outcome_after o number answer) done.came_to
-          ∙ ap (outcome_after (outcome_from 1 Fine replies) number) next.came_to
-          ∙ ap (λ n. outcome_after (outcome_from 1 Fine replies) n last.says) place
-          ∙ sym (outcome_from-more 1 Fine replies last);
+          ∙ ap (outcome_after (outcome_from 1 nothing_sent replies) number) next.came_to
+          ∙ ap (λ n. outcome_after (outcome_from 1 nothing_sent replies) n last.says) place
+          ∙ sym (outcome_from-more 1 nothing_sent replies last);
     } in
     let long : length (replies ++ last ∷ []) ≡ length replies + 1 = length-append replies (last ∷ []) in
     (more, omega (arith, count, long))
@@ -202,6 +203,7 @@ IsOfJob-other answer_is.BadLine other asked account job = tt
 IsOfJob-other (answer_is.Documents count) other asked account job = absurd (other count refl)
 IsOfJob-other (answer_is.Lines count) other asked account job = tt
 IsOfJob-other answer_is.Told other asked account job = tt
+IsOfJob-other answer_is.Refused other asked account job = tt
 
 pub PrintsAnswer-lines : (shown : Shows) (ha hb pa pb pc : Known) (asked text : List ℕ)
     → (says : Answer) → ((count : ℕ) → says ≡ answer_is.Documents count → ⊥)

@@ -10,12 +10,11 @@ use Rattle.std.proofs.lemmas.List.Elements.{All-append, All-cons, All-nil}
 use Rattle.room_input.specs.declared.grant_line.GrantLine.{GrantLine}
 use Rattle.room_input.specs.declared.grant_line.GrantLine.TheVariants.{Good, Bad}
 use Rattle.room_client.specs.declared.answer.Answer.{Answer}
-use Rattle.room_client.specs.declared.answer.Answer.TheVariants.{Told}
+use Rattle.room_client.specs.declared.answer.Answer.TheVariants.{Refused}
 use Rattle.room_client.specs.ProofAnswering.{GrantAnswered, HearsResult}
 use Rattle.room_client.specs.Grants.{line_asked}
 use Rattle.room_client.specs.declared.outcome.Outcome.{Outcome}
-use Rattle.room_client.specs.declared.outcome.Outcome.TheVariants.{Fine}
-use Rattle.room_client.specs.Outcomes.{outcome_after}
+use Rattle.room_client.specs.Outcomes.{nothing_sent, outcome_after}
 use Rattle.room_client.specs.GrantReplies.{Granted, GrantsAnswered, IsGranted, granted_heard, granted_outcome, granted_printed, line_heard, line_printed}
 use Rattle.room_client.specs.Replies.{Known}
 
@@ -45,9 +44,9 @@ granted_outcome-more number outcome (first ∷ rest) last =
     ∙ ap (λ n. outcome_after (granted_outcome (number + 1) begun rest) n last.says) same
 
 pub GrantsAnswered-none : (h p : Known)
-    → (none : GrantsAnswered [] h h p p Fine) × (0 ≡ length none.all)
+    → (none : GrantsAnswered [] h h p p nothing_sent) × (0 ≡ length none.all)
 GrantsAnswered-none h p =
-    let none : GrantsAnswered [] h h p p Fine = record {
+    let none : GrantsAnswered [] h h p p nothing_sent = record {
       all = [];
       asked = refl;
       said = All-nil IsGranted;
@@ -82,8 +81,8 @@ GrantsAnswered-more records more asked ha hb hc pa pb pc outcome after says inde
           ∙ sym (granted_printed-more 1 all last))
           (Appends-trans pa pb pc (granted_printed 1 all) (line_printed (index + 1) asked one.line) done.printed one.printed);
       came_to = is ∙ ap (λ o. outcome_after o (index + 1) says) done.came_to
-          ∙ ap (λ n. outcome_after (granted_outcome 1 Fine all) n says) place
-          ∙ sym (granted_outcome-more 1 Fine all last);
+          ∙ ap (λ n. outcome_after (granted_outcome 1 nothing_sent all) n says) place
+          ∙ sym (granted_outcome-more 1 nothing_sent all last);
     } in
     let long : length (all ++ last ∷ []) ≡ length all + 1 = length-append all (last ∷ []) in
     (next, omega (arith, count, long))
@@ -97,7 +96,7 @@ GrantAnswered-good (Bad bad) sent number ha hb pa pb says good hears = cc
 
 pub GrantAnswered-bad : (asked : GrantLine) (number : ℕ) (h pa pb : Known)
     → None ≡ line_asked asked → Appends pa pb (decimal number ++ codes " bad\n")
-    → GrantAnswered asked number h h pa pb Told
+    → GrantAnswered asked number h h pa pb Refused
 GrantAnswered-bad (Good account month pages) number h pa pb bad prints = cc
 GrantAnswered-bad (Bad place) number h pa pb bad prints =
     record { line = []; said = refl; heard = Consumes-nil h; printed = prints }

@@ -1,11 +1,11 @@
 -- What the first line of an answer says (all this project's own).
-use Rattle.std.specs.Prelude.{ℕ, ◌-◌, Bool, ◌&&◌, if◌then◌else◌, bytes_eq, nat_le, nat_lt, List, [], ◌∷◌, codes, drop, length, take, Option, None, Some, option_map}
+use Rattle.std.specs.Prelude.{ℕ, ◌-◌, Bool, ◌&&◌, ◌||◌, if◌then◌else◌, bytes_eq, nat_le, nat_lt, List, [], ◌∷◌, codes, drop, length, take, Option, None, Some, option_map}
 use Rattle.std.specs.List.{list_all}
 use Rattle.std.specs.Option.{option_or}
 use Rattle.std.specs.Str.Parse.{digits_value}
 use Rattle.room_input.specs.GrantLines.{is_decimal}
 use Rattle.room_client.specs.declared.answer.Answer.{Answer}
-use Rattle.room_client.specs.declared.answer.Answer.TheVariants.{Failed, BadLine, Documents, Lines, Told}
+use Rattle.room_client.specs.declared.answer.Answer.TheVariants.{Failed, BadLine, Documents, Lines, Told, Refused}
 
 -- one digit, 0 to 8
 abbrev pub document_count_said : List ℕ → Option ℕ
@@ -36,19 +36,24 @@ after_list_word line =
     (option_or (after_front (codes "grants ") line)
     (option_or (after_front (codes "accounts ") line) (after_front (codes "devices ") line)))
 
--- `jobs N`, `grants N`, `accounts N` or `devices N`, or anything else
-abbrev pub list_or_told : (count : Option (List ℕ)) → Option Answer
-list_or_told None = Some Told
-list_or_told (Some count) = option_map (λ count. Lines count) (line_count_said count)
+-- `ok`, and what is told behind it, or that rows are sound
+abbrev pub is_ok : (line : List ℕ) → Bool
+is_ok line =
+    bytes_eq line (codes "ok") || bytes_eq (take 3 line) (codes "ok ") || bytes_eq line (codes "sound")
 
--- `failed`, `bad-line`, `documents N`, a list, or anything else
+-- `jobs N`, `grants N`, `accounts N` or `devices N`; else it was done where it is `ok`
+abbrev pub list_or_told : (line : List ℕ) (count : Option (List ℕ)) → Option Answer
+list_or_told line None = Some (if is_ok line then Told else Refused)
+list_or_told line (Some count) = option_map (λ count. Lines count) (line_count_said count)
+
+-- `failed`, `bad-line`, `documents N`, a list, that it was done, or why it was refused
 abbrev pub answer_said : List ℕ → Option Answer
 answer_said line =
     if bytes_eq line (codes "failed") then Some Failed
     else if bytes_eq line (codes "bad-line") then Some BadLine
     else if bytes_eq (take 10 line) (codes "documents ")
     then option_map (λ count. Documents count) (document_count_said (drop 10 line))
-    else list_or_told (after_list_word line)
+    else list_or_told line (after_list_word line)
 
 -- a space or what ASCII prints
 abbrev pub is_text_byte : ℕ → Bool

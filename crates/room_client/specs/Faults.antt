@@ -1,6 +1,6 @@
 -- What other faults are to the client (all this project's own).
 use Rattle.std.specs.declared.io.ErrorKind.{ErrorKind}
-use Rattle.std.specs.declared.io.ErrorKind.TheVariants.{OutOfMemory}
+use Rattle.std.specs.declared.io.ErrorKind.TheVariants.{OutOfMemory, WouldBlock}
 use Rattle.room_client.specs.declared.fault.ClientFault.{ClientFault}
 use Rattle.room_client.specs.declared.fault.ClientFault.TheVariants as client
 use Rattle.room_input.specs.declared.grant_fault.GrantFault.{GrantFault}
@@ -9,6 +9,7 @@ use Rattle.room_input.specs.declared.grant_fault.GrantFault.TheVariants as grant
 -- a call that failed with an error of the kind
 abbrev pub io_fault : ErrorKind → ClientFault
 io_fault OutOfMemory = client.Memory
+io_fault WouldBlock = client.Silent
 io_fault _ = client.Io
 
 -- a file of grants that was not read

@@ -6,11 +6,10 @@ use Rattle.std.specs.Io.KnownBytes.{Appends, Consumes}
 use Rattle.room_input.specs.declared.grant_line.GrantLine.{GrantLine}
 use Rattle.room_input.specs.declared.grant_line.GrantLine.TheVariants.{Good, Bad}
 use Rattle.room_client.specs.declared.answer.Answer.{Answer}
-use Rattle.room_client.specs.declared.answer.Answer.TheVariants.{Told}
+use Rattle.room_client.specs.declared.answer.Answer.TheVariants.{Refused}
 use Rattle.room_client.specs.declared.outcome.Outcome.{Outcome}
-use Rattle.room_client.specs.declared.outcome.Outcome.TheVariants.{Fine}
 use Rattle.room_client.specs.Answers.{answer_said}
-use Rattle.room_client.specs.Outcomes.{outcome_after}
+use Rattle.room_client.specs.Outcomes.{nothing_sent, outcome_after}
 use Rattle.room_input.specs.GrantFiles.{records_of}
 use Rattle.room_input.specs.GrantLines.{grant_lines}
 use Rattle.room_client.specs.Replies.{Known}
@@ -21,10 +20,10 @@ pub record Granted : Type 0 where
   pub line : List ℕ
   pub says : Answer
 
--- a bad record is not answered
+-- a bad record is not answered, and counts as refused
 abbrev pub AnswersLine : GrantLine → (line : List ℕ) → Answer → Type 0
 AnswersLine (Good account month pages) line says = answer_said line ≡ Some says
-AnswersLine (Bad number) line says = says ≡ Told
+AnswersLine (Bad number) line says = says ≡ Refused
 
 abbrev pub IsGranted : Granted → Type 0
 IsGranted granted = AnswersLine granted.asked granted.line granted.says
@@ -62,7 +61,7 @@ pub record GrantsAnswered (records : List GrantLine) (heard_before heard_after :
   pub said : All IsGranted all
   pub heard : Consumes heard_before heard_after (flat_map granted_heard all)
   pub printed : Appends printed_before printed_after (granted_printed 1 all)
-  pub came_to : outcome ≡ granted_outcome 1 Fine all
+  pub came_to : outcome ≡ granted_outcome 1 nothing_sent all
 
 -- the answers to the records of a file that was left were heard and printed, and came to the
 -- outcome

@@ -1,5 +1,6 @@
 pub mod ProofAnswering
 pub mod Answers
+pub mod Asking
 pub mod Faults
 pub mod GrantReplies
 pub mod Grants

@@ -6,10 +6,9 @@ use Rattle.std.specs.Fmt.{option_append}
 use Rattle.room_client.specs.declared.answer.Answer.{Answer}
 use Rattle.room_client.specs.declared.answer.Answer.TheVariants as answer_is
 use Rattle.room_client.specs.declared.outcome.Outcome.{Outcome}
-use Rattle.room_client.specs.declared.outcome.Outcome.TheVariants.{Fine}
 use Rattle.room_client.specs.Answers.{answer_said, is_text}
 use Rattle.room_client.specs.Names.{document_name}
-use Rattle.room_client.specs.Outcomes.{outcome_after}
+use Rattle.room_client.specs.Outcomes.{nothing_sent, outcome_after}
 use Rattle.room_client.specs.Words.{AsksDocumentsOf, IsHeadOf}
 
 -- bytes that may be known
@@ -72,6 +71,7 @@ printed_as answer_is.Failed documents lines = lines
 printed_as answer_is.BadLine documents lines = lines
 printed_as (answer_is.Lines count) documents lines = lines
 printed_as answer_is.Told documents lines = lines
+printed_as answer_is.Refused documents lines = lines
 
 -- what is printed of an answer, where it is known what the keeper shows
 abbrev pub printed : (shown : Shows) → Reply → Known
@@ -90,6 +90,7 @@ documents_said answer_is.Failed = 0
 documents_said answer_is.BadLine = 0
 documents_said (answer_is.Lines count) = 0
 documents_said answer_is.Told = 0
+documents_said answer_is.Refused = 0
 
 abbrev pub lines_said : Answer → ℕ
 lines_said (answer_is.Lines count) = count
@@ -97,6 +98,7 @@ lines_said answer_is.Failed = 0
 lines_said answer_is.BadLine = 0
 lines_said (answer_is.Documents count) = 0
 lines_said answer_is.Told = 0
+lines_said answer_is.Refused = 0
 
 -- documents answer a line that asks for those of the job
 abbrev pub IsOfJob : Answer → (asked account : List ℕ) (job : ℕ) → Type 0
@@ -105,6 +107,7 @@ IsOfJob answer_is.Failed asked account job = ⊤
 IsOfJob answer_is.BadLine asked account job = ⊤
 IsOfJob (answer_is.Lines count) asked account job = ⊤
 IsOfJob answer_is.Told asked account job = ⊤
+IsOfJob answer_is.Refused asked account job = ⊤
 
 -- its line tells of the job, and of as many bytes as it has
 abbrev pub IsDocumentOf : (job : ℕ) → Document → Type 0
@@ -142,4 +145,4 @@ pub record Answered (shown : Shows) (sent_before sent_after : Known) (heard_befo
   pub sent_all : Appends sent_before sent_after (flat_map asked_of replies)
   pub heard_all : Consumes heard_before heard_after (flat_map heard replies)
   pub printed_all : IfSome (all_printed shown replies) (Appends printed_before printed_after)
-  pub came_to : outcome ≡ outcome_from 1 Fine replies
+  pub came_to : outcome ≡ outcome_from 1 nothing_sent replies

@@ -1,7 +1,7 @@
 //! What the first line of an answer says.
 ghost use Rattle.std.specs.Prelude.{◌≡◌, option_map};
 ghost use Rattle.std.specs.List.{list_all};
-ghost use Rattle.room_client.specs.Answers.{after_list_word, answer_said, document_count_said, is_text, is_text_byte, line_count_said, list_or_told};
+ghost use Rattle.room_client.specs.Answers.{after_list_word, answer_said, document_count_said, is_ok, is_text, is_text_byte, line_count_said, list_or_told};
 ghost use Rattle.room_client.specs.Replies.{lines_said};
 
 use room_input::number;
@@ -20,8 +20,10 @@ pub(crate) enum Answer {
     Documents(u8),
     /// So many lines follow, at most 999999.
     Lines(u32),
-    /// Any other answer, which is this line.
+    /// It was done: `ok`, with what is told of it, or the rows are `sound`.
     Told,
+    /// It was not done, for the reason that is this line.
+    Refused,
 }
 
 impl Answer {
@@ -63,15 +65,23 @@ fn count_said(text: &[u8]) -> Option<u8>
     }
 }
 
-/// What a line says that tells of no documents: how many lines follow, or nothing to the client.
+/// What a line says that tells of no documents: how many lines follow, or whether it was done.
 /// It is `None` where the line begins with the word of a list, and no number follows.
 fn list_or_told(line: &[u8]) -> Option<Answer>
-    ensures { result ≡ list_or_told (after_list_word line.now) }
+    ensures { result ≡ list_or_told line.now (after_list_word line.now) }
 {
     match after_list_word(line) {
         Some(count) => Some(Answer::Lines(line_count_said(count)?)),
-        None => Some(Answer::Told),
+        None if is_ok(line) => Some(Answer::Told),
+        None => Some(Answer::Refused),
     }
+}
+
+/// Whether the line is `ok`, or begins so with a space behind it, or is `sound`.
+fn is_ok(line: &[u8]) -> bool
+    ensures { result ≡ is_ok line.now }
+{
+    line == b"ok".as_slice() || line.starts_with(b"ok ") || line == b"sound".as_slice()
 }
 
 /// What comes after the word of a list and a space, or `None` where the line begins with no such

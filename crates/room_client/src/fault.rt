@@ -21,6 +21,15 @@ pub enum ClientFault {
     /// The connection ended before an answer was whole, or what came is no answer.
     #[error("what came is no answer")]
     Broken,
+    /// The process did not take or send a byte in time.
+    #[error("nothing came in time")]
+    Silent,
+    /// What was asked failed there.
+    #[error("what was asked failed")]
+    Failed,
+    /// What was asked was refused.
+    #[error("what was asked was refused")]
+    Refused,
     /// A line of the input is longer than any may be, or a file of grants is.
     #[error("the input is too long")]
     TooLong,
@@ -34,6 +43,7 @@ impl From<io::Error> for ClientFault {
     fn from(error: io::Error) -> ClientFault {
         match error.kind() {
             ErrorKind::OutOfMemory => ClientFault::Memory,
+            ErrorKind::WouldBlock => ClientFault::Silent,
             _ => ClientFault::Io,
         }
     }

@@ -61,7 +61,7 @@ fn send_records<R: BufRead, W: Write, O: Write>(
         (O.contents output.old) (O.contents output.new)) }
     ensures fault { IfErr result (λ fault. fault ≢ ClientFault.TooLong) }
 {
-    let mut outcome = Outcome::Fine;
+    let mut outcome = Outcome::NOTHING_SENT;
     for (index, record) in records.iter().enumerate() {
         let number = index + 1;
         let answer = send_record(alloc, peer, number, record, output)?;
@@ -90,7 +90,7 @@ fn send_record<R: BufRead, W: Write, O: Write>(
 {
     let Some(line) = line_of(alloc, said)? else {
         print_bad(number, output)?;
-        return Ok(Answer::Told);
+        return Ok(Answer::Refused);
     };
     peer.say(line.as_slice())?;
     take_result(alloc, peer, number, output)
@@ -161,7 +161,13 @@ fn line_of(alloc: Global, said: &GrantLine) -> Result<Option<Vec<u8>>, AllocErro
     }
 }
 
-fn grant_text(alloc: Global, account: &Name, month: u32, pages: u32) -> Result<Vec<u8>, AllocError>
+/// The line `grant ACCOUNT YYYY-MM PAGES`.
+pub fn grant_text(
+    alloc: Global,
+    account: &Name,
+    month: u32,
+    pages: u32,
+) -> Result<Vec<u8>, AllocError>
     requires first { first_month ≤ month }
     requires last { month ≤ last_month }
     ensures { IfOk result (λ line. line.items ≡ grant_text account.now month pages) }

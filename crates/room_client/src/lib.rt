@@ -4,6 +4,7 @@
 
 mod answer;
 mod asked;
+mod asking;
 mod bytes;
 mod documents;
 mod fault;
@@ -19,10 +20,13 @@ mod peer;
 mod sent;
 mod words;
 
+pub use asking::{ask_line, ask_list, judge};
 pub use fault::ClientFault;
-pub use grants::send_grants;
+pub use grants::{grant_text, send_grants};
 pub use hex_lines::HexLines;
 pub use keeper::Keeper;
 pub use lines::send_lines;
-pub use outcome::Outcome;
+pub use month::month_text;
+pub use outcome::{Outcome, Worst};
 pub use peer::Peer;
+pub use words::{after_word, first_word};

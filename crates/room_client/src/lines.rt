@@ -41,7 +41,7 @@ pub fn send_lines<I: BufRead, R: BufRead, W: Write, K: Keeper, O: Write>(
     ensures long { IsErrOf result ClientFault.TooLong
         → IfSome (I.remaining input.old) HasLongLine }
 {
-    let mut outcome = Outcome::Fine;
+    let mut outcome = Outcome::NOTHING_SENT;
     for number in 1..usize::MAX {
         let Some(answer) = send_next(alloc, input, peer, keeper, output)? else {
             return Ok(outcome);

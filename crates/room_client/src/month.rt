@@ -6,7 +6,7 @@ ghost use Rattle.room_client.specs.Grants.{month_text, two_digits};
 
 /// The month of the number, twelve times the year and 0 for January to 11 for December, as
 /// `YYYY-MM`.
-pub(crate) fn month_text(month: u32) -> [u8; 7]
+pub fn month_text(month: u32) -> [u8; 7]
     requires first { first_month ≤ month }
     requires last { month ≤ last_month }
     ensures text { result ≡ month_text month }

@@ -1,8 +1,8 @@
 //! A connection to what serves rooms: a line goes there, and its answer comes from there.
-ghost use Rattle.std.specs.Prelude.{◌≡◌, ◌≢◌, ◌++◌, codes, length, IfErr, IfOk, IsTrue, OnOk};
+ghost use Rattle.std.specs.Prelude.{◌≡◌, ◌≢◌, ◌++◌, [], codes, length, IfErr, IfOk, IsTrue, OnOk};
 ghost use Rattle.std.specs.Io.KnownBytes.{Appends, Consumes};
 ghost use Rattle.room_client.specs.Answers.{is_text};
-ghost use Rattle.room_client.specs.Sending.{AppendsUpTo};
+ghost use Rattle.room_client.specs.Sending.{AppendsUpTo, IsAtKnownEnd};
 
 use crate::answer::is_text;
 use crate::bytes::{take_bytes, take_feed};
@@ -72,6 +72,29 @@ impl<R: BufRead, W: Write> Peer<R, W> {
         take_feed(&mut self.reader)?;
         Ok(bytes)
     }
+
+    /// Waits until the other side closes the connection. `Broken` where anything comes before.
+    pub fn hear_end(&mut self, alloc: Global) -> Result<(), ClientFault>
+        ensures nothing { OnOk result (Consumes (R.remaining (reader_of self.old))
+            (R.remaining (reader_of self.new)) []) }
+        ensures end { OnOk result (IsAtKnownEnd (R.remaining (reader_of self.old))
+            (R.remaining (reader_of self.new))) }
+        ensures writer { writer_of self.new ≡ writer_of self.old }
+    {
+        match take_line(alloc, &mut self.reader)? {
+            Taken::Last(rest) => be_empty(rest),
+            Taken::Line(_) | Taken::Long => Err(ClientFault::Broken),
+        }
+    }
+}
+
+fn be_empty(rest: Vec<u8>) -> Result<(), ClientFault>
+    ensures { OnOk result (rest.items ≡ []) }
+{
+    if rest.is_empty() {
+        return Ok(());
+    }
+    Err(ClientFault::Broken)
 }
 
 fn text_of(line: Vec<u8>) -> Result<Vec<u8>, ClientFault>

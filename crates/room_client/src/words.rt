@@ -4,7 +4,7 @@ ghost use Rattle.std.specs.Prelude.{◌≡◌, ◌+◌, ◌<◌, ◌++◌, IfSom
 ghost use Rattle.room_client.specs.Words.{HasNoSpace};
 
 /// The bytes before the first space and those after it, or `None` where no space is.
-pub(crate) fn first_word(line: &[u8]) -> Option<(&[u8], &[u8])>
+pub fn first_word(line: &[u8]) -> Option<(&[u8], &[u8])>
     ensures parts { IfSome result (λ parts. line.now ≡ parts.0.now ++ codes " " ++ parts.1.now) }
     ensures word { IfSome result (λ parts. HasNoSpace parts.0.now) }
 {
@@ -13,7 +13,7 @@ pub(crate) fn first_word(line: &[u8]) -> Option<(&[u8], &[u8])>
 }
 
 /// What comes after the word and a space, or `None` where that is not what the line begins with.
-pub(crate) fn after_word<'a>(line: &'a [u8], word: &[u8]) -> Option<&'a [u8]>
+pub fn after_word<'a>(line: &'a [u8], word: &[u8]) -> Option<&'a [u8]>
     ensures { IfSome result (λ rest. line.now ≡ word.now ++ codes " " ++ rest.now) }
 {
     let (first, rest) = first_word(line)?;

@@ -1,13 +1,17 @@
 -- The numbers that a command line may say (this project's own).
-use Rattle.std.specs.Prelude.{◌≡◌, ℕ, Bool, true, ◌&&◌, nat_le, ⊤, List, Some, drop, slice_get}
-use Rattle.room_rules.specs.Limits.{most_rate}
+use Rattle.std.specs.Prelude.{◌≡◌, ℕ, Bool, true, ◌&&◌, nat_le, ⊤, List, None, Some, drop, slice_get, option_map}
+use Rattle.room_rules.specs.Limits.{last_month, most_pages, most_rate}
 use Rattle.room_commands.specs.declared.command.Command.{Command}
 use Rattle.room_commands.specs.declared.command.Command.TheVariants as command
+use Rattle.room_commands.specs.declared.copying.Copying.{Copying}
 use Rattle.room_commands.specs.declared.listening.Listening.{Listening}
 use Rattle.room_commands.specs.declared.sending.Sending.{Sending}
 use Rattle.room_commands.specs.declared.serving.Serving.{Serving}
+use Rattle.room_commands.specs.declared.errand.Errand.{Errand}
+use Rattle.room_desk.specs.declared.task.Task.{Task}
+use Rattle.room_desk.specs.declared.task.Task.TheVariants as task
 use Rattle.room_commands.specs.Addresses.{has_port_from}
-use Rattle.room_commands.specs.Visitors.{AreDoors}
+use Rattle.room_commands.specs.Visitors.{AreDoors, log_behind}
 
 -- connections of one run of `listen`
 abbrev pub most_connections : ℕ
@@ -22,13 +26,39 @@ is_listening_in_range listening =
 abbrev pub is_sending_in_range : Sending → Bool
 is_sending_in_range sending = has_port_from 1 sending.address
 
+-- what the words of `copy` say by their places
+pub record SaysCopying (words : List (List ℕ)) (copying : Copying) : Type 0 where
+  pub database : slice_get words 1 ≡ Some copying.database.now
+  pub file : slice_get words 2 ≡ Some copying.file.now
+
+-- days that a job waited
+abbrev pub most_days : ℕ
+most_days = 36500
+
+-- from 2000-01 to 2099-12, so many days, so many pages
+abbrev pub is_task_in_range : Task → Bool
+is_task_in_range task.Ping = true
+is_task_in_range task.End = true
+is_task_in_range (task.Report month) = nat_le 24000 month.month && nat_le month.month last_month
+is_task_in_range task.Devices = true
+is_task_in_range (task.Waiting None) = true
+is_task_in_range (task.Waiting (Some days)) = nat_le days most_days
+is_task_in_range (task.Expire days shown_only) = nat_le days most_days
+is_task_in_range (task.Refund account pages) = nat_le pages most_pages
+
+-- an address that can be connected to, and numbers in their ranges
+abbrev pub is_errand_in_range : Errand → Bool
+is_errand_in_range errand = has_port_from 1 errand.address && is_task_in_range errand.task
+
 -- what the words of `serve` say: by their places the database and the addresses of three doors, and
--- behind them the options of further ones
+-- behind them the options of further ones and of the log
 pub record SaysServing (words : List (List ℕ)) (serving : Serving) : Type 0 where
   pub database : slice_get words 1 ≡ Some serving.database.now
   pub doors : AreDoors (drop 2 words) serving.doors.items
+  pub log : option_map (λ path. path.now) serving.log ≡ log_behind (drop 2 words)
 
 abbrev pub IsSaidBy : (words : List (List ℕ)) → Command → Type 0
+IsSaidBy words (command.Copy copying) = SaysCopying words copying
 IsSaidBy words (command.Serve serving) = SaysServing words serving
 IsSaidBy words _ = ⊤
 
@@ -38,6 +68,7 @@ is_in_range command.Explain = true
 is_in_range (command.Create database) = true
 is_in_range (command.Open database account) = true
 is_in_range (command.Migrate database) = true
+is_in_range (command.Copy copying) = true
 is_in_range (command.Device database name on) = true
 is_in_range (command.Rate database name units) = nat_le 1 units && nat_le units most_rate
 is_in_range (command.Grants database) = true
@@ -46,3 +77,4 @@ is_in_range (command.Script database) = true
 is_in_range (command.Listen listening) = is_listening_in_range listening
 is_in_range (command.Serve serving) = true
 is_in_range (command.Send sending) = is_sending_in_range sending
+is_in_range (command.Errand errand) = is_errand_in_range errand

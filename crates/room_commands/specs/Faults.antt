@@ -50,6 +50,9 @@ grant_fault grants.TooMany = command.Input
 abbrev pub client_fault : ClientFault → Fault
 client_fault client.Io = command.Io
 client_fault client.Broken = command.Io
+client_fault client.Silent = command.Silent
+client_fault client.Failed = command.Store
+client_fault client.Refused = command.Refused
 client_fault client.TooLong = command.Input
 client_fault client.Memory = command.Memory
 

@@ -1,5 +1,6 @@
 -- Who comes in by the doors of `serve`, and by which address (this project's own).
-use Rattle.std.specs.Prelude.{◌≡◌, ⊤, ℕ, Bool, true, false, List, [], ◌∷◌, codes}
+use Rattle.std.specs.Prelude.{◌≡◌, ◌⊎◌, ⊤, ℕ, Bool, true, false, if◌then◌else◌, List, [], ◌∷◌, codes, Option, Some, None}
+use Rattle.std.specs.Str.{bytes_eq}
 use Rattle.room_commands.specs.Addresses.{IsAddressOf}
 use Rattle.room_commands.specs.declared.address.Address.{Address}
 use Rattle.room_commands.specs.declared.address.Address.TheVariants.{Path, Port}
@@ -34,12 +35,30 @@ pub record IsDoorOf (whose : Visitors) (word : List ℕ) (door : ServedDoor) : T
   pub address : IsAddressOf word 0 door.address
   pub can : CanComeBy whose door.address
 
--- options, each a name and its value, are these doors, in order
+-- the word behind which the file of the log stands
+abbrev pub log_option : List ℕ
+log_option = codes "--log"
+
+-- options, each a name and its value, are these doors, in order; that of the log is none
 abbrev pub AreOptions : (words : List (List ℕ)) (doors : List ServedDoor) → Type 0
-AreOptions [] [] = ⊤
-AreOptions (name ∷ value ∷ words) (door ∷ doors) =
-    (name ≡ option_of door.visitors) × IsDoorOf door.visitors value door × AreOptions words doors
-AreOptions _ _ = ⊥
+AreOptions [] doors = doors ≡ []
+AreOptions (word ∷ []) doors = ⊥
+AreOptions (name ∷ value ∷ words) doors =
+    ((name ≡ log_option) × AreOptions words doors)
+    ⊎ ((door : ServedDoor) × (more : List ServedDoor) × (doors ≡ door ∷ more)
+    × (name ≡ option_of door.visitors) × IsDoorOf door.visitors value door × AreOptions words more)
+
+-- the file of the log, by the first option of it
+abbrev pub log_among : (options : List (List ℕ)) → Option (List ℕ)
+log_among [] = None
+log_among (word ∷ []) = None
+log_among (name ∷ value ∷ words) =
+    if bytes_eq name log_option then Some value else log_among words
+
+-- behind the three addresses
+abbrev pub log_behind : (words : List (List ℕ)) → Option (List ℕ)
+log_behind (port ∷ stations ∷ operators ∷ options) = log_among options
+log_behind _ = None
 
 -- the addresses of clients, stations and operators, and behind them options
 abbrev pub AreDoors : (words : List (List ℕ)) (doors : List ServedDoor) → Type 0

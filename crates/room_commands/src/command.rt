@@ -1,23 +1,29 @@
 //! The command line: its commands, and what their words may be.
 ghost use Rattle.std.specs.Prelude.{◌≤◌, ℕ, List, IfOk, IsTrue};
 ghost use Rattle.room_commands.specs.Addresses.{has_port_from};
-ghost use Rattle.room_commands.specs.Commands.{is_in_range, IsSaidBy};
+ghost use Rattle.room_commands.specs.Commands.{is_in_range, is_task_in_range, IsSaidBy};
 ghost use Rattle.room_commands.specs.Words.{placed, texts};
 
 use crate::address::{Address, LAST_PORT};
+use crate::copying::Copying;
+use crate::errand::Errand;
 use crate::fault::Fault;
 use crate::listening::Listening;
 use crate::parser::program;
 use crate::sending::Sending;
-use crate::served_door::doors_of;
+use crate::served_door::{doors_of, log_behind};
 use crate::serving::Serving;
 use crate::unfit::Unfit;
 use crate::words::{
-    ACCOUNT, ADDRESS, COUNT, CREATE, DATABASE, DEVICE, EXPLAIN, FOLDER, GRANTS, LISTEN, MIGRATE,
-    NAME, ON, OPEN, PORT, RATE, SCRIPT, SEND, SERVE, STATION, SWITCH, UNITS, placed_words,
+    ACCOUNT, ADDRESS, COPY, COUNT, CREATE, DATABASE, DAYS, DAYS_AGO, DEVICE, DEVICES, DRY_RUN, END,
+    EXPIRE, EXPLAIN, FOLDER, GRANTS, LISTEN, MIGRATE, MONTH, NAME, ON, OPEN, PING, PORT, RATE,
+    REFUND, REPORT, SCRIPT, SEND, SERVE, STATION, SWITCH, UNITS, WAITING, placed_words,
 };
 use clap::ArgMatches;
+use room_desk::{MOST_DAYS, ReportMonth, Task};
 use room_events::{MOST_RATE, Name};
+use room_input::month;
+use room_rules::MOST_PAGES;
 use std::alloc::Global;
 
 /// The database that lives in memory for one run.
@@ -48,6 +54,8 @@ pub enum Command<'a> {
     Migrate {
         database: &'a str,
     },
+    /// Copies a database.
+    Copy(Copying<'a>),
     /// Makes a device known, and turns it on or off.
     Device {
         database: &'a str,
@@ -78,6 +86,8 @@ pub enum Command<'a> {
     Serve(Serving<'a>),
     /// Sends lines or grants to what serves them.
     Send(Sending<'a>),
+    /// Asks an operator's address.
+    Errand(Errand<'a>),
 }
 
 /// Why words of which one is not UTF-8 are no command line.
@@ -135,9 +145,16 @@ fn of_matches<'a>(
     ensures said { IfOk result (IsSaidBy (placed (texts words.now))) }
 {
     match matches.subcommand() {
+        Some((COPY, _)) => copy_command(alloc, words),
         Some((SERVE, _)) => serve_command(alloc, words),
         Some((SEND, found)) => send_command(found),
         Some((EXPLAIN, _)) => Ok(Command::Explain),
+        Some((PING, found)) => errand(found, Task::Ping),
+        Some((END, found)) => errand(found, Task::End),
+        Some((REPORT, found)) => errand(found, report_task(found)?),
+        Some((WAITING, found)) => errand(found, waiting_task(found)?),
+        Some((EXPIRE, found)) => errand(found, expire_task(found)?),
+        Some((REFUND, found)) => errand(found, refund_task(found)?),
         Some((command, found)) => on_database(command, found, word(found, DATABASE)?),
         None => Err(Unfit::Missing),
     }
@@ -206,6 +223,18 @@ fn listen_command<'a>(words: &ArgMatches<'a>, database: &'a str) -> Result<Comma
     }))
 }
 
+// The words of `copy` are read by their places.
+fn copy_command<'a>(alloc: Global, words: &[&'a str]) -> Result<Command<'a>, Unfit>
+    ensures range { IfOk result (λ command. IsTrue (is_in_range command)) }
+    ensures said { IfOk result (IsSaidBy (placed (texts words.now))) }
+{
+    let placed = placed_words(alloc, words)?;
+    let [_, database, file] = placed.as_slice() else {
+        return Err(Unfit::Missing);
+    };
+    Ok(Command::Copy(Copying { database, file }))
+}
+
 // The words of `serve` are read by their places, and its options behind them.
 fn serve_command<'a>(alloc: Global, words: &[&'a str]) -> Result<Command<'a>, Unfit>
     ensures range { IfOk result (λ command. IsTrue (is_in_range command)) }
@@ -218,6 +247,7 @@ fn serve_command<'a>(alloc: Global, words: &[&'a str]) -> Result<Command<'a>, Un
     Ok(Command::Serve(Serving {
         database,
         doors: doors_of(alloc, doors)?,
+        log: log_behind(doors),
     }))
 }
 
@@ -230,6 +260,54 @@ fn send_command<'a>(words: &ArgMatches<'a>) -> Result<Command<'a>, Unfit>
         grants: words.get_flag(GRANTS),
         folder: words.get_str(FOLDER),
     }))
+}
+
+fn errand<'a>(words: &ArgMatches<'a>, task: Task) -> Result<Command<'a>, Unfit>
+    requires { IsTrue (is_task_in_range task) }
+    ensures range { IfOk result (λ command. IsTrue (is_in_range command)) }
+    ensures said { (given : List (List ℕ)) → IfOk result (IsSaidBy given) }
+{
+    let address = address(words, ADDRESS, 1, Unfit::Address)?;
+    Ok(Command::Errand(Errand { address, task }))
+}
+
+fn report_task(words: &ArgMatches<'_>) -> Result<Task, Unfit>
+    ensures { IfOk result (λ task. IsTrue (is_task_in_range task)) }
+{
+    let Some(text) = words.get_str(MONTH) else {
+        return Ok(Task::Devices);
+    };
+    let month = month(text.as_bytes()).ok_or(Unfit::Month)?;
+    let month = ReportMonth::of(month).ok_or(Unfit::Month)?;
+    Ok(Task::Report { month })
+}
+
+fn waiting_task(words: &ArgMatches<'_>) -> Result<Task, Unfit>
+    ensures { IfOk result (λ task. IsTrue (is_task_in_range task)) }
+{
+    match words.get_str(DAYS_AGO) {
+        Some(_) => {
+            let days = number(words, DAYS_AGO, 0, MOST_DAYS, Unfit::Days)?;
+            Ok(Task::Waiting { days: Some(days) })
+        }
+        None => Ok(Task::Waiting { days: None }),
+    }
+}
+
+fn expire_task(words: &ArgMatches<'_>) -> Result<Task, Unfit>
+    ensures { IfOk result (λ task. IsTrue (is_task_in_range task)) }
+{
+    let days = number(words, DAYS, 0, MOST_DAYS, Unfit::Days)?;
+    let shown_only = words.get_flag(DRY_RUN);
+    Ok(Task::Expire { days, shown_only })
+}
+
+fn refund_task(words: &ArgMatches<'_>) -> Result<Task, Unfit>
+    ensures { IfOk result (λ task. IsTrue (is_task_in_range task)) }
+{
+    let pages = number(words, UNITS, 0, MOST_PAGES, Unfit::Pages)?;
+    let account = name(words, ACCOUNT)?;
+    Ok(Task::Refund { account, pages })
 }
 
 fn word<'a>(words: &ArgMatches<'a>, id: &str) -> Result<&'a str, Unfit> {

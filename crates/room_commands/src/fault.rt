@@ -40,6 +40,12 @@ pub enum Fault {
     /// Memory ran out.
     #[error("ipp-room: memory")]
     Memory,
+    /// Nothing came of an address in time, or nothing was taken there.
+    #[error("ipp-room: no answer")]
+    Silent,
+    /// Something that was asked over an address was refused.
+    #[error("ipp-room: refused")]
+    Refused,
     /// Reading or writing failed, or the clock has no moment to give.
     #[error("ipp-room: io")]
     Io,
@@ -47,17 +53,18 @@ pub enum Fault {
 
 impl Fault {
     /// The exit status: 1 for usage, 2 for bad input, of which nothing was run unless it was sent,
-    /// 3 for the store and for memory, 4 for reading and writing.
+    /// 3 for the store and for memory, 4 for reading and writing, 5 for what was refused.
     pub fn status(&self) -> u8
         ensures status { result ≡ exit_status_of self.now }
         ensures least { 1 ≤ result }
-        ensures most { result ≤ 4 }
+        ensures most { result ≤ 5 }
     {
         match self {
             Fault::Usage(_) => 1,
             Fault::Name | Fault::Input | Fault::Line(_) => 2,
             Fault::Store | Fault::Memory => 3,
-            Fault::Io => 4,
+            Fault::Io | Fault::Silent => 4,
+            Fault::Refused => 5,
         }
     }
 
@@ -119,6 +126,9 @@ impl From<ClientFault> for Fault {
     fn from(fault: ClientFault) -> Fault {
         match fault {
             ClientFault::Io | ClientFault::Broken => Fault::Io,
+            ClientFault::Silent => Fault::Silent,
+            ClientFault::Failed => Fault::Store,
+            ClientFault::Refused => Fault::Refused,
             ClientFault::TooLong => Fault::Input,
             ClientFault::Memory => Fault::Memory,
         }

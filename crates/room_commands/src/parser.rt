@@ -55,6 +55,8 @@ fn argument_of<'a>(alloc: Global, argument: &Argument) -> Result<Arg<'a>, AllocE
             let switches = ValueParser::Names(SWITCHES.as_slice());
             Ok(named.required(true).value_parser(switches))
         }
+        Kind::Unless(flag) => named.required_unless_present(flag)?.conflicts_with(flag),
+        Kind::Flag => Ok(named.long(argument.name).action(ArgAction::SetTrue)),
         Kind::FlagWithout(other) => named
             .long(argument.name)
             .action(ArgAction::SetTrue)

@@ -22,9 +22,9 @@ use std::io::{Read, Write};
 ///
 /// `opener` is asked for the database once nothing else can be wrong, and gets it back before
 /// anything is printed. In `:memory:` each run makes tables of its own. `explain` asks for none,
-/// and none of its lines is wrong. Of `listen`, `serve` and `send` it answers `Io` with nothing
-/// run, since it has no sockets (`Listening`, `Serving` and `Sending` say what their words ask
-/// for).
+/// and none of its lines is wrong. Of `copy`, `listen`, `serve`, `send` and what is asked over an
+/// address it answers `Io` with nothing run, since it has one database and no sockets (`Copying`,
+/// `Listening`, `Serving`, `Sending` and `Errand` say what their words ask for).
 pub fn run<S, F, R, W, E>(
     alloc: Global,
     words: &[&str],
@@ -40,7 +40,7 @@ where
     R: Read + Drop,
     W: Write,
     E: Write,
-    ensures { result ≤ 4 }
+    ensures { result ≤ 5 }
 {
     match perform(alloc, words, now, opener, input, output) {
         Ok(()) => 0,
@@ -92,7 +92,11 @@ where
         }
         Command::Station { database } => run_station(alloc, now, opener, database, input, output),
         Command::Grants { database } => run_grants(alloc, now, opener, database, input, output),
-        Command::Listen(_) | Command::Serve(_) | Command::Send(_) => Err(Fault::Io),
+        Command::Copy(_)
+        | Command::Listen(_)
+        | Command::Serve(_)
+        | Command::Send(_)
+        | Command::Errand(_) => { Err(Fault::Io) }
     }
 }
 

@@ -1,6 +1,6 @@
 //! A door that `serve` opens, and the words that say it.
-ghost use Rattle.std.specs.Prelude.{◌≡◌, ◌++◌, IfOk, List, OnOk};
-ghost use Rattle.room_commands.specs.Visitors.{AreDoors, AreOptions, IsDoorOf};
+ghost use Rattle.std.specs.Prelude.{◌≡◌, ◌++◌, IfOk, List, OnOk, option_map};
+ghost use Rattle.room_commands.specs.Visitors.{AreDoors, AreOptions, IsDoorOf, log_among, log_behind};
 ghost use Rattle.room_commands.specs.Words.{texts};
 ghost use Rattle.room_commands.specs.declared.served_door.ServedDoor.{ServedDoor as PlainDoor};
 
@@ -8,6 +8,9 @@ use crate::address::Address;
 use crate::unfit::Unfit;
 use crate::visitors::Visitors;
 use std::alloc::Global;
+
+/// The word behind which the file of the log stands.
+const LOG: &str = "--log";
 
 /// A door that `serve` opens. A port of 0 is a free one.
 #[derive(Clone, Copy, Debug)]
@@ -45,6 +48,26 @@ pub(crate) fn doors_of<'a>(alloc: Global, words: &[&'a str]) -> Result<Vec<Serve
     Ok(doors)
 }
 
+/// The file of the log, which the first option of it says behind the three addresses.
+pub(crate) fn log_behind<'a>(words: &[&'a str]) -> Option<&'a str>
+    ensures { option_map (λ path. path.now) result ≡ log_behind (texts words.now) }
+{
+    match words {
+        [_, _, _, options @ ..] => log_among(options),
+        _ => None,
+    }
+}
+
+fn log_among<'a>(options: &[&'a str]) -> Option<&'a str>
+    ensures { option_map (λ path. path.now) result ≡ log_among (texts options.now) }
+{
+    match options {
+        [name, value, ..] if *name == LOG => Some(*value),
+        [_, _, rest @ ..] => log_among(rest),
+        _ => None,
+    }
+}
+
 /// Puts the doors that options say behind those that are there.
 fn put_options<'a>(options: &[&'a str], doors: &mut Vec<ServedDoor<'a>>) -> Result<(), Unfit>
     ensures { OnOk result ((further : List PlainDoor)
@@ -56,6 +79,9 @@ fn put_options<'a>(options: &[&'a str], doors: &mut Vec<ServedDoor<'a>>) -> Resu
     let Some((value, rest)) = behind.split_first() else {
         return Err(Unfit::Option);
     };
+    if *name == LOG {
+        return put_options(rest, doors);
+    }
     let visitors = Visitors::of_option(name).ok_or(Unfit::Option)?;
     let door = ServedDoor::read(visitors, value)?;
     doors.push(door)?;

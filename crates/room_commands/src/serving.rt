@@ -15,6 +15,8 @@ pub struct Serving<'a> {
     pub database: &'a str,
     /// Of clients, of stations, of operators, and those that options name, in their order.
     pub doors: Vec<ServedDoor<'a>>,
+    /// The file of the log, where one is asked for.
+    pub log: Option<&'a str>,
 }
 
 impl<'a> Serving<'a> {

@@ -16,6 +16,9 @@ pub(crate) enum Unfit {
     ServedAddress,
     Option,
     Address,
+    Month,
+    Days,
+    Pages,
     Name,
     Memory,
 }
@@ -35,6 +38,9 @@ impl Unfit {
             }
             Unfit::Option => Some("options stand behind the words, each with its value"),
             Unfit::Address => Some("ADDRESS is a port from 1 to 65535, or a path"),
+            Unfit::Month => Some("YYYY-MM is a month from 2000-01 to 2099-12"),
+            Unfit::Days => Some("DAYS is a number from 0 to 36500"),
+            Unfit::Pages => Some("UNITS is a number from 0 to 1000000000"),
             Unfit::Name | Unfit::Memory => None,
         }
     }

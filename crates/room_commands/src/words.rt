@@ -10,6 +10,8 @@ pub(crate) const OPEN: &str = "open";
 
 pub(crate) const MIGRATE: &str = "migrate";
 
+pub(crate) const COPY: &str = "copy";
+
 pub(crate) const DEVICE: &str = "device";
 
 pub(crate) const RATE: &str = "rate";
@@ -29,6 +31,18 @@ pub(crate) const SERVE: &str = "serve";
 
 pub(crate) const SEND: &str = "send";
 
+pub(crate) const PING: &str = "ping";
+
+pub(crate) const END: &str = "end";
+
+pub(crate) const REPORT: &str = "report";
+
+pub(crate) const WAITING: &str = "waiting";
+
+pub(crate) const EXPIRE: &str = "expire";
+
+pub(crate) const REFUND: &str = "refund";
+
 /// Behind it no word is a flag.
 const ESCAPE: &str = "--";
 
@@ -37,6 +51,8 @@ pub(crate) const ON: &str = "on";
 pub(crate) const SWITCHES: [&str; 2] = [ON, "off"];
 
 pub(crate) const DATABASE: &str = "DB";
+
+pub(crate) const FILE: &str = "FILE";
 
 pub(crate) const ACCOUNT: &str = "ACCOUNT";
 
@@ -60,9 +76,21 @@ const STATIONS_TOO: &str = "stations";
 
 const OPERATORS_TOO: &str = "operators";
 
+const LOG: &str = "log";
+
 pub(crate) const ADDRESS: &str = "ADDRESS";
 
 pub(crate) const FOLDER: &str = "FOLDER";
+
+pub(crate) const MONTH: &str = "YYYY-MM";
+
+pub(crate) const DEVICES: &str = "devices";
+
+pub(crate) const DAYS: &str = "DAYS";
+
+pub(crate) const DAYS_AGO: &str = "days";
+
+pub(crate) const DRY_RUN: &str = "dry-run";
 
 /// A command, as the help shows it.
 #[derive(Clone, Copy)]
@@ -86,6 +114,10 @@ pub(crate) enum Kind {
     Required,
     /// A word that has to be there, and is one of the switches.
     Switch,
+    /// A word that has to be there where the flag is not.
+    Unless(&'static str),
+    /// A flag of its own name.
+    Flag,
     /// A flag of its own name, with which the other argument can't be.
     FlagWithout(&'static str),
     /// A word that follows this flag.
@@ -97,6 +129,12 @@ pub(crate) enum Kind {
 const ON_DATABASE: Argument = Argument {
     name: DATABASE,
     help: Some("A file, or :memory: for this run alone"),
+    kind: Kind::Required,
+};
+
+const TO_FILE: Argument = Argument {
+    name: FILE,
+    help: Some("The copy, FILE.part until it is whole"),
     kind: Kind::Required,
 };
 
@@ -172,6 +210,48 @@ const MORE_OPERATORS: Argument = Argument {
     kind: Kind::Named(OPERATORS),
 };
 
+const TO_LOG: Argument = Argument {
+    name: LOG,
+    help: Some("A file to whose end a line an event goes"),
+    kind: Kind::Named(FILE),
+};
+
+const OF_MONTH: Argument = Argument {
+    name: MONTH,
+    help: Some("YYYY-MM, from 2000-01 to 2099-12"),
+    kind: Kind::Unless(DEVICES),
+};
+
+const OF_DEVICES: Argument = Argument {
+    name: DEVICES,
+    help: Some("Reports the devices"),
+    kind: Kind::Flag,
+};
+
+const SINCE_DAYS: Argument = Argument {
+    name: DAYS_AGO,
+    help: Some("Only jobs that were made at least so many days ago, 0 to 36500"),
+    kind: Kind::Named(DAYS),
+};
+
+const OLDER_DAYS: Argument = Argument {
+    name: DAYS,
+    help: Some("How many days ago a job was made at least, 0 to 36500"),
+    kind: Kind::Required,
+};
+
+const SHOWN_ONLY: Argument = Argument {
+    name: DRY_RUN,
+    help: Some("Only shows the jobs"),
+    kind: Kind::Flag,
+};
+
+const GIVEN_BACK: Argument = Argument {
+    name: UNITS,
+    help: Some("0 to 1000000000"),
+    kind: Kind::Required,
+};
+
 const TO_ADDRESS: Argument = Argument {
     name: ADDRESS,
     help: Some("A port, or the path of a socket"),
@@ -191,7 +271,7 @@ const INTO_FOLDER: Argument = Argument {
 };
 
 /// All commands, in the order of the help.
-pub(crate) const COMMANDS: [CommandWords; 12] = [
+pub(crate) const COMMANDS: [CommandWords; 19] = [
     CommandWords {
         name: CREATE,
         about: "Makes the tables of a database",
@@ -206,6 +286,11 @@ pub(crate) const COMMANDS: [CommandWords; 12] = [
         name: MIGRATE,
         about: "Brings older tables up to date",
         arguments: &[ON_DATABASE],
+    },
+    CommandWords {
+        name: COPY,
+        about: "Copies a database that no process has open",
+        arguments: &[ON_DATABASE, TO_FILE],
     },
     CommandWords {
         name: DEVICE,
@@ -248,12 +333,43 @@ pub(crate) const COMMANDS: [CommandWords; 12] = [
             MORE_CLIENTS,
             MORE_STATIONS,
             MORE_OPERATORS,
+            TO_LOG,
         ],
     },
     CommandWords {
         name: SEND,
         about: "Sends the lines of standard input to what serves them",
         arguments: &[TO_ADDRESS, AS_GRANTS, INTO_FOLDER],
+    },
+    CommandWords {
+        name: PING,
+        about: "Asks whether a process answers",
+        arguments: &[TO_ADDRESS],
+    },
+    CommandWords {
+        name: END,
+        about: "Ends a process, and waits until it has ended",
+        arguments: &[TO_ADDRESS],
+    },
+    CommandWords {
+        name: REPORT,
+        about: "Prints what accounts were charged, or the devices, as CSV",
+        arguments: &[TO_ADDRESS, OF_MONTH, OF_DEVICES],
+    },
+    CommandWords {
+        name: WAITING,
+        about: "Prints the jobs that are held or pending, as CSV",
+        arguments: &[TO_ADDRESS, SINCE_DAYS],
+    },
+    CommandWords {
+        name: EXPIRE,
+        about: "Cancels jobs that have been held or pending for long",
+        arguments: &[TO_ADDRESS, OLDER_DAYS, SHOWN_ONLY],
+    },
+    CommandWords {
+        name: REFUND,
+        about: "Gives pages back to an account",
+        arguments: &[TO_ADDRESS, OF_ACCOUNT, GIVEN_BACK],
     },
     CommandWords {
         name: EXPLAIN,

@@ -1,8 +1,9 @@
 //! The databases of this machine: in memory, and in files.
 ghost use Rattle.std.specs.Prelude.{◌≤◌};
 
+use crate::copying::copy;
 use crate::file::connect;
-use room_commands::{CREATE, MEMORY, Opener, is_command, run};
+use room_commands::{CREATE, Copying, MEMORY, Opener, is_command, run};
 use room_store::OpenFault;
 use sqlite::{Connection, File, FileStore, MemStore};
 use std::alloc::Global;
@@ -48,7 +49,8 @@ impl Opener for InFile<'_> {
     }
 }
 
-/// `run` over this machine's memory where the words name `:memory:`, and over its files otherwise.
+/// `run` over this machine's memory where the words name `:memory:`, and over its files otherwise;
+/// `copy` over two of its files.
 pub fn run_on<R: Read + Drop, W: Write, E: Write>(
     rt: &HostRuntime,
     words: &[&str],
@@ -57,9 +59,13 @@ pub fn run_on<R: Read + Drop, W: Write, E: Write>(
     output: &mut W,
     errors: &mut E,
 ) -> u8
-    ensures { result ≤ 4 }
+    ensures { result ≤ 5 }
 {
     let alloc = rt.alloc();
+    // Words that are wrong are told by `run`.
+    if let Ok(Some(asked)) = Copying::read(alloc, words) {
+        return copy(rt, &asked, output, errors);
+    }
     if words.contains(&MEMORY) {
         return run(alloc, words, now, InMemory { alloc }, input, output, errors);
     }

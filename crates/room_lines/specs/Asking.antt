@@ -4,7 +4,7 @@ use Rattle.room_lines.specs.Saying.{AreFields, SaysMonth, SaysNumber, name_said}
 use Rattle.room_questions.specs.declared.question.About.{About}
 use Rattle.room_questions.specs.declared.question.About.TheVariants.{Left, Statement, Jobs, Ended, Grants, Waiting, Again}
 use Rattle.room_questions.specs.declared.question.Question.{Question}
-use Rattle.room_questions.specs.declared.question.Question.TheVariants.{Ping, End, Devices, Accounts, Account}
+use Rattle.room_questions.specs.declared.question.Question.TheVariants.{Ping, End, Devices, Accounts, Check, Account}
 
 -- a station asks what waits for an account, and for a job's documents again; an operator all else
 abbrev pub is_of_station : Question → Bool
@@ -36,6 +36,7 @@ SaysQuestion fields Ping = fields ≡ codes "ping" ∷ []
 SaysQuestion fields End = fields ≡ codes "end" ∷ []
 SaysQuestion fields Devices = fields ≡ codes "devices" ∷ []
 SaysQuestion fields (Accounts behind) = fields ≡ codes "accounts" ∷ name_said behind ∷ []
+SaysQuestion fields (Check account) = fields ≡ codes "check" ∷ account ∷ []
 SaysQuestion fields (Account account about) = SaysAbout fields account about
 
 abbrev pub IsQuestionOf : (text : List ℕ) → Question → Type 0

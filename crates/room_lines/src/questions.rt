@@ -57,6 +57,9 @@ fn account_question(kind: &[u8], fields: &mut Fields<'_>) -> Result<Question, Fi
     ensures operators { IfOk result (λ question. is_of_station question ≡ false) }
 {
     match kind {
+        b"check" => Ok(Question::Check {
+            account: fields.name()?,
+        }),
         b"left" => Ok(Question::Account {
             account: fields.name()?,
             about: About::Left {

@@ -54,7 +54,7 @@ module _ {S : Type 0} (store : Ghosts S) where
   unfoldable pub looked : (question : Question) (told : Result Reply StoreFault) (old new : Served S) → AnswersNext store question told old new → Continues store old new
   looked question told old new next = record {
     more = None ∷ [];
-    notes = subst (λ b. Notes b (None ∷ []) old new) (sym next.alone) (next.over, ap (λ (served : Served S). open_of served) next.same, ap (λ (served : Served S). asked_of served) next.same);
+    notes = subst (λ b. Notes b (None ∷ []) old new) (sym next.alone) (next.over, next.none_more, ap (λ (served : Served S). asked_of served) next.same);
     does = subst (λ b. DoesEach store b (store_of old) (None ∷ []) (store_of new)) (sym next.alone) (store_of new, looks_only question told (store_of old) (store_of new) next.answers, refl);
     shares = ap (λ (served : Served S). shares_of served) next.same;
     is_lost = ap (λ (served : Served S). is_lost_of served) next.same;

@@ -1,5 +1,6 @@
 pub mod Again
 pub mod Journaling
+pub mod Telling
 pub mod Running
 pub mod LineEnds
 pub mod LineCalls

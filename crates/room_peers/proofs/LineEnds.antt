@@ -1,5 +1,5 @@
 -- A line and its line feed, as they came.
-use Rattle.std.proofs.Common.{◌≡◌, ◌==◌, ℕ, ◌+◌, List, [], ◌∷◌, ◌++◌, take, drop, get_or, Some, Result, Ok, Err, OnErr, ap, refl, inl, inr, ◌∙◌}
+use Rattle.std.proofs.Common.{◌≡◌, ◌==◌, ℕ, Bool, IsTrue, ◌+◌, List, [], ◌∷◌, ◌++◌, take, drop, get_or, Some, Result, Ok, Err, OnErr, ap, refl, inl, inr, ◌∙◌}
 use Rattle.std.proofs.lemmas.Bool.{eqb-true}
 use Rattle.std.proofs.lemmas.List.{take_more}
 use Rattle.std.proofs.lemmas.List.Quantifiers.{position-Some}
@@ -7,10 +7,11 @@ use Rattle.sqlite_trees.specs.declared.store.Store.{Ghosts}
 use Rattle.room_events.specs.declared.event.Reply.{Reply}
 use Rattle.room_store.specs.declared.fault.StoreFault.{StoreFault}
 use Rattle.room_questions.specs.declared.question.Question.{Question}
+use Rattle.room_questions.specs.declared.question.Question.TheVariants.{Ping}
 use Rattle.room_peers.specs.Journals.{moment_of}
 use Rattle.room_peers.specs.Turns.{AnswersNext, AppliesNext}
 use Rattle.room_peers.specs.Lines.{IsEntryOf, MayAsk, TakesLine, grammar_of, input_of, line_end, side_of}
-use Rattle.room_peers.specs.LineTexts.{bad_line_text, line_text}
+use Rattle.room_peers.specs.LineTexts.{answer_text, bad_line_text, line_text}
 use Rattle.room_lines.specs.Asking.{IsQuestionOf}
 use Rattle.room_peers.specs.declared.entry.Entry.{Entry}
 use Rattle.room_peers.specs.declared.line_connection.LineConnection.{LineConnection}
@@ -43,10 +44,10 @@ module _ {S : Type 0} (store : Ghosts S) where
   }
 
   -- a question was answered
-  pub takes_question : (before after : LineConnection) (old new : Served S) (end : ℕ) (question : Question) (told : Result Reply StoreFault) → line_end (input_of before) ≡ Some end → input_of after ≡ drop (end + 1) (input_of before)
-      → MayAsk (side_of before) question → IsQuestionOf (take end (input_of before)) question → AnswersNext store question told old new
-      → TakesLine store before after old (line_text told) new
-  takes_question before after old new end question told first rest asks said next = record {
+  pub takes_question : (before after : LineConnection) (old new : Served S) (end : ℕ) (question : Question) (warns : Bool) (told : Result Reply StoreFault) → line_end (input_of before) ≡ Some end → input_of after ≡ drop (end + 1) (input_of before)
+      → MayAsk (side_of before) question → IsQuestionOf (take end (input_of before)) question → AnswersNext store question told old new → (IsTrue warns → question ≡ Ping)
+      → TakesLine store before after old (answer_text warns told) new
+  takes_question before after old new end question warns told first rest asks said next pings = record {
     end = end;
     first = first;
     rest = rest;
@@ -58,17 +59,19 @@ module _ {S : Type 0} (store : Ghosts S) where
       said = said;
       told = told;
       next = next;
+      warns = warns;
+      pings = pings;
       says = refl;
     }));
   }
 
   -- a line that is none of its side's
-  pub takes_bad : (before after : LineConnection) (old : Served S) (end : ℕ) → line_end (input_of before) ≡ Some end → input_of after ≡ drop (end + 1) (input_of before) → TakesLine store before after old bad_line_text old
-  takes_bad before after old end first rest = record {
+  pub takes_bad : (before after : LineConnection) (old new : Served S) (end : ℕ) → line_end (input_of before) ≡ Some end → input_of after ≡ drop (end + 1) (input_of before) → new ≡ old → TakesLine store before after old bad_line_text new
+  takes_bad before after old new end first rest same = record {
     end = end;
     first = first;
     rest = rest;
-    gives = inr (inr (refl, refl));
+    gives = inr (inr (refl, same));
   }
 
 -- what holds anyway holds after an error

@@ -1,14 +1,12 @@
 -- What was asked of what is served, one round after another (all this project's own).
-use Rattle.std.specs.Prelude.{◌≡◌, ℕ, Bool, true, false, List, [], ◌∷◌, ◌++◌, map, if◌then◌else◌, nat_lt, Option, None, Some, Result}
+use Rattle.std.specs.Prelude.{◌≡◌, ℕ, Bool, true, false, List, [], ◌∷◌, ◌++◌, map, nat_lt, Option, None, Some}
 use Rattle.std.specs.List.{flat_map}
 use Rattle.sqlite.specs.Held.{Held}
-use Rattle.http_server.specs.declared.log.Log.{Log}
 use Rattle.room_events.specs.Events.{Timed}
-use Rattle.room_events.specs.declared.event.Reply.{Reply}
-use Rattle.room_store.specs.declared.fault.StoreFault.{StoreFault}
 use Rattle.room_serve.specs.Outcomes.{outcome_of}
 use Rattle.room_serve.specs.declared.outcome.Outcome.{Outcome}
 use Rattle.room_peers.specs.Entries.{timed}
+pub use Rattle.room_peers.specs.Tolds.{Told, Round, round_in, kept_in}
 use Rattle.room_peers.specs.declared.entry.Entry.{Entry}
 use Rattle.room_peers.specs.declared.served.Served.{Served}
 
@@ -17,28 +15,13 @@ abbrev pub list_of : {X : Type 0} → Option X → List X
 list_of None = []
 list_of (Some x) = x ∷ []
 
--- what came, and what it came to
-abbrev pub Told : Type 0
-Told = Entry × Result Reply StoreFault
-
--- what was asked in a round, and whether it was kept; what is applied by itself is a round of one
-abbrev pub Round : Type 0
-Round = List Told × Bool
-
-abbrev pub round_in : Log Entry (Result Reply StoreFault) × Bool → Round
-round_in round = (round.0.items, round.1)
-
 -- the rounds that are over
 abbrev pub rounds_of : {S : Type 0} → Served S → List Round
-rounds_of served = map round_in served.over.items
+rounds_of served = map round_in served.journal.over.items
 
 -- what was asked so far in the round that is under way
 abbrev pub open_of : {S : Type 0} → Served S → List Told
-open_of served = served.under_way.items
-
--- what was asked in the rounds that were kept
-abbrev pub kept_in : List Round → List Told
-kept_in rounds = flat_map (λ (round : Round). if round.1 then round.0 else []) rounds
+open_of served = served.journal.under_way.items
 
 -- the journal: what was asked so far in the rounds that were kept
 abbrev pub journal_of : {S : Type 0} → Served S → List Told

@@ -1,5 +1,10 @@
 pub mod Entries
+pub mod Tolds
+pub mod Logged
+pub mod Logging
+pub mod Writing
 pub mod Journals
+pub mod LogLaws
 pub mod Applying
 pub mod Turns
 pub mod Rounds

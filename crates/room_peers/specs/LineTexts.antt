@@ -49,3 +49,7 @@ line_text (Ok reply_is.NoAccount) = codes "no-account\n"
 line_text (Ok reply_is.Short) = codes "short\n"
 line_text (Ok (reply_is.Ipp answer)) = told_of answer ++ codes "\n"
 line_text (Err fault) = codes "failed\n"
+
+-- for a question, or where it warns that the log can't be written
+abbrev pub answer_text : (warns : Bool) → Result Reply StoreFault → List ℕ
+answer_text warns told = if warns then codes "log-fails\n" else line_text told

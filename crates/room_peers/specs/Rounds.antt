@@ -50,7 +50,8 @@ module _ {S : Type 0} (store : Ghosts S) where
     pub alone : shares_of old ≡ false
     pub refused : IsRefused (store_of old) (store_of new)
     pub over : rounds_of new ≡ rounds_of old ++ ([], false) ∷ []
-    pub same : new ≡ record old { rounds = store_of new; over = new.over }
+    pub none_more : open_of new ≡ open_of old
+    pub same : new ≡ record old { rounds = store_of new; journal = new.journal }
 
   -- or ends it
   pub record IsSettled (old new : Served S) : Type 0 where
@@ -60,8 +61,7 @@ module _ {S : Type 0} (store : Ghosts S) where
     pub none_left : open_of new ≡ []
     pub same : new ≡ record old {
       rounds = store_of new;
-      over = new.over;
-      under_way = new.under_way;
+      journal = new.journal;
       shares = false;
       is_lost = new.is_lost;
       bytes_told = 0;

@@ -26,6 +26,11 @@ abbrev pub entry_needs_space : Entry → Bool
 entry_needs_space (entry.Message moment account body) = needs_space body
 entry_needs_space (entry.Line line) = false
 
+-- the bytes of a message, and of a line none
+abbrev pub length_of_entry : Entry → ℕ
+length_of_entry (entry.Message moment account body) = length body
+length_of_entry (entry.Line line) = 0
+
 -- the space that is kept
 abbrev pub spare_of : {S : Type 0} → Served S → Spare
 spare_of served = served.spare

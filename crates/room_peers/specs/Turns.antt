@@ -8,7 +8,7 @@ use Rattle.room_store.specs.Questions.{AnswersQuestion}
 use Rattle.room_store.specs.declared.fault.StoreFault.{StoreFault}
 use Rattle.room_peers.specs.declared.entry.Entry.{Entry}
 use Rattle.room_peers.specs.declared.served.Served.{Served}
-use Rattle.room_peers.specs.Journals.{Notes, Told, ends_of, is_lost_of, moment_of, rounds_of, shares_of, store_of}
+use Rattle.room_peers.specs.Journals.{Notes, Told, ends_of, is_lost_of, moment_of, open_of, rounds_of, shares_of, store_of}
 use Rattle.room_peers.specs.Applying.{AppliesEntry, DoesEach}
 
 module _ {S : Type 0} (store : Ghosts S) where
@@ -28,8 +28,9 @@ module _ {S : Type 0} (store : Ghosts S) where
     pub alone : shares_of old ≡ false
     pub answers : AnswersQuestion store question (store_of old) (store_of new) told
     pub over : rounds_of new ≡ rounds_of old ++ ([], false) ∷ []
+    pub none_more : open_of new ≡ open_of old
     pub ends : ends_of new ≡ ends_of old || asks_end question
-    pub same : new ≡ record old { rounds = store_of new; over = new.over; ends = new.ends }
+    pub same : new ≡ record old { rounds = store_of new; journal = new.journal; ends = new.ends }
 
   -- what came is noted, and it, and nothing else, made of the tables what they are
   pub record Continues (old new : Served S) : Type 0 where

@@ -3,12 +3,14 @@ ghost use Rattle.std.specs.Prelude.{◌≡◌, IsTrue};
 ghost use Rattle.room_events.specs.Events.{plain_event};
 ghost use Rattle.room_events.specs.Fits.{fits};
 ghost use Rattle.room_peers.specs.Entries.{event_of_entry, moment_at};
-ghost use Rattle.room_peers.specs.Space.{entry_needs_space};
+ghost use Rattle.room_peers.specs.Logged.{door_for, door_of};
+ghost use Rattle.room_peers.specs.Space.{entry_needs_space, length_of_entry};
 
-use crate::request::needs_space;
+use crate::request::{cancels, needs_space};
 use bytes::Bytes;
 use room_events::{Event, Name};
-use room_lines::Line;
+use room_lines::{Action, Line};
+use room_log::Door;
 
 /// What a connection asked of the rooms or the devices, at a moment in seconds since
 /// 1970-01-01T00:00:00Z.
@@ -48,6 +50,16 @@ impl Entry {
         }
     }
 
+    /// The door by which it came in.
+    pub(crate) fn door(&self) -> Door
+        ensures { result ≡ door_of self.now }
+    {
+        match self {
+            Entry::Message { .. } => Door::Clients,
+            Entry::Line(line) => door_of(&line.action),
+        }
+    }
+
     /// Whether it brings a job or a document, for which the disk has to have space.
     pub(crate) fn needs_space(&self) -> bool
         ensures { result ≡ entry_needs_space self.now }
@@ -55,6 +67,25 @@ impl Entry {
         match self {
             Entry::Message { body, .. } => needs_space(body.as_slice()),
             Entry::Line(_) => false,
+        }
+    }
+
+    /// The bytes of the message, and of a line none.
+    pub(crate) fn length(&self) -> usize
+        ensures { result ≡ length_of_entry self.now }
+    {
+        match self {
+            Entry::Message { body, .. } => body.len(),
+            Entry::Line(_) => 0,
+        }
+    }
+
+    /// Whether a job ends where it goes through, or is to.
+    pub(crate) fn ends_job(&self) -> bool {
+        match self.event() {
+            Event::Ipp { body, .. } => cancels(body),
+            Event::Settle { .. } => true,
+            _ => false,
         }
     }
 
@@ -69,5 +100,15 @@ impl Entry {
             },
             Entry::Line(line) => line.event(),
         }
+    }
+}
+
+/// The door of those who may ask for the action.
+fn door_of(action: &Action) -> Door
+    ensures { result ≡ door_for action.now }
+{
+    match action {
+        Action::Release { .. } | Action::Start { .. } | Action::Settle { .. } => Door::Stations,
+        _ => Door::Operators,
     }
 }

@@ -6,6 +6,7 @@ ghost use Rattle.room_replies.specs.Responses.{done_text, refused_text};
 ghost use Rattle.room_replies.specs.Words.{word_text};
 ghost use Rattle.room_rules.specs.declared.refusal.Refusal.{Refusal};
 ghost use Rattle.room_peers.specs.LineTexts.{told_of};
+ghost use Rattle.room_peers.specs.LogLaws.{AlwaysLogged};
 ghost use Rattle.room_peers.specs.ServedRuns.{AlwaysRuns};
 ghost use Rattle.room_peers.specs.ServedLives.{AloneIsFound, AlwaysFound, AlwaysLives, KeptIsFound, RoundIsFound, RoundIsNotFound};
 
@@ -40,6 +41,13 @@ pub fn lives_are_always_found<S: Alter>()
     ensures inside { RoundIsNotFound S.Store }
     ensures round { RoundIsFound S.Store }
     ensures alone { AloneIsFound S.Store }
+{}
+
+/// Where a log is kept, and no line of it was left out, its lines are those of the journal, each once
+/// and in order, and nothing else: the file has taken them, or they wait for it. Those of a round that
+/// is under way stand apart until it is settled, and those of a lost one are dropped.
+pub fn always_logged<S: Alter>()
+    ensures { AlwaysLogged S.Store }
 {}
 
 /// A line that asks in the place of an account's owner is told `ok` where the request was done, and

@@ -6,6 +6,7 @@
 
 mod entry;
 mod http_peer;
+mod journal;
 mod last_peer;
 mod last_text;
 mod laws;
@@ -14,6 +15,7 @@ mod line_connection;
 mod line_peer;
 mod line_text;
 mod load;
+mod logging;
 mod patience;
 mod progress;
 mod request;
@@ -27,7 +29,10 @@ mod turns;
 pub use entry::Entry;
 pub use http_peer::HttpPeer;
 pub use last_peer::LastPeer;
-pub use laws::{always_found, always_lives, always_runs, lines_tell_words, lives_are_always_found};
+pub use laws::{
+    always_found, always_lives, always_logged, always_runs, lines_tell_words,
+    lives_are_always_found,
+};
 pub use limits::connection_config;
 pub use line_connection::{Front, LineConnection, MOST_LINE, Side};
 pub use line_peer::LinePeer;

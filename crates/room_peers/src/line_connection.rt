@@ -1,18 +1,20 @@
 //! A connection of lines: what came and is no whole line yet, and answers that wait to go.
-ghost use Rattle.std.specs.Prelude.{◌≡◌, ◌≢◌, ◌<◌, ◌≤◌, ◌+◌, ◌++◌, [], length, nat_lt, IfOk, IfSome, OnErr, OnOk, Ok, Some};
+ghost use Rattle.std.specs.Prelude.{◌≡◌, ◌≢◌, ◌<◌, ◌≤◌, ◌+◌, ◌++◌, [], length, nat_lt, IfOk, IfSome, IsTrue, OnErr, OnOk, Ok, Some};
 ghost use Rattle.std.specs.Io.KnownBytes.{Keeps};
 ghost use Rattle.room_lines.specs.Asking.{IsQuestionOf};
 ghost use Rattle.room_peers.specs.LineTexts.{bad_line_text};
+ghost use Rattle.room_questions.specs.declared.question.Question.TheVariants as question_is;
 ghost use Rattle.room_peers.specs.Turns.{Continues};
 ghost use Rattle.room_peers.specs.Lines.{AnswersLine, Comes, IsEntryOf, IsNewOf, IsPutOff, IsQuiet, IsWaiting, Leaves, LosesAnswer, MayAsk, asks_documents, grammar_of, input_of, line_end, output_of, received_of, sent_of, side_of, longest_line};
 
 use crate::entry::Entry;
-use crate::line_text::{put_bad, put_told};
+use crate::line_text::{put_answer, put_bad, put_told};
 use crate::served::Served;
 use bytes::{Buf, BufMut, BytesMut};
 use http_server::{Log, Rope};
 use room_input::FieldFault;
 use room_lines::{Grammar, read_question, read_station_question};
+use room_log::Door;
 use room_questions::Question;
 use sqlite::Alter;
 use std::alloc::{AllocError, Global};
@@ -35,6 +37,13 @@ pub enum Side {
 }
 
 impl Side {
+    pub(crate) fn door(self) -> Door {
+        match self {
+            Side::Station => Door::Stations,
+            Side::Operator => Door::Operators,
+        }
+    }
+
     pub(crate) fn grammar(self, moment: u64) -> Grammar
         ensures { result ≡ grammar_of self moment }
     {
@@ -168,6 +177,7 @@ impl LineConnection {
         ensures side { side_of self.new ≡ side_of self.old }
     {
         let Some(question) = question_of(self.side, &self.input.as_slice()[..end]) else {
+            served.log_bad_line(self.side.door());
             self.input.advance(end + 1);
             put_bad(&mut self.output)?;
             return Ok(Front::Answered);
@@ -175,9 +185,10 @@ impl LineConnection {
         if served.is_shared() {
             return Ok(Front::PutOff);
         }
+        let warns = has_to_warn(&question, served.log_fails());
         let told = served.answer_question(question);
         self.input.advance(end + 1);
-        put_told(self.alloc, &mut self.output, told)?;
+        put_answer(self.alloc, &mut self.output, warns, told)?;
         Ok(Front::Answered)
     }
 
@@ -198,6 +209,12 @@ impl LineConnection {
     {
         self.input.clear();
         put_bad(&mut self.output)
+    }
+
+    pub(crate) fn side(&self) -> Side
+        ensures { result ≡ side_of self.now }
+    {
+        self.side
     }
 
     /// Whether some of what came was not answered yet.
@@ -280,4 +297,11 @@ fn question_of(side: Side, line: &[u8]) -> Option<Question>
         Ok(question) => Some(question),
         Err(_) => None,
     }
+}
+
+/// Whether the answer warns of a log that can't be written: that to `ping` does.
+fn has_to_warn(question: &Question, log_fails: bool) -> bool
+    ensures { IsTrue result → question.now ≡ question_is.Ping }
+{
+    log_fails && matches!(question, Question::Ping)
 }

@@ -93,7 +93,7 @@ impl LinePeer {
             Ok(Front::Answered) => None,
             Ok(Front::PutOff) => Some(Next::Again),
             Ok(Front::Unended) if self.has_ended || self.connection.is_too_long() => {
-                self.end(turn.ticks)
+                self.end(served, turn.ticks)
             }
             Ok(Front::Unended) if self.progress.has_all => Some(Next::Wait),
             Ok(Front::Unended) if !turn.reads => Some(Next::Again),
@@ -142,13 +142,15 @@ impl LinePeer {
     }
 
     /// No more is read: what is left and is no line is answered as a bad one.
-    fn end(&mut self, ticks: u64) -> Option<Next>
+    fn end<S: Alter>(&mut self, served: &mut Served<S>, ticks: u64) -> Option<Next>
         ensures ended { IsEnded result (lines_of self.old) (lines_of self.new) }
+        ensures same { served.new ≡ served.old }
         ensures waits { result ≢ Some Next.Wait }
         ensures moves { result ≢ Some Next.HeldBack }
     {
         self.has_ended = true;
         if self.connection.has_rest() {
+            served.log_bad_line(self.connection.side().door());
             return match self.connection.refuse_rest() {
                 Ok(()) => None,
                 Err(_) => Some(Next::Close),

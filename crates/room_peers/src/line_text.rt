@@ -1,6 +1,6 @@
 //! What is sent for a line.
 ghost use Rattle.std.specs.Prelude.{◌≡◌, ◌++◌, codes, slice_index, OnOk};
-ghost use Rattle.room_peers.specs.LineTexts.{bad_line_text, line_text, part_text, parts_text, status_message, told_of};
+ghost use Rattle.room_peers.specs.LineTexts.{answer_text, bad_line_text, line_text, part_text, parts_text, status_message, told_of};
 
 use crate::shared::shared;
 use bytes::BufMut;
@@ -27,6 +27,22 @@ pub(crate) fn put_told(
         Ok(Reply::Short) => output.put_slice(b"short\n"),
         Ok(Reply::Ipp(answer)) => put_line(output, told_of(answer.items.as_slice())),
         Err(_) => output.put_slice(b"failed\n"),
+    }
+}
+
+/// Puts the answer to a question, or where it warns that the log can't be written.
+pub(crate) fn put_answer(
+    alloc: Global,
+    output: &mut Rope,
+    warns: bool,
+    told: Result<Reply, StoreFault>,
+) -> Result<(), AllocError>
+    ensures { OnOk result (output.new.items ≡ output.old.items ++ answer_text warns told) }
+{
+    if warns {
+        output.put_slice(b"log-fails\n")
+    } else {
+        put_told(alloc, output, told)
     }
 }
 

@@ -62,6 +62,11 @@ pub(crate) fn needs_space(body: &[u8]) -> bool
     body.len() >= HEADER_LENGTH && brings_job(header_in(body).code)
 }
 
+/// Whether the body is a message of Cancel-Job (RFC 8011 section 5.4.15).
+pub(crate) fn cancels(body: &[u8]) -> bool {
+    body.len() >= HEADER_LENGTH && header_in(body).code == 0x0008
+}
+
 /// Whether it is the operation-id of Print-Job, Create-Job or Send-Document (RFC 8011 section
 /// 5.4.15).
 fn brings_job(id: u16) -> bool

@@ -1,40 +1,43 @@
 //! The rooms as one process serves them to everybody.
-ghost use Rattle.std.specs.Prelude.{◌≡◌, ◌≢◌, ◌≤◌, ◌⊎◌, [], true, false, IsTrue, None, Err, IfOk, OnErr};
+ghost use Rattle.std.specs.Prelude.{◌≡◌, ◌≢◌, ◌+◌, ◌≤◌, ◌⊎◌, [], true, false, IsTrue, None, Err, IfOk, OnErr};
+ghost use Rattle.room_log.specs.Waits.{drafts_of, logged_of};
 ghost use Rattle.room_peers.specs.Journals.{asked_of, ends_of, is_full_of, is_lost_of, moment_of, open_of, rounds_of, shares_of, store_of};
 ghost use Rattle.room_peers.specs.Applying.{AppliesAlone, AppliesEntry};
-ghost use Rattle.room_peers.specs.Again.{told_at_last};
-ghost use Rattle.room_peers.specs.Space.{entry_needs_space, lacks_space, spare_of};
-ghost use Rattle.room_space.specs.Spares.{any_length, held_of, takes_of};
+ghost use Rattle.room_peers.specs.Again.{IsOneMore, told_at_last};
+ghost use Rattle.room_peers.specs.Space.{entry_needs_space, lacks_space, length_of_entry, spare_of};
+ghost use Rattle.room_space.specs.Spares.{any_length, held_of, kept_back, kept_beside, takes_of};
 ghost use Rattle.room_peers.specs.Turns.{AnswersNext, AppliesNext};
 ghost use Rattle.room_peers.specs.Rounds.{IsBegun, IsNotBegun, IsSettled};
 
 use crate::entry::Entry;
+use crate::journal::Journal;
 use crate::request::needs_space;
 use bytes::Bytes;
 use http::Request;
-use http_server::Log;
 use room_events::{Part, Reply};
+use room_log::{Door, EventLog};
 use room_questions::Question;
+use room_requests::Refusal;
 use room_space::Spare;
 use room_store::{Rounds, Store, StoreFault};
 use sqlite::{Alter, Connection};
 use std::alloc::{AllocError, Global};
+use std::fs::{File, Files};
 
 /// A round is full once more bytes than this were told in it.
 const MOST_TOLD: usize = 8_388_608;
 
-/// The shared tables, the clock's moment, and a journal of all that was applied to them, of
-/// whichever connection. The journal takes no memory: only proofs read it.
+/// The bytes that a small change is given first where the disk is full. The log grows by 256 KiB at
+/// once.
+const FIRST_PIECE: usize = 524_288;
+
+/// The shared tables, the clock's moment, and a journal of all that was applied to them.
 pub struct Served<S: Alter> {
     pub(crate) alloc: Global,
     pub(crate) rounds: Rounds<S>,
     pub(crate) moment: u64,
-    /// The rounds that are over, each with whether it was kept. What is applied by itself is a round
-    /// of one that was kept. A question, and a round that could not begin, is an empty one that was
-    /// not.
-    pub(crate) over: Log<Log<Entry, Result<Reply, StoreFault>>, bool>,
-    /// The round that is under way.
-    pub(crate) under_way: Log<Entry, Result<Reply, StoreFault>>,
+    /// All that was applied to them, of whichever connection, and the log of it.
+    pub(crate) journal: Journal,
     /// Whether what is applied shares a commit.
     pub(crate) shares: bool,
     /// Whether the round that was settled last was lost.
@@ -56,8 +59,7 @@ impl<S: Alter + Drop> Drop for Served<S> {
             alloc: _,
             rounds: _,
             moment: _,
-            over: _,
-            under_way: _,
+            journal: _,
             shares: _,
             is_lost: _,
             asked: _,
@@ -86,8 +88,7 @@ impl<S: Alter> Served<S> {
             alloc,
             rounds: Rounds::over(store),
             moment,
-            over: Log::new(),
-            under_way: Log::new(),
+            journal: Journal::new(),
             shares: false,
             is_lost: false,
             asked: None,
@@ -102,6 +103,46 @@ impl<S: Alter> Served<S> {
         ensures { self.new ≡ record self.old { spare = spare } }
     {
         self.spare = spare;
+    }
+
+    /// From now on what is applied is logged there. Nothing was asked yet.
+    pub fn set_log(&mut self, log: EventLog)
+        requires rounds { rounds_of self.old ≡ [] }
+        requires none_open { open_of self.old ≡ [] }
+        requires logged { logged_of log ≡ [] }
+        requires drafts { drafts_of log ≡ [] }
+        ensures rounds { rounds_of self.new ≡ [] }
+        ensures none_open { open_of self.new ≡ [] }
+        ensures same { self.new ≡ record self.old { journal = self.new.journal } }
+    {
+        self.journal.set_log(log);
+    }
+
+    /// Has the log open its file anew where that was moved away, at most once a moment.
+    pub fn look_at_log<R: Files<File = File>>(&mut self, files: &R, moment: Option<u64>)
+        ensures { self.new ≡ self.old }
+    {
+        self.journal.look(files, moment);
+    }
+
+    /// Has the log tell that a door refused a line.
+    pub(crate) fn log_bad_line(&mut self, door: Door)
+        ensures { self.new ≡ self.old }
+    {
+        self.journal.refuse_line(self.moment, door);
+    }
+
+    /// Has the log tell that a request with the path was refused.
+    pub fn log_refusal(&mut self, refusal: Refusal, path: &[u8])
+        ensures { self.new ≡ self.old }
+    {
+        let status = refusal.status().as_u16();
+        self.journal.refuse_request(self.moment, status, path);
+    }
+
+    /// Whether the file of the log has refused what it was given last.
+    pub fn log_fails(&self) -> bool {
+        self.journal.fails()
     }
 
     /// Takes a piece of the space that is kept where it is not whole.
@@ -147,7 +188,7 @@ impl<S: Alter> Served<S> {
         }
         match self.rounds.begin() {
             Ok(()) => self.shares = true,
-            Err(_) => self.over = self.over.and(&Log::new(), &false),
+            Err(_) => self.journal.add_nothing(),
         }
     }
 
@@ -161,8 +202,7 @@ impl<S: Alter> Served<S> {
             return;
         }
         let kept = self.rounds.commit().is_ok();
-        self.over = self.over.and(&self.under_way, &kept);
-        self.under_way = Log::new();
+        self.journal.settle(kept);
         self.shares = false;
         self.is_lost = !kept;
         self.bytes_told = 0;
@@ -231,12 +271,13 @@ impl<S: Alter> Served<S> {
         ensures { AppliesNext S.Store entry.now result self.old self.new }
     {
         let told = self.apply_with_spare(entry);
-        self.over = self.over.and(&Log::new().and(entry, &told), &true);
+        self.note_space(entry, &told);
+        self.journal.add_alone(entry, &told);
         told
     }
 
-    /// Applies what came. Where the storage fails at what needs no space, the space that is kept is
-    /// given up, if there is some, and it is applied once more.
+    /// Applies what came. Where the storage fails it is applied once more from the space that is kept,
+    /// with a piece of that, and then with all of it.
     fn apply_with_spare(&mut self, entry: &Entry) -> Result<Reply, StoreFault>
         ensures applies { AppliesAlone S.Store entry.now
             (store_of self.old) (store_of self.new) result }
@@ -246,22 +287,71 @@ impl<S: Alter> Served<S> {
         } }
     {
         let told = self.apply_once(entry);
-        if !self.frees_space(entry, &told) {
-            return told;
-        }
-        told_at_last(self.apply_once(entry))
+        let told = self.apply_from_space(entry, told, FIRST_PIECE);
+        self.apply_from_space(entry, told, usize::MAX)
     }
 
-    /// Gives up the space that is kept where the storage failed at what needs none, and answers
-    /// whether there was some.
-    fn frees_space(&mut self, entry: &Entry, told: &Result<Reply, StoreFault>) -> bool
+    /// Applies what failed once more, if space could be given up for it. What it leaves of that is
+    /// taken back at once, before somebody else's file takes it.
+    fn apply_from_space(
+        &mut self,
+        entry: &Entry,
+        told: Result<Reply, StoreFault>,
+        most: usize,
+    ) -> Result<Reply, StoreFault>
+        ensures again { IsOneMore S.Store entry.now
+            (store_of self.old) told (store_of self.new) result }
+        ensures same { self.new ≡ record self.old {
+          rounds = store_of self.new;
+          spare = spare_of self.new;
+        } }
+    {
+        if !self.frees_space(entry, &told, most) {
+            return told;
+        }
+        let told = told_at_last(self.apply_once(entry));
+        self.spare.fill();
+        told
+    }
+
+    /// Gives up space that is kept where the storage failed: for what brings no job or document so
+    /// many bytes at most, and else what is lent for it. Answers whether there was some.
+    fn frees_space(&mut self, entry: &Entry, told: &Result<Reply, StoreFault>, most: usize) -> bool
         ensures failed { IsTrue result → told.now ≡ Err StoreFault.Storage }
-        ensures small { IsTrue result → entry_needs_space entry.now ≡ false }
+        ensures left { IsTrue result → IsTrue (entry_needs_space entry.now)
+            → length_of_entry entry.now + (kept_back + kept_beside) ≤ held_of (spare_of self.new) }
         ensures same { self.new ≡ record self.old { spare = spare_of self.new } }
     {
         match told {
-            Err(StoreFault::Storage) => !entry.needs_space() && self.spare.give_up(),
+            Err(StoreFault::Storage) => self.gives_up_for(entry, most),
             _ => false,
+        }
+    }
+
+    fn gives_up_for(&mut self, entry: &Entry, most: usize) -> bool
+        ensures left { IsTrue result → IsTrue (entry_needs_space entry.now)
+            → length_of_entry entry.now + (kept_back + kept_beside) ≤ held_of (spare_of self.new) }
+        ensures same { self.new ≡ record self.old { spare = spare_of self.new } }
+    {
+        if entry.needs_space() {
+            let length = entry.length();
+            self.spare.lend(length, most.saturating_add(length))
+        } else {
+            self.spare.give_up(most)
+        }
+    }
+
+    /// Notes for the space that is kept whether a job ended, or a job or a document came.
+    fn note_space(&mut self, entry: &Entry, told: &Result<Reply, StoreFault>)
+        ensures { self.new ≡ record self.old { spare = spare_of self.new } }
+    {
+        if !is_done(told) {
+            return;
+        }
+        if entry.needs_space() {
+            self.spare.took();
+        } else if entry.ends_job() {
+            self.spare.ended();
         }
     }
 
@@ -285,8 +375,9 @@ impl<S: Alter> Served<S> {
             return Err(AllocError);
         }
         let told = self.apply_in_round(&entry);
+        self.note_space(&entry, &told);
         self.bytes_told = self.bytes_told.saturating_add(size_of(&told));
-        self.under_way = self.under_way.and(&entry, &told);
+        self.journal.add_shared(&entry, &told);
         self.asked = Some(entry);
         Ok(told)
     }
@@ -312,7 +403,7 @@ impl<S: Alter> Served<S> {
     {
         let ends = question.asks_end();
         let told = self.rounds.answer(self.alloc, question);
-        self.over = self.over.and(&Log::new(), &false);
+        self.journal.add_nothing();
         self.ends = self.ends || ends;
         told
     }
@@ -326,8 +417,7 @@ impl<S: Alter> Served<S> {
             alloc: _,
             rounds,
             moment: _,
-            over: _,
-            under_way: _,
+            journal: _,
             shares: _,
             is_lost: _,
             asked: _,
@@ -347,6 +437,15 @@ fn told_at_last(told: Result<Reply, StoreFault>) -> Result<Reply, StoreFault>
     match told {
         Err(StoreFault::Damaged) => Err(StoreFault::Storage),
         told => told,
+    }
+}
+
+/// Whether what was asked was done: of an answer of IPP, by the first byte of its status.
+fn is_done(told: &Result<Reply, StoreFault>) -> bool {
+    match told {
+        Ok(Reply::Ipp(answer)) => answer.items.get(2) == Some(&0),
+        Ok(Reply::Line(text)) => text.items.starts_with(b"ok"),
+        _ => false,
     }
 }
 

@@ -4,6 +4,7 @@ ghost use Rattle.http.specs.Request.{body_of};
 ghost use Rattle.http_server.specs.Response.{IsBlank, IsResponse, fields_of};
 ghost use Rattle.ipp_coding.specs.Limits.{header_length};
 ghost use Rattle.room_replies.specs.Replies.{internal_error_text};
+ghost use Rattle.room_peers.specs.Requests.{has_long_body};
 ghost use Rattle.room_peers.specs.Answers.{Answers, IsLost, IsRefusal, IsTold, Sends, answer_fields, close_fields};
 
 use crate::entry::Entry;
@@ -29,9 +30,9 @@ impl<S: Alter> Service for Served<S> {
         response: &mut Response,
     ) -> Result<(), AllocError> {
         match asked(request) {
-            Err(refusal) => refuse(response, refusal, has_long_body(request)),
+            Err(refusal) => self.turn_away(refusal, request, response),
             Ok(_) if self.lacks_space(request) => {
-                refuse(response, Refusal::NoSpace, has_long_body(request))
+                self.turn_away(Refusal::NoSpace, request, response)
             }
             Ok(account) => self.answer(account, request, response),
         }
@@ -39,6 +40,22 @@ impl<S: Alter> Service for Served<S> {
 }
 
 impl<S: Alter> Served<S> {
+    /// Refuses a request, which changes nothing, and has the log tell it.
+    fn turn_away(
+        &mut self,
+        refusal: Refusal,
+        request: &Request<Bytes>,
+        response: &mut Response,
+    ) -> Result<(), AllocError>
+        requires { IsBlank response.old }
+        ensures ok { OnOk result
+            (IsRefusal refusal (has_long_body request.now) response.new) }
+        ensures same { self.new ≡ self.old }
+    {
+        self.log_refusal(refusal, request.uri().path().as_bytes());
+        refuse(response, refusal, has_long_body(request))
+    }
+
     /// Applies the message in a request, once, and tells the outcome.
     fn answer(
         &mut self,

@@ -12,7 +12,7 @@ use std::io::Write;
 pub fn serve_over<T: Front, W: Write>(
     rt: &HostRuntime,
     database: &str,
-    front: &T,
+    front: &mut T,
     output: &mut W,
 ) -> Result<(), Fault> {
     if database == MEMORY {
@@ -26,7 +26,7 @@ fn serve_by<S, F, T, W>(
     rt: &HostRuntime,
     mut opener: F,
     database: &str,
-    front: &T,
+    front: &mut T,
     output: &mut W,
 ) -> Result<(), Fault>
 where

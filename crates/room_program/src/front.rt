@@ -10,7 +10,7 @@ pub trait Front {
     /// Serves until the command has done what was asked, or something fails. Writes what the
     /// command tells of itself, and hands the store's connection back.
     fn serve<S: Alter + Drop, W: Write>(
-        &self,
+        &mut self,
         rt: &HostRuntime,
         store: Store<S>,
         output: &mut W,

@@ -2,7 +2,9 @@
 //! every other command by `run_on`.
 #![tactic(auto)]
 
+mod connected;
 mod database;
+mod errands;
 mod folder;
 mod front;
 mod listening;

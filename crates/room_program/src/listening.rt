@@ -46,12 +46,13 @@ pub fn listen<W: Write>(
     asked: &Listening<'_>,
     output: &mut W,
 ) -> Result<(), Fault> {
-    serve_over(rt, asked.database, asked, output)
+    let mut front = *asked;
+    serve_over(rt, asked.database, &mut front, output)
 }
 
 impl Front for Listening<'_> {
     fn serve<S: Alter + Drop, W: Write>(
-        &self,
+        &mut self,
         rt: &HostRuntime,
         mut store: Store<S>,
         output: &mut W,

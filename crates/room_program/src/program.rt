@@ -1,10 +1,11 @@
 //! One run of the program, from its words to its exit status.
 ghost use Rattle.std.specs.Prelude.{◌≤◌, IfOk};
 
+use crate::errands::run_errand;
 use crate::listening::listen;
 use crate::sending::send;
 use crate::serving::serve;
-use room_commands::{Fault, Listening, Sending, Serving, words_of};
+use room_commands::{Errand, Fault, Listening, Sending, Serving, words_of};
 use room_databases::run_on;
 use room_sockets::moment;
 use std::io::{BufWriter, Write};
@@ -12,7 +13,7 @@ use std::io::{BufWriter, Write};
 /// Does what the words after the program's name ask for, over the standard streams, and answers the
 /// exit status. Where that is not 0, standard error has why.
 pub fn start(rt: &HostRuntime) -> u8
-    ensures { result ≤ 4 }
+    ensures { result ≤ 5 }
 {
     match begin(rt) {
         Ok(status) => status,
@@ -26,7 +27,7 @@ pub fn start(rt: &HostRuntime) -> u8
 
 // The exit status of a run, or why it could not begin.
 fn begin(rt: &HostRuntime) -> Result<u8, Fault>
-    ensures { IfOk result (λ status. status ≤ 4) }
+    ensures { IfOk result (λ status. status ≤ 5) }
 {
     let alloc = rt.alloc();
     let given = words_of(rt)?;
@@ -36,7 +37,7 @@ fn begin(rt: &HostRuntime) -> Result<u8, Fault>
 }
 
 fn run<W: Write>(rt: &HostRuntime, words: &[&str], output: &mut W) -> Result<u8, Fault>
-    ensures { IfOk result (λ status. status ≤ 4) }
+    ensures { IfOk result (λ status. status ≤ 5) }
 {
     let alloc = rt.alloc();
     if let Some(asked) = Listening::read(alloc, words)? {
@@ -49,6 +50,10 @@ fn run<W: Write>(rt: &HostRuntime, words: &[&str], output: &mut W) -> Result<u8,
     }
     if let Some(asked) = Sending::read(alloc, words)? {
         send(rt, &asked, output)?;
+        return Ok(0);
+    }
+    if let Some(asked) = Errand::read(alloc, words)? {
+        run_errand(rt, &asked, output)?;
         return Ok(0);
     }
     Ok(run_on(rt, words, moment(rt), rt.stdin(), output, &mut rt.stderr()))

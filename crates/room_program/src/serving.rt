@@ -1,8 +1,11 @@
 //! `serve`: one process for clients over HTTP, stations and operators.
+ghost use Rattle.std.specs.Prelude.{◌≡◌, []};
+ghost use Rattle.room_peers.specs.Journals.{open_of, rounds_of};
 
 use crate::database::serve_over;
 use crate::front::Front;
 use room_commands::{Address, Fault, MEMORY, ServedDoor, Serving, Visitors};
+use room_log::{EventLog, LogFile};
 use room_peers::Served;
 use room_sockets::{Door, Entrance, Hall, Kind, moment};
 use room_space::Spare;
@@ -14,29 +17,35 @@ use std::io::Write;
 
 /// Serves everybody until an operator asks it to end, or a signal ends the process. It fails where
 /// it can't begin, or the system fails. Once all can connect it writes a line: `serving`, and
-/// ` VISITORS=ADDRESS` for each door.
+/// ` VISITORS=ADDRESS` for each door. A log that can't be opened is the system's failure.
 pub fn serve<W: Write>(rt: &HostRuntime, asked: &Serving<'_>, output: &mut W) -> Result<(), Fault> {
     let moment = moment(rt).ok_or(Fault::Io)?;
-    let front = Begun { asked, moment };
-    serve_over(rt, asked.database, &front, output)
+    let mut front = Begun {
+        asked,
+        moment,
+        hall: None,
+    };
+    serve_over(rt, asked.database, &mut front, output)
 }
 
 // The command, begun at a moment.
-#[derive(Clone, Copy)]
+#[derive(Drop)]
 struct Begun<'a> {
     asked: &'a Serving<'a>,
     moment: u64,
+    /// Stays until the file is closed, so that a connection that asked for the end sees it last.
+    hall: Option<Hall>,
 }
 
 impl Front for Begun<'_> {
     fn serve<S: Alter + Drop, W: Write>(
-        &self,
+        &mut self,
         rt: &HostRuntime,
         store: Store<S>,
         output: &mut W,
     ) -> (Connection<S>, Result<(), Fault>) {
         let mut served = Served::new(rt.alloc(), store, self.moment);
-        let ended = serve_all(rt, &mut served, self.asked, output);
+        let ended = serve_all(rt, &mut served, self.asked, &mut self.hall, output);
         (served.close(), ended)
     }
 }
@@ -45,11 +54,21 @@ fn serve_all<S: Alter, W: Write>(
     rt: &HostRuntime,
     served: &mut Served<S>,
     asked: &Serving<'_>,
+    kept: &mut Option<Hall>,
     output: &mut W,
-) -> Result<(), Fault> {
+) -> Result<(), Fault>
+    requires rounds { rounds_of served.old ≡ [] }
+    requires none_open { open_of served.old ≡ [] }
+{
+    if let Some(path) = asked.log {
+        let file = LogFile::open(rt, path)?;
+        served.set_log(EventLog::new(rt.alloc(), file));
+    }
     served.set_spare(spare_for(rt, asked.database)?);
     let mut hall = open(rt, asked, output)?;
-    Ok(hall.run(rt, served)?)
+    let ended = hall.run(rt, served);
+    *kept = Some(hall);
+    Ok(ended?)
 }
 
 /// The space that is kept for a full disk: a file beside that of the database, whose name has

@@ -9,7 +9,7 @@ use Rattle.room_questions.specs.Summaries.{statement_text, summary_of}
 use Rattle.room_questions.specs.declared.question.About.{About}
 use Rattle.room_questions.specs.declared.question.About.TheVariants.{Left, Statement, Jobs, Ended, Grants, Waiting, Again}
 use Rattle.room_questions.specs.declared.question.Question.{Question}
-use Rattle.room_questions.specs.declared.question.Question.TheVariants.{Ping, End, Devices, Accounts, Account}
+use Rattle.room_questions.specs.declared.question.Question.TheVariants.{Ping, End, Devices, Accounts, Check, Account}
 use Rattle.room_questions.specs.Names.{next_names}
 use Rattle.room_questions.specs.Stations.{again_told, waiting_told}
 use Rattle.room_replies.specs.Words.{word_text}
@@ -24,6 +24,7 @@ use Rattle.room_state.specs.Sums.{charged_in, granted_to, reserved_in}
 
 -- those of this account
 abbrev pub Concerns : Question → (name : List ℕ) → Type 0
+Concerns (Check account) name = name ≡ account
 Concerns (Account account about) name = name ≡ account
 Concerns _ name = ⊥
 
@@ -55,6 +56,11 @@ asks_end _ = false
 
 -- ---- the answer
 
+-- whether rows are sound
+abbrev pub check_text : (are_sound : Bool) → List ℕ
+check_text true = codes "sound"
+check_text false = codes "damaged"
+
 abbrev pub grant_of : (entry : ℕ × ℕ) → Grant
 grant_of entry = record { month = entry.0; pages = entry.1 }
 
@@ -80,5 +86,7 @@ answer_to End room devices names = reply.Line (codes "ok")
 answer_to Devices room devices names = reply.Line (devices_text (values devices))
 answer_to (Accounts behind) room devices names =
     reply.Line (accounts_text (next_names behind names))
+answer_to (Check account) None devices names = reply.Line (word_text NoAccount)
+answer_to (Check account) (Some room) devices names = reply.Line (check_text true)
 answer_to (Account account about) None devices names = reply.Line (word_text NoAccount)
 answer_to (Account account about) (Some room) devices names = answer_about about room devices

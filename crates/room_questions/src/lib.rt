@@ -14,4 +14,4 @@ pub use lists::{accounts_lines, devices_lines, grants_lines, jobs_lines};
 pub use question::{About, Question};
 pub use station::{printed_by, waiting_at};
 pub use summary::Summary;
-pub use text::{quota_line, statement_line};
+pub use text::{check_line, quota_line, statement_line};

@@ -16,6 +16,8 @@ pub enum Question {
     Devices,
     /// The names of accounts that come next behind a name, or first, at most 100.
     Accounts { behind: Option<Name> },
+    /// Whether the rows of an account are sound. All of them are read.
+    Check { account: Name },
     /// Something about one account.
     Account { account: Name, about: About },
 }

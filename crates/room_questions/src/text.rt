@@ -1,6 +1,7 @@
 //! Answers of one line.
 
 ghost use Rattle.std.specs.Prelude.{◌≡◌, ◌≤◌, IfOk, string_bytes};
+ghost use Rattle.room_questions.specs.Questions.{check_text};
 ghost use Rattle.room_questions.specs.Quotas.{quota_text};
 ghost use Rattle.room_questions.specs.Summaries.{statement_text};
 ghost use Rattle.room_rules.specs.Limits.{most_units};
@@ -67,5 +68,15 @@ pub fn statement_line(alloc: Global, granted: u64, summary: Summary) -> Result<L
     )?;
     Ok(List {
         items: text.into_bytes(),
+    })
+}
+
+/// The line that tells whether the rows of an account are sound, without its end.
+pub fn check_line(alloc: Global, are_sound: bool) -> Result<List<u8>, AllocError>
+    ensures text { IfOk result (λ line. line ≡ check_text are_sound) }
+{
+    let text = if are_sound { "sound" } else { "damaged" };
+    Ok(List {
+        items: String::from_str(alloc, text)?.into_bytes(),
     })
 }

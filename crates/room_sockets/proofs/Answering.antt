@@ -240,6 +240,8 @@ module _ {S : Type 0} (store : Ghosts S) (before : Served S) (fresh : IsFresh be
             asks = is.asks;
             said = is.said;
             told = is.told;
+            warns = is.warns;
+            pings = is.pings;
             says = is.says;
             answers = subst (λ (log : List Told). AnswersBy store (store_of before) last log is.question is.told) (sym so_far) (answered_so store before fresh last is.question is.told old new served clean is.next);
           },

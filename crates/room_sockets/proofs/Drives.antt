@@ -254,7 +254,7 @@ module _ {S : Type 0} (store : Ghosts S) where
   })
   begins_served old mid new (inl is) (inr (inr not_begun)) = inl (record {
     alone = ap (λ (served : Served S). shares_of served) not_begun.same ∙ is.alone;
-    none_left = ap (λ (served : Served S). open_of served) not_begun.same ∙ is.none_left;
+    none_left = not_begun.none_more ∙ is.none_left;
     follows = follow_then old mid new (([], false) ∷ []) is.follows not_begun.over (store_of new, inr (inr (refl, refused_looks (store_of mid) (store_of new) not_begun.refused)), refl);
   })
 

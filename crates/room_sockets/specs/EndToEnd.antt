@@ -1,6 +1,6 @@
 -- From one end to the other: what came on each connection, what goes out on it, and what became of
 -- the tables (all this project's own).
-use Rattle.std.specs.Prelude.{◌≡◌, ◌≢◌, ◌≤◌, ◌⊎◌, ⊤, ℕ, suc, true, false, length, slice_get, take, IfOk, IsTrue, Option, List, [], ◌∷◌, ◌++◌, Some, None, Result, Ok, Err}
+use Rattle.std.specs.Prelude.{◌≡◌, ◌≢◌, ◌≤◌, ◌⊎◌, ⊤, ℕ, Bool, suc, true, false, length, slice_get, take, IfOk, IsTrue, Option, List, [], ◌∷◌, ◌++◌, Some, None, Result, Ok, Err}
 use Rattle.std.specs.List.{Contains}
 use Rattle.http.specs.Request.{body_of}
 use Rattle.http_server.specs.Connection.{config_of, history}
@@ -21,6 +21,7 @@ use Rattle.room_lines.specs.Asking.{IsQuestionOf}
 use Rattle.room_questions.specs.Names.{AreNames}
 use Rattle.room_questions.specs.Questions.{answer_to, ConcernsNames, ConcernsNoOther}
 use Rattle.room_questions.specs.declared.question.Question.{Question}
+use Rattle.room_questions.specs.declared.question.Question.TheVariants.{Ping}
 use Rattle.room_rules.specs.Devices.{Devices}
 use Rattle.room_state.specs.Rooms.{RoomValue}
 use Rattle.room_store.specs.declared.fault.StoreFault.{StoreFault}
@@ -36,7 +37,7 @@ use Rattle.room_peers.specs.LastPeers.{left_of}
 use Rattle.room_peers.specs.LastTexts.{last_text}
 use Rattle.room_peers.specs.LinePeers.{LineCall, bytes_told, lines_of, taken}
 use Rattle.room_peers.specs.Lines.{IsEntryOf, MayAsk, grammar_of, input_of, output_of, received_of, sent_of, side_of}
-use Rattle.room_peers.specs.LineTexts.{bad_line_text, line_text}
+use Rattle.room_peers.specs.LineTexts.{answer_text, bad_line_text, line_text}
 use Rattle.room_peers.specs.Requests.{asked, has_long_body}
 use Rattle.room_peers.specs.ServedLives.{told_to}
 use Rattle.room_peers.specs.Space.{needs_space}
@@ -122,7 +123,8 @@ module _ {S : Type 0} (store : Ghosts S) (first last : Held S) where
       → (ConcernsNames question → AreNamesThen so_far db names)
       → reply ≡ answer_to question room devices names)))
 
-  -- the line is a question of its side, and what is told of it answers that
+  -- the line is a question of its side, and what is told of it answers that; `ping` may be told a
+  -- warning
   pub record TellsAnswer (side : Side) (call : LineCall) (so_far : List Told) : Type 0 where
     pub line : List ℕ
     pub ended : call.0 ≡ line ++ 10 ∷ []
@@ -130,7 +132,9 @@ module _ {S : Type 0} (store : Ghosts S) (first last : Held S) where
     pub asks : MayAsk side question
     pub said : IsQuestionOf line question
     pub told : Result Reply StoreFault
-    pub says : call.1 ≡ line_text told
+    pub warns : Bool
+    pub pings : IsTrue warns → question ≡ Ping
+    pub says : call.1 ≡ answer_text warns told
     pub answers : AnswersBy so_far question told
 
   -- Each line is told what stands in the journal at the next of these places, which rise from the

@@ -2,7 +2,9 @@
 
 ghost use Rattle.std.specs.Prelude.{◌≡◌, [], false, IsFalse, IsTrue};
 ghost use Rattle.room_peers.specs.Journals.{is_lost_of, shares_of};
+ghost use Rattle.room_peers.specs.Space.{spare_of};
 ghost use Rattle.room_peers.specs.Turns.{Continues};
+ghost use Rattle.room_space.specs.Spares.{takes_of};
 ghost use Rattle.room_sockets.specs.Guests.{AsksAgain, AsksTurn, HasSentMore, HasTurn, IsAtRest, StaysOrTurnsAway, TakesTurn, Turns, asked_in, peer_of, turns_of};
 
 use crate::stream::{Stream, Unsent};
@@ -150,7 +152,7 @@ impl Guest {
         ensures alone { shares_of served.new ≡ false }
     {
         let Some(asked) = self.asked.take() else {
-            return self.turn_away(alloc, served.takes(), ticks);
+            return self.turn_away(alloc, served, ticks);
         };
         if served.is_lost() {
             let peer = LastPeer::told_again(alloc, &asked, served, ticks);
@@ -158,13 +160,17 @@ impl Guest {
         }
     }
 
-    /// Turns it away where it is a client of whose request more has come than this.
-    fn turn_away(&mut self, alloc: Global, most: usize, ticks: u64)
-        ensures turned { StaysOrTurnsAway most (peer_of self.old) (peer_of self.new) }
+    /// Turns it away where it is a client of whose request more has come than there is space for,
+    /// and has the log tell it. The path may not have come yet.
+    fn turn_away<S: Alter>(&mut self, alloc: Global, served: &mut Served<S>, ticks: u64)
+        ensures turned { StaysOrTurnsAway (takes_of (spare_of served.old))
+            (peer_of self.old) (peer_of self.new) }
+        ensures same { served.new ≡ served.old }
         ensures asked { asked_in self.new ≡ asked_in self.old }
         ensures turns { turns_of self.new ≡ turns_of self.old }
     {
-        if self.outgrows(most) {
+        if self.outgrows(served.takes()) {
+            served.log_refusal(Refusal::NoSpace, b"-");
             self.peer = Peer::Last(LastPeer::turned_away(alloc, Refusal::NoSpace, ticks));
         }
     }

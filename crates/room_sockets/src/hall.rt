@@ -21,9 +21,10 @@ use room_peers::{Next, Served, Turn};
 use slab::Slab;
 use sqlite::Alter;
 use std::alloc::Global;
+use std::fs::{File, Files};
 use std::hash::RandomState;
 use std::io;
-use std::io::ErrorKind;
+use std::io::{Eprint, ErrorKind};
 use std::net::Net;
 use std::time::{Clock, Duration};
 
@@ -41,6 +42,8 @@ pub(crate) const MOST_DOORS: usize = 64;
 pub struct Hall {
     peers: Peers,
     events: Events,
+    /// Whether the file of the log refused what it was given last.
+    log_fails: bool,
     // Whoever asked in a round heard of it, or is gone.
     ghost told: { NobodyWaits peers.guests },
 }
@@ -116,12 +119,20 @@ impl Hall {
             dropped_late_at: 0,
             receives: true,
         };
-        Ok(Hall { peers, events })
+        Ok(Hall {
+            peers,
+            events,
+            log_fails: false,
+        })
     }
 
     /// Serves whoever comes, pass after pass, until an operator asks it to end. Then what was told
     /// has some seconds to go. It ends with the first pass that fails.
-    pub fn run<S: Alter>(&mut self, clock: &impl Clock, served: &mut Served<S>) -> io::Result<()>
+    pub fn run<S: Alter, R: Clock + Files<File = File> + Eprint>(
+        &mut self,
+        rt: &R,
+        served: &mut Served<S>,
+    ) -> io::Result<()>
         ensures goes_on { GoesOn S.Store (guests_of self.old) (guests_of self.new)
             served.old served.new }
         ensures follows { shares_of served.old ≡ false → open_of served.old ≡ []
@@ -133,25 +144,29 @@ impl Hall {
             if served.has_to_end() {
                 break;
             }
-            self.pass(clock, served)?;
+            self.pass(rt, served)?;
         }
-        self.finish(clock, served)
+        self.finish(rt, served)
     }
 
     /// Sends what was told, as far as peers take it in time.
-    fn finish<S: Alter>(&mut self, clock: &impl Clock, served: &mut Served<S>) -> io::Result<()>
+    fn finish<S: Alter, R: Clock + Files<File = File> + Eprint>(
+        &mut self,
+        rt: &R,
+        served: &mut Served<S>,
+    ) -> io::Result<()>
         ensures goes_on { GoesOn S.Store (guests_of self.old) (guests_of self.new)
             served.old served.new }
         ensures follows { shares_of served.old ≡ false → open_of served.old ≡ []
             → Follows S.Store served.old served.new }
     {
         self.peers.receives = false;
-        let last = self.peers.ticks(clock)?.saturating_add(LAST_TICKS);
+        let last = self.peers.ticks(rt)?.saturating_add(LAST_TICKS);
         for _ in 0..u64::MAX {
-            if !self.peers.has_output() || self.peers.ticks(clock)? > last {
+            if !self.peers.has_output() || self.peers.ticks(rt)? > last {
                 break;
             }
-            self.pass(clock, served)?;
+            self.pass(rt, served)?;
         }
         Ok(())
     }
@@ -159,8 +174,13 @@ impl Hall {
     /// Waits until something comes, or a tick is over. Then each of whom the system told is served;
     /// where it told of several, what they ask shares a commit, and nobody is answered before it.
     /// Who waits at a door is let in, who was held back goes on where there is room, and who took
-    /// too long is dropped. It fails where the system can't wait, or has no clock.
-    pub fn pass<S: Alter>(&mut self, clock: &impl Clock, served: &mut Served<S>) -> io::Result<()>
+    /// too long is dropped. A log whose file was moved away goes on in a new one, and one that can't be
+    /// written is told once on standard error. It fails where the system can't wait, or has no clock.
+    pub fn pass<S: Alter, R: Clock + Files<File = File> + Eprint>(
+        &mut self,
+        rt: &R,
+        served: &mut Served<S>,
+    ) -> io::Result<()>
         ensures goes_on { GoesOn S.Store (guests_of self.old) (guests_of self.new)
             served.old served.new }
         ensures follows { shares_of served.old ≡ false → open_of served.old ≡ []
@@ -170,6 +190,21 @@ impl Hall {
     {
         let timeout = self.peers.timeout();
         self.peers.poll.poll(&mut self.events, timeout)?;
+        served.look_at_log(rt, moment(rt));
+        let ended = self.turn(rt, served);
+        self.log_fails = tell_failure(rt, self.log_fails, served.log_fails());
+        ended
+    }
+
+    /// What follows what the system told.
+    fn turn<S: Alter>(&mut self, clock: &impl Clock, served: &mut Served<S>) -> io::Result<()>
+        ensures goes_on { GoesOn S.Store (guests_of self.old) (guests_of self.new)
+            served.old served.new }
+        ensures follows { shares_of served.old ≡ false → open_of served.old ≡ []
+            → Follows S.Store served.old served.new }
+        ensures serves { ServesThose S.Store (told_by self.new)
+            (guests_of self.old) (guests_of self.new) served.old served.new }
+    {
         self.peers.share(&self.events, clock, served);
         self.peers.serve_all(&self.events, clock, served);
         let ticks = self.peers.ticks(clock)?;
@@ -178,6 +213,15 @@ impl Hall {
         self.peers.drop_late(ticks);
         Ok(())
     }
+}
+
+/// Tells once that the log can't be written, and answers whether it can't.
+fn tell_failure<R: Eprint>(rt: &R, failed: bool, fails: bool) -> bool {
+    if fails && !failed {
+        // Where this can't be written either, nothing is left to tell it by.
+        let _ = rt.eprintln("ipp-room: the log can't be written");
+    }
+    fails
 }
 
 fn too_many(words: &str) -> io::Error

@@ -6,7 +6,7 @@ use Rattle.room_asks.specs.declared.ask.Which.TheVariants.{NotCompleted, Complet
 use Rattle.room_questions.specs.Stations.{printed_by}
 use Rattle.room_questions.specs.declared.question.About.{About}
 use Rattle.room_questions.specs.declared.question.About.TheVariants.{Left, Statement, Jobs, Ended, Grants, Waiting, Again}
-use Rattle.room_questions.specs.declared.question.Question.TheVariants.{Ping, End, Devices, Accounts, Account}
+use Rattle.room_questions.specs.declared.question.Question.TheVariants.{Ping, End, Devices, Accounts, Check, Account}
 use Rattle.room_questions.specs.Questions.{NamesDevice}
 use Rattle.room_rules.specs.Devices.{Devices as DeviceMap}
 use Rattle.room_statements.proofs.SoundReads.{sound_rows_are_read}
@@ -43,6 +43,7 @@ sound_rows_are_answered Ping db has sound = tt
 sound_rows_are_answered End db has sound = tt
 sound_rows_are_answered Devices db has sound = (sound_rows_are_read.of_devices db has (sound.devices tt)).listed
 sound_rows_are_answered (Accounts behind) db has sound = sound.named tt
+sound_rows_are_answered (Check name) db has sound = tt
 sound_rows_are_answered (Account name about) db has sound =
     let account = sound.account name refl in
     record { account = (sound_rows_are_read.accounts db name has account).account; where_open = λ is_open. about_readable db has name account about sound.devices }

@@ -1,26 +1,29 @@
 -- Which rows a question is about, what of them is read, and what it leaves (all this project's own).
-use Rattle.std.specs.Prelude.{◌≡◌, ℕ, ⊤, List, Option, Some, None, Result, Err, IfOk, IsSome, IsTrue, OnOk}
+use Rattle.std.specs.Prelude.{◌≡◌, ◌⊎◌, ℕ, ⊤, true, false, List, Option, Some, None, Result, Err, IfOk, IsSome, IsTrue, OnOk}
 use Rattle.sqlite.specs.Effect.{Database}
 use Rattle.sqlite.specs.Held.{Held, state}
 use Rattle.sqlite.specs.State.{HasCleanDisk}
 use Rattle.sqlite_trees.specs.declared.store.Store.{Ghosts}
 use Rattle.room_asks.specs.declared.ask.Which.TheVariants.{NotCompleted, Completed}
 use Rattle.room_events.specs.declared.event.Reply.{Reply}
+use Rattle.room_events.specs.declared.event.Reply.TheVariants as reply
 use Rattle.room_questions.specs.Names.{AreNames}
-use Rattle.room_questions.specs.Questions.{answer_about, answer_to, Concerns, ConcernsDevices, ConcernsNames, NamesDevice}
+use Rattle.room_questions.specs.Questions.{answer_about, answer_to, check_text, Concerns, ConcernsDevices, ConcernsNames, NamesDevice}
 use Rattle.room_questions.specs.Stations.{printed_by}
 use Rattle.room_questions.specs.declared.question.About.{About}
 use Rattle.room_questions.specs.declared.question.About.TheVariants.{Left, Statement, Jobs, Ended, Grants, Waiting, Again}
 use Rattle.room_questions.specs.declared.question.Question.{Question}
-use Rattle.room_questions.specs.declared.question.Question.TheVariants.{Ping, End, Devices, Accounts, Account}
+use Rattle.room_questions.specs.declared.question.Question.TheVariants.{Ping, End, Devices, Accounts, Check, Account}
+use Rattle.room_replies.specs.Words.{word_text}
 use Rattle.room_rules.specs.Devices.{Devices as DeviceMap}
+use Rattle.room_rules.specs.declared.refusal.Word.TheVariants.{NoAccount}
 use Rattle.room_state.specs.RoomRules.{IsGrant}
 use Rattle.room_state.specs.Rooms.{RoomValue}
 use Rattle.room_statements.specs.SoundRows.{AreNamed, AreRowsOf, CanBeAdded, CanBeCounted, CanBeListed, CanBeSummed, grant_rows, job_rows}
 use Rattle.room_store.specs.Reading.{AccountIsReadable, ActIsReadable, DeviceIsReadable, DocumentsAreReadable, JobsAreReadable}
 use Rattle.room_store.specs.declared.fault.StoreFault.{StoreFault}
 use Rattle.room_store.specs.declared.fault.StoreFault.TheVariants.{Damaged}
-use Rattle.room_tables.specs.Accounts.{AgreeOnRows, Holds, HoldsRoom, IsSound, account_at}
+use Rattle.room_tables.specs.Accounts.{AgreeOnRows, Holds, HoldsNothing, HoldsRoom, IsSound, account_at}
 use Rattle.room_tables.specs.Calls.{IfOurTables, IsUnchanged, KeepsConnection, LeavesNoMore}
 use Rattle.room_tables.specs.Cells.{grant_cells}
 use Rattle.room_tables.specs.Devices.{AgreeOnDevices, AreSoundDevices, HoldsDevices, device_at}
@@ -89,6 +92,7 @@ QuestionIsReadable Ping db = ⊤
 QuestionIsReadable End db = ⊤
 QuestionIsReadable Devices db = CanBeListed db
 QuestionIsReadable (Accounts behind) db = AreNamed db
+QuestionIsReadable (Check name) db = ⊤
 QuestionIsReadable (Account name about) db = AccountIsAnswerable name about db
 
 -- the rows that it is about are sound
@@ -104,6 +108,18 @@ SoundRowsAreAnswered = (question : Question) (db : Database) → HasSchema db
 
 -- ---- what is answered
 
+-- the rows of an account are those of a room, or there are none, or they are not sound
+abbrev pub TellsWhetherSound : (name : List ℕ) (db : Database) (told : Reply) → Type 0
+TellsWhetherSound name db told =
+    ((told ≡ reply.Line (check_text true)) × (room : RoomValue) × HoldsRoom db name room)
+    ⊎ ((told ≡ reply.Line (word_text NoAccount)) × HoldsNothing db name)
+    ⊎ ((told ≡ reply.Line (check_text false)) × (IsSound db name → ⊥))
+
+-- of a question about rows that need not be sound
+abbrev pub TellsOfAnyRows : Question → (db : Database) (told : Reply) → Type 0
+TellsOfAnyRows (Check name) db told = TellsWhetherSound name db told
+TellsOfAnyRows _ db told = ⊤
+
 -- It is answered by the rows that it is about, of a connection that was open. Whether it is answered or
 -- not the tables are as they were, and a crash finds nothing that it could not have found before.
 pub record AnswersQuestion {S : Type 0} (store : Ghosts S) (asked : Question) (old new : Held S)
@@ -111,6 +127,7 @@ pub record AnswersQuestion {S : Type 0} (store : Ghosts S) (asked : Question) (o
   pub told : IfOurTables store old new (λ db. IfOk result (λ told.
       (room : Option RoomValue) (devices : DeviceMap) (names : List (List ℕ))
       → IsAbout asked room devices names db → told ≡ answer_to asked room devices names))
+  pub checked : IfOurTables store old new (λ db. IfOk result (TellsOfAnyRows asked db))
   pub opened : HasCleanDisk (state store new) → OnOk result (IsTrue (state store old).is_open)
   pub damaged : IfOurTables store old new
       (λ db. result ≡ Err Damaged → QuestionIsReadable asked db → ⊥)

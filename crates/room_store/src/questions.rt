@@ -9,7 +9,7 @@ ghost use Rattle.room_questions.specs.Questions.{NamesDevice, answer_to};
 ghost use Rattle.room_questions.specs.declared.question.Question.TheVariants as question;
 ghost use Rattle.room_rules.specs.Devices.{Devices};
 ghost use Rattle.room_statements.specs.SoundRows.{AreNamed, CanBeListed};
-ghost use Rattle.room_store.specs.Questions.{AboutIsReadable, AccountIsAnswerable, IsAbout, OpenNames, QuestionIsReadable, TellsAbout};
+ghost use Rattle.room_store.specs.Questions.{AboutIsReadable, AccountIsAnswerable, IsAbout, OpenNames, QuestionIsReadable, TellsAbout, TellsOfAnyRows, TellsWhetherSound};
 ghost use Rattle.room_store.specs.Prelude.{IfOurTables, LooksUp, RoomValue, WasOpen};
 ghost use Rattle.room_tables.specs.Accounts.{Holds};
 ghost use Rattle.room_tables.specs.Devices.{HoldsDevices};
@@ -19,8 +19,8 @@ use crate::events::knock;
 use crate::station_questions::{tell_again, tell_waiting};
 use crate::told::{refusing, telling};
 use room_events::{Name, Reply, Success, Word};
-use room_questions::{About, Question, accounts_lines, devices_lines};
-use room_statements::{find_account, list_devices, next_accounts};
+use room_questions::{About, Question, accounts_lines, check_line, devices_lines};
+use room_statements::{check_account, find_account, list_devices, next_accounts};
 use room_tables::TableFault;
 use sqlite::{Alter, Connection};
 use std::alloc::Global;
@@ -34,6 +34,8 @@ pub(crate) fn answer_question<S: Alter>(
     ensures told { IfOurTables S.Store connection.old connection.new (λ db. IfOk result (λ told.
         (room : Option RoomValue) (devices : Devices) (names : List (List ℕ))
         → IsAbout asked room devices names db → told ≡ answer_to asked room devices names)) }
+    ensures checked { IfOurTables S.Store connection.old connection.new
+        (λ db. IfOk result (TellsOfAnyRows asked db)) }
     ensures damaged { IfOurTables S.Store connection.old connection.new
         (λ db. result ≡ Err TableFault.Damaged → QuestionIsReadable asked db → ⊥) }
     ensures looks { LooksUp S.Store connection.old connection.new result }
@@ -43,6 +45,7 @@ pub(crate) fn answer_question<S: Alter>(
         Question::Ping | Question::End => tell_ok(alloc, connection),
         Question::Devices => tell_devices(alloc, connection),
         Question::Accounts { behind } => tell_accounts(alloc, connection, behind),
+        Question::Check { account } => tell_check(alloc, connection, account),
         Question::Account { account, about } => tell_account(alloc, connection, account, about),
     }
 }
@@ -91,6 +94,37 @@ fn tell_accounts<S: Alter>(
 {
     let names = next_accounts(alloc, connection, behind)?;
     Ok(Reply::Line(accounts_lines(alloc, names.as_slice())?))
+}
+
+/// Tells whether the rows of an account are sound. `Storage` tells also that a transaction is under
+/// way.
+fn tell_check<S: Alter>(
+    alloc: Global,
+    connection: &mut Connection<S>,
+    account: Name,
+) -> Result<Reply, TableFault>
+    ensures told { IfOurTables S.Store connection.old connection.new (λ db. IfOk result (λ told.
+        (room : Option RoomValue) (devices : Devices) (names : List (List ℕ)) → Holds db account room
+        → told ≡ answer_to (question.Check account) room devices names)) }
+    ensures checked { IfOurTables S.Store connection.old connection.new
+        (λ db. IfOk result (TellsWhetherSound account db)) }
+    ensures damaged { result ≡ Err TableFault.Damaged → ⊥ }
+    ensures looks { LooksUp S.Store connection.old connection.new result }
+    ensures asks { WasOpen S.Store connection.old connection.new result }
+{
+    // A read that fails would undo the transaction.
+    if !connection.is_autocommit() {
+        return Err(TableFault::Storage);
+    }
+    match check_account(alloc, connection, account) {
+        Ok(true) => Ok(Reply::Line(check_line(alloc, true)?)),
+        Ok(false) => refusing(alloc, Word::NoAccount),
+        Err(TableFault::Damaged) => {
+            knock(connection)?;
+            Ok(Reply::Line(check_line(alloc, false)?))
+        }
+        Err(fault) => Err(fault),
+    }
 }
 
 /// Tells what is asked about an account, where that is open.

@@ -8,10 +8,19 @@ use std::fs;
 use table_trials::FileTables;
 use trials::Fault;
 
-/// It is made in the current folder, and removed, and so is the log beside it.
 const FILE: &str = "room.db";
 
 const LOG: &str = "room.db-wal";
+
+/// What a row may make in the current folder. It is removed before the row and after it.
+const MADE: [&str; 6] = [
+    FILE,
+    LOG,
+    "copy.db",
+    "copy.db-wal",
+    "copy.db.part",
+    "copy.db.part-wal",
+];
 
 /// The file, with a connection to it that is held open, if one is.
 pub struct RoomFile<S: Alter> {
@@ -26,9 +35,9 @@ impl<S: Alter + Drop> Drop for RoomFile<S> {
 }
 
 impl<S: Alter + Drop> RoomFile<S> {
-    /// Removes the file, if one is there, and begins without a connection that is held open.
+    /// Removes the files, if any are there, and begins without a connection that is held open.
     pub fn new(rt: &HostRuntime) -> RoomFile<S> {
-        remove_file_and_log(rt);
+        remove_made(rt);
         RoomFile { held: None }
     }
 
@@ -75,10 +84,10 @@ impl<S: Alter + Drop> RoomFile<S> {
         Ok(())
     }
 
-    /// Closes the file, if it is held open, and removes it and its log, as far as that can be done.
+    /// Closes the file, if it is held open, and removes all files, as far as that can be done.
     pub fn close_and_remove(self, rt: &HostRuntime) {
         drop(self);
-        remove_file_and_log(rt);
+        remove_made(rt);
     }
 }
 
@@ -111,9 +120,9 @@ where
     Ok(())
 }
 
-/// Removes the file and the log beside it, if they are there.
-fn remove_file_and_log(rt: &HostRuntime) {
-    for file in [FILE, LOG] {
+/// Removes what a row may have made, if it is there.
+fn remove_made(rt: &HostRuntime) {
+    for file in MADE {
         let _ = fs::remove_file(rt, file);
     }
 }

@@ -5,7 +5,7 @@ use crate::expecting::{expect, expect_bytes, expect_equal, with_case};
 use crate::fault::Fault;
 use crate::report::Report;
 use crate::sends::Ending;
-use room_client::{ClientFault, HexLines, Keeper, Outcome, Peer, send_grants, send_lines};
+use room_client::{ClientFault, HexLines, Keeper, Peer, Worst, send_grants, send_lines};
 use room_input::Counted;
 use room_peers::MOST_LINE;
 use std::io;
@@ -53,23 +53,15 @@ fn send_and_keep(
 }
 
 /// Lines, what answers them, and how it went.
-const OUTCOMES: &[(&[u8], &[u8], Outcome)] = &[
-    (
-        b"a\nb\nc\n",
-        b"ok\nbad-line\nbad-line\n",
-        Outcome::BadLine(2),
-    ),
-    (b"a\nb\nc\n", b"bad-line\nfailed\nok\n", Outcome::Failed),
-    (
-        b"a\nb\nc",
-        b"failed\nbad-line\nbad-lines\n",
-        Outcome::Failed,
-    ),
-    (b"a\n", b"conflict 100\n", Outcome::Fine),
+const OUTCOMES: &[(&[u8], &[u8], Worst)] = &[
+    (b"a\nb\nc\n", b"ok\nbad-line\nbad-line\n", Worst::BadLine(2)),
+    (b"a\nb\nc\n", b"bad-line\nfailed\nok\n", Worst::Failed),
+    (b"a\nb\nc", b"failed\nbad-line\nbad-lines\n", Worst::Failed),
+    (b"a\n", b"conflict 100\n", Worst::Fine),
     (
         b"a\nb\nc\n",
         b"jobs 2\njob 1\nfailed\ngrants 0\nok\n",
-        Outcome::Fine,
+        Worst::Fine,
     ),
 ];
 
@@ -88,7 +80,7 @@ fn expect_outcome(
     rt: &HostRuntime,
     input: &[u8],
     answers: &[u8],
-    outcome: Outcome,
+    outcome: Worst,
 ) -> Result<(), Fault> {
     let written = send_to_bytes(rt, input, answers, Ending::new(Ok(outcome), answers))?;
     expect(rt, written.starts_with(input), "the input is sent")?;
@@ -137,7 +129,7 @@ fn send_starts(rt: &HostRuntime, keeper: &mut Listed) -> Result<(), Fault> {
         document 999999 3 text/plain 0\nhere/alice-2-999999-2\nnot-pending\n";
     let mut peer = Peer::new(BufReader::with_capacity(alloc, 7, answers)?, &mut written);
     let outcome = send_lines(alloc, &mut input, &mut peer, keeper, &mut output);
-    Ending::new(Ok(Outcome::Fine), printed).expect(rt, outcome, output.as_slice())
+    Ending::new(Ok(Worst::Fine), printed).expect(rt, outcome, output.as_slice())
 }
 
 /// Connections that end before an answer is whole, and answers that are none.
@@ -209,15 +201,15 @@ fn expect_broken(rt: &HostRuntime, input: &[u8], answers: &[u8]) -> Result<(), F
 }
 
 /// What answers two lines of grants, how it went, and what is printed.
-const GRANTED: &[(&[u8], Result<Outcome, ClientFault>, &[u8])] = &[
+const GRANTED: &[(&[u8], Result<Worst, ClientFault>, &[u8])] = &[
     (
         b"failed\nok\n",
-        Ok(Outcome::Failed),
+        Ok(Worst::Failed),
         b"1 failed\n2 bad\n3 ok\n",
     ),
     (
         b"bad-line\nok\n",
-        Ok(Outcome::BadLine(1)),
+        Ok(Worst::BadLine(1)),
         b"1 bad-line\n2 bad\n3 ok\n",
     ),
     (
@@ -275,7 +267,7 @@ fn line_of_length(rt: &HostRuntime, length: usize) -> Result<Vec<u8>, Fault> {
 
 /// Shows that the longest line of the input is sent, and of a longer one nothing.
 fn long_lines_of_the_input(rt: &HostRuntime) -> Result<(), Fault> {
-    let bad = Ending::new(Ok(Outcome::BadLine(1)), b"bad-line\n");
+    let bad = Ending::new(Ok(Worst::BadLine(1)), b"bad-line\n");
     expect_sent(rt, MOST_LINE, bad, MOST_LINE + 1)?;
     let none = Ending::new(Err(ClientFault::TooLong), b"");
     expect_sent(rt, MOST_LINE + 1, none, 0)
@@ -298,7 +290,7 @@ fn expect_sent(
 fn long_answers(rt: &HostRuntime) -> Result<(), Fault> {
     let mut longest = line_of_length(rt, MOST_LINE)?;
     longest.push(b'\n')?;
-    let fine = Ending::new(Ok(Outcome::Fine), longest.as_slice());
+    let fine = Ending::new(Ok(Worst::Fine), longest.as_slice());
     send_to_bytes(rt, b"a\n", longest.as_slice(), fine)?;
     expect_longer_answer_broken(rt)
 }

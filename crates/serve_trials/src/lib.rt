@@ -8,6 +8,7 @@ mod expecting;
 mod fault;
 mod limits;
 mod lines;
+mod logs;
 mod notices;
 mod questions;
 mod refusals;
@@ -46,6 +47,7 @@ pub fn all_trials_hold<W: Write>(rt: &HostRuntime, output: &mut W) -> bool {
     questions::run_all(rt, &mut report);
     turns::run_all(rt, &mut report);
     notices::run_all(rt, &mut report);
+    logs::run_all(rt, &mut report);
     sends::run_all(rt, &mut report);
     answers::run_all(rt, &mut report);
     report.all_hold()

@@ -2,6 +2,7 @@
 
 use crate::fault::Fault;
 use http_server::Connection;
+use room_log::{EventLog, LogFile};
 use room_peers::{Front, LineConnection, Served, Side, answer_requests, connection_config};
 use room_store::Store;
 use sqlite::{Alter, MemStore};
@@ -22,6 +23,19 @@ pub fn rooms_over<S: Alter + Drop>(
 ) -> Result<Served<S>, Fault> {
     match Store::create(connection) {
         Ok(store) => Ok(Served::new(rt.alloc(), store, NOW)),
+        Err(refused) => Err(Fault::from(refused.fault)),
+    }
+}
+
+/// Makes rooms in memory of which none is open yet, with a log into the file.
+pub fn logged_rooms(rt: &HostRuntime, file: &str) -> Result<Served<MemStore>, Fault> {
+    let file = LogFile::open(rt, file)?;
+    match Store::create(sqlite::Connection::open_in_memory(rt.alloc())?) {
+        Ok(store) => {
+            let mut rooms = Served::new(rt.alloc(), store, NOW);
+            rooms.set_log(EventLog::new(rt.alloc(), file));
+            Ok(rooms)
+        }
         Err(refused) => Err(Fault::from(refused.fault)),
     }
 }

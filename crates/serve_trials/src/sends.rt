@@ -6,7 +6,7 @@ use crate::lines::PRINT;
 use crate::report::Report;
 use crate::rooms::{exchange, new_rooms};
 use crate::wired::Wired;
-use room_client::{ClientFault, HexLines, Outcome, Peer, send_grants, send_lines};
+use room_client::{ClientFault, HexLines, Outcome, Peer, Worst, send_grants, send_lines};
 use room_input::Counted;
 use room_peers::{Served, Side};
 use sqlite::MemStore;
@@ -15,13 +15,13 @@ use std::io::{BufReader, Write};
 /// How a client should end, and what it should print.
 #[derive(Clone, Copy)]
 pub struct Ending<'a> {
-    pub outcome: Result<Outcome, ClientFault>,
+    pub outcome: Result<Worst, ClientFault>,
     pub printed: &'a [u8],
 }
 
 impl Ending<'_> {
     /// Names the outcome and what is printed.
-    pub fn new(outcome: Result<Outcome, ClientFault>, printed: &[u8]) -> Ending<'_> {
+    pub fn new(outcome: Result<Worst, ClientFault>, printed: &[u8]) -> Ending<'_> {
         Ending { outcome, printed }
     }
 
@@ -32,7 +32,7 @@ impl Ending<'_> {
         outcome: Result<Outcome, ClientFault>,
         printed: &[u8],
     ) -> Result<(), Fault> {
-        expect_equal(rt, outcome, self.outcome)?;
+        expect_equal(rt, outcome.map(|outcome| outcome.worst), self.outcome)?;
         expect_bytes(rt, printed, self.printed)
     }
 }
@@ -76,7 +76,7 @@ fn send_lines_over(
 /// one document.
 fn rooms_with_job(rt: &HostRuntime) -> Result<Served<MemStore>, Fault> {
     let lines = b"open alice\nopen bob\ndevice d1 on\ngrant alice 2026-09 100\n";
-    let ending = Ending::new(Ok(Outcome::Fine), b"ok\nok\nok\nok\n");
+    let ending = Ending::new(Ok(Worst::Fine), b"ok\nok\nok\nok\n");
     let mut rooms = send_to_rooms(rt, new_rooms(rt)?, Side::Operator, lines, ending)?;
     exchange(rt, &mut rooms, PRINT, 100_000)?;
     Ok(rooms)
@@ -90,16 +90,16 @@ fn lines_of_a_station(rt: &HostRuntime) -> Result<(), Fault> {
         b"release d1 alice 1 - 12\nopen alice\nstart d1 alice 1\n\nsettle d1 alice 1 5 done";
     let printed = b"ok reserved 12 left 88\nbad-line\n\
         document 1 1 application/octet-stream 5\n48656c6c6f\nbad-line\nok charged 5 left 95\n";
-    let ending = Ending::new(Ok(Outcome::BadLine(2)), printed);
+    let ending = Ending::new(Ok(Worst::BadLine(2)), printed);
     let rooms = send_to_rooms(rt, rooms, Side::Station, lines, ending)?;
-    let ending = Ending::new(Ok(Outcome::Fine), b"not-pending\n");
+    let ending = Ending::new(Ok(Worst::Fine), b"not-pending\n");
     send_to_rooms(rt, rooms, Side::Station, b"start d1 alice 1\n", ending)?;
     Ok(())
 }
 
 /// Shows that a client with no line ends well.
 fn nothing(rt: &HostRuntime) -> Result<(), Fault> {
-    let ending = Ending::new(Ok(Outcome::Fine), b"");
+    let ending = Ending::new(Ok(Worst::Fine), b"");
     send_to_rooms(rt, new_rooms(rt)?, Side::Station, b"", ending)?;
     Ok(())
 }
@@ -107,7 +107,7 @@ fn nothing(rt: &HostRuntime) -> Result<(), Fault> {
 /// Shows what is printed of a file of grants, of which two records are bad and one is of an account
 /// that is not open.
 fn grants(rt: &HostRuntime) -> Result<(), Fault> {
-    let opened = Ending::new(Ok(Outcome::Fine), b"ok\nok\n");
+    let opened = Ending::new(Ok(Worst::Fine), b"ok\nok\n");
     let lines = b"open alice\nopen bob\n";
     let rooms = send_to_rooms(rt, new_rooms(rt)?, Side::Operator, lines, opened)?;
     let wired = Wired::new(rt.alloc(), rooms, Side::Operator);
@@ -123,5 +123,5 @@ fn send_grants_over(rt: &HostRuntime, wired: &Wired) -> Result<(), Fault> {
     let mut peer = Peer::new(BufReader::new(rt.alloc(), wired)?, wired);
     let mut input = Counted::new(file.as_slice());
     let outcome = send_grants(rt.alloc(), &mut input, &mut peer, &mut output);
-    Ending::new(Ok(Outcome::Fine), printed).expect(rt, outcome, output.as_slice())
+    Ending::new(Ok(Worst::Fine), printed).expect(rt, outcome, output.as_slice())
 }

@@ -20,7 +20,7 @@ returns-in_err-answer-clause-front g c =
     c.loop-index.invariant.0 c.in_err-answer.ensures.front))
 
 pub loop-index-init : goal.loop-index-init
-loop-index-init g c = (Appends-nil _, GrantsAnswered-none _ _)
+loop-index-init g c = (Appends-nil _, GrantsAnswered-none _ _, search rules)
 
 pub loop-index-preserved : goal.loop-index-preserved
 loop-index-preserved g c =
@@ -32,5 +32,6 @@ loop-index-preserved g c =
     let longer = take_one records index one (search rules) c.index-records-index.is in (
       subst (Appends _ _) (sym (records_sent-more records index one (search rules) c.index-records-index.is))
           (Appends-trans _ _ _ (records_sent (take index records)) (record_sent one) before.0 step.sent),
-      GrantsAnswered-more (take index records) (take (index + 1) records) one _ _ _ _ _ _ c.loop-index.outcome _ c.in_ok-answer.answer index before.1.0 before.1.1 step.answered c.after-outcome.ensures longer,
+      GrantsAnswered-more (take index records) (take (index + 1) records) one _ _ _ _ _ _ c.loop-index.outcome _ c.in_ok-answer.answer index before.1.0 before.1.1 step.answered c.after-outcome.ensures.after longer,
+      c.after-outcome.ensures.fewer,
     )

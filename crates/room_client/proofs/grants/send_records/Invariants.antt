@@ -1,4 +1,4 @@
-use Rattle.std.proofs.Common.{◌≡◌, length, take}
+use Rattle.std.proofs.Common.{◌≡◌, ◌≤◌, length, take}
 use Rattle.std.specs.Io.KnownBytes.{Appends}
 use Rattle.room_client.specs.GrantReplies.{GrantsAnswered}
 use Rattle.room_client.specs.Grants.{records_sent}
@@ -11,3 +11,4 @@ invariant-loop-index g l = Appends (g.W.Write.contents l.initial.peer.writer)
     (g.R.Read.remaining l.initial.peer.reader) (g.R.Read.remaining l.peer.reader)
     (g.O.Write.contents l.initial.output) (g.O.Write.contents l.output) l.outcome)
     × (l.index ≡ length done.all))
+    × (l.outcome.refused ≤ l.index)

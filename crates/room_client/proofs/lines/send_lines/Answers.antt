@@ -1,5 +1,5 @@
 use Rattle.std.proofs.lemmas.Result.{err_from_is_err_and}
-use Rattle.std.proofs.Common.{refl, ◌∙◌}
+use Rattle.std.proofs.Common.{refl, ◌∙◌, arith, rules}
 use Rattle.room_client.proofs.Printed.{Answered-more, Answered-none}
 use Rattle.room_client.proofs.Refused.{IsErrOf-of, OnErr-of}
 use Rattle.room_client.proofs.SentLines.{HasLongLine-after, IsAtKnownEnd-behind, SendsAll-end, SendsFront-behind, SendsOn-none, SendsOn-trans}
@@ -19,15 +19,16 @@ returns-in_default-clause-sent g c =
 
 pub loop-number-init : goal.loop-number-init
 loop-number-init g c =
-    (SendsOn-none _ _, Answered-none _ _ _ _, refl)
+    (SendsOn-none _ _, Answered-none _ _ _ _, refl, search rules)
 
 pub loop-number-preserved : goal.loop-number-preserved
 loop-number-preserved g c =
     let before = c.loop-number.invariant in
     let answered = rw c.in-Some.is at c.in_ok-answer.ensures.answered in (
       SendsOn-trans _ _ _ _ _ _ before.0 c.in_ok-answer.ensures.sent,
-      Answered-more (g.K.Keeper.shown c.args.keeper.now) _ _ _ _ _ _ _ _ _ c.loop-number.outcome c.in-Some.answer c.loop-number.number before.1.0 before.1.1 (g.K.Keeper.shown c.loop-number.keeper) before.2 answered _ c.after-outcome.ensures,
+      Answered-more (g.K.Keeper.shown c.args.keeper.now) _ _ _ _ _ _ _ _ _ c.loop-number.outcome c.in-Some.answer c.loop-number.number before.1.0 before.1.1 (g.K.Keeper.shown c.loop-number.keeper) before.2 answered _ c.after-outcome.ensures.after,
       c.in_ok-answer.ensures.same ∙ before.2,
+      omega (arith, c.after-outcome.ensures.fewer),
     )
 
 pub returns-in_err-answer-clause-long : goal.returns-in_err-answer-clause-long

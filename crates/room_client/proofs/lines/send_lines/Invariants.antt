@@ -1,4 +1,4 @@
-use Rattle.std.proofs.Common.{◌≡◌, ◌+◌, length}
+use Rattle.std.proofs.Common.{◌≡◌, ◌+◌, ◌<◌, length}
 use Rattle.room_client.specs.Replies.{Answered}
 use Rattle.room_client.specs.Sending.{SendsOn}
 use Rattle.room_client.proofs.lines.send_lines.Given as goal
@@ -12,3 +12,4 @@ invariant-loop-number g l = SendsOn (g.I.Read.remaining l.initial.input) (g.I.Re
     (g.O.Write.contents l.initial.output) (g.O.Write.contents l.output) l.outcome)
     × (l.number ≡ length done.replies + 1))
     × (g.K.Keeper.shown l.keeper ≡ g.K.Keeper.shown l.initial.keeper)
+    × (l.outcome.refused < l.number)

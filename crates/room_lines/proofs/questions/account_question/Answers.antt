@@ -2,6 +2,13 @@ use Rattle.std.proofs.Common.{◌≡◌, ◌∷◌, [], codes, ap, refl, arith}
 use Rattle.std.proofs.lemmas.Slice.Eq.{text_from_reads}
 use Rattle.room_lines.proofs.questions.account_question.Goals as goal
 
+pub returns-in_ok-name-in-check-clause-said : goal.returns-in_ok-name-in-check-clause-said
+returns-in_ok-name-in-check-clause-said c =
+    let kind : c.args.kind.now ≡ codes "check" = text_from_reads c.args.kind.now (codes "check") (omega arith) (omega arith, (omega arith, (omega arith, (omega arith, (omega arith, tt))))) in
+    let account = c.in_ok-name-in-check in
+    let fields = account.field-0 ∷ [] in
+    (fields, (_, account.ensures.said, refl), ap (λ k. k ∷ fields) kind)
+
 pub returns-in_ok-month-in-left-clause-said : goal.returns-in_ok-month-in-left-clause-said
 returns-in_ok-month-in-left-clause-said c =
     let kind : c.args.kind.now ≡ codes "left" = text_from_reads c.args.kind.now (codes "left") (omega arith) (omega arith, (omega arith, (omega arith, (omega arith, tt)))) in

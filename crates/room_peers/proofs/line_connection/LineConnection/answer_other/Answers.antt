@@ -6,20 +6,20 @@ use Rattle.room_peers.specs.Lines.{input_of}
 use Rattle.room_peers.proofs.line_connection.LineConnection.answer_other.Goals as goal
 
 pub returns-in_err-put_bad-clause-lost : goal.returns-in_err-put_bad-clause-lost
-returns-in_err-put_bad-clause-lost g c = on_err _ _ (inr (_, takes_bad g.S.Store _ _ _ _ c.requires.first c.advance.ensures.items))
+returns-in_err-put_bad-clause-lost g c = on_err _ _ (inr (_, takes_bad g.S.Store _ _ _ _ _ c.requires.first c.advance.ensures.items c.log_bad_line.ensures))
 
-pub returns-in_err-put_told-clause-continues : goal.returns-in_err-put_told-clause-continues
-returns-in_err-put_told-clause-continues g c = looked g.S.Store _ _ _ _ c.answer_question-told.ensures
+pub returns-in_err-put_answer-clause-continues : goal.returns-in_err-put_answer-clause-continues
+returns-in_err-put_answer-clause-continues g c = looked g.S.Store _ _ _ _ c.answer_question-told.ensures
 
 pub returns-clause-continues : goal.returns-clause-continues
 returns-clause-continues g c = looked g.S.Store _ _ _ _ c.answer_question-told.ensures
 
-pub returns-in_err-put_told-clause-lost : goal.returns-in_err-put_told-clause-lost
-returns-in_err-put_told-clause-lost g c =
+pub returns-in_err-put_answer-clause-lost : goal.returns-in_err-put_answer-clause-lost
+returns-in_err-put_answer-clause-lost g c =
     let said : IsQuestionOf (take c.args.end (input_of c.args.self.now)) c.in-Some.question = subst (λ (text : List ℕ). IsQuestionOf (take c.args.end text) c.in-Some.question) c.as_slice.ensures c.in-Some.ensures.1 in
-    on_err _ _ (inr (_, takes_question g.S.Store _ _ _ _ _ _ _ c.requires.first c.advance-2.ensures.items c.in-Some.ensures.0 said c.answer_question-told.ensures))
+    on_err _ _ (inr (_, takes_question g.S.Store _ _ _ _ _ _ _ _ c.requires.first c.advance-2.ensures.items c.in-Some.ensures.0 said c.answer_question-told.ensures c.has_to_warn-warns.ensures))
 
 pub returns-clause-taken : goal.returns-clause-taken
 returns-clause-taken g c = λ _.
     let said : IsQuestionOf (take c.args.end (input_of c.args.self.now)) c.in-Some.question = subst (λ (text : List ℕ). IsQuestionOf (take c.args.end text) c.in-Some.question) c.as_slice.ensures c.in-Some.ensures.1 in
-    (_, takes_question g.S.Store _ _ _ _ _ _ _ c.requires.first c.advance-2.ensures.items c.in-Some.ensures.0 said c.answer_question-told.ensures, c.in_ok-put_told.ensures)
+    (_, takes_question g.S.Store _ _ _ _ _ _ _ _ c.requires.first c.advance-2.ensures.items c.in-Some.ensures.0 said c.answer_question-told.ensures c.has_to_warn-warns.ensures, c.in_ok-put_answer.ensures)

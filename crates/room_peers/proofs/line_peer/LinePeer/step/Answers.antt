@@ -12,7 +12,7 @@ pub returns-in-Ok-Answered-clause-takes : goal.returns-in-Ok-Answered-clause-tak
 returns-in-Ok-Answered-clause-takes g c = took g.S.Store _ _ _ _ _ _ (c.in-Ok-Answered.ensures.taken (ap Ok c.in-Ok-Answered.field-0-is)) c.in-Ok-Answered.ensures.side c.in-Ok-Answered.ensures.quiet
 
 pub returns-in-Ok-Unended-clause-takes : goal.returns-in-Ok-Unended-clause-takes
-returns-in-Ok-Unended-clause-takes g c = waited_then g.S.Store _ _ _ _ _ _ _ _ _ (c.in-Ok-Unended.ensures.none (ap Ok c.in-Ok-Unended.field-0-is)) (ended g.S.Store _ _ _ _ _ c.end.ensures.ended)
+returns-in-Ok-Unended-clause-takes g c = rw c.end.ensures.same (waited_then g.S.Store _ _ _ _ _ _ _ _ _ (c.in-Ok-Unended.ensures.none (ap Ok c.in-Ok-Unended.field-0-is)) (ended g.S.Store _ _ _ _ _ c.end.ensures.ended))
 
 pub returns-in-Ok-Unended-2-clause-takes : goal.returns-in-Ok-Unended-2-clause-takes
 returns-in-Ok-Unended-2-clause-takes g c = waits g.S.Store _ _ _ _ _ _ (c.in-Ok-Unended.ensures.none (ap Ok c.in-Ok-Unended.field-0-is))

@@ -1,0 +1,5 @@
+pub mod All
+pub mod Copies
+pub mod ProofParts
+pub mod ProofRows
+pub mod ProofSavepoints

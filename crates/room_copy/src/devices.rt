@@ -1,0 +1,73 @@
+//! The devices are copied.
+
+ghost use Rattle.std.specs.Prelude.{◌≡◌, Err};
+ghost use Rattle.room_copy.specs.Copies.{CopiesDevices};
+ghost use Rattle.room_copy.specs.ProofRows.{AddsDevice, AddsDevices};
+ghost use Rattle.room_copy.specs.ProofSavepoints.{KeepsSavepoint};
+ghost use Rattle.room_statements.specs.SoundRows.{CanBeListed};
+ghost use Rattle.room_tables.specs.Calls.{Changes, ChangesWhole, IfOurTables, ReadsStore, WritesInSavepoint};
+ghost use Rattle.room_tables.specs.Devices.{AreSoundDevices};
+ghost use Rattle.room_tables.specs.declared.fault.TableFault.TheVariants.{Damaged};
+
+use room_rules::Device;
+use room_statements::{TableFault, list_devices, set_device, set_rate};
+use sqlite::{Alter, Connection, Error, Savepoint};
+use std::alloc::Global;
+
+/// Copies the devices with their rates as they are in the source now, in one savepoint of the copy,
+/// which has no device yet. `Damaged` tells that the devices' rows in the source are not sound.
+pub fn copy_devices<S: Alter, T: Alter>(
+    alloc: Global,
+    source: &mut Connection<S>,
+    copy: &mut Connection<T>,
+) -> Result<(), TableFault>
+    ensures copies { ChangesWhole T.Store copy.old copy.new result (λ before after.
+        IfOurTables S.Store source.old source.new (λ db. CopiesDevices db before after)) }
+    ensures damaged { IfOurTables S.Store source.old source.new
+        (λ db. result ≡ Err Damaged → AreSoundDevices db → ⊥) }
+    ensures reads { ReadsStore S.Store source.old source.new result }
+{
+    let mut savepoint = copy.savepoint()?;
+    copy_list(alloc, source, &mut savepoint)?;
+    Ok(savepoint.commit()?)
+}
+
+/// Copies the devices, inside a savepoint.
+fn copy_list<S: Alter, T: Alter>(
+    alloc: Global,
+    source: &mut Connection<S>,
+    savepoint: &mut Savepoint<'_, T>,
+) -> Result<(), TableFault>
+    ensures copies { Changes T.Store savepoint.old.conn.now savepoint.new.conn.now result
+        (λ before after. IfOurTables S.Store source.old source.new
+        (λ db. CopiesDevices db before after)) }
+    ensures inside { KeepsSavepoint savepoint.old savepoint.new result }
+    ensures damaged { IfOurTables S.Store source.old source.new
+        (λ db. result ≡ Err Damaged → CanBeListed db → ⊥) }
+    ensures reads { ReadsStore S.Store source.old source.new result }
+{
+    let devices = list_devices(alloc, source)?;
+    Ok(add_devices(savepoint, devices.as_slice())?)
+}
+
+/// Puts the devices in, inside a savepoint.
+fn add_devices<T: Alter>(savepoint: &mut Savepoint<'_, T>, devices: &[Device]) -> Result<(), Error>
+    ensures adds { Changes T.Store savepoint.old.conn.now savepoint.new.conn.now result
+        (AddsDevices devices.now) }
+    ensures inside { KeepsSavepoint savepoint.old savepoint.new result }
+{
+    for device in devices {
+        add_device(savepoint, device)?;
+    }
+    Ok(())
+}
+
+/// Puts both rows of a device in, inside a savepoint.
+fn add_device<T: Alter>(savepoint: &mut Savepoint<'_, T>, device: &Device) -> Result<(), Error>
+    ensures adds { Changes T.Store savepoint.old.conn.now savepoint.new.conn.now result
+        (AddsDevice device.now) }
+    ensures inside { WritesInSavepoint savepoint.old savepoint.new result }
+{
+    set_device(savepoint, device.name, device.on)?;
+    set_rate(savepoint, device.name, device.rate)
+}

@@ -1,0 +1,19 @@
+use Rattle.std.proofs.Common.{◌++◌, codes, ap, sym, ◌∙◌}
+use Rattle.room_desk.proofs.statement.take_month.Goals as goal
+
+pub returns : goal.returns
+returns c =
+    let charged = c.in_ok-charged.charged.now in
+    let held = c.in_ok-charged._held.now in
+    let pending = c.in_ok-_pending._pending.now in
+    let processing = c.in_ok-_pending._processing.now in
+    record {
+      held = held;
+      pending = pending;
+      processing = processing;
+      words = c.in_ok-charged.ensures
+          ∙ ap (λ r. codes "month" ++ codes " " ++ (charged ++ codes " " ++ (codes "held" ++ codes " " ++ (held ++ codes " " ++ r))))
+          (c.in_ok-_pending.ensures
+          ∙ ap (λ r. codes "pending" ++ codes " " ++ (pending ++ codes " " ++ (codes "processing" ++ codes " " ++ (processing ++ codes " " ++ r))))
+          (c.in_ok-skip.ensures ∙ ap (λ r. codes "ended" ++ codes " " ++ r) (sym c.last.ensures)));
+    }

@@ -1,0 +1,11 @@
+pub mod Ages
+pub mod Asked
+pub mod Bars
+pub mod Csv
+pub mod Devices
+pub mod Jobs
+pub mod Lines
+pub mod Refunds
+pub mod Statements
+pub mod Talks
+pub mod Tasks

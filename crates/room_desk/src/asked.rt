@@ -1,0 +1,58 @@
+//! The lines that are sent.
+ghost use Rattle.std.specs.Prelude.{◌≡◌, ◌≤◌, IfOk, option_map};
+ghost use Rattle.room_rules.specs.Limits.{first_month, last_month};
+ghost use Rattle.room_desk.specs.Asked.{account_asked, accounts_asked, cancel_asked, statement_asked};
+
+use room_client::month_text;
+use room_rules::Name;
+use std::alloc::{AllocError, Global};
+
+/// `accounts NAME`, or `accounts -` where there is no name yet.
+pub(crate) fn accounts_line(alloc: Global, behind: Option<&Name>) -> Result<Vec<u8>, AllocError>
+    ensures { IfOk result
+        (λ line. line.items ≡ accounts_asked (option_map (λ name. name.now) behind.entry)) }
+{
+    match behind {
+        Some(name) => account_line(alloc, b"accounts ", name),
+        None => Vec::from_slice(alloc, b"accounts -"),
+    }
+}
+
+/// A word with its space, and an account.
+pub(crate) fn account_line(
+    alloc: Global,
+    word: &[u8],
+    account: &Name,
+) -> Result<Vec<u8>, AllocError>
+    ensures { IfOk result (λ line. line.items ≡ account_asked word.now account.now) }
+{
+    let mut line = Vec::from_slice(alloc, word)?;
+    line.extend_from_slice(account.bytes())?;
+    Ok(line)
+}
+
+/// `statement ACCOUNT YYYY-MM`.
+pub(crate) fn statement_line(
+    alloc: Global,
+    account: &Name,
+    month: u32,
+) -> Result<Vec<u8>, AllocError>
+    requires first { first_month ≤ month }
+    requires last { month ≤ last_month }
+    ensures { IfOk result (λ line. line.items ≡ statement_asked account.now month) }
+{
+    let mut line = account_line(alloc, b"statement ", account)?;
+    line.push(b' ')?;
+    line.extend_from_slice(&month_text(month))?;
+    Ok(line)
+}
+
+/// `cancel ACCOUNT JOB`, the job as an answer told it.
+pub(crate) fn cancel_line(alloc: Global, account: &Name, job: &[u8]) -> Result<Vec<u8>, AllocError>
+    ensures { IfOk result (λ line. line.items ≡ cancel_asked account.now job.now) }
+{
+    let mut line = account_line(alloc, b"cancel ", account)?;
+    line.push(b' ')?;
+    line.extend_from_slice(job)?;
+    Ok(line)
+}

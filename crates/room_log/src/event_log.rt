@@ -1,0 +1,196 @@
+//! The log of what was asked of the rooms.
+ghost use Rattle.std.specs.Prelude.{◌≡◌, ◌++◌, [], false, IsTrue, IfOk};
+ghost use Rattle.room_events.specs.Events.{plain_event};
+ghost use Rattle.room_log.specs.Books.{Takes};
+ghost use Rattle.room_log.specs.LogLines.{line_text};
+
+use crate::door::Door;
+use crate::file::LogFile;
+use crate::line::put_line;
+use crate::refusal::{put_refused_line, put_refused_request};
+use crate::waiting::Waiting;
+use room_events::{Event, Reply};
+use std::alloc::{AllocError, Global};
+use std::fs::{File, Files};
+use std::marker::Model;
+
+/// For so many bytes of a line there is room at once.
+const USUAL_LINE: usize = 128;
+
+/// A line an event, which goes to the end of a file. Where the file can't be written its lines wait,
+/// up to `MOST_WAITING` bytes of them, and those that find no room, or no memory, are left out.
+/// Contracts see it as what waits, with what the file has taken.
+pub struct EventLog {
+    pub(crate) alloc: Global,
+    pub(crate) waiting: Waiting,
+    file: LogFile,
+    /// Whether the file has refused what it was given last.
+    fails: bool,
+    /// The moment of the last look at the path.
+    looked_at: Option<u64>,
+}
+
+// In the place of `#[derive(Drop)]`, so that no caller proves again how each part is dropped.
+impl Drop for EventLog {
+    fn drop(self) {
+        let EventLog {
+            alloc: _,
+            waiting: _,
+            file: _,
+            fails: _,
+            looked_at: _,
+        } = self;
+    }
+}
+
+impl Model for EventLog {
+    ghost use Rattle.room_log.specs.declared.waiting.Waiting.{Waiting};
+
+    ghost Value = { Waiting };
+
+    ghost view = { λ log. log.waiting };
+}
+
+impl EventLog {
+    ghost use Rattle.room_log.specs.Waits.{drafts_of, logged_of, missed_of};
+
+    /// A log into the file, to which nothing was noted yet.
+    pub fn new(alloc: Global, file: LogFile) -> EventLog
+        ensures logged { logged_of result ≡ [] }
+        ensures drafts { drafts_of result ≡ [] }
+        ensures missed { missed_of result ≡ 0 }
+    {
+        EventLog {
+            alloc,
+            waiting: Waiting::new(alloc),
+            file,
+            fails: false,
+            looked_at: None,
+        }
+    }
+
+    /// Notes an event and what it came to: its line goes to the file, or waits. It is left out where
+    /// a round is under way.
+    pub fn note<F>(&mut self, moment: u64, door: Door, event: &Event<'_>, told: &Result<Reply, F>)
+        ensures notes { Takes
+            (missed_of self.old) (missed_of self.new)
+            (logged_of self.old) (logged_of self.new)
+            (line_text moment door (plain_event event.now) told.now) }
+        ensures drafts { drafts_of self.new ≡ drafts_of self.old }
+    {
+        if self.waiting.has_drafts() {
+            self.waiting.miss();
+            return;
+        }
+        self.draft(moment, door, event, told);
+        self.settle(true);
+    }
+
+    /// Notes an event of a round that is under way. Its line waits for the round's end.
+    pub fn draft<F>(&mut self, moment: u64, door: Door, event: &Event<'_>, told: &Result<Reply, F>)
+        ensures drafts { Takes
+            (missed_of self.old) (missed_of self.new)
+            (drafts_of self.old) (drafts_of self.new)
+            (line_text moment door (plain_event event.now) told.now) }
+        ensures logged { logged_of self.new ≡ logged_of self.old }
+    {
+        match line_of(self.alloc, moment, door, event, told) {
+            Ok(line) => self.waiting.draft_or_miss(line.as_slice()),
+            Err(_) => self.waiting.miss(),
+        }
+    }
+
+    /// Ends the round: where it was kept its lines go to the file, or wait, and else they are
+    /// dropped.
+    pub fn settle(&mut self, kept: bool)
+        ensures kept { IsTrue kept → logged_of self.new
+            ≡ logged_of self.old ++ drafts_of self.old }
+        ensures lost { kept ≡ false → logged_of self.new
+            ≡ logged_of self.old }
+        ensures drafts { drafts_of self.new ≡ [] }
+        ensures missed { missed_of self.new ≡ missed_of self.old }
+    {
+        self.waiting.settle(kept);
+        self.push_out();
+    }
+
+    /// Tells that a door refused a line. It is left out where memory is refused, or lines wait.
+    pub fn refuse_line(&mut self, moment: u64, door: Door)
+        ensures { self.new ≡ self.old }
+    {
+        let mut line = Vec::new(self.alloc);
+        if put_refused_line(&mut line, moment, door).is_ok() {
+            self.append(line.as_slice());
+        }
+    }
+
+    /// Tells that a request of HTTP was refused. It is left out where memory is refused, or lines
+    /// wait.
+    pub fn refuse_request(&mut self, moment: u64, status: u16, path: &[u8])
+        ensures { self.new ≡ self.old }
+    {
+        let mut line = Vec::new(self.alloc);
+        if put_refused_request(&mut line, moment, status, path).is_ok() {
+            self.append(line.as_slice());
+        }
+    }
+
+    /// Gives the file a line by itself, where none waits for it.
+    fn append(&mut self, line: &[u8])
+        ensures { self.new ≡ self.old }
+    {
+        if !self.waiting.is_behind() {
+            self.fails = self.file.append(line).is_err();
+        }
+    }
+
+    /// Gives the file what waits, once.
+    fn push_out(&mut self)
+        ensures logged { logged_of self.new ≡ logged_of self.old }
+        ensures drafts { drafts_of self.new ≡ drafts_of self.old }
+        ensures missed { missed_of self.new ≡ missed_of self.old }
+    {
+        if self.waiting.is_behind() {
+            self.fails = self.waiting.push_out(&mut self.file).is_err();
+        }
+    }
+
+    /// Opens the file anew where it was moved away or removed. It looks once a moment: another call
+    /// at the same one, in seconds since any start, does nothing.
+    pub fn look<R: Files<File = File>>(&mut self, files: &R, moment: Option<u64>)
+        ensures { self.new ≡ self.old }
+    {
+        let was_now = moment.is_some() && moment == self.looked_at;
+        if !was_now {
+            self.file.look(files);
+            self.looked_at = moment;
+        }
+    }
+
+    /// Whether the file has refused what it was given last.
+    pub fn fails(&self) -> bool {
+        self.fails
+    }
+
+    /// How many lines were left out.
+    pub fn missed(&self) -> u64
+        ensures { result ≡ missed_of self.now }
+    {
+        self.waiting.missed()
+    }
+}
+
+fn line_of<F>(
+    alloc: Global,
+    moment: u64,
+    door: Door,
+    event: &Event<'_>,
+    told: &Result<Reply, F>,
+) -> Result<Vec<u8>, AllocError>
+    ensures { IfOk result (λ line. line.items
+        ≡ line_text moment door (plain_event event.now) told.now) }
+{
+    let mut line = Vec::with_capacity(alloc, USUAL_LINE)?;
+    put_line(&mut line, moment, door, event, told)?;
+    Ok(line)
+}

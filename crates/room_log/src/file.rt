@@ -1,0 +1,86 @@
+//! The file of the log.
+
+use std::alloc::Global;
+use std::fs::{File, Files, OpenOptions};
+use std::io::Write;
+use std::os::unix::fs::{MetadataExt, OpenOptionsExt};
+use std::{fs, io};
+
+/// The file at a path, to whose end lines go.
+#[derive(Drop)]
+pub struct LogFile {
+    path: String,
+    file: File,
+    /// The last line that was appended by itself lacks its end.
+    is_cut: bool,
+}
+
+impl LogFile {
+    /// Opens the file, or makes it, for its owner and its group alone. The error is the system's, or
+    /// tells that memory was refused.
+    pub fn open<R: Files<File = File> + Alloc<A = Global>>(
+        files: &R,
+        path: &str,
+    ) -> io::Result<LogFile> {
+        let file = open_end(files, path)?;
+        let path = String::from_str(files.alloc(), path)?;
+        Ok(LogFile {
+            path,
+            file,
+            is_cut: false,
+        })
+    }
+
+    /// Opens the path anew where the file that is open was moved away or removed. Where that fails,
+    /// the file that is open goes on.
+    pub(crate) fn look<R: Files<File = File>>(&mut self, files: &R) {
+        if self.is_in_place(files) {
+            return;
+        }
+        if let Ok(file) = open_end(files, self.path.as_str()) {
+            self.file = file;
+            self.is_cut = false;
+        }
+    }
+
+    /// Appends a line by itself. Where the file takes a part of it, what is written next begins a new
+    /// line.
+    pub(crate) fn append(&mut self, line: &[u8]) -> io::Result<()> {
+        let taken = self.write(line)?;
+        self.is_cut = 0 < taken && taken < line.len();
+        Ok(())
+    }
+
+    /// Whether the path still names the file that is open.
+    fn is_in_place<R: Files<File = File>>(&self, files: &R) -> bool {
+        let (Ok(open), Ok(named)) = (
+            self.file.metadata(),
+            fs::metadata(files, self.path.as_str()),
+        ) else {
+            return false;
+        };
+        open.dev() == named.dev() && open.ino() == named.ino()
+    }
+}
+
+impl Write for LogFile {
+    /// One call of the system, and one before it where a line lacks its end.
+    fn write(&mut self, bytes: &[u8]) -> io::Result<usize> {
+        if self.is_cut {
+            self.is_cut = self.file.write(b"\n")? == 0;
+        }
+        self.file.write(bytes)
+    }
+
+    fn flush(&mut self) -> io::Result<()> {
+        Ok(())
+    }
+}
+
+fn open_end<R: Files<File = File>>(files: &R, path: &str) -> io::Result<File> {
+    OpenOptions::new()
+        .append(true)
+        .create(true)
+        .mode(0o640)
+        .open(files, path)
+}

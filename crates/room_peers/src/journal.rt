@@ -1,0 +1,135 @@
+//! The journal of all that was applied, and the log that tells it.
+ghost use Rattle.std.specs.Prelude.{◌≡◌, ◌∷◌, ◌++◌, [], false, true, map};
+ghost use Rattle.std.specs.Option.{ForSome};
+ghost use Rattle.room_log.specs.Waits.{drafts_of, logged_of};
+ghost use Rattle.room_peers.specs.Logged.{TellsRounds};
+ghost use Rattle.room_peers.specs.Tolds.{round_in};
+
+use crate::entry::Entry;
+use crate::logging::{draft, look, note, refuse_line, refuse_request, settle};
+use http_server::Log;
+use room_events::Reply;
+use room_log::{Door, EventLog};
+use room_store::StoreFault;
+use std::fs::{File, Files};
+
+/// All that was applied, of whichever connection, and the log of it, where one is kept. The journal
+/// takes no memory: only proofs read it.
+pub struct Journal {
+    /// The rounds that are over, each with whether it was kept. What is applied by itself is a round
+    /// of one that was kept. A question, and a round that could not begin, is an empty one that was
+    /// not.
+    pub(crate) over: Log<Log<Entry, Result<Reply, StoreFault>>, bool>,
+    /// The round that is under way.
+    pub(crate) under_way: Log<Entry, Result<Reply, StoreFault>>,
+    pub(crate) log: Option<EventLog>,
+    // The lines of the log are those of the journal.
+    pub ghost told: { ForSome log (λ log. TellsRounds log (map round_in over.items) under_way.items) },
+}
+
+// In the place of `#[derive(Drop)]`, so that no caller proves again how each part is dropped.
+impl Drop for Journal {
+    fn drop(self) {
+        let Journal {
+            over: _,
+            under_way: _,
+            log: _,
+        } = self;
+    }
+}
+
+impl Journal {
+    ghost use Rattle.room_peers.specs.Writing.{rounds_in, under_way_in};
+
+    /// An empty one, without a log. It takes no memory.
+    pub(crate) fn new() -> Journal
+        ensures rounds { rounds_in result ≡ [] }
+        ensures under_way { under_way_in result ≡ [] }
+    {
+        Journal {
+            over: Log::new(),
+            under_way: Log::new(),
+            log: None,
+        }
+    }
+
+    /// From now on what is applied is logged there. Nothing was applied yet.
+    pub(crate) fn set_log(&mut self, log: EventLog)
+        requires rounds { rounds_in self.old ≡ [] }
+        requires under_way { under_way_in self.old ≡ [] }
+        requires logged { logged_of log ≡ [] }
+        requires drafts { drafts_of log ≡ [] }
+        ensures rounds { rounds_in self.new ≡ [] }
+        ensures under_way { under_way_in self.new ≡ [] }
+    {
+        self.log = Some(log);
+    }
+
+    /// What came was applied by itself.
+    pub(crate) fn add_alone(&mut self, entry: &Entry, told: &Result<Reply, StoreFault>)
+        ensures rounds { rounds_in self.new
+            ≡ rounds_in self.old ++ ((entry.now, told.now) ∷ [], true) ∷ [] }
+        ensures under_way { under_way_in self.new ≡ under_way_in self.old }
+    {
+        note(&mut self.log, entry, told);
+        self.over = self.over.and(&Log::new().and(entry, told), &true);
+    }
+
+    /// What came was applied in the round that is under way.
+    pub(crate) fn add_shared(&mut self, entry: &Entry, told: &Result<Reply, StoreFault>)
+        ensures rounds { rounds_in self.new ≡ rounds_in self.old }
+        ensures under_way { under_way_in self.new
+            ≡ under_way_in self.old ++ (entry.now, told.now) ∷ [] }
+    {
+        draft(&mut self.log, entry, told);
+        self.under_way = self.under_way.and(entry, told);
+    }
+
+    /// A question was answered, or a round could not begin.
+    pub(crate) fn add_nothing(&mut self)
+        ensures rounds { rounds_in self.new ≡ rounds_in self.old ++ ([], false) ∷ [] }
+        ensures under_way { under_way_in self.new ≡ under_way_in self.old }
+    {
+        self.over = self.over.and(&Log::new(), &false);
+    }
+
+    /// The round that is under way is over.
+    pub(crate) fn settle(&mut self, kept: bool)
+        ensures rounds { rounds_in self.new
+            ≡ rounds_in self.old ++ (under_way_in self.old, kept) ∷ [] }
+        ensures under_way { under_way_in self.new ≡ [] }
+    {
+        settle(&mut self.log, kept);
+        self.over = self.over.and(&self.under_way, &kept);
+        self.under_way = Log::new();
+    }
+
+    /// Tells that a door refused a line.
+    pub(crate) fn refuse_line(&mut self, moment: u64, door: Door)
+        ensures { self.new ≡ self.old }
+    {
+        refuse_line(&mut self.log, moment, door);
+    }
+
+    /// Tells that a request was refused with a status.
+    pub(crate) fn refuse_request(&mut self, moment: u64, status: u16, path: &[u8])
+        ensures { self.new ≡ self.old }
+    {
+        refuse_request(&mut self.log, moment, status, path);
+    }
+
+    /// Has the log look, at a moment, whether its file was moved away.
+    pub(crate) fn look<R: Files<File = File>>(&mut self, files: &R, moment: Option<u64>)
+        ensures { self.new ≡ self.old }
+    {
+        look(&mut self.log, files, moment);
+    }
+
+    /// Whether the file of the log has refused what it was given last.
+    pub(crate) fn fails(&self) -> bool {
+        match &self.log {
+            Some(log) => log.fails(),
+            None => false,
+        }
+    }
+}

@@ -1,0 +1,29 @@
+//! Connections to what serves lines on this machine, which wait only so long.
+
+use std::io;
+use std::net::{Ipv4Addr, TcpStream};
+use std::os::unix::net::UnixStream;
+use std::time::Duration;
+
+/// How many bytes are asked of a connection at once.
+pub(crate) const BUFFER: usize = 65_536;
+
+/// How many seconds each read and each write may take. What takes longer fails with `WouldBlock`.
+const PATIENCE: u64 = 30;
+
+/// A connection to a port of this machine.
+pub(crate) fn at_port(rt: &HostRuntime, port: u16) -> io::Result<TcpStream> {
+    let stream = TcpStream::connect(rt, (Ipv4Addr::LOCALHOST, port))?;
+    stream.set_nodelay(true)?;
+    stream.set_read_timeout(Some(Duration::from_secs(PATIENCE)))?;
+    stream.set_write_timeout(Some(Duration::from_secs(PATIENCE)))?;
+    Ok(stream)
+}
+
+/// A connection to a socket.
+pub(crate) fn at_path(rt: &HostRuntime, path: &str) -> io::Result<UnixStream> {
+    let stream = UnixStream::connect(rt, path)?;
+    stream.set_read_timeout(Some(Duration::from_secs(PATIENCE)))?;
+    stream.set_write_timeout(Some(Duration::from_secs(PATIENCE)))?;
+    Ok(stream)
+}
