@@ -11,9 +11,12 @@ from messages import PROGRAM
 MOST_WAIT = 30
 
 
-def run(*words, text=''):
-    """What a command prints, which has to end with status 0."""
-    return subprocess.run([PROGRAM, *words], check=True, input=text.encode(), stdout=subprocess.PIPE).stdout.decode()
+def run(*words, text='', status=0):
+    """What a command prints, which has to end with the status."""
+    ended = subprocess.run([PROGRAM, *words], input=text.encode(), stdout=subprocess.PIPE)
+    if ended.returncode != status:
+        raise subprocess.CalledProcessError(ended.returncode, words)
+    return ended.stdout.decode()
 
 
 def create(path, accounts=(), lines=()):
