@@ -29,7 +29,7 @@ use Rattle.room_tables.proofs.ReadBackLemmas.{flag_back, rows_are_read_back}
 use Rattle.room_tables.proofs.Reading.{without_number}
 use Rattle.room_tables.proofs.RowOfKey.{at_its_key, there_at}
 use Rattle.room_statements.specs.DeviceLists.{shown_device, switch_of, ShowsDevices, ListsSwitch, refuses_switch, HasRate}
-use Rattle.room_statements.specs.ProofWalks.{GathersAll, GathersShown, RefusesShown}
+use Rattle.room_statements.specs.Walks.{GathersAll, GathersShown, RefusesShown}
 use Rattle.room_statements.specs.SoundRows.{CanBeListed}
 use Rattle.room_statements.proofs.ListWalks.{gathered_so, gathered_each}
 use Rattle.room_statements.proofs.NamedMaps.{value_has, values_keep, values_rise}

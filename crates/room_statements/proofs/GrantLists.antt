@@ -29,7 +29,7 @@ use Rattle.room_tables.specs.Queries.{Means, TakesParams, of_table, passes, IsSh
 use Rattle.room_tables.specs.Cells.{number, grant_cells}
 use Rattle.room_tables.specs.Accounts.{HoldsRoom, IsSound}
 use Rattle.room_statements.specs.GrantLists.{month_cells, tells_no_grant, AreByMonth, IsInRange, ListsGrant}
-use Rattle.room_statements.specs.ProofWalks.{GathersAll, GathersShown, RefusesShown}
+use Rattle.room_statements.specs.Walks.{GathersAll, GathersShown, RefusesShown}
 use Rattle.room_statements.specs.SoundRows.{grant_rows, AreRowsOf}
 use Rattle.room_statements.specs.Totals.{granted_cells, TellsGrant}
 use Rattle.room_tables.proofs.Queries.{env, answer_in_order, answer_is, permuted_has}

@@ -3,7 +3,7 @@ use Rattle.std.proofs.Common.{◌≡◌, List, [], ◌∷◌, ◌++◌, map, app
 use Rattle.std.specs.List.{AllByRecursion}
 use Rattle.sqlite_value.specs.Order.{Row}
 use Rattle.sqlite_rules.specs.Lists.{Has}
-use Rattle.room_statements.specs.ProofWalks.{GathersAll}
+use Rattle.room_statements.specs.Walks.{GathersAll}
 
 module _ {X : Type 0} (step : List X → Row → List X → Type 0) where
   -- of rows that stand for values, it is what each of them tells

@@ -32,7 +32,7 @@ use Rattle.room_tables.proofs.KeyedTables.{account_in, account_key}
 use Rattle.room_tables.proofs.Queries.{env}
 use Rattle.room_tables.proofs.RowOfKey.{at_its_key, there_at}
 use Rattle.room_statements.specs.NameLists.{name_cells, ShowsNames, ListsName, refuses_name}
-use Rattle.room_statements.specs.ProofWalks.{GathersAll, GathersShown, RefusesShown}
+use Rattle.room_statements.specs.Walks.{GathersAll, GathersShown, RefusesShown}
 use Rattle.room_statements.specs.SoundRows.{AreNamed}
 use Rattle.room_statements.proofs.ListWalks.{gathered_so}
 use Rattle.room_statements.proofs.NameOrder.{by_name, shown_of_row, shown_by_name}

@@ -36,7 +36,7 @@ use Rattle.room_tables.proofs.Queries.{permuted_has}
 use Rattle.room_tables.proofs.ReadBackLemmas.{integer_in, natural_in, state_in, state_read}
 use Rattle.room_statements.specs.Summed.{gathers_summed, refuses_summed, sum_of, summary_of_job, summed_cells, IsInBounds, TellsSummary, TellsSummed}
 use Rattle.room_statements.specs.SoundRows.{job_rows, CanBeSummed}
-use Rattle.room_statements.specs.ProofWalks.{GathersAll, HasGathered, WalksAll, RefusesOne}
+use Rattle.room_statements.specs.Walks.{GathersAll, HasGathered, WalksAll, RefusesOne}
 use Rattle.room_statements.specs.declared.summaries.Summed.{Summed}
 use Rattle.room_statements.proofs.AccountRows.{rows_of_jobs, no_jobs}
 use Rattle.room_statements.proofs.RowTotals.{of_their_cells, sum_mapped, refused_there, refused_within}

@@ -1,7 +1,7 @@
 -- What most clauses of this crate use, from one place.
 pub use Rattle.room_state.specs.Rooms.{RoomValue}
 pub use Rattle.room_statements.specs.SoundRows.{IsRowOf}
-pub use Rattle.room_statements.specs.ProofWalks.{HasGathered, WalksStore}
+pub use Rattle.room_statements.specs.Walks.{HasGathered, WalksStore}
 pub use Rattle.room_tables.specs.Accounts.{HoldsRoom}
 pub use Rattle.room_tables.specs.Calls.{Changes, ChangesWhole, GetsRow, IfOurTables, KeepsOpen, ReadsStore}
 pub use Rattle.room_tables.specs.Calls.{WritesInSavepoint}

@@ -9,11 +9,11 @@ ghost use Rattle.room_tables.specs.Accounts.{account_at};
 ghost use Rattle.sqlite_value.specs.Value.{owned};
 ghost use Rattle.sqlite_value.specs.declared.value.Value.TheVariants.{Text};
 
-use crate::values::name_at;
 use crate::walking::{Gather, walk};
 use ipp_coding::List;
 use room_rules::Name;
 use room_tables::TableFault;
+use room_tables::values::name_at;
 use sqlite::{Alter, Connection, Row};
 use sqlite_value::value::ValueRef;
 use std::alloc::Global;

@@ -11,11 +11,11 @@ ghost use Rattle.room_tables.specs.Cells.{units_cells};
 ghost use Rattle.room_tables.specs.Devices.{rate_at, HoldsDevices};
 
 use crate::rates::find_rate;
-use crate::values::{flag_at, name_at};
 use crate::walking::{Gather, walk};
 use ipp_coding::List;
 use room_rules::{Device, Name};
 use room_tables::TableFault;
+use room_tables::values::{flag_at, name_at};
 use sqlite::{Alter, Connection, Row};
 use std::alloc::Global;
 

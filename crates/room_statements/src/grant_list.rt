@@ -11,11 +11,11 @@ ghost use Rattle.room_statements.specs.SoundRows.{grant_rows, AreRowsOf};
 ghost use Rattle.room_statements.specs.Totals.{TellsGrant};
 ghost use Rattle.room_tables.specs.Cells.{grant_cells};
 
-use crate::values::short_at;
 use crate::walking::{Gather, walk};
 use ipp_coding::List;
 use room_rules::{FIRST_MONTH, Grant, LAST_MONTH, MOST_PAGES, Name};
 use room_tables::TableFault;
+use room_tables::values::short_at;
 use sqlite::{Alter, Connection, Row};
 use sqlite_value::value::ValueRef;
 use std::alloc::Global;

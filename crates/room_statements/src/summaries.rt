@@ -10,12 +10,12 @@ ghost use Rattle.room_statements.specs.SoundRows.{job_rows, CanBeSummed};
 ghost use Rattle.room_statements.specs.Summed.{gathers_summed, refuses_summed, sum_of, summary_of_job, summed_cells, IsInBounds, TellsSummary};
 ghost use Rattle.room_tables.specs.Cells.{moment};
 
-use crate::values::{moment_at, number_at, state_at};
 use crate::walking::{Gather, walk};
 use room_questions::Summary;
 use room_rules::{JobState, Moment, Name, month_of};
 use room_state::sum_of_units;
 use room_tables::TableFault;
+use room_tables::values::{moment_at, number_at, state_at};
 use sqlite::{Alter, Connection, Row};
 use sqlite_value::value::ValueRef;
 

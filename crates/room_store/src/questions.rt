@@ -18,9 +18,10 @@ use crate::account_questions::{tell_ended, tell_grants, tell_jobs, tell_left, te
 use crate::events::knock;
 use crate::station_questions::{tell_again, tell_waiting};
 use crate::told::{refusing, telling};
+use room_checks::check_account;
 use room_events::{Name, Reply, Success, Word};
 use room_questions::{About, Question, accounts_lines, check_line, devices_lines};
-use room_statements::{check_account, find_account, list_devices, next_accounts};
+use room_statements::{find_account, list_devices, next_accounts};
 use room_tables::TableFault;
 use sqlite::{Alter, Connection};
 use std::alloc::Global;

@@ -1,7 +1,17 @@
-use Rattle.std.proofs.Common.{ap}
+use Rattle.std.proofs.Common.{◌≡◌, ℕ, Bool, true, false, List, ap, inl, sym}
+use Rattle.std.proofs.lemmas.Bool.{true≢false}
+use Rattle.sqlite.specs.Effect.{Database}
+use Rattle.room_events.specs.declared.event.Reply.{Reply}
 use Rattle.room_events.specs.declared.event.Reply.TheVariants.{Line}
-use Rattle.room_store.proofs.Checked.{told_open}
+use Rattle.room_questions.specs.Questions.{check_text}
+use Rattle.room_checks.specs.Checks.{IsSoundAs}
+use Rattle.room_store.specs.Questions.{TellsWhetherSound}
 use Rattle.room_store.proofs.questions.tell_check.Goals as goal
+
+-- of an account that is open its room is told
+told_open : (db : Database) (name : List ℕ) (told : Reply) (is_open : Bool) → is_open ≡ true → told ≡ Line (check_text true) → IsSoundAs db name is_open → TellsWhetherSound name db told
+told_open db name told true is line (room, holds) = inl (line, room, holds)
+told_open db name told false is line nothing = absurd (true≢false (sym is))
 
 pub returns-in_ok-check_line-in-Ok-true-clause-checked : goal.returns-in_ok-check_line-in-Ok-true-clause-checked
 returns-in_ok-check_line-in-Ok-true-clause-checked g c = λ clean has.

@@ -1,0 +1,10 @@
+pub mod ReadsBefore
+pub mod Tabulated
+pub mod CheckedRooms
+pub mod CheckedAccounts
+pub mod KeyWalks
+pub mod CheckedDocuments
+pub mod CheckedJobs
+pub mod KeysInOrder
+pub mod KeyRefusals
+pub mod NoKeys
