@@ -34,19 +34,15 @@ four_digits number = two_digits (number / 100) ++ two_digits number
 abbrev pub month_text : ℕ → List ℕ
 month_text month = four_digits (month / 12) ++ codes "-" ++ two_digits (month % 12 + 1)
 
--- a release: the device that asks, what it asks for, whose job and which
-abbrev pub release_fields : (device account : List ℕ) (job : ℕ) → List ℕ
-release_fields device account job =
-    device ++ codes " release " ++ account ++ codes " " ++ decimal job
-
-abbrev pub start_fields : (device account : List ℕ) (job : ℕ) → List ℕ
-start_fields device account job =
-    device ++ codes " start " ++ account ++ codes " " ++ decimal job
+-- the device that asks, what it asks for, whose job and which
+abbrev pub act_fields : (device act account : List ℕ) (job : ℕ) → List ℕ
+act_fields device act account job =
+    device ++ codes " " ++ act ++ codes " " ++ account ++ codes " " ++ decimal job
 
 abbrev pub settle_fields :
     (device account : List ℕ) (job impressions : ℕ) (failed : Bool) → List ℕ
 settle_fields device account job impressions failed =
-    device ++ codes " settle " ++ account ++ codes " " ++ decimal job ++ codes " "
+    act_fields device (codes "settle") account job ++ codes " "
     ++ decimal impressions ++ codes " " ++ word_of failed (codes "failed") (codes "done")
 
 abbrev pub grant_fields : (account : List ℕ) (month pages : ℕ) → List ℕ
@@ -72,8 +68,9 @@ abbrev pub event_fields : {F : Type 0} → PlainEvent → (told : Result Reply F
 event_fields (OfAccount account Open) told = codes "open " ++ account
 event_fields (OfAccount account (Ipp body)) told = request_fields account body told
 event_fields (OfAccount account (Release device job password impressions)) told =
-    release_fields device account job
-event_fields (OfAccount account (Start device job)) told = start_fields device account job
+    act_fields device (codes "release") account job
+event_fields (OfAccount account (Start device job)) told =
+    act_fields device (codes "start") account job
 event_fields (OfAccount account (Settle device job impressions failed)) told =
     settle_fields device account job impressions failed
 event_fields (OfAccount account (Grant month pages)) told = grant_fields account month pages

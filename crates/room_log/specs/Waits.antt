@@ -1,5 +1,5 @@
 -- What waits for the file, and what it has taken (all this project's own).
-use Rattle.std.specs.Prelude.{◌≡◌, ℕ, List, ◌++◌, drop, take}
+use Rattle.std.specs.Prelude.{◌≡◌, ◌==◌, ℕ, Bool, List, ◌++◌, drop, length, not, take}
 use Rattle.std.specs.List.{flat_map}
 use Rattle.room_log.specs.Books.{counted}
 use Rattle.room_log.specs.declared.waiting.Waiting.{Waiting}
@@ -7,6 +7,10 @@ use Rattle.room_log.specs.declared.waiting.Waiting.{Waiting}
 -- what may go
 abbrev pub waiting_of : Waiting → List ℕ
 waiting_of waiting = take waiting.settled waiting.lines.items
+
+-- something may go
+abbrev pub is_behind : Waiting → Bool
+is_behind waiting = not (length (waiting_of waiting) == 0)
 
 -- the lines of a round that is under way
 abbrev pub drafts_of : Waiting → List ℕ

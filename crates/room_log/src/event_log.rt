@@ -24,8 +24,6 @@ pub struct EventLog {
     pub(crate) alloc: Global,
     pub(crate) waiting: Waiting,
     file: LogFile,
-    /// Whether the file has refused what it was given last.
-    fails: bool,
     /// The moment of the last look at the path.
     looked_at: Option<u64>,
 }
@@ -37,7 +35,6 @@ impl Drop for EventLog {
             alloc: _,
             waiting: _,
             file: _,
-            fails: _,
             looked_at: _,
         } = self;
     }
@@ -52,7 +49,7 @@ impl Model for EventLog {
 }
 
 impl EventLog {
-    ghost use Rattle.room_log.specs.Waits.{drafts_of, logged_of, missed_of};
+    ghost use Rattle.room_log.specs.Waits.{drafts_of, is_behind, logged_of, missed_of};
 
     /// A log into the file, to which nothing was noted yet.
     pub fn new(alloc: Global, file: LogFile) -> EventLog
@@ -64,7 +61,6 @@ impl EventLog {
             alloc,
             waiting: Waiting::new(alloc),
             file,
-            fails: false,
             looked_at: None,
         }
     }
@@ -140,18 +136,20 @@ impl EventLog {
         ensures { self.new ≡ self.old }
     {
         if !self.waiting.is_behind() {
-            self.fails = self.file.append(line).is_err();
+            // It is left out where the file refuses it.
+            let _ = self.file.append(line);
         }
     }
 
     /// Gives the file what waits, once.
-    fn push_out(&mut self)
+    pub fn push_out(&mut self)
         ensures logged { logged_of self.new ≡ logged_of self.old }
         ensures drafts { drafts_of self.new ≡ drafts_of self.old }
         ensures missed { missed_of self.new ≡ missed_of self.old }
     {
         if self.waiting.is_behind() {
-            self.fails = self.waiting.push_out(&mut self.file).is_err();
+            // Where the file refuses it all of it waits on.
+            let _ = self.waiting.push_out(&mut self.file);
         }
     }
 
@@ -167,9 +165,11 @@ impl EventLog {
         }
     }
 
-    /// Whether the file has refused what it was given last.
-    pub fn fails(&self) -> bool {
-        self.fails
+    /// Whether lines wait that the file has not taken.
+    pub fn is_behind(&self) -> bool
+        ensures { result ≡ is_behind self.now }
+    {
+        self.waiting.is_behind()
     }
 
     /// How many lines were left out.

@@ -1,7 +1,7 @@
 //! A line of the log, put after what a buffer holds.
 ghost use Rattle.std.specs.Prelude.{◌≡◌, ◌++◌, codes, OnOk};
 ghost use Rattle.room_events.specs.Events.{plain_event};
-ghost use Rattle.room_log.specs.LogLines.{event_fields, grant_fields, ipp_fields, line_text, month_text, rate_fields, release_fields, request_fields, settle_fields, start_fields, turn_fields};
+ghost use Rattle.room_log.specs.LogLines.{act_fields, event_fields, grant_fields, ipp_fields, line_text, month_text, rate_fields, request_fields, settle_fields, turn_fields};
 
 use crate::about::about;
 use crate::door::Door;
@@ -51,12 +51,12 @@ fn put_event<F>(
             account,
             job,
             ..
-        } => put_release(output, device.bytes(), account.bytes(), *job),
+        } => put_act(output, device.bytes(), b"release", account.bytes(), *job),
         Event::Start {
             device,
             account,
             job,
-        } => put_start(output, device.bytes(), account.bytes(), *job),
+        } => put_act(output, device.bytes(), b"start", account.bytes(), *job),
         Event::Settle {
             device,
             account,
@@ -118,34 +118,21 @@ fn put_ipp(
     put_job(output, job)
 }
 
-/// Puts who releases which job.
-fn put_release(
+/// Puts which device asks what of whose job.
+fn put_act(
     output: &mut Vec<u8>,
     device: &[u8],
+    act: &[u8],
     account: &[u8],
     job: u32,
 ) -> Result<(), AllocError>
     ensures { OnOk result (output.new.items ≡ output.old.items
-        ++ release_fields device.now account.now job) }
+        ++ act_fields device.now act.now account.now job) }
 {
     output.extend_from_slice(device)?;
-    output.extend_from_slice(b" release ")?;
-    output.extend_from_slice(account)?;
     output.extend_from_slice(b" ")?;
-    put_number(output, u64::from(job))
-}
-
-fn put_start(
-    output: &mut Vec<u8>,
-    device: &[u8],
-    account: &[u8],
-    job: u32,
-) -> Result<(), AllocError>
-    ensures { OnOk result (output.new.items ≡ output.old.items
-        ++ start_fields device.now account.now job) }
-{
-    output.extend_from_slice(device)?;
-    output.extend_from_slice(b" start ")?;
+    output.extend_from_slice(act)?;
+    output.extend_from_slice(b" ")?;
     output.extend_from_slice(account)?;
     output.extend_from_slice(b" ")?;
     put_number(output, u64::from(job))
@@ -162,11 +149,7 @@ fn put_settle(
     ensures { OnOk result (output.new.items ≡ output.old.items
         ++ settle_fields device.now account.now job impressions failed) }
 {
-    output.extend_from_slice(device)?;
-    output.extend_from_slice(b" settle ")?;
-    output.extend_from_slice(account)?;
-    output.extend_from_slice(b" ")?;
-    put_number(output, u64::from(job))?;
+    put_act(output, device, b"settle", account, job)?;
     output.extend_from_slice(b" ")?;
     put_number(output, u64::from(impressions))?;
     output.extend_from_slice(b" ")?;

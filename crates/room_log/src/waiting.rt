@@ -37,7 +37,7 @@ impl Drop for Waiting {
 }
 
 impl Waiting {
-    ghost use Rattle.room_log.specs.Waits.{IsLeftOut, drafts_of, logged_of, missed_of, waiting_of, written_of};
+    ghost use Rattle.room_log.specs.Waits.{IsLeftOut, drafts_of, is_behind, logged_of, missed_of, waiting_of, written_of};
 
     /// Nothing waits. It takes no memory.
     pub fn new(alloc: Global) -> Waiting
@@ -62,7 +62,7 @@ impl Waiting {
 
     /// Whether lines wait that may go.
     pub fn is_behind(&self) -> bool
-        ensures { result ≡ not (length (waiting_of self.now) == 0) }
+        ensures { result ≡ is_behind self.now }
     {
         self.settled != 0
     }

@@ -1,5 +1,5 @@
 -- What comes to a journal, one after another.
-use Rattle.std.proofs.Common.{◌≡◌, Bool, true, false, Option, None, Some, List, [], ◌∷◌, ◌++◌, map, Result, refl, subst, sym, ap, ◌∙◌, append_assoc, inl, inr}
+use Rattle.std.proofs.Common.{◌≡◌, Bool, not, true, false, Option, None, Some, List, [], ◌∷◌, ◌++◌, map, Result, refl, subst, sym, ap, ◌∙◌, append_assoc, inl, inr}
 use Rattle.std.proofs.lemmas.Grind.{flat_map-append}
 use Rattle.std.proofs.lemmas.List.{map-append}
 use Rattle.sqlite.specs.Held.{Held}
@@ -18,6 +18,8 @@ use Rattle.room_peers.specs.LinePeers.{LineCall}
 use Rattle.room_peers.specs.declared.line_connection.Side.{Side}
 use Rattle.room_peers.specs.Journals.{Notes, Told, applied, asked_of, by_themselves, is_lost_of, list_of, open_of, round_alone, rounds_of, shares_of, store_of}
 use Rattle.room_peers.specs.Applying.{DoesEach, Leads, OnlyLooks}
+use Rattle.room_peers.specs.Rounds.{Ends, IsSettled}
+use Rattle.room_peers.specs.Space.{spare_of}
 use Rattle.room_peers.specs.Turns.{AnswersNext, Continues}
 
 grown : {X : Type 0} (a b c first more : List X) → b ≡ a ++ first → c ≡ b ++ more → c ≡ a ++ (first ++ more)
@@ -102,3 +104,21 @@ module _ {S : Type 0} (store : Ghosts S) where
       ]
       in
       then old is.0 new first (line_chain side calls is.0 new is.2)
+
+-- ---- the end of a round
+
+-- and the log then
+module _ {S : Type 0} (store : Ghosts S) where
+  pub settled_then : (old mid new : Served S) → IsSettled store old mid → rounds_of new ≡ rounds_of mid → open_of new ≡ open_of mid → new ≡ record mid { journal = new.journal; spare = spare_of new } → IsSettled store old new
+  settled_then old mid new settled over none same =
+      let lost : is_lost_of new ≡ is_lost_of mid = ap (λ (served : Served S). is_lost_of served) same in
+      let kept : store_of new ≡ store_of mid = ap (λ (served : Served S). store_of served) same in
+      record {
+        shared = settled.shared;
+        ends = subst (λ lost. Ends store (not lost) (store_of old) (store_of new)) (sym lost) (subst (λ (held : Held S). Ends store (not (is_lost_of mid)) (store_of old) held) (sym kept) settled.ends);
+        over = over ∙ settled.over ∙ ap (λ lost. rounds_of old ++ (open_of old, not lost) ∷ []) (sym lost);
+        none_left = none ∙ settled.none_left;
+        same = same ∙ ap (λ (served : Served S). record served { journal = new.journal; spare = spare_of new }) settled.same
+            ∙ ap (λ (held : Held S). record old { rounds = held; journal = new.journal; spare = spare_of new; shares = false; is_lost = is_lost_of mid; bytes_told = 0 }) (sym kept)
+            ∙ ap (λ lost. record old { rounds = store_of new; journal = new.journal; spare = spare_of new; shares = false; is_lost = lost; bytes_told = 0 }) (sym lost);
+      }

@@ -1,17 +1,17 @@
 -- A line and its line feed, as they came.
-use Rattle.std.proofs.Common.{◌≡◌, ◌==◌, ℕ, Bool, IsTrue, ◌+◌, List, [], ◌∷◌, ◌++◌, take, drop, get_or, Some, Result, Ok, Err, OnErr, ap, refl, inl, inr, ◌∙◌}
-use Rattle.std.proofs.lemmas.Bool.{eqb-true}
+use Rattle.std.proofs.Common.{◌≡◌, ◌==◌, ℕ, Bool, IsTrue, ◌+◌, List, [], ◌∷◌, ◌++◌, take, drop, get_or, Some, Result, Ok, Err, OnErr, ap, refl, sym, inl, inr, ◌∙◌}
+use Rattle.std.proofs.lemmas.Bool.{eqb-true, true≢false}
 use Rattle.std.proofs.lemmas.List.{take_more}
 use Rattle.std.proofs.lemmas.List.Quantifiers.{position-Some}
 use Rattle.sqlite_trees.specs.declared.store.Store.{Ghosts}
 use Rattle.room_events.specs.declared.event.Reply.{Reply}
 use Rattle.room_store.specs.declared.fault.StoreFault.{StoreFault}
 use Rattle.room_questions.specs.declared.question.Question.{Question}
-use Rattle.room_questions.specs.declared.question.Question.TheVariants.{Ping}
-use Rattle.room_peers.specs.Journals.{moment_of}
+use Rattle.room_questions.specs.declared.question.Question.TheVariants.{Ping, End, Devices, Accounts, Check, Account}
+use Rattle.room_peers.specs.Journals.{log_lags_of, moment_of}
 use Rattle.room_peers.specs.Turns.{AnswersNext, AppliesNext}
 use Rattle.room_peers.specs.Lines.{IsEntryOf, MayAsk, TakesLine, grammar_of, input_of, line_end, side_of}
-use Rattle.room_peers.specs.LineTexts.{answer_text, bad_line_text, line_text}
+use Rattle.room_peers.specs.LineTexts.{answer_text, bad_line_text, has_to_warn, line_text}
 use Rattle.room_lines.specs.Asking.{IsQuestionOf}
 use Rattle.room_peers.specs.declared.entry.Entry.{Entry}
 use Rattle.room_peers.specs.declared.line_connection.LineConnection.{LineConnection}
@@ -45,9 +45,9 @@ module _ {S : Type 0} (store : Ghosts S) where
 
   -- a question was answered
   pub takes_question : (before after : LineConnection) (old new : Served S) (end : ℕ) (question : Question) (warns : Bool) (told : Result Reply StoreFault) → line_end (input_of before) ≡ Some end → input_of after ≡ drop (end + 1) (input_of before)
-      → MayAsk (side_of before) question → IsQuestionOf (take end (input_of before)) question → AnswersNext store question told old new → (IsTrue warns → question ≡ Ping)
+      → MayAsk (side_of before) question → IsQuestionOf (take end (input_of before)) question → AnswersNext store question told old new → warns ≡ has_to_warn question (log_lags_of old)
       → TakesLine store before after old (answer_text warns told) new
-  takes_question before after old new end question warns told first rest asks said next pings = record {
+  takes_question before after old new end question warns told first rest asks said next is = record {
     end = end;
     first = first;
     rest = rest;
@@ -59,9 +59,7 @@ module _ {S : Type 0} (store : Ghosts S) where
       said = said;
       told = told;
       next = next;
-      warns = warns;
-      pings = pings;
-      says = refl;
+      says = ap (λ warns. answer_text warns told) is;
     }));
   }
 
@@ -78,3 +76,12 @@ module _ {S : Type 0} (store : Ghosts S) where
 pub on_err : {T E : Type 0} → (result : Result T E) (P : Type 0) → P → OnErr result P
 on_err (Ok value) P holds = tt
 on_err (Err error) P holds = holds
+
+-- of no other answer there is a warning
+pub only_ping : (question : Question) (log_lags : Bool) → IsTrue (has_to_warn question log_lags) → question ≡ Ping
+only_ping Ping log_lags warns = refl
+only_ping End log_lags warns = absurd (true≢false (sym warns))
+only_ping Devices log_lags warns = absurd (true≢false (sym warns))
+only_ping (Accounts behind) log_lags warns = absurd (true≢false (sym warns))
+only_ping (Check account) log_lags warns = absurd (true≢false (sym warns))
+only_ping (Account account about) log_lags warns = absurd (true≢false (sym warns))

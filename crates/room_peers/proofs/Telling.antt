@@ -10,7 +10,7 @@ use Rattle.room_log.specs.Books.{Takes, counted}
 use Rattle.room_log.specs.Waits.{drafts_of, logged_of, missed_of}
 use Rattle.room_log.specs.declared.waiting.Waiting.{Waiting}
 use Rattle.room_peers.specs.Logged.{TellsRounds, line_of, lines_of}
-use Rattle.room_peers.specs.Logging.{Becomes, DraftsOne, LogsOne, SettlesDrafts, settled}
+use Rattle.room_peers.specs.Logging.{Becomes, DraftsOne, KeepsLines, LogsOne, SettlesDrafts, settled}
 use Rattle.room_peers.specs.Tolds.{Round, Told, kept_in, round_in}
 use Rattle.room_peers.specs.declared.entry.Entry.{Entry}
 
@@ -135,3 +135,10 @@ told_settled log log2 kept over over2 round under_way2 is settles grows none =
 pub told_nothing : (log : Option Waiting) (over over2 : List (Log Entry (Result Reply StoreFault) × Bool)) (round : Log Entry (Result Reply StoreFault)) (under_way : List Told) → ForSome log (λ (waiting : Waiting). TellsRounds waiting (map round_in over) under_way) → over2 ≡ over ++ (round, false) ∷ [] → round.items ≡ [] → ForSome log (λ (waiting : Waiting). TellsRounds waiting (map round_in over2) under_way)
 told_nothing log over over2 round under_way is grows none =
     subst (λ (rounds : List Round). ForSome log (λ (waiting : Waiting). TellsRounds waiting rounds under_way)) (sym (rounds_then over over2 round false grows ∙ ap (λ (items : List Told). map round_in over ++ (items, false) ∷ []) none)) (tells_nothing (map round_in over) under_way log is)
+
+-- no line came, and none went
+pub told_kept : (old new : Option Waiting) (rounds : List Round) (under_way : List Told) → Becomes KeepsLines old new → ForSome old (λ (log : Waiting). TellsRounds log rounds under_way) → ForSome new (λ (log : Waiting). TellsRounds log rounds under_way)
+told_kept old new rounds under_way is told = becomes KeepsLines (λ log. TellsRounds log rounds under_way) (λ log. TellsRounds log rounds under_way) old new is told (λ was now keeps tells. record {
+  logged = λ none. keeps.logged ∙ tells.logged (sym keeps.missed ∙ none);
+  drafts = λ none. keeps.drafts ∙ tells.drafts (sym keeps.missed ∙ none);
+})

@@ -6,6 +6,7 @@ use Rattle.room_events.specs.Events.{Timed}
 use Rattle.room_serve.specs.Outcomes.{outcome_of}
 use Rattle.room_serve.specs.declared.outcome.Outcome.{Outcome}
 use Rattle.room_peers.specs.Entries.{timed}
+use Rattle.room_peers.specs.Logged.{log_lags}
 pub use Rattle.room_peers.specs.Tolds.{Told, Round, round_in, kept_in}
 use Rattle.room_peers.specs.declared.entry.Entry.{Entry}
 use Rattle.room_peers.specs.declared.served.Served.{Served}
@@ -63,6 +64,10 @@ is_lost_of served = served.is_lost
 -- an operator asked that serving ends
 abbrev pub ends_of : {S : Type 0} → Served S → Bool
 ends_of served = served.ends
+
+-- lines wait that the file of the log has not taken
+abbrev pub log_lags_of : {S : Type 0} → Served S → Bool
+log_lags_of served = log_lags served.journal.log
 
 -- what the peer whose turn it is has asked in the round
 abbrev pub asked_of : {S : Type 0} → Served S → List Entry

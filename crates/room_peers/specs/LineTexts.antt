@@ -1,9 +1,11 @@
 -- What is sent for a line (all this project's own).
-use Rattle.std.specs.Prelude.{ℕ, ◌+◌, ◌*◌, ◌==◌, Bool, if◌then◌else◌, List, ◌++◌, codes, decimal, drop, length, slice_index, take, Result, Ok, Err}
+use Rattle.std.specs.Prelude.{ℕ, ◌+◌, ◌*◌, ◌==◌, Bool, false, if◌then◌else◌, List, ◌++◌, codes, decimal, drop, length, slice_index, take, Result, Ok, Err}
 use Rattle.std.specs.List.{flat_map}
 use Rattle.room_replies.specs.declared.part.Part.{Part}
 use Rattle.room_events.specs.declared.event.Reply.{Reply}
 use Rattle.room_events.specs.declared.event.Reply.TheVariants as reply_is
+use Rattle.room_questions.specs.declared.question.Question.{Question}
+use Rattle.room_questions.specs.declared.question.Question.TheVariants.{Ping}
 use Rattle.room_store.specs.declared.fault.StoreFault.{StoreFault}
 
 -- for a line that is none of its side's
@@ -50,6 +52,11 @@ line_text (Ok reply_is.Short) = codes "short\n"
 line_text (Ok (reply_is.Ipp answer)) = told_of answer ++ codes "\n"
 line_text (Err fault) = codes "failed\n"
 
--- for a question, or where it warns that the log can't be written
+-- the answer to `ping` warns where lines wait for the log's file
+abbrev pub has_to_warn : Question → (log_lags : Bool) → Bool
+has_to_warn Ping log_lags = log_lags
+has_to_warn _ log_lags = false
+
+-- for a question
 abbrev pub answer_text : (warns : Bool) → Result Reply StoreFault → List ℕ
 answer_text warns told = if warns then codes "log-fails\n" else line_text told

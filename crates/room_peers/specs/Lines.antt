@@ -11,7 +11,6 @@ use Rattle.room_lines.specs.declared.lines.Grammar.{Grammar}
 use Rattle.room_lines.specs.declared.lines.Grammar.TheVariants as grammar_is
 use Rattle.room_lines.specs.declared.line.Line.{Line}
 use Rattle.room_questions.specs.declared.question.Question.{Question}
-use Rattle.room_questions.specs.declared.question.Question.TheVariants.{Ping}
 use Rattle.room_store.specs.declared.fault.StoreFault.{StoreFault}
 use Rattle.room_peers.specs.declared.entry.Entry.{Entry}
 use Rattle.room_peers.specs.declared.entry.Entry.TheVariants as entry_is
@@ -19,9 +18,9 @@ use Rattle.room_peers.specs.declared.line_connection.LineConnection.{LineConnect
 use Rattle.room_peers.specs.declared.line_connection.Side.{Side}
 use Rattle.room_peers.specs.declared.line_connection.Side.TheVariants.{Station, Operator}
 use Rattle.room_peers.specs.declared.served.Served.{Served}
-use Rattle.room_peers.specs.Journals.{moment_of, shares_of}
+use Rattle.room_peers.specs.Journals.{log_lags_of, moment_of, shares_of}
 use Rattle.room_peers.specs.Turns.{AnswersNext, AppliesNext}
-use Rattle.room_peers.specs.LineTexts.{answer_text, bad_line_text, line_text}
+use Rattle.room_peers.specs.LineTexts.{answer_text, bad_line_text, has_to_warn, line_text}
 
 -- ---- a connection
 
@@ -112,8 +111,8 @@ module _ {S : Type 0} (store : Ghosts S) where
     pub next : AppliesNext store entry told old new
     pub says : text ≡ line_text told
 
-  -- A question that a line asks outside a round is answered, and nothing is applied. The answer to
-  -- `ping` may be a warning in the place of what the tables tell.
+  -- A question that a line asks outside a round is answered, and nothing is applied. `ping` is warned
+  -- where lines wait for the log's file.
   pub record Inquires (side : Side) (came : List ℕ) (old : Served S) (text : List ℕ)
       (new : Served S) : Type 0 where
     pub line : List ℕ
@@ -123,9 +122,7 @@ module _ {S : Type 0} (store : Ghosts S) where
     pub said : IsQuestionOf line question
     pub told : Result Reply StoreFault
     pub next : AnswersNext store question told old new
-    pub warns : Bool
-    pub pings : IsTrue warns → question ≡ Ping
-    pub says : text ≡ answer_text warns told
+    pub says : text ≡ answer_text (has_to_warn question (log_lags_of old)) told
 
   -- a line that is none of its side's
   abbrev pub IsBad : Served S → List ℕ → Served S → Type 0

@@ -1,10 +1,10 @@
 -- The log and the journal: the lines of the one are those of the other (all this project's own).
-use Rattle.std.specs.Prelude.{◌≡◌, ℕ, List, if◌then◌else◌}
+use Rattle.std.specs.Prelude.{◌≡◌, ℕ, Bool, false, List, Option, None, Some, if◌then◌else◌}
 use Rattle.std.specs.List.{flat_map}
 use Rattle.room_lines.specs.Actions.{is_of_station}
 use Rattle.room_lines.specs.declared.action.Action.{Action}
 use Rattle.room_log.specs.LogLines.{line_text}
-use Rattle.room_log.specs.Waits.{drafts_of, logged_of, missed_of}
+use Rattle.room_log.specs.Waits.{drafts_of, is_behind, logged_of, missed_of}
 use Rattle.room_log.specs.declared.door.Door.{Door}
 use Rattle.room_log.specs.declared.door.Door.TheVariants.{Clients, Stations, Operators}
 use Rattle.room_log.specs.declared.waiting.Waiting.{Waiting}
@@ -28,6 +28,11 @@ line_of told = line_text (moment_at told.0) (door_of told.0) (event_of_entry tol
 
 abbrev pub lines_of : List Told → List ℕ
 lines_of more = flat_map line_of more
+
+-- lines wait that the file of a log has not taken
+abbrev pub log_lags : Option Waiting → Bool
+log_lags None = false
+log_lags (Some log) = is_behind log
 
 -- Unless a line was left out, what the file has taken, and what waits for it, are the lines of the
 -- rounds that were kept, in order, and nothing else; and those of the round that is under way stand

@@ -32,3 +32,9 @@ pub record SettlesDrafts (kept : Bool) (old new : Waiting) : Type 0 where
   pub logged : logged_of new ≡ settled kept old
   pub drafts : drafts_of new ≡ []
   pub missed : missed_of new ≡ missed_of old
+
+-- no line comes, and none goes
+pub record KeepsLines (old new : Waiting) : Type 0 where
+  pub logged : logged_of new ≡ logged_of old
+  pub drafts : drafts_of new ≡ drafts_of old
+  pub missed : missed_of new ≡ missed_of old

@@ -9,6 +9,7 @@ use Rattle.room_tables.specs.Calls.{IsUnchanged, IsUndone, KeepsConnection, Unch
 use Rattle.room_peers.specs.declared.served.Served.{Served}
 use Rattle.room_peers.specs.Journals.{Round, is_lost_of, open_of, rounds_of, shares_of, store_of}
 use Rattle.room_peers.specs.Applying.{Leads, OnlyLooks}
+use Rattle.room_peers.specs.Space.{spare_of}
 
 module _ {S : Type 0} (store : Ghosts S) where
   -- it is under way, and a crash finds nothing of it
@@ -62,6 +63,7 @@ module _ {S : Type 0} (store : Ghosts S) where
     pub same : new ≡ record old {
       rounds = store_of new;
       journal = new.journal;
+      spare = spare_of new;
       shares = false;
       is_lost = new.is_lost;
       bytes_told = 0;

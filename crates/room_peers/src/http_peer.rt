@@ -1,6 +1,6 @@
 //! A connection of HTTP: where it stands, how long it may take, and how much it holds.
 
-ghost use Rattle.std.specs.Prelude.{◌≡◌, ◌≢◌, ◌+◌, ◌<◌, IsFalse, IsTrue, Some};
+ghost use Rattle.std.specs.Prelude.{◌≡◌, ◌≢◌, ◌+◌, ◌<◌, ◌↔◌, length, nat_lt, IsFalse, IsTrue, Some};
 ghost use Rattle.room_requests.specs.Limits.{longest_body, longest_head};
 ghost use Rattle.http_server.specs.Connection.{config_of, history};
 ghost use Rattle.http_server.specs.History.{new_history};
@@ -198,7 +198,9 @@ impl HttpPeer {
     }
 
     /// Whether an answer waits to go.
-    pub fn has_output(&self) -> bool {
+    pub fn has_output(&self) -> bool
+        ensures { IsTrue result ↔ (0 < length (history (connection_of self.now)).pending) }
+    {
         self.connection.wants_write()
     }
 
@@ -217,7 +219,9 @@ impl HttpPeer {
     }
 
     /// Whether a large request is coming.
-    pub fn is_large(&self) -> bool {
+    pub fn is_large(&self) -> bool
+        ensures { result ≡ nat_lt LARGE (came_of self.now) }
+    {
         self.load.is_large()
     }
 }

@@ -2,11 +2,11 @@
 ghost use Rattle.std.specs.Prelude.{◌≡◌, ◌∷◌, ◌++◌, [], false, true, map};
 ghost use Rattle.std.specs.Option.{ForSome};
 ghost use Rattle.room_log.specs.Waits.{drafts_of, logged_of};
-ghost use Rattle.room_peers.specs.Logged.{TellsRounds};
+ghost use Rattle.room_peers.specs.Logged.{TellsRounds, log_lags};
 ghost use Rattle.room_peers.specs.Tolds.{round_in};
 
 use crate::entry::Entry;
-use crate::logging::{draft, look, note, refuse_line, refuse_request, settle};
+use crate::logging::{draft, look, note, push_out, refuse_line, refuse_request, settle};
 use http_server::Log;
 use room_events::Reply;
 use room_log::{Door, EventLog};
@@ -104,6 +104,14 @@ impl Journal {
         self.under_way = Log::new();
     }
 
+    /// Gives the log's file once more what waits for it.
+    pub(crate) fn push_out(&mut self)
+        ensures rounds { rounds_in self.new ≡ rounds_in self.old }
+        ensures under_way { under_way_in self.new ≡ under_way_in self.old }
+    {
+        push_out(&mut self.log);
+    }
+
     /// Tells that a door refused a line.
     pub(crate) fn refuse_line(&mut self, moment: u64, door: Door)
         ensures { self.new ≡ self.old }
@@ -125,10 +133,12 @@ impl Journal {
         look(&mut self.log, files, moment);
     }
 
-    /// Whether the file of the log has refused what it was given last.
-    pub(crate) fn fails(&self) -> bool {
+    /// Whether lines wait that the file of the log has not taken.
+    pub(crate) fn log_lags(&self) -> bool
+        ensures { result ≡ log_lags self.now.log }
+    {
         match &self.log {
-            Some(log) => log.fails(),
+            Some(log) => log.is_behind(),
             None => false,
         }
     }

@@ -1,9 +1,8 @@
 //! A connection of lines: what came and is no whole line yet, and answers that wait to go.
-ghost use Rattle.std.specs.Prelude.{◌≡◌, ◌≢◌, ◌<◌, ◌≤◌, ◌+◌, ◌++◌, [], length, nat_lt, IfOk, IfSome, IsTrue, OnErr, OnOk, Ok, Some};
+ghost use Rattle.std.specs.Prelude.{◌≡◌, ◌≢◌, ◌<◌, ◌≤◌, ◌+◌, ◌++◌, [], length, nat_lt, IfOk, IfSome, OnErr, OnOk, Ok, Some};
 ghost use Rattle.std.specs.Io.KnownBytes.{Keeps};
 ghost use Rattle.room_lines.specs.Asking.{IsQuestionOf};
-ghost use Rattle.room_peers.specs.LineTexts.{bad_line_text};
-ghost use Rattle.room_questions.specs.declared.question.Question.TheVariants as question_is;
+ghost use Rattle.room_peers.specs.LineTexts.{bad_line_text, has_to_warn};
 ghost use Rattle.room_peers.specs.Turns.{Continues};
 ghost use Rattle.room_peers.specs.Lines.{AnswersLine, Comes, IsEntryOf, IsNewOf, IsPutOff, IsQuiet, IsWaiting, Leaves, LosesAnswer, MayAsk, asks_documents, grammar_of, input_of, line_end, output_of, received_of, sent_of, side_of, longest_line};
 
@@ -185,7 +184,7 @@ impl LineConnection {
         if served.is_shared() {
             return Ok(Front::PutOff);
         }
-        let warns = has_to_warn(&question, served.log_fails());
+        let warns = has_to_warn(&question, served.log_lags());
         let told = served.answer_question(question);
         self.input.advance(end + 1);
         put_answer(self.alloc, &mut self.output, warns, told)?;
@@ -299,9 +298,9 @@ fn question_of(side: Side, line: &[u8]) -> Option<Question>
     }
 }
 
-/// Whether the answer warns of a log that can't be written: that to `ping` does.
-fn has_to_warn(question: &Question, log_fails: bool) -> bool
-    ensures { IsTrue result → question.now ≡ question_is.Ping }
+/// Whether the answer warns of a log that lags: that to `ping` does.
+fn has_to_warn(question: &Question, log_lags: bool) -> bool
+    ensures { result ≡ has_to_warn question.now log_lags }
 {
-    log_fails && matches!(question, Question::Ping)
+    matches!(question, Question::Ping) && log_lags
 }

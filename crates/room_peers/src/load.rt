@@ -1,6 +1,6 @@
 //! How much a connection holds.
 
-ghost use Rattle.std.specs.Prelude.{◌≡◌};
+ghost use Rattle.std.specs.Prelude.{◌≡◌, nat_lt};
 
 use room_requests::{BODY_LIMIT, HEAD_LIMIT};
 
@@ -63,7 +63,9 @@ impl Load {
     }
 
     /// Whether a large request is coming.
-    pub(crate) fn is_large(&self) -> bool {
+    pub(crate) fn is_large(&self) -> bool
+        ensures { result ≡ nat_lt LARGE self.now.coming }
+    {
         self.coming > LARGE
     }
 

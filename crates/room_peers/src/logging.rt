@@ -1,6 +1,6 @@
 //! What becomes of the log, where one is kept.
 ghost use Rattle.std.specs.Prelude.{◌≡◌};
-ghost use Rattle.room_peers.specs.Logging.{Becomes, DraftsOne, LogsOne, SettlesDrafts};
+ghost use Rattle.room_peers.specs.Logging.{Becomes, DraftsOne, KeepsLines, LogsOne, SettlesDrafts};
 
 use crate::entry::Entry;
 use room_events::Reply;
@@ -32,6 +32,15 @@ pub(crate) fn settle(log: &mut Option<EventLog>, kept: bool)
 {
     if let Some(log) = log {
         log.settle(kept);
+    }
+}
+
+/// Gives the log's file once more what waits for it.
+pub(crate) fn push_out(log: &mut Option<EventLog>)
+    ensures { Becomes KeepsLines log.old log.new }
+{
+    if let Some(log) = log {
+        log.push_out();
     }
 }
 

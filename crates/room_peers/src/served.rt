@@ -1,7 +1,7 @@
 //! The rooms as one process serves them to everybody.
 ghost use Rattle.std.specs.Prelude.{◌≡◌, ◌≢◌, ◌+◌, ◌≤◌, ◌⊎◌, [], true, false, IsTrue, None, Err, IfOk, OnErr};
 ghost use Rattle.room_log.specs.Waits.{drafts_of, logged_of};
-ghost use Rattle.room_peers.specs.Journals.{asked_of, ends_of, is_full_of, is_lost_of, moment_of, open_of, rounds_of, shares_of, store_of};
+ghost use Rattle.room_peers.specs.Journals.{asked_of, ends_of, is_full_of, is_lost_of, log_lags_of, moment_of, open_of, rounds_of, shares_of, store_of};
 ghost use Rattle.room_peers.specs.Applying.{AppliesAlone, AppliesEntry};
 ghost use Rattle.room_peers.specs.Again.{IsOneMore, told_at_last};
 ghost use Rattle.room_peers.specs.Space.{entry_needs_space, lacks_space, length_of_entry, spare_of};
@@ -30,6 +30,9 @@ const MOST_TOLD: usize = 8_388_608;
 /// The bytes that a small change is given first where the disk is full. The log grows by 256 KiB at
 /// once.
 const FIRST_PIECE: usize = 524_288;
+
+/// The bytes that the log is given where the disk is full: the most that waits for it, and a block.
+const LOG_PIECE: usize = 1_052_672;
 
 /// The shared tables, the clock's moment, and a journal of all that was applied to them.
 pub struct Served<S: Alter> {
@@ -140,9 +143,11 @@ impl<S: Alter> Served<S> {
         self.journal.refuse_request(self.moment, status, path);
     }
 
-    /// Whether the file of the log has refused what it was given last.
-    pub fn log_fails(&self) -> bool {
-        self.journal.fails()
+    /// Whether lines wait that the file of the log has not taken.
+    pub fn log_lags(&self) -> bool
+        ensures { result ≡ log_lags_of self.now }
+    {
+        self.journal.log_lags()
     }
 
     /// Takes a piece of the space that is kept where it is not whole.
@@ -201,6 +206,14 @@ impl<S: Alter> Served<S> {
         if !self.shares {
             return;
         }
+        self.settle_round();
+        self.log_from_space();
+    }
+
+    fn settle_round(&mut self)
+        requires { IsTrue (shares_of self.old) }
+        ensures { IsSettled S.Store self.old self.new }
+    {
         let kept = self.rounds.commit().is_ok();
         self.journal.settle(kept);
         self.shares = false;
@@ -273,7 +286,24 @@ impl<S: Alter> Served<S> {
         let told = self.apply_with_spare(entry);
         self.note_space(entry, &told);
         self.journal.add_alone(entry, &told);
+        self.log_from_space();
         told
+    }
+
+    /// Where lines wait for the log's file it is given a piece of the space that is kept, and what that
+    /// leaves is taken back.
+    fn log_from_space(&mut self)
+        ensures rounds { rounds_of self.new ≡ rounds_of self.old }
+        ensures none_more { open_of self.new ≡ open_of self.old }
+        ensures same { self.new ≡ record self.old {
+          journal = self.new.journal;
+          spare = spare_of self.new;
+        } }
+    {
+        if self.journal.log_lags() && self.spare.give_up(LOG_PIECE) {
+            self.journal.push_out();
+            self.spare.fill();
+        }
     }
 
     /// Applies what came. Where the storage fails it is applied once more from the space that is kept,

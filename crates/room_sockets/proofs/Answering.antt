@@ -14,15 +14,17 @@ use Rattle.sqlite_trees.specs.declared.store.Store.{Ghosts}
 use Rattle.http.specs.Request.{body_of}
 use Rattle.room_requests.specs.declared.refusal.Refusal.{Refusal}
 use Rattle.room_peers.specs.ProofServices.{one_more, stays}
+use Rattle.room_peers.proofs.LineEnds.{only_ping}
 use Rattle.room_peers.proofs.Journaling.{applied_then, line_chain, looked, then}
 use Rattle.room_peers.specs.Answers.{Answers, Gives}
 use Rattle.room_peers.specs.HttpPeers as http
 use Rattle.room_peers.specs.HttpPeers.{calls_of, connection_of}
-use Rattle.room_peers.specs.Journals.{Notes, Told, applied, journal_of, moment_of, shares_of, store_of}
+use Rattle.room_peers.specs.Journals.{Notes, Told, applied, journal_of, log_lags_of, moment_of, shares_of, store_of}
 use Rattle.room_peers.specs.Turns.{Continues}
 use Rattle.room_peers.specs.LastPeers.{SaysLast, left_of}
 use Rattle.room_peers.specs.LinePeers as lines
 use Rattle.room_peers.specs.LinePeers.{LineCall, TakesLines, bytes_told, lines_of, taken}
+use Rattle.room_peers.specs.LineTexts.{has_to_warn}
 use Rattle.room_peers.specs.Lines.{Asks, Inquires, IsBad, IsTold, input_of, output_of, sent_of, side_of}
 use Rattle.room_peers.specs.Requests.{asked}
 use Rattle.room_peers.specs.Streams.{Ends}
@@ -240,8 +242,8 @@ module _ {S : Type 0} (store : Ghosts S) (before : Served S) (fresh : IsFresh be
             asks = is.asks;
             said = is.said;
             told = is.told;
-            warns = is.warns;
-            pings = is.pings;
+            warns = has_to_warn is.question (log_lags_of old);
+            pings = only_ping is.question (log_lags_of old);
             says = is.says;
             answers = subst (λ (log : List Told). AnswersBy store (store_of before) last log is.question is.told) (sym so_far) (answered_so store before fresh last is.question is.told old new served clean is.next);
           },

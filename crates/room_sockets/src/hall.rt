@@ -42,8 +42,8 @@ pub(crate) const MOST_DOORS: usize = 64;
 pub struct Hall {
     peers: Peers,
     events: Events,
-    /// Whether the file of the log refused what it was given last.
-    log_fails: bool,
+    /// Whether lines wait that the file of the log has not taken.
+    log_lags: bool,
     // Whoever asked in a round heard of it, or is gone.
     ghost told: { NobodyWaits peers.guests },
 }
@@ -122,7 +122,7 @@ impl Hall {
         Ok(Hall {
             peers,
             events,
-            log_fails: false,
+            log_lags: false,
         })
     }
 
@@ -192,7 +192,7 @@ impl Hall {
         self.peers.poll.poll(&mut self.events, timeout)?;
         served.look_at_log(rt, moment(rt));
         let ended = self.turn(rt, served);
-        self.log_fails = tell_failure(rt, self.log_fails, served.log_fails());
+        self.log_lags = tell_failure(rt, self.log_lags, served.log_lags());
         ended
     }
 

@@ -59,7 +59,7 @@ fn a_log(rt: &HostRuntime) -> Result<(), Fault> {
     exchange_lines(rt, &mut rooms, Side::Operator, b"device d1 off\n", 100)?;
     expect_file(rt, MOVED, LINES)?;
     expect_file(rt, FILE, NEXT)?;
-    expect(rt, !rooms.log_fails(), "the log is written")?;
+    expect(rt, !rooms.log_lags(), "the log is written")?;
     fs::remove_file(rt, MOVED)?;
     fs::remove_file(rt, FILE)?;
     Ok(())
