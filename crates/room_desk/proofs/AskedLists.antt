@@ -1,9 +1,9 @@
--- Lists that were asked for.
+-- Lines and lists that were asked for.
 use Rattle.std.proofs.Common.{◌≡◌, ℕ, List, ◌++◌, codes, refl, subst}
-use Rattle.std.specs.Io.KnownBytes.{Appends}
+use Rattle.std.specs.Io.KnownBytes.{Appends, Consumes}
 use Rattle.room_client.specs.Asking.{HearsList}
 use Rattle.room_client.specs.Replies.{Known}
-use Rattle.room_desk.specs.Talks.{AsksList}
+use Rattle.room_desk.specs.Talks.{Asks, AsksList}
 
 pub AsksList-of : (sa sb la lb p : Known) (line asked : List ℕ) (lines told : List (List ℕ))
     → line ≡ asked → lines ≡ told → Appends sa sb (line ++ codes "\n") → HearsList la lb lines
@@ -11,5 +11,14 @@ pub AsksList-of : (sa sb la lb p : Known) (line asked : List ℕ) (lines told : 
 AsksList-of sa sb la lb p line asked lines told same these sent heard = record {
   sent = subst (λ l. Appends sa sb (l ++ codes "\n")) same sent;
   heard = subst (HearsList la lb) these heard;
+  same = refl;
+}
+
+pub Asks-of : (sa sb la lb p : Known) (line asked answer : List ℕ) → line ≡ asked
+    → Appends sa sb (line ++ codes "\n") → Consumes la lb (answer ++ codes "\n")
+    → Asks (record { sent = sa; left = la; printed = p }) (record { sent = sb; left = lb; printed = p }) asked answer
+Asks-of sa sb la lb p line asked answer same sent heard = record {
+  sent = subst (λ l. Appends sa sb (l ++ codes "\n")) same sent;
+  heard = heard;
   same = refl;
 }

@@ -19,3 +19,19 @@ pub map-take_one : {X Y : Type 0} (view : X → Y) (xs : List X) (index : ℕ) (
     → x ≡ get_or xs index x → map view (take (index + 1) xs) ≡ map view (take index xs) ++ view x ∷ []
 map-take_one view xs index x within is =
     ap (map view) (take_one xs index x within is) ∙ map-append view (take index xs) (x ∷ [])
+
+-- a step for the next of a list
+pub InTurn-next : {X S : Type 0} (Step : X → S → S → Type 0) (from mid to : S) (xs : List X)
+    → (index : ℕ) (x : X) → index < length xs → x ≡ get_or xs index x
+    → InTurn Step from mid (take index xs) → Step x mid to → InTurn Step from to (take (index + 1) xs)
+InTurn-next Step from mid to xs index x within is done step =
+    subst (InTurn Step from to) (sym (take_one xs index x within is))
+    (InTurn-snoc Step from mid to (take index xs) x done step)
+
+pub InTurn-next-seen : {X Y S : Type 0} (view : X → Y) (Step : Y → S → S → Type 0) (from mid to : S)
+    → (xs : List X) (index : ℕ) (x : X) → index < length xs → x ≡ get_or xs index x
+    → InTurn Step from mid (map view (take index xs)) → Step (view x) mid to
+    → InTurn Step from to (map view (take (index + 1) xs))
+InTurn-next-seen view Step from mid to xs index x within is done step =
+    subst (InTurn Step from to) (sym (map-take_one view xs index x within is))
+    (InTurn-snoc Step from mid to (map view (take index xs)) (view x) done step)

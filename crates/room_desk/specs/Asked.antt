@@ -1,15 +1,10 @@
 -- The lines that are sent, without the line feeds that end them (all this project's own).
-use Rattle.std.specs.Prelude.{ℕ, List, ◌++◌, codes, Option, None, Some}
+use Rattle.std.specs.Prelude.{ℕ, List, ◌++◌, codes}
 use Rattle.room_client.specs.Grants.{month_text}
 
 -- a word with its space, and an account
 abbrev pub account_asked : (word account : List ℕ) → List ℕ
 account_asked word account = word ++ account
-
--- which accounts come next behind this one, or first
-abbrev pub accounts_asked : (behind : Option (List ℕ)) → List ℕ
-accounts_asked None = codes "accounts -"
-accounts_asked (Some name) = account_asked (codes "accounts ") name
 
 abbrev pub statement_asked : (account : List ℕ) (month : ℕ) → List ℕ
 statement_asked account month =

@@ -1,5 +1,5 @@
 -- What `report --devices` asks and prints (this project's own).
-use Rattle.std.specs.Prelude.{◌≡◌, ℕ, List, [], ◌∷◌, ◌++◌, codes, map}
+use Rattle.std.specs.Prelude.{ℕ, List, [], ◌∷◌, ◌++◌, codes, map}
 use Rattle.std.specs.List.{flat_map}
 use Rattle.room_desk.specs.Csv.{record_text}
 use Rattle.room_desk.specs.Lines.{line_of}

@@ -3,9 +3,14 @@ pub mod Asked
 pub mod Bars
 pub mod Csv
 pub mod Devices
+pub mod Expiry
 pub mod Jobs
 pub mod Lines
+pub mod Names
 pub mod Refunds
+pub mod Reports
 pub mod Statements
+pub mod Tables
 pub mod Talks
 pub mod Tasks
+pub mod Waiting

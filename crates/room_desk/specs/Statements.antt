@@ -1,5 +1,5 @@
 -- What the answer to `statement` tells (this project's own).
-use Rattle.std.specs.Prelude.{◌≡◌, ℕ, List, [], ◌∷◌, ◌++◌, codes}
+use Rattle.std.specs.Prelude.{◌≡◌, ℕ, List, [], ◌∷◌, codes}
 use Rattle.room_client.specs.Words.{IsNumber}
 use Rattle.room_desk.specs.Lines.{line_of}
 use Rattle.room_desk.specs.declared.statement.Statement.{Statement}

@@ -1,5 +1,5 @@
 -- What is sent and heard over a connection, and printed meanwhile (this project's own).
-use Rattle.std.specs.Prelude.{◌≡◌, ℕ, List, [], ◌∷◌, ◌++◌, codes}
+use Rattle.std.specs.Prelude.{◌≡◌, ℕ, List, [], ◌∷◌, codes}
 use Rattle.std.specs.Io.KnownBytes.{Appends, Consumes}
 use Rattle.room_client.specs.Asking.{HearsList, IsDone}
 use Rattle.room_client.specs.Peers.{reader_of, writer_of}
@@ -19,6 +19,15 @@ at contents remaining shown peer output = record {
   sent = contents (writer_of peer);
   left = remaining (reader_of peer);
   printed = shown output;
+}
+
+-- the same where it is not said what was printed
+abbrev pub over : {R W : Type 0} → (contents : W → Known) → (remaining : R → Known)
+    → Peer R W → (printed : Known) → At
+over contents remaining peer printed = record {
+  sent = contents (writer_of peer);
+  left = remaining (reader_of peer);
+  printed = printed;
 }
 
 -- a line was sent, and this line answered it

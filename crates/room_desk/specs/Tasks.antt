@@ -1,17 +1,24 @@
--- What a task comes to that is done (this project's own).
-use Rattle.std.specs.Prelude.{⊤, codes}
+-- What a task comes to (this project's own).
+use Rattle.std.specs.Prelude.{◌≡◌, ℕ, Bool, true, Some, codes}
 use Rattle.room_desk.specs.Devices.{ReportsDevices}
+use Rattle.room_desk.specs.Expiry.{Expires}
 use Rattle.room_desk.specs.Refunds.{Refunds}
+use Rattle.room_desk.specs.Reports.{ReportsAccount, report_head}
+use Rattle.room_desk.specs.Tables.{PrintsTable}
 use Rattle.room_desk.specs.Talks.{At, EndsProcess, GetsDone}
+use Rattle.room_desk.specs.Waiting.{ListsAccount, waiting_head}
 use Rattle.room_desk.specs.declared.task.Task.{Task}
 use Rattle.room_desk.specs.declared.task.Task.TheVariants as task
 
--- what was sent, heard and printed, of a task that does not ask for all accounts
-abbrev pub Performs : Task → (from to : At) → Type 0
-Performs task.Ping from to = GetsDone from to (codes "ping")
-Performs task.End from to = EndsProcess from to
-Performs (task.Report month) from to = ⊤
-Performs task.Devices from to = ReportsDevices from to
-Performs (task.Waiting days) from to = ⊤
-Performs (task.Expire days shown_only) from to = ⊤
-Performs (task.Refund account pages) from to = Refunds account pages from to
+-- what was sent, heard and printed of a task at the moment now, and whether all of it was done
+abbrev pub Performs : Task → (now : ℕ) (done : Bool) (from to : At) → Type 0
+Performs task.Ping now done from to = GetsDone from to (codes "ping") × (done ≡ true)
+Performs task.End now done from to = EndsProcess from to × (done ≡ true)
+Performs (task.Report month) now done from to =
+    PrintsTable report_head (ReportsAccount month.month) from to × (done ≡ true)
+Performs task.Devices now done from to = ReportsDevices from to × (done ≡ true)
+Performs (task.Waiting days) now done from to =
+    PrintsTable waiting_head (ListsAccount (record { days = days; now = now })) from to × (done ≡ true)
+Performs (task.Expire days shown_only) now done from to =
+    Expires (record { age = record { days = Some days; now = now }; shown_only = shown_only }) done from to
+Performs (task.Refund account pages) now done from to = Refunds account pages from to × (done ≡ true)

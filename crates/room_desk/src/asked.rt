@@ -1,18 +1,18 @@
 //! The lines that are sent.
-ghost use Rattle.std.specs.Prelude.{◌≡◌, ◌≤◌, IfOk, option_map};
+ghost use Rattle.std.specs.Prelude.{◌≡◌, ◌≤◌, IfOk};
 ghost use Rattle.room_rules.specs.Limits.{first_month, last_month};
-ghost use Rattle.room_desk.specs.Asked.{account_asked, accounts_asked, cancel_asked, statement_asked};
+ghost use Rattle.room_desk.specs.Asked.{account_asked, cancel_asked, statement_asked};
+ghost use Rattle.room_desk.specs.Names.{accounts_asked, last_of};
 
 use room_client::month_text;
 use room_rules::Name;
 use std::alloc::{AllocError, Global};
 
-/// `accounts NAME`, or `accounts -` where there is no name yet.
-pub(crate) fn accounts_line(alloc: Global, behind: Option<&Name>) -> Result<Vec<u8>, AllocError>
-    ensures { IfOk result
-        (λ line. line.items ≡ accounts_asked (option_map (λ name. name.now) behind.entry)) }
+/// `accounts NAME` with the last of the names, or `accounts -` where there is none yet.
+pub(crate) fn accounts_line(alloc: Global, names: &[Name]) -> Result<Vec<u8>, AllocError>
+    ensures { IfOk result (λ line. line.items ≡ accounts_asked (last_of names.now)) }
 {
-    match behind {
+    match names.last() {
         Some(name) => account_line(alloc, b"accounts ", name),
         None => Vec::from_slice(alloc, b"accounts -"),
     }

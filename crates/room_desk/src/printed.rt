@@ -2,8 +2,11 @@
 ghost use Rattle.std.specs.Prelude.{OnOk};
 ghost use Rattle.std.specs.Io.KnownBytes.{Appends};
 ghost use Rattle.room_client.specs.Replies.{whole_line};
+ghost use Rattle.room_desk.specs.Csv.{record_text, texts};
 
+use crate::csv::put_record;
 use room_client::ClientFault;
+use std::alloc::Global;
 use std::io::Write;
 
 /// Prints a line, with the line feed that ends it.
@@ -22,4 +25,18 @@ pub(crate) fn print_text<O: Write>(text: &[u8], output: &mut O) -> Result<(), Cl
 {
     output.write_all(text)?;
     Ok(output.flush()?)
+}
+
+/// Prints a record of at least one field. It may wait until more is printed.
+pub(crate) fn print_record<O: Write>(
+    alloc: Global,
+    fields: &[&[u8]],
+    output: &mut O,
+) -> Result<(), ClientFault>
+    ensures { OnOk result (Appends (O.contents output.old) (O.contents output.new)
+        (record_text (texts fields.now))) }
+{
+    let mut record = Vec::new(alloc);
+    put_record(&mut record, fields)?;
+    Ok(output.write_all(record.as_slice())?)
 }

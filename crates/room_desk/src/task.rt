@@ -1,12 +1,12 @@
 //! What an operator wants done over a connection.
-ghost use Rattle.std.specs.Prelude.{OnOk};
+ghost use Rattle.std.specs.Prelude.{IfOk};
 ghost use Rattle.room_desk.specs.Talks.{at};
 ghost use Rattle.room_desk.specs.Tasks.{Performs};
 
 use crate::bar::Bar;
 use crate::devices::report_devices;
 use crate::end::end;
-use crate::expire::expire;
+use crate::expire::{Expiry, expire};
 use crate::ping::ping;
 use crate::refund::refund;
 use crate::report::report;
@@ -36,8 +36,8 @@ pub enum Task {
     Refund { account: Name, pages: u32 },
 }
 
-/// Does what is wanted at the moment now, and prints what it comes to. A line is sent once the one
-/// before it was answered.
+/// Does what is wanted at the moment now, and prints what it comes to. `false` only where a job was
+/// not canceled that was to be. A line is sent once the one before it was answered.
 pub fn perform<R: BufRead, W: Write, O: Write, E: Write>(
     alloc: Global,
     peer: &mut Peer<R, W>,
@@ -45,24 +45,44 @@ pub fn perform<R: BufRead, W: Write, O: Write, E: Write>(
     now: u64,
     bar: &mut Bar<E>,
     output: &mut O,
-) -> Result<(), ClientFault>
-    ensures { OnOk result (Performs task.now
+) -> Result<bool, ClientFault>
+    ensures { IfOk result (λ done. Performs task.now now done
         (at W.contents R.remaining O.contents peer.old output.old)
         (at W.contents R.remaining O.contents peer.new output.new)) }
 {
     match task {
-        Task::Ping => ping(alloc, peer, output),
-        Task::End => end(alloc, peer, output),
-        Task::Report { month } => report(alloc, peer, *month, bar, output),
-        Task::Devices => report_devices(alloc, peer, output),
+        Task::Ping => {
+            ping(alloc, peer, output)?;
+            Ok(true)
+        }
+        Task::End => {
+            end(alloc, peer, output)?;
+            Ok(true)
+        }
+        Task::Report { month } => {
+            report(alloc, peer, *month, bar, output)?;
+            Ok(true)
+        }
+        Task::Devices => {
+            report_devices(alloc, peer, output)?;
+            Ok(true)
+        }
         Task::Waiting { days } => {
             let age = Age { days: *days, now };
-            list_waiting(alloc, peer, age, bar, output)
+            list_waiting(alloc, peer, age, bar, output)?;
+            Ok(true)
         }
         Task::Expire { days, shown_only } => {
             let days = Some(*days);
-            expire(alloc, peer, Age { days, now }, *shown_only, bar, output)
+            let expiry = Expiry {
+                age: Age { days, now },
+                shown_only: *shown_only,
+            };
+            expire(alloc, peer, expiry, bar, output)
         }
-        Task::Refund { account, pages } => refund(alloc, peer, account, *pages, output),
+        Task::Refund { account, pages } => {
+            refund(alloc, peer, account, *pages, output)?;
+            Ok(true)
+        }
     }
 }

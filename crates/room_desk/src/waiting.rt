@@ -1,4 +1,10 @@
 //! `waiting`: the jobs that are held or pending.
+ghost use Rattle.std.specs.Prelude.{◌≡◌, ◌++◌, IfOk, OnOk, map};
+ghost use Rattle.std.specs.Io.KnownBytes.{Appends};
+ghost use Rattle.room_desk.specs.Csv.{record_text};
+ghost use Rattle.room_desk.specs.Tables.{PrintsTable};
+ghost use Rattle.room_desk.specs.Talks.{InTurn, at};
+ghost use Rattle.room_desk.specs.Waiting.{ListsAccount, ListsJob, is_chosen, job_fields, or_empty, waiting_head};
 
 use crate::age::is_as_old;
 use crate::asked::account_line;
@@ -6,6 +12,7 @@ use crate::bar::Bar;
 use crate::csv::put_record;
 use crate::job::TellsJob;
 use crate::names::all_names;
+use crate::printed::print_record;
 use room_client::{ClientFault, Peer, ask_list};
 use room_rules::Name;
 use std::alloc::Global;
@@ -20,7 +27,9 @@ pub(crate) struct Age {
 
 impl Age {
     /// Whether the job waits, and is of the age.
-    pub(crate) fn has(self, job: &TellsJob<'_>) -> Result<bool, ClientFault> {
+    pub(crate) fn has(self, job: &TellsJob<'_>) -> Result<bool, ClientFault>
+        ensures { IfOk result (λ has. has ≡ is_chosen self job.now) }
+    {
         if !job.waits() {
             return Ok(false);
         }
@@ -38,66 +47,108 @@ pub(crate) fn list_waiting<R: BufRead, W: Write, O: Write, E: Write>(
     age: Age,
     bar: &mut Bar<E>,
     output: &mut O,
-) -> Result<(), ClientFault> {
+) -> Result<(), ClientFault>
+    ensures { OnOk result (PrintsTable waiting_head (ListsAccount age)
+        (at W.contents R.remaining O.contents peer.old output.old)
+        (at W.contents R.remaining O.contents peer.new output.new)) }
+{
     let names = all_names(alloc, peer)?;
     print_head(alloc, output)?;
+    list_each(alloc, peer, names.as_slice(), age, bar, output)?;
+    Ok(output.flush()?)
+}
+
+fn print_head<O: Write>(alloc: Global, output: &mut O) -> Result<(), ClientFault>
+    ensures { OnOk result (Appends (O.contents output.old) (O.contents output.new)
+        (record_text waiting_head)) }
+{
+    let fields: [&[u8]; 10] = [
+        b"account",
+        b"job",
+        b"state",
+        b"device",
+        b"made",
+        b"password",
+        b"copies",
+        b"impressions",
+        b"documents",
+        b"name",
+    ];
+    print_record(alloc, &fields, output)
+}
+
+/// Prints the records of the jobs of these accounts.
+fn list_each<R: BufRead, W: Write, O: Write, E: Write>(
+    alloc: Global,
+    peer: &mut Peer<R, W>,
+    names: &[Name],
+    age: Age,
+    bar: &mut Bar<E>,
+    output: &mut O,
+) -> Result<(), ClientFault>
+    ensures { OnOk result (InTurn (ListsAccount age)
+        (at W.contents R.remaining O.contents peer.old output.old)
+        (at W.contents R.remaining O.contents peer.new output.new) names.now) }
+{
     for (index, name) in names.iter().enumerate() {
         list_account(alloc, peer, name, age, output)?;
         bar.show(index + 1, names.len());
     }
-    Ok(output.flush()?)
+    Ok(())
 }
 
-fn print_head<O: Write>(alloc: Global, output: &mut O) -> Result<(), ClientFault> {
-    let mut head = Vec::new(alloc);
-    put_record(
-        &mut head,
-        &[
-            b"account",
-            b"job",
-            b"state",
-            b"device",
-            b"made",
-            b"password",
-            b"copies",
-            b"impressions",
-            b"documents",
-            b"name",
-        ],
-    )?;
-    Ok(output.write_all(head.as_slice())?)
-}
-
-/// The jobs of an account that have not ended, each a line.
-pub(crate) fn jobs_of<R: BufRead, W: Write>(
-    alloc: Global,
-    peer: &mut Peer<R, W>,
-    account: &Name,
-) -> Result<Vec<Vec<u8>>, ClientFault> {
-    let asked = account_line(alloc, b"jobs ", account)?;
-    ask_list(alloc, peer, asked.as_slice())
-}
-
+/// Asks for the account's jobs, and prints the records of those of the age that wait.
 fn list_account<R: BufRead, W: Write, O: Write>(
     alloc: Global,
     peer: &mut Peer<R, W>,
     account: &Name,
     age: Age,
     output: &mut O,
-) -> Result<(), ClientFault> {
-    let lines = jobs_of(alloc, peer, account)?;
+) -> Result<(), ClientFault>
+    ensures { OnOk result (ListsAccount age account.now
+        (at W.contents R.remaining O.contents peer.old output.old)
+        (at W.contents R.remaining O.contents peer.new output.new)) }
+{
+    let asked = account_line(alloc, b"jobs ", account)?;
+    let lines = ask_list(alloc, peer, asked.as_slice())?;
     let mut records = Vec::new(alloc);
-    for line in lines.iter() {
-        let job = TellsJob::read(line.as_slice())?;
-        if age.has(&job)? {
-            put_job(&mut records, account, &job)?;
-        }
-    }
+    put_jobs(lines.as_slice(), account, age, &mut records)?;
     Ok(output.write_all(records.as_slice())?)
 }
 
+/// Appends the records of the jobs of the age that wait, of which each line tells one.
+fn put_jobs(
+    lines: &[Vec<u8>],
+    account: &Name,
+    age: Age,
+    records: &mut Vec<u8>,
+) -> Result<(), ClientFault>
+    ensures { OnOk result (InTurn (ListsJob age account.now)
+        records.old.items records.new.items (map (λ line. line.items) lines.now)) }
+{
+    for line in lines {
+        put_line(line.as_slice(), account, age, records)?;
+    }
+    Ok(())
+}
+
+/// Appends the record of the job that a line tells of, where it is of the age and waits.
+fn put_line(line: &[u8], account: &Name, age: Age, records: &mut Vec<u8>) -> Result<(), ClientFault>
+    ensures { OnOk result (ListsJob age account.now line.now
+        records.old.items records.new.items) }
+{
+    let job = TellsJob::read(line)?;
+    if !age.has(&job)? {
+        return Ok(());
+    }
+    put_job(records, account, &job)
+}
+
 /// Appends the record of a job. What is told as `-` is an empty field.
-fn put_job(records: &mut Vec<u8>, account: &Name, job: &TellsJob<'_>) -> Result<(), ClientFault> {
+fn put_job(records: &mut Vec<u8>, account: &Name, job: &TellsJob<'_>) -> Result<(), ClientFault>
+    ensures { OnOk result (records.new.items
+        ≡ records.old.items ++ record_text (job_fields account.now job.now)) }
+{
     let fields = [
         account.bytes(),
         job.job,
@@ -113,9 +164,11 @@ fn put_job(records: &mut Vec<u8>, account: &Name, job: &TellsJob<'_>) -> Result<
     Ok(put_record(records, &fields)?)
 }
 
-fn or_empty(word: &[u8]) -> &[u8] {
-    match word {
-        b"-" => b"",
-        _ => word,
+fn or_empty(word: &[u8]) -> &[u8]
+    ensures { result.now ≡ or_empty word.now }
+{
+    if word == b"-".as_slice() {
+        return b"";
     }
+    word
 }

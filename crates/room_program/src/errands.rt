@@ -45,5 +45,13 @@ fn run_over<R: Read + Drop, W: Write + Drop, O: Write>(
         None
     };
     let mut bar = Bar::new(terminal);
-    Ok(perform(alloc, &mut peer, &asked.task, now, &mut bar, output)?)
+    judge_done(perform(alloc, &mut peer, &asked.task, now, &mut bar, output)?)
+}
+
+/// `Refused` where not all was done.
+fn judge_done(done: bool) -> Result<(), Fault> {
+    if done {
+        return Ok(());
+    }
+    Err(Fault::Refused)
 }
