@@ -61,10 +61,6 @@ module _ (behind : Option (List ℕ)) (found names page : List (List ℕ)) (so_f
   none_left [] none = refl
   none_left (n ∷ rest) none = cc
 
-  pub all_found : page ≡ [] → found ≡ names
-  all_found none =
-      sym (append-nil found) ∙ ap (λ l. found ++ l) (sym (none_left so_far.rest (sym page_is ∙ none))) ∙ so_far.split
-
   pub page_found : (front : List (List ℕ)) (last : List ℕ) → page ≡ front ++ last ∷ [] → NamesRise names → FoundSoFar (Some last) (found ++ page) names
   page_found front last ends rise =
       let rest = drop 100 so_far.rest in

@@ -71,15 +71,6 @@ module _ (name : List ℕ) (source : Database) where
     alone = alone_then a b c name first.alone second.alone;
   }
 
-  pub copies_as : (One Two : RoomValue → RoomValue → Type 0) (a b : Database) → ((room part : RoomValue) → HoldsRoom source name room → IsPartOf room part → One room part → Two room part)
-      → CopiesMore name One source a b → CopiesMore name Two source a b
-  copies_as One Two a b tells copies = record {
-    more = λ room part held is rows.
-        let one = copies.more room part held is rows in
-        record { further = one.further; is_part = one.is_part; rows = one.rows; goes_on = one.goes_on; has = tells room one.further held one.is_part one.has };
-    alone = copies.alone;
-  }
-
 -- ---- one row more
 
 module _ (name : List ℕ) (source a b : Database) where

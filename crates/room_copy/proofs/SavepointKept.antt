@@ -50,16 +50,6 @@ kept_itself {store = store} it old = record {
   survives = survives_itself (state store old.conn.now);
 }
 
-pub kept_failed : {S T E : Type 0} {store : Ghosts S} (e : E) (old : Savepoint S store) (r : Result T E) → r ≡ Err e → KeepsSavepoint {T = T} {E = E} old old r
-kept_failed {S} {T} {E} {store} e old r is = subst (λ (it : Result T E). KeepsSavepoint old old it) (sym is) (record {
-  same_reference = refl;
-  place = refl;
-  opened = λ _. tt;
-  stays = λ _. tt;
-  undone = λ _. inl (stays_itself (old.at + 1) (state store old.conn.now));
-  survives = survives_itself (state store old.conn.now);
-})
-
 module _ {S T U E F : Type 0} {store : Ghosts S} (old mid new : Savepoint S store) (done : T) (second : Result U F) where
   pub kept_then : KeepsSavepoint {T = T} {E = E} old mid (Ok done) → KeepsSavepoint mid new second → KeepsSavepoint old new second
   kept_then before after =
@@ -99,17 +89,6 @@ kept_answered_as old new done told keeps = record {
   undone = λ _. tt;
   survives = keeps.survives;
 }
-
--- what fails behind an answer leaves the savepoint too
-pub kept_until : {S T U E F : Type 0} {store : Ghosts S} (old new : Savepoint S store) (done : T) (r : Result U F) (fault : F) → r ≡ Err fault → KeepsSavepoint {T = T} {E = E} old new (Ok done) → KeepsSavepoint old new r
-kept_until {S} {T} {U} {E} {F} old new done r fault is keeps = subst (λ (it : Result U F). KeepsSavepoint old new it) (sym is) (record {
-  same_reference = keeps.same_reference;
-  place = keeps.place;
-  opened = λ _. tt;
-  stays = λ _. tt;
-  undone = λ clean. inl (keeps.stays clean);
-  survives = keeps.survives;
-})
 
 -- in a savepoint that was just begun, it is a write as others are
 module _ {S T E : Type 0} {store : Ghosts S} (before : State) (savepoint written : Savepoint S store) (r : Result T E) where

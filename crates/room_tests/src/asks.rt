@@ -1,6 +1,7 @@
 //! Tests of reading what a request asks, by itself.
 
 use crate::examples::REQUEST;
+use crate::expect::{holds, same};
 use ipp_coding::HEADER_LENGTH;
 use room_asks::{AskFault, Operation, read_ask};
 use room_rules::{Name, Refusal, Word};
@@ -28,11 +29,11 @@ const LONGEST_DOCUMENT: usize = 16_777_216;
 #[test]
 fn a_good_request_is_an_ask(rt: HostRuntime) -> Result<(), Fail> {
     let alice = Name::read(b"alice").ok_or("a name")?;
-    assert!(rt; REQUEST.len() >= 8);
+    holds(&rt, REQUEST.len() >= 8);
     let ask = read_ask(rt.alloc(), REQUEST, alice)?;
-    assert!(rt; ask.operation == Operation::ValidateJob);
-    assert_eq!(rt; ask.base, b"ipp://localhost".as_slice());
-    assert_eq!(rt; (ask.job, ask.copies), (0, 1));
+    holds(&rt, ask.operation == Operation::ValidateJob);
+    same(&rt, ask.base, b"ipp://localhost".as_slice());
+    same(&rt, (ask.job, ask.copies), (0, 1));
     Ok(())
 }
 

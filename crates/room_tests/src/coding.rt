@@ -1,6 +1,7 @@
 //! Tests of reading and writing messages, part by part.
 
 use crate::examples::{ANSWER, REQUEST};
+use crate::expect::{holds, same};
 use ipp_coding::{
     Header, PutFault, ReadFault, Value, bool_of, int_of, put_attribute, put_end, put_group,
     put_header, put_more, read_header, read_message, text_of,
@@ -17,19 +18,19 @@ fn header_of_a_request(rt: HostRuntime) {
         code: 4,
         request_id: 1,
     };
-    assert_eq!(rt; read_header(REQUEST), Some(header));
-    assert_eq!(rt; read_header(&REQUEST[..7]), None);
+    same(&rt, read_header(REQUEST), Some(header));
+    same(&rt, read_header(&REQUEST[..7]), None);
 }
 
 /// Shows that a message without its last bytes is malformed, however many of them are missing.
 #[test]
 fn every_proper_prefix_is_malformed(rt: HostRuntime) {
-    assert_eq!(rt; REQUEST.len(), 119);
+    same(&rt, REQUEST.len(), 119);
     for length in 0..REQUEST.len() {
         let read = read_message(rt.alloc(), &REQUEST[..length]);
         assert!(rt; matches!(&read, Err(ReadFault::Malformed)), "{length}");
     }
-    assert!(rt; read_message(rt.alloc(), REQUEST).is_ok());
+    holds(&rt, read_message(rt.alloc(), REQUEST).is_ok());
 }
 
 /// Shows that the parts of an answer, put one after another, are its bytes.
@@ -47,7 +48,7 @@ fn the_puts_write_an_answer(rt: HostRuntime) -> Result<(), Fail> {
     put_attribute(&mut out, 0x47, b"attributes-charset", b"utf-8")?;
     put_attribute(&mut out, 0x48, b"attributes-natural-language", b"en")?;
     put_end(&mut out)?;
-    assert_eq!(rt; out.as_slice(), ANSWER);
+    same(&rt, out.as_slice(), ANSWER);
     Ok(())
 }
 
@@ -57,9 +58,10 @@ fn a_further_value(rt: HostRuntime) -> Result<(), Fail> {
     let mut out = Vec::new(rt.alloc());
     put_attribute(&mut out, 0x44, b"a", b"b")?;
     put_more(&mut out, 0x44, b"c")?;
-    assert_eq!(rt;
+    same(
+        &rt,
         out.as_slice(),
-        b"\x44\x00\x01a\x00\x01b\x44\x00\x00\x00\x01c".as_slice()
+        b"\x44\x00\x01a\x00\x01b\x44\x00\x00\x00\x01c".as_slice(),
     );
     Ok(())
 }
@@ -73,7 +75,7 @@ fn refusals_in_their_order(rt: HostRuntime) -> Result<(), Fail> {
     long.resize(32_768, b'x')?;
     expect_refused_attributes(&rt, &mut out, long.as_slice());
     expect_refused_values(&rt, &mut out, long.as_slice());
-    assert_eq!(rt; out.len(), 0);
+    same(&rt, out.len(), 0);
     Ok(())
 }
 
@@ -93,8 +95,8 @@ fn expect_refused_attributes(rt: &impl Abort, out: &mut Vec<u8>, long: &[u8]) {
 
 /// Puts further values and groups that are bad or too long. Expects the fault of each.
 fn expect_refused_values(rt: &impl Abort, out: &mut Vec<u8>, long: &[u8]) {
-    assert_eq!(rt; put_more(out, 0x00, long), Err(PutFault::TooLong));
-    assert_eq!(rt; put_more(out, 0x0f, b"b"), Err(PutFault::BadTag));
+    same(rt, put_more(out, 0x00, long), Err(PutFault::TooLong));
+    same(rt, put_more(out, 0x0f, b"b"), Err(PutFault::BadTag));
     for tag in [0x00, 0x03, 0x10, 0xff] {
         let put = put_group(out, tag);
         assert_eq!(rt; put, Err(PutFault::BadTag), "group {tag}");

@@ -8,6 +8,7 @@ ghost use Rattle.room_events.specs.Fits.{fits};
 ghost use Rattle.room_events.specs.Rates.{HasRate};
 
 use crate::examples::{ANSWER, REQUEST};
+use crate::expect::holds;
 use room_core::{CoreFault, Device, Event, Name, Reply, Room, answer, fits};
 use std::alloc::Global;
 use std::process::Abort;
@@ -42,7 +43,7 @@ fn numbers_past_their_limits(rt: HostRuntime) {
         impressions,
         failed: false,
     };
-    assert!(rt; !fits(&settle));
+    holds(&rt, !fits(&settle));
     let release = Event::Release {
         device: name,
         account: name,
@@ -50,7 +51,7 @@ fn numbers_past_their_limits(rt: HostRuntime) {
         password: b"",
         impressions,
     };
-    assert!(rt; !fits(&release));
+    holds(&rt, !fits(&release));
 }
 
 /// Shows that an event at a moment out of range fails for that, whatever it asks, and changes
@@ -65,8 +66,8 @@ fn moments_come_first(rt: HostRuntime) {
     let mut room = None;
     for event in &[short, Event::Open { account }] {
         let late = answer_with(rt.alloc(), &mut room, &[], NEXT_CENTURY, event);
-        assert!(rt; matches!(&late, Err(CoreFault::Moment)));
-        assert!(rt; room.is_none());
+        holds(&rt, matches!(&late, Err(CoreFault::Moment)));
+        holds(&rt, room.is_none());
     }
 }
 
@@ -105,12 +106,12 @@ fn an_account_is_opened(rt: HostRuntime) {
     let body = REQUEST;
     let mut room = None;
     let before = answer_at_1000(&rt, &mut room, &Event::Ipp { account, body });
-    assert!(rt; matches!(&before, Reply::NoAccount));
-    assert!(rt; room.is_none());
+    holds(&rt, matches!(&before, Reply::NoAccount));
+    holds(&rt, room.is_none());
     let opened = answer_at_1000(&rt, &mut room, &Event::Open { account });
     expect_bytes(&rt, &opened, b"ok");
     let after = answer_at_1000(&rt, &mut room, &Event::Ipp { account, body });
-    assert!(rt; matches!(&after, Reply::Ipp(_)));
+    holds(&rt, matches!(&after, Reply::Ipp(_)));
     expect_bytes(&rt, &after, ANSWER);
 }
 

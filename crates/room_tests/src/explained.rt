@@ -1,5 +1,6 @@
 //! Tests of what `explain` prints of messages and lines.
 
+use crate::expect::{holds, same};
 use crate::notation::{expect_explained, expect_spelled, explained, spelled};
 use ipp_coding::read_message;
 use ipp_notation::explain;
@@ -150,7 +151,7 @@ fn each_kind_of_message(rt: HostRuntime) -> Result<(), Fail> {
 /// Expects that these lines are printed of the message, and that they stand for the same digits.
 fn expect_message(rt: &(impl Abort + AllocGlobal), digits: &str, lines: &str) -> Result<(), Fail> {
     let text = explained(rt.alloc(), digits.as_bytes())?;
-    assert_eq!(rt; text.as_str(), lines);
+    same(rt, text.as_str(), lines);
     let spelled = spelled(rt.alloc(), text.as_str())?;
     assert!(rt; spelled.eq_ignore_ascii_case(digits), "{spelled}");
     Ok(())
@@ -177,7 +178,7 @@ fn expect_no_message(
     let due = format!(in rt.alloc(); "{lines}{space}# no message from byte {place} on\n")?;
     expect_explained(rt, digits, due.as_str())?;
     let bytes = hex::decode(rt.alloc(), digits.as_bytes())?;
-    assert_eq!(rt; longest_front(rt.alloc(), bytes.as_slice())?, place);
+    same(rt, longest_front(rt.alloc(), bytes.as_slice())?, place);
     Ok(())
 }
 
@@ -206,7 +207,7 @@ fn is_message_before_end(alloc: Global, bytes: &[u8]) -> Result<bool, Fail> {
 fn a_value_that_is_too_long(rt: HostRuntime) -> Result<(), Fail> {
     let line = line_too_long(rt.alloc())?;
     let text = explained(rt.alloc(), line.as_bytes())?;
-    assert!(rt; text.ends_with("03  # no message from byte 9 on\n"));
+    holds(&rt, text.ends_with("03  # no message from byte 9 on\n"));
     expect_spelled(&rt, text.as_str(), line.as_str())
 }
 
@@ -295,6 +296,6 @@ fn each_kind_of_line(rt: HostRuntime) -> Result<(), Fail> {
 fn expect_lines(rt: &(impl Abort + AllocGlobal), lines: &[u8], due: &[u8]) -> Result<(), Fail> {
     let mut output = Vec::new(rt.alloc());
     explain(rt.alloc(), lines, &mut output)?;
-    assert_eq!(rt; output.as_slice(), due);
+    same(rt, output.as_slice(), due);
     Ok(())
 }

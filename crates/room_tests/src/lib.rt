@@ -13,6 +13,8 @@ mod events;
 #[cfg(test)]
 mod examples;
 #[cfg(test)]
+mod expect;
+#[cfg(test)]
 mod explained;
 #[cfg(test)]
 mod memory;

@@ -8,6 +8,7 @@ ghost use Rattle.room_replies.specs.Limits.{IsPlace};
 ghost use Rattle.room_replies.specs.Places.{plain_place};
 
 use crate::examples::REQUEST;
+use crate::expect::{holds, same};
 use ipp_coding::{
     Attribute, Header, List, PutFault, ReadFault, Value, put_attribute, put_end, put_group,
     put_header, put_more, read_message,
@@ -28,8 +29,8 @@ fn read_message_again(rt: HostRuntime) -> Result<(), Fail> {
         Err(ReadFault::Memory) => read_message(rt.alloc(), REQUEST),
         read => read,
     }?;
-    assert_eq!(rt; message.groups.as_slice().len(), 1);
-    assert_eq!(rt; message.payload.len(), 0);
+    same(&rt, message.groups.as_slice().len(), 1);
+    same(&rt, message.payload.len(), 0);
     Ok(())
 }
 
@@ -44,11 +45,11 @@ fn put_parts_again<F: FnMut(&mut Vec<u8>) -> Result<(), PutFault>>(
     let mut out = Vec::new(rt.alloc());
     let mut answer = put(&mut out);
     if answer == Err(PutFault::Memory) {
-        assert_eq!(rt; out.len(), 0);
+        same(rt, out.len(), 0);
         answer = put(&mut out);
     }
-    assert_eq!(rt; answer, Ok(()));
-    assert_eq!(rt; out.as_slice(), appended);
+    same(rt, answer, Ok(()));
+    same(rt, out.as_slice(), appended);
 }
 
 /// Shows what putting each part of a message appends, asked again where memory was refused.
@@ -119,12 +120,12 @@ fn asked_again<'a>(
 
 /// Expects so many unsupported attributes and so many wanted names.
 fn expect_lists(rt: &impl Abort, ask: &Ask<'_>, unsupported: usize, names: usize) {
-    assert_eq!(rt; ask.unsupported.as_slice().len(), unsupported);
+    same(rt, ask.unsupported.as_slice().len(), unsupported);
     let wanted = ask
         .wanted
         .as_ref()
         .map_or(0, |names| names.as_slice().len());
-    assert_eq!(rt; wanted, names);
+    same(rt, wanted, names);
 }
 
 /// Shows that a new device is made, asked again where memory was refused.
@@ -133,7 +134,7 @@ fn set_device_again(rt: HostRuntime) -> Result<(), Fail> {
     let d1 = Name::read(b"d1").ok_or("a name")?;
     let mut devices: Vec<Device> = Vec::new(rt.alloc());
     turn_on_again(&rt, &mut devices, d1)?;
-    assert_eq!(rt; devices.len(), 1);
+    same(&rt, devices.len(), 1);
     Ok(())
 }
 
@@ -141,7 +142,7 @@ fn set_device_again(rt: HostRuntime) -> Result<(), Fail> {
 fn turn_on_again(rt: &impl Abort, devices: &mut Vec<Device>, name: Name) -> Result<(), CoreFault> {
     match set_device(devices, name, true) {
         Err(CoreFault::Memory) => {
-            assert_eq!(rt; devices.len(), 0);
+            same(rt, devices.len(), 0);
             set_device(devices, name, true)
         }
         answer => answer,
@@ -177,12 +178,12 @@ fn put_again<F: FnMut(&mut Vec<u8>) -> Result<(), CoreFault>>(
     let mut out = Vec::new(rt.alloc());
     let mut answer = put(&mut out);
     if answer == Err(CoreFault::Memory) {
-        assert_eq!(rt; out.len(), 0);
+        same(rt, out.len(), 0);
         answer = put(&mut out);
     }
-    assert_eq!(rt; answer, Ok(()));
-    assert_eq!(rt; out.len(), length);
-    assert!(rt; out.ends_with(end));
+    same(rt, answer, Ok(()));
+    same(rt, out.len(), length);
+    holds(rt, out.ends_with(end));
 }
 
 /// Shows what putting a line of an answer appends, asked again where memory was refused.

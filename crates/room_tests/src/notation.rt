@@ -1,6 +1,7 @@
 //! Tests of attributes in the notation: what is printed of each kind of value, and that it stands
 //! for the same bytes.
 
+use crate::expect::same;
 use ipp_notation::{NotationFault, explain, spell};
 use std::alloc::Global;
 use std::process::Abort;
@@ -241,7 +242,7 @@ pub fn expect_explained(
     due: &str,
 ) -> Result<(), Fail> {
     let text = explained(rt.alloc(), digits.as_bytes())?;
-    assert_eq!(rt; text.as_str(), due);
+    same(rt, text.as_str(), due);
     expect_spelled(rt, text.as_str(), digits)
 }
 
@@ -252,7 +253,7 @@ pub fn expect_spelled(
     digits: &str,
 ) -> Result<(), Fail> {
     let spelled = spelled(rt.alloc(), lines)?;
-    assert_eq!(rt; spelled.as_str(), digits);
+    same(rt, spelled.as_str(), digits);
     Ok(())
 }
 

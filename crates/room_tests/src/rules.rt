@@ -1,5 +1,6 @@
 //! Tests of names, media types, months, what is left of a quota, and devices.
 
+use crate::expect::{holds, same};
 use room_rules::{Device, Format, Moment, Name, left, month_of, set_device, set_rate};
 use std::test::Fail;
 
@@ -28,7 +29,7 @@ fn no_names(rt: HostRuntime) {
 fn no_media_types(rt: HostRuntime) {
     let none: [&[u8]; 4] = [b"", b"image/", b"Image/jpeg", b"text/plain "];
     for text in none {
-        assert_eq!(rt; Format::of_media_type(text), None);
+        same(&rt, Format::of_media_type(text), None);
     }
 }
 
@@ -36,16 +37,16 @@ fn no_media_types(rt: HostRuntime) {
 #[test]
 fn months_of_moments(rt: HostRuntime) {
     let month_at = |seconds| Moment::new(seconds).map(|moment| month_of(moment));
-    assert_eq!(rt; month_at(1_788_220_800), Some(24_320));
-    assert_eq!(rt; month_at(4_102_444_799), Some(25_199));
-    assert_eq!(rt; month_at(4_102_444_800), None);
-    assert_eq!(rt; month_at(u64::MAX), None);
+    same(&rt, month_at(1_788_220_800), Some(24_320));
+    same(&rt, month_at(4_102_444_799), Some(25_199));
+    same(&rt, month_at(4_102_444_800), None);
+    same(&rt, month_at(u64::MAX), None);
 }
 
 /// Shows that what is left is what was granted less what is reserved.
 #[test]
 fn what_is_left(rt: HostRuntime) {
-    assert_eq!(rt; left(100, 36, 0), 64);
+    same(&rt, left(100, 36, 0), 64);
 }
 
 /// Shows that a device that is turned on first is made with rate 1.
@@ -59,7 +60,7 @@ fn a_device_is_made(rt: HostRuntime) -> Result<(), Fail> {
         on: true,
         rate: 1,
     };
-    assert_eq!(rt; devices.as_slice(), [one].as_slice());
+    same(&rt, devices.as_slice(), [one].as_slice());
     Ok(())
 }
 
@@ -73,8 +74,8 @@ fn the_rate_goes_to_the_first_of_a_name(rt: HostRuntime) -> Result<(), Fail> {
         rate: 5,
     };
     let mut devices = [*device, *device];
-    assert!(rt; set_rate(&mut devices, d1, 9));
+    holds(&rt, set_rate(&mut devices, d1, 9));
     let written = Device { rate: 9, ..*device };
-    assert_eq!(rt; devices, [written, *device]);
+    same(&rt, devices, [written, *device]);
     Ok(())
 }

@@ -1,5 +1,6 @@
 //! A test of what is counted of jobs, at its bounds.
 
+use crate::expect::holds;
 use room_rules::JobState;
 use room_state::Tally;
 
@@ -13,17 +14,17 @@ fn bounds(rt: HostRuntime) {
         reserved: 1_000_000_000_000_000_000,
         charged: 1_000_000_000_000_000_000 - 35,
     };
-    assert!(rt; most.with(JobState::Held, 0, 0).is_none());
-    assert!(rt; most.with(JobState::Completed, 0, 35).is_some());
+    holds(&rt, most.with(JobState::Held, 0, 0).is_none());
+    holds(&rt, most.with(JobState::Completed, 0, 35).is_some());
     let fewer = Tally {
         unfinished: 0,
         ..most
     };
-    assert!(rt; fewer.with(JobState::Held, 0, 0).is_some());
-    assert!(rt; fewer.with(JobState::Pending, 36, 0).is_none());
+    holds(&rt, fewer.with(JobState::Held, 0, 0).is_some());
+    holds(&rt, fewer.with(JobState::Pending, 36, 0).is_none());
     let more = Tally {
         charged: most.charged + 1,
         ..most
     };
-    assert!(rt; more.with(JobState::Completed, 0, 35).is_none());
+    holds(&rt, more.with(JobState::Completed, 0, 35).is_none());
 }

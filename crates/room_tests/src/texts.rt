@@ -4,6 +4,7 @@ ghost use Rattle.std.specs.Prelude.{◌≡◌, IfOk, codes};
 ghost use Rattle.room_replies.specs.Limits.{IsPlace, IsShowable};
 ghost use Rattle.room_replies.specs.Places.{plain_place};
 
+use crate::expect::same;
 use ipp_coding::{Header, List, put_end};
 use room_replies::{Place, PrinterNow, put_job, put_line, put_printer, put_reply};
 use room_rules::{Job, JobState, Name, Standing, Word};
@@ -63,8 +64,9 @@ fn a_print_job_answer(rt: HostRuntime) -> Result<(), Fail> {
     let job = job_of_standing(rt.alloc(), HELD)?;
     let mut out = Vec::new(rt.alloc());
     put_print_job_answer(&mut out, &place_of_alice(&rt), &job)?;
-    assert_eq!(rt; out.len(), 197);
-    assert_eq!(rt;
+    same(&rt, out.len(), 197);
+    same(
+        &rt,
         out.as_slice(),
         b"\x01\x01\x00\x00\x00\x00\x00\x02\x01\
             \x47\x00\x12attributes-charset\x00\x05utf-8\
@@ -75,7 +77,7 @@ fn a_print_job_answer(rt: HostRuntime) -> Result<(), Fail> {
             \x23\x00\x09job-state\x00\x04\x00\x00\x00\x04\
             \x44\x00\x11job-state-reasons\x00\x18job-hold-until-specified\
             \x03"
-            .as_slice()
+            .as_slice(),
     );
     Ok(())
 }
@@ -103,7 +105,7 @@ fn put_print_job_answer(out: &mut Vec<u8>, place: &Place<'_>, job: &Job) -> Resu
 fn a_line(rt: HostRuntime) -> Result<(), Fail> {
     let mut out = Vec::new(rt.alloc());
     put_line(&mut out, Word::Quota { need: 66, left: 65 })?;
-    assert_eq!(rt; out.as_slice(), b"quota 66 65".as_slice());
+    same(&rt, out.as_slice(), b"quota 66 65".as_slice());
     Ok(())
 }
 
@@ -118,9 +120,10 @@ fn a_printer_that_is_stopped(rt: HostRuntime) -> Result<(), Fail> {
     let wanted: [&[u8]; 1] = [b"printer-state"];
     let mut out = Vec::new(rt.alloc());
     put_printer(&mut out, &place_of_alice(&rt), stopped, Some(&wanted))?;
-    assert_eq!(rt;
+    same(
+        &rt,
         out.as_slice(),
-        b"\x04\x23\x00\x0dprinter-state\x00\x04\x00\x00\x00\x05".as_slice()
+        b"\x04\x23\x00\x0dprinter-state\x00\x04\x00\x00\x00\x05".as_slice(),
     );
     Ok(())
 }
