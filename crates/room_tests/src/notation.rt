@@ -220,14 +220,14 @@ const OTHERS: [Printed; 6] = [
 ];
 
 /// Answers what `explain` prints of the text.
-pub fn explained(alloc: Global, text: &[u8]) -> Result<String, Fail> {
+pub(crate) fn explained(alloc: Global, text: &[u8]) -> Result<String, Fail> {
     let mut output = Vec::new(alloc);
     explain(alloc, text, &mut output)?;
     Ok(String::from_utf8(output)?)
 }
 
 /// Answers the digits that the lines stand for.
-pub fn spelled(alloc: Global, lines: &str) -> Result<String, NotationFault> {
+pub(crate) fn spelled(alloc: Global, lines: &str) -> Result<String, NotationFault> {
     let mut digits = String::new(alloc);
     for line in lines.lines() {
         spell(alloc, &mut digits, line.trim())?;
@@ -236,7 +236,7 @@ pub fn spelled(alloc: Global, lines: &str) -> Result<String, NotationFault> {
 }
 
 /// Expects that this text is printed of the digits, and that it stands for the same digits.
-pub fn expect_explained(
+pub(crate) fn expect_explained(
     rt: &(impl Abort + AllocGlobal),
     digits: &str,
     due: &str,
@@ -247,7 +247,7 @@ pub fn expect_explained(
 }
 
 /// Expects that the lines stand for these digits.
-pub fn expect_spelled(
+pub(crate) fn expect_spelled(
     rt: &(impl Abort + AllocGlobal),
     lines: &str,
     digits: &str,
