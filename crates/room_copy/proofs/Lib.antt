@@ -1,8 +1,11 @@
 pub mod PartLemmas
 pub mod PartRows
 pub mod WholeAccounts
+pub mod PartlyCopied
 pub mod WholeDevices
-pub mod AllAccounts
+pub mod NextNames
+pub mod SoFar
 pub mod SavepointKept
 pub mod ReadsKept
-pub mod NamePages
+pub mod RemovalTexts
+pub mod Forgotten

@@ -27,7 +27,7 @@ use Rattle.room_tables.proofs.KeyedRows.{same_row}
 use Rattle.room_statements.specs.Alone.{OnlyAccount}
 use Rattle.room_statements.proofs.LeftAlone.{job_alone, document_alone, grant_alone, alone_then, same_rows}
 use Rattle.room_statements.proofs.OwnRows.{job_held, document_held, grant_held}
-use Rattle.room_copy.specs.ProofParts.{IsPartOf, HasJob, HasDocument, HasGrant, HasDocuments, HasWholeJob, HasJobsBefore, HasGrants, HasTheseDocuments, HasTheseGrants, HasAll, GoesOn, HoldsMore, CopiesMore}
+use Rattle.room_copy.specs.ProofParts.{IsPartOf, HasJob, HasDocument, HasGrant, HasDocuments, HasWholeJob, HasJobsBefore, HasGrants, HasTheseDocuments, HasTheseGrants, GoesOn, HoldsMore, CopiesMore}
 use Rattle.room_copy.specs.ProofRows.{AddsDocuments, AddsGrants}
 use Rattle.room_copy.proofs.PartLemmas.{has_inserted, still_has, still_within, within_none, has_each}
 
@@ -141,9 +141,6 @@ one_job_more k room part before this n from below = elim (last n k below) [ inl 
   where
     last : (n k : ℕ) → n < k + 1 → (n ≡ k) ⊎ (n < k)
     last n k h = elim (cases_eq n k) [ inl same ↦ inl same | inr apart ↦ inr (omega (arith, h, apart)) ]
-
-pub all_before : (k next : ℕ) → next ≤ k → (room part : RoomValue) → HasJobsBefore k room part → HasGrants room part → HasAll next room part
-all_before k next enough room part jobs grants = record { jobs = λ n from below. jobs n from (omega (arith, enough, below)); grants = grants }
 
 -- ---- the documents of a job
 

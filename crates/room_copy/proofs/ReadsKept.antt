@@ -1,35 +1,49 @@
 -- Reads one after another, where there may be none.
-use Rattle.std.proofs.Common.{Result, Ok, Err, OnOk, refl, sym, subst, inl, arith}
+use Rattle.std.proofs.Common.{◌≡◌, Result, Ok, Err, IfOk, OnOk, refl, sym, subst, inl, arith}
 use Rattle.sqlite_trees.specs.declared.store.Store.{Ghosts}
 use Rattle.sqlite.specs.State.{State, HasCleanDisk}
 use Rattle.sqlite.specs.Held.{Held, state}
-use Rattle.room_tables.specs.Calls.{IfDiskHonest, IsUnchanged, KeepsConnection, LeavesNoMore, ReadsStore}
+use Rattle.room_tables.specs.Calls.{KeepsConnection, ReadsStore}
 use Rattle.room_tables.specs.Keyed.{HasSchema}
 use Rattle.room_tables.proofs.Going.{goes_on, unchanged_after, undone_after}
-
--- nothing was changed by as many reads as there were
-pub record Leaves {S : Type 0} (store : Ghosts S) (old new : Held S) : Type 0 where
-  pub keeps : KeepsConnection (state store old) (state store new)
-  pub same : IfDiskHonest store old new (λ db. HasSchema db → IsUnchanged (state store old) (state store new))
-  pub crash : IfDiskHonest store old new (λ db. HasSchema db → LeavesNoMore (state store old) (state store new))
+use Rattle.room_copy.specs.Sources.{LeavesSource}
 
 pub keeps_itself : (s : State) → KeepsConnection s s
 keeps_itself s = record { clean = omega arith; back = λ _ is. is; mode = λ _ is. is; shield = λ is. is; counts = omega arith; limit = refl; closes = λ _ is. inl is }
 
-pub leaves_itself : {S : Type 0} (store : Ghosts S) (old : Held S) → Leaves store old old
-leaves_itself store old = record { keeps = keeps_itself (state store old); same = λ _ _. record { now = refl; committed = refl; mode = refl }; crash = λ _ _ found may. may }
+pub leaves_itself : {S T E : Type 0} (store : Ghosts S) (old : Held S) (it : T) → LeavesSource {T = T} {E = E} store old old (Ok it)
+leaves_itself store old it = record {
+  keeps = keeps_itself (state store old);
+  same = λ _ _. record { now = refl; committed = refl; mode = refl };
+  stays = λ _ _. inl (record { now = refl; committed = refl; mode = refl });
+  crash = λ _ _ found may. may;
+}
 
 pub on_ok_with : {X E P Q : Type 0} (r : Result X E) → (P → Q) → OnOk r P → OnOk r Q
 on_ok_with (Ok x) f p = f p
 on_ok_with (Err e) f p = tt
 
-module _ {S U F : Type 0} (store : Ghosts S) (old mid new : Held S) (r : Result U F) where
-  pub reads_behind : Leaves store old mid → ReadsStore store mid new {T = U} {E = F} r → ReadsStore store old new {T = U} {E = F} r
-  reads_behind first second =
+pub if_ok_with : {X E : Type 0} {P Q : X → Type 0} (r : Result X E) → ((x : X) → P x → Q x) → IfOk r P → IfOk r Q
+if_ok_with (Ok x) f p = f x p
+if_ok_with (Err e) f p = tt
+
+module _ {S T E : Type 0} (store : Ghosts S) (old new : Held S) (r : Result T E) where
+  pub of_read : ReadsStore store old new {T = T} {E = E} r → LeavesSource store old new r
+  of_read reads = record { keeps = reads.keeps; same = reads.same; stays = reads.stays; crash = reads.crash }
+
+  pub leaves_refused : {U F : Type 0} (error : F) (fault : E) → r ≡ Err fault → LeavesSource {T = U} {E = F} store old new (Err error) → LeavesSource store old new r
+  leaves_refused error fault is leaves = subst (λ (it : Result T E). LeavesSource store old new it) (sym is) (record { keeps = leaves.keeps; same = λ _ _. tt; stays = leaves.stays; crash = leaves.crash })
+
+module _ {S T U E F : Type 0} (store : Ghosts S) (old new : Held S) (it : T) (told : U) where
+  pub leaves_answered : LeavesSource {T = T} {E = E} store old new (Ok it) → LeavesSource {T = U} {E = F} store old new (Ok told)
+  leaves_answered leaves = record { keeps = leaves.keeps; same = leaves.same; stays = leaves.stays; crash = leaves.crash }
+
+module _ {S T U E F : Type 0} (store : Ghosts S) (old mid new : Held S) (it : T) (r : Result U F) where
+  pub leaves_then : LeavesSource {T = T} {E = E} store old mid (Ok it) → LeavesSource store mid new r → LeavesSource store old new r
+  leaves_then first second =
       let before : HasCleanDisk (state store new) → HasCleanDisk (state store mid) = λ clean. omega (arith, second.keeps.clean, clean) in
       record {
         keeps = goes_on (state store old) (state store mid) (state store new) first.keeps second.keeps;
-        opened = λ clean. on_ok_with r (λ both. (first.keeps.back (before clean) both.0, both.1)) (second.opened clean);
         same = λ clean has.
             let same = first.same (before clean) has in
             on_ok_with r (unchanged_after (state store old) (state store mid) (state store new) same) (second.same clean (subst HasSchema (sym same.now) has));
@@ -40,9 +54,3 @@ module _ {S U F : Type 0} (store : Ghosts S) (old mid new : Held S) (r : Result 
             let same = first.same (before clean) has in
             first.crash (before clean) has found (second.crash clean (subst HasSchema (sym same.now) has) found may);
       }
-
-module _ {S T E : Type 0} (store : Ghosts S) (old mid new : Held S) (it : T) where
-  pub leaves_more : Leaves store old mid → ReadsStore store mid new {T = T} {E = E} (Ok it) → Leaves store old new
-  leaves_more first second =
-      let both = reads_behind {U = T} {F = E} store old mid new (Ok it) first second in
-      record { keeps = both.keeps; same = both.same; crash = both.crash }

@@ -1,11 +1,11 @@
--- An account is copied whole: what was written is its room.
-use Rattle.std.proofs.Common.{◌≡◌, ℕ, ℤ, pos, negsuc, true, cond, Bool, is_some, List, [], ◌∷◌, drop, Option, Some, None, option_map, refl, sym, ap, subst, ◌∙◌, inl}
+-- An account with its own row alone, and one of which all is there.
+use Rattle.std.proofs.Common.{◌≡◌, ℕ, ℤ, pos, negsuc, true, cond, Bool, is_some, List, [], ◌∷◌, drop, Option, Some, None, option_map, refl, sym, ap, ◌∙◌, inl}
 use Rattle.std.specs.Ordering.{nat_cmp}
 use Rattle.std.specs.Cmp.{nat_cmp_total}
 use Rattle.std.specs.FinMap.{get, empty, get-empty, nat_cmp-IsAntisymmetric}
 use Rattle.std.proofs.lemmas.Bool.{true≢false}
 use Rattle.sqlite_value.specs.declared.value.Value.TheVariants.{Int, Text}
-use Rattle.sqlite_value.specs.Order.{Row, column}
+use Rattle.sqlite_value.specs.Order.{Row}
 use Rattle.sqlite.specs.Effect.{Database}
 use Rattle.room_rules.specs.declared.account.Account.{Account}
 use Rattle.room_rules.specs.declared.job.Job.{Job}
@@ -15,18 +15,15 @@ use Rattle.room_state.proofs.DocumentMaps.{place_cmp_total, exact_places}
 use Rattle.room_tables.specs.Tables.{account as account_table, job as job_table, document as document_table, grants as grants_table}
 use Rattle.room_tables.specs.Keyed.{SetsRow}
 use Rattle.room_tables.specs.Cells.{account_cells, job_cells, document_cells, grant_cells}
-use Rattle.room_tables.specs.Accounts.{account_at, account_of_room, under, under_pair, whole, HoldsNothing, HoldsRoom, HoldsRows}
-use Rattle.room_tables.proofs.KeyedRows.{same_row}
-use Rattle.room_tables.proofs.ReadBackLemmas.{number_back}
+use Rattle.room_tables.specs.Accounts.{account_of_room, under, under_pair, whole, HoldsNothing, HoldsRoom, HoldsRows}
 use Rattle.room_statements.proofs.KeyTests.{is_at_text, text_here}
-use Rattle.room_statements.proofs.LeftAlone.{account_alone, alone_then, row_kept, same_rows}
-use Rattle.room_copy.specs.Copies.{CopiesAccount, IsCopyOf}
-use Rattle.room_copy.specs.ProofParts.{IsPartOf, HasAll, CopiesMore}
+use Rattle.room_statements.proofs.LeftAlone.{row_kept}
+use Rattle.room_copy.specs.ProofParts.{IsPartOf, HasAll}
 use Rattle.room_copy.proofs.PartLemmas.{is_whole}
 
 -- ---- an account that was not there, with its own row alone
 
-abbrev bare : Account → RoomValue
+abbrev pub bare : Account → RoomValue
 bare it = record (empty_room it.opened) { next = it.next_job }
 
 none_under : {X : Type 0} (n : ℤ) → under {X = X} empty n ≡ None
@@ -45,7 +42,7 @@ nothing_so cells o none = sym (ap (option_map cells) none)
 is_set : (test : Bool) (cells : Row) (was new : Option Row) → new ≡ cond test (Some cells) was → test ≡ true → new ≡ Some cells
 is_set test cells was new is met = is ∙ ap (λ b. cond b (Some cells) was) met
 
-bare_held : (name : List ℕ) (a b : Database) (it : Account) → HoldsNothing a name → SetsRow account_table (account_cells name it) a b → HoldsRows b name (bare it)
+pub bare_held : (name : List ℕ) (a b : Database) (it : Account) → HoldsNothing a name → SetsRow account_table (account_cells name it) a b → HoldsRows b name (bare it)
 bare_held name a b it none sets = record {
   account_row = is_set (is_at_text name (drop 1 (account_cells name it)) name) _ _ _ (sets.rows (Text name ∷ [])) (text_here name (drop 1 (account_cells name it)));
   job_rows = λ n. row_kept job_table a b (sets.rest.job (λ e. let no : ⊥ = cc in no)) (Text name ∷ Int n ∷ []) ∙ none.no_job n ∙ nothing_so (job_cells name) _ (none_under n);
@@ -53,7 +50,7 @@ bare_held name a b it none sets = record {
   grant_rows = λ n. row_kept grants_table a b (sets.rest.grants (λ e. let no : ⊥ = cc in no)) (Text name ∷ Int n ∷ []) ∙ none.no_grant n ∙ nothing_so (grant_cells name (whole n)) _ (none_under n);
 }
 
-bare_part : (room : RoomValue) → IsPartOf room (bare (account_of_room room))
+pub bare_part : (room : RoomValue) → IsPartOf room (bare (account_of_room room))
 bare_part room = record {
   opened = refl;
   next = refl;
@@ -86,28 +83,3 @@ module _ (name : List ℕ) (source : Database) (room part : RoomValue) (held : H
 
   pub is_room : part ≡ room
   is_room = λ i. record { opened = is.opened i; next = is.next i; jobs = all_jobs i; documents = all_documents i; grants = all_grants i }
-
--- ---- what a copy makes
-
-module _ (name : List ℕ) (source a : Database) where
-  pub nobody_copied : account_at source name ≡ None → CopiesAccount name source a a
-  nobody_copied none = record { copied = λ empty room holds. by empty room holds; alone = same_rows name a }
-    where
-      by : HoldsNothing a name → IsCopyOf name source a
-      by empty None holds = empty
-      by empty (Some room) holds = let no : ⊥ = let e = sym none ∙ holds.rows.account_row in cc in absurd no
-
-  pub account_copied : (mid b : Database) (it : Account) → account_at source name ≡ Some (account_cells name it) → SetsRow account_table (account_cells name it) a mid → CopiesMore name (HasAll it.next_job) source mid b
-      → CopiesAccount name source a b
-  account_copied mid b it there sets copies = record { copied = λ empty room holds. by empty room holds; alone = alone_then a mid b name (account_alone name a mid _ sets) copies.alone }
-    where
-      by : HoldsNothing a name → IsCopyOf name source b
-      by empty None holds = let no : ⊥ = let e = sym holds.no_account ∙ there in cc in absurd no
-      by empty (Some room) holds =
-          let own = account_of_room room in
-          let same : account_cells name it ≡ account_cells name own = same_row (sym there ∙ holds.rows.account_row) in
-          let next : it.next_job ≡ room.next = number_back it.next_job room.next (ap (λ (cells : Row). column cells 2) same) in
-          let set : SetsRow account_table (account_cells name own) a mid = subst (λ (cells : Row). SetsRow account_table cells a mid) same sets in
-          let more = copies.more room (bare own) holds (bare_part room) (bare_held name a mid own empty set) in
-          let has : HasAll room.next room more.further = subst (λ n. HasAll n room more.further) next more.has in
-          record { is_room = holds.is_room; rows = subst (HoldsRows b name) (is_room name source room more.further holds more.is_part has) more.rows }

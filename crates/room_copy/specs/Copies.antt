@@ -4,9 +4,9 @@ use Rattle.std.specs.Prelude.{◌≡◌, ℕ, List, Option, None}
 use Rattle.sqlite.specs.Effect.{Database}
 use Rattle.room_rules.specs.Devices.{Devices}
 use Rattle.room_state.specs.Rooms.{RoomValue}
-use Rattle.room_tables.specs.Accounts.{Holds, HoldsNothing, IsSound}
+use Rattle.room_tables.specs.Accounts.{Holds, IsSound}
 use Rattle.room_tables.specs.Devices.{device_at, rate_at, AreSoundDevices, HoldsDevices}
-use Rattle.room_statements.specs.Alone.{OnlyAccount, OnlyDevices}
+use Rattle.room_statements.specs.Alone.{OnlyDevices}
 use Rattle.room_serve.specs.Agreement.{Agree}
 
 -- ---- an account
@@ -15,11 +15,6 @@ use Rattle.room_serve.specs.Agreement.{Agree}
 abbrev pub IsCopyOf : (name : List ℕ) (source copy : Database) → Type 0
 IsCopyOf name source copy =
     (room : Option RoomValue) → Holds source name room → Holds copy name room
-
--- an account of which the copy had nothing is copied, and nobody else's rows change
-pub record CopiesAccount (name : List ℕ) (source before after : Database) : Type 0 where
-  pub copied : HoldsNothing before name → IsCopyOf name source after
-  pub alone : OnlyAccount name before after
 
 -- ---- the devices
 

@@ -5,8 +5,7 @@ ghost use Rattle.room_copy.specs.Copies.{CopiesDevices};
 ghost use Rattle.room_copy.specs.ProofRows.{AddsDevice, AddsDevices};
 ghost use Rattle.room_copy.specs.ProofSavepoints.{KeepsSavepoint};
 ghost use Rattle.room_statements.specs.SoundRows.{CanBeListed};
-ghost use Rattle.room_tables.specs.Calls.{Changes, ChangesWhole, IfOurTables, ReadsStore, WritesInSavepoint};
-ghost use Rattle.room_tables.specs.Devices.{AreSoundDevices};
+ghost use Rattle.room_tables.specs.Calls.{Changes, IfOurTables, ReadsStore, WritesInSavepoint};
 ghost use Rattle.room_tables.specs.declared.fault.TableFault.TheVariants.{Damaged};
 
 use room_rules::Device;
@@ -14,26 +13,8 @@ use room_statements::{TableFault, list_devices, set_device, set_rate};
 use sqlite::{Alter, Connection, Error, Savepoint};
 use std::alloc::Global;
 
-/// Copies the devices with their rates as they are in the source now, in one savepoint of the copy,
-/// which has no device yet. `Damaged` tells that the devices' rows in the source are not sound.
-pub fn copy_devices<S: Alter, T: Alter>(
-    alloc: Global,
-    source: &mut Connection<S>,
-    copy: &mut Connection<T>,
-) -> Result<(), TableFault>
-    ensures copies { ChangesWhole T.Store copy.old copy.new result (λ before after.
-        IfOurTables S.Store source.old source.new (λ db. CopiesDevices db before after)) }
-    ensures damaged { IfOurTables S.Store source.old source.new
-        (λ db. result ≡ Err Damaged → AreSoundDevices db → ⊥) }
-    ensures reads { ReadsStore S.Store source.old source.new result }
-{
-    let mut savepoint = copy.savepoint()?;
-    copy_list(alloc, source, &mut savepoint)?;
-    Ok(savepoint.commit()?)
-}
-
-/// Copies the devices, inside a savepoint.
-fn copy_list<S: Alter, T: Alter>(
+/// Copies the devices with their rates as they are in the source now, inside a savepoint.
+pub(crate) fn copy_devices<S: Alter, T: Alter>(
     alloc: Global,
     source: &mut Connection<S>,
     savepoint: &mut Savepoint<'_, T>,

@@ -16,14 +16,14 @@ use room_statements::{TableFault, add_document, find_documents};
 use sqlite::{Alter, Connection, Savepoint};
 use std::alloc::Global;
 
-/// Copies the documents of a job of the account, inside a savepoint.
+/// Copies the documents of a job of the account, inside a savepoint. It answers whether it has any.
 pub(crate) fn copy_documents<S: Alter, T: Alter>(
     alloc: Global,
     source: &mut Connection<S>,
     savepoint: &mut Savepoint<'_, T>,
     account: Name,
     job: u32,
-) -> Result<(), TableFault>
+) -> Result<bool, TableFault>
     ensures copies { Changes T.Store savepoint.old.conn.now savepoint.new.conn.now result
         (λ before after. IfOurTables S.Store source.old source.new
         (λ db. CopiesMore account (HasDocuments job) db before after)) }
@@ -36,13 +36,13 @@ pub(crate) fn copy_documents<S: Alter, T: Alter>(
     add_documents(savepoint, account, job, documents.as_slice())
 }
 
-/// Puts the documents of a job in, inside a savepoint.
+/// Puts the documents of a job in, inside a savepoint. It answers whether there are any.
 fn add_documents<T: Alter>(
     savepoint: &mut Savepoint<'_, T>,
     account: Name,
     job: u32,
     documents: &[Document],
-) -> Result<(), TableFault>
+) -> Result<bool, TableFault>
     ensures adds { Changes T.Store savepoint.old.conn.now savepoint.new.conn.now result
         (AddsDocuments account job documents.now) }
     ensures undamaged { result ≡ Err Damaged → ⊥ }
@@ -51,7 +51,7 @@ fn add_documents<T: Alter>(
     for document in documents {
         put_document(savepoint, account, job, document)?;
     }
-    Ok(())
+    Ok(!documents.is_empty())
 }
 
 /// Puts a document of a job in, inside a savepoint. A document of its number that is there already is

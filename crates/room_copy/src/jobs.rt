@@ -1,8 +1,10 @@
-//! A job of an account is copied.
+//! Jobs of an account are copied.
 
-ghost use Rattle.std.specs.Prelude.{◌≡◌, Err};
+ghost use Rattle.std.specs.Prelude.{◌≡◌, Err, IfOk};
+ghost use Rattle.room_copy.specs.Parts.{AddsJobs};
 ghost use Rattle.room_copy.specs.ProofParts.{CopiesMore, HasWholeJob};
 ghost use Rattle.room_copy.specs.ProofSavepoints.{KeepsSavepoint};
+ghost use Rattle.room_copy.specs.Sources.{LeavesSource};
 ghost use Rattle.room_rules.specs.Standings.{IsStanding};
 ghost use Rattle.room_statements.specs.SoundRows.{AccountsRead};
 ghost use Rattle.room_tables.specs.Calls.{Changes, IfOurTables, ReadsStore, WritesInSavepoint};
@@ -17,15 +19,51 @@ use room_statements::{TableFault, add_job, find_job};
 use sqlite::{Alter, Connection, Savepoint};
 use std::alloc::Global;
 
+/// Copies the jobs of the account from the number `first` on that come before `next`, so many at most
+/// and none behind one with documents, inside a savepoint. It answers the number that comes next.
+pub(crate) fn copy_jobs<S: Alter, T: Alter>(
+    alloc: Global,
+    source: &mut Connection<S>,
+    savepoint: &mut Savepoint<'_, T>,
+    account: Name,
+    first: u32,
+    next: u32,
+    most: Option<u32>,
+) -> Result<u32, TableFault>
+    ensures copies { Changes T.Store savepoint.old.conn.now savepoint.new.conn.now result
+        (λ before after. IfOurTables S.Store source.old source.new
+        (λ db. IfOk result (λ further. AddsJobs account first further db before after))) }
+    ensures inside { KeepsSavepoint savepoint.old savepoint.new result }
+    ensures damaged { IfOurTables S.Store source.old source.new
+        (λ db. result ≡ Err Damaged → AccountsRead db account → ⊥) }
+    ensures source { LeavesSource S.Store source.old source.new result }
+{
+    for number in first..next {
+        let has_documents = copy_job(alloc, source, savepoint, account, number)?;
+        if is_enough(most, number + 1 - first, has_documents) {
+            return Ok(number + 1);
+        }
+    }
+    Ok(next)
+}
+
+/// Whether a slice ends behind so many jobs, the last of which has documents or has none.
+fn is_enough(most: Option<u32>, jobs: u32, has_documents: bool) -> bool {
+    match most {
+        Some(most) => has_documents || jobs >= most,
+        None => false,
+    }
+}
+
 /// Copies the job of the account with the number, if there is one, with its documents, inside a
-/// savepoint.
-pub(crate) fn copy_job<S: Alter, T: Alter>(
+/// savepoint. It answers whether it has documents.
+fn copy_job<S: Alter, T: Alter>(
     alloc: Global,
     source: &mut Connection<S>,
     savepoint: &mut Savepoint<'_, T>,
     account: Name,
     number: u32,
-) -> Result<(), TableFault>
+) -> Result<bool, TableFault>
     ensures copies { Changes T.Store savepoint.old.conn.now savepoint.new.conn.now result
         (λ before after. IfOurTables S.Store source.old source.new
         (λ db. CopiesMore account (HasWholeJob number) db before after)) }
@@ -35,7 +73,7 @@ pub(crate) fn copy_job<S: Alter, T: Alter>(
     ensures reads { ReadsStore S.Store source.old source.new result }
 {
     let Some(job) = find_job(source, account, number)? else {
-        return Ok(());
+        return Ok(false);
     };
     put_job(savepoint, account, &job)?;
     copy_documents(alloc, source, savepoint, account, number)

@@ -1,26 +1,36 @@
 //! A backup of the store, row by row: the rows of one account after another go from the store's
-//! connection, which reads alone, to the connection of a second database.
+//! connection, which reads alone, to the connection of a second database, which is new. All at once:
 //!
 //! ```text
-//! copy_account(alloc, &mut source, &mut copy, name)?;
-//! copy_devices(alloc, &mut source, &mut copy)?;
 //! copy_all(alloc, &mut source, &mut copy)?;
+//! ```
+//!
+//! Or in slices, between which the source goes on:
+//!
+//! ```text
+//! let mut progress = Progress::UpTo(None);
+//! while let Some(further) = copy_slice(alloc, &mut source, &mut copy, &progress, Some(100))? {
+//!     progress = further;
+//!     // Events. Where one changed the account that is under way:
+//!     progress = start_again(&mut copy, &progress)?;
+//! }
 //! ```
 #![tactic(auto)]
 
 mod accounts;
-mod all;
+mod again;
 mod devices;
 mod documents;
 mod every;
 mod grants;
 mod jobs;
 mod law;
+mod removals;
+mod slices;
 #[cfg(test)]
 mod tests;
 
-pub use accounts::copy_account;
-pub use all::copy_accounts;
-pub use devices::copy_devices;
+pub use again::start_again;
 pub use every::copy_all;
-pub use law::{all_are_copied, copies_agree};
+pub use law::{copies_agree, slices_copy};
+pub use slices::{Progress, copy_slice};

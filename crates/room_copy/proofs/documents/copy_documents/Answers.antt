@@ -1,6 +1,6 @@
 use Rattle.std.proofs.Common.{◌∙◌, ◌≡◌, Err, sym, ap}
 use Rattle.sqlite.specs.Held.{state}
-use Rattle.room_tables.proofs.Savepoints.{then_changed}
+use Rattle.room_copy.proofs.ReadsKept.{on_ok_with}
 use Rattle.room_copy.proofs.PartRows.{documents_copied}
 use Rattle.std.proofs.lemmas.Result.{err_from_is_err_and}
 use Rattle.room_tables.specs.declared.fault.TableFault.TheVariants.{Damaged}
@@ -12,7 +12,7 @@ returns-clause-copies g c clean =
     let source = (state g.S.Store c.args.source.now).now in
     let before = (state g.T.Store c.args.savepoint.now.conn.now).now in
     let after = (state g.T.Store c.add_documents.new.savepoint.conn.now).now in
-    then_changed c.add_documents.result _ _ (λ adds has. let added = adds has in (added.0, λ source_clean source_has. documents_copied c.args.account source c.args.job c.as_slice.result.now before after (λ room held. c.as_slice.ensures ∙ c.in_ok-documents.ensures.listed source_clean source_has room held) added.1))
+    on_ok_with c.add_documents.result (λ adds has. let added = adds has in (added.0, λ source_clean source_has. documents_copied c.args.account source c.args.job c.as_slice.result.now before after (λ room held. c.as_slice.ensures ∙ c.in_ok-documents.ensures.listed source_clean source_has room held) added.1))
     (c.add_documents.ensures.adds clean)
 
 pub returns-in_err-documents-clause-damaged : goal.returns-in_err-documents-clause-damaged

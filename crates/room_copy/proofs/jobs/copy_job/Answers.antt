@@ -5,9 +5,9 @@ use Rattle.sqlite.specs.State.{HasCleanDisk}
 use Rattle.room_tables.specs.Accounts.{job_at}
 use Rattle.room_tables.specs.Cells.{job_cells}
 use Rattle.room_tables.specs.Keyed.{HasSchema}
-use Rattle.room_tables.proofs.Savepoints.{then_changed}
 use Rattle.room_statements.proofs.ReadsAgain.{reads_again}
 use Rattle.room_copy.specs.ProofParts.{CopiesMore, HasDocuments, HasJob, HasWholeJob}
+use Rattle.room_copy.proofs.ReadsKept.{on_ok_with}
 use Rattle.room_copy.proofs.PartRows.{copies_none, copies_then, job_copied, job_lasts, job_missing, with_documents}
 use Rattle.room_copy.proofs.SavepointKept.{kept_by_write, kept_then}
 use Rattle.std.proofs.lemmas.Result.{err_from_is_err_and}
@@ -32,7 +32,7 @@ returns-clause-copies g c clean =
     let name = c.args.account in
     let k = c.args.number in
     let mid_clean : HasCleanDisk mid = omega (arith, c.copy_documents.ensures.inside.survives.clean, clean) in
-    then_changed c.copy_documents.result _ _ (λ copies has.
+    on_ok_with c.copy_documents.result (λ copies has.
     let set = c.in_ok-put_job.ensures.sets mid_clean has in
     let more = copies set.0 in (
       more.0,
