@@ -3,7 +3,7 @@
 use std::fmt;
 
 /// The tag that begins an attribute group.
-#[derive(Clone, Copy, Debug, PartialEq, Eq)]
+#[derive(Clone, Copy, PartialEq, Eq)]
 pub struct GroupTag(pub u8);
 
 impl GroupTag {

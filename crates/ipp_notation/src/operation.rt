@@ -3,7 +3,7 @@
 use std::fmt;
 
 /// The operation-id of a request.
-#[derive(Clone, Copy, Debug, PartialEq, Eq)]
+#[derive(Clone, Copy, PartialEq, Eq)]
 pub struct Operation(pub u16);
 
 impl Operation {

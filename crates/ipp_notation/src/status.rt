@@ -3,7 +3,7 @@
 use std::fmt;
 
 /// The status-code of a response.
-#[derive(Clone, Copy, Debug, PartialEq, Eq)]
+#[derive(Clone, Copy, PartialEq, Eq)]
 pub struct Status(pub u16);
 
 impl Status {

@@ -23,7 +23,7 @@ pub(crate) const NAME_WITH_LANGUAGE: u8 = 0x36;
 pub(crate) const END_COLLECTION: u8 = 0x37;
 
 /// The tag of a value, which tells its syntax.
-#[derive(Clone, Copy, Debug, PartialEq, Eq)]
+#[derive(Clone, Copy, PartialEq, Eq)]
 pub struct ValueTag(pub u8);
 
 impl ValueTag {

@@ -10,7 +10,7 @@ use room_input::number;
 const MOST_LINES: u32 = 999_999;
 
 /// What the first line of an answer says, as far as it is anything to the client.
-#[derive(Clone, Copy, Debug, PartialEq, Eq)]
+#[derive(Clone, Copy, PartialEq, Eq)]
 pub(crate) enum Answer {
     /// The event failed.
     Failed,

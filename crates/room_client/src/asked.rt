@@ -10,7 +10,7 @@ use std::alloc::{AllocError, Global};
 use std::str;
 
 /// The job that a line `start DEVICE ACCOUNT JOB` or `again DEVICE ACCOUNT JOB` names.
-#[derive(Clone, Copy, Debug, PartialEq, Eq)]
+#[derive(Clone, Copy, PartialEq, Eq)]
 pub(crate) struct Asked {
     pub(crate) account: Name,
     pub(crate) job: u32,

@@ -8,7 +8,7 @@ use std::io;
 use std::io::Write;
 
 /// Prints the bytes of each document as a line of hexadecimal digits.
-#[derive(Clone, Copy, Debug, Default)]
+#[derive(Clone, Copy, Default)]
 pub struct HexLines;
 
 impl Keeper for HexLines {

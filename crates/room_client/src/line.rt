@@ -14,7 +14,7 @@ use std::io::{BufRead, ErrorKind};
 pub(crate) const MOST_LINE: usize = 65_536;
 
 /// What was taken of a reader.
-#[derive(Debug, Drop)]
+#[derive(Drop)]
 pub(crate) enum Taken {
     /// A line, and the line feed after it.
     Line(Vec<u8>),
@@ -25,7 +25,7 @@ pub(crate) enum Taken {
 }
 
 /// What was added to a line at once.
-#[derive(Clone, Copy, Debug, PartialEq, Eq)]
+#[derive(Clone, Copy, PartialEq, Eq)]
 pub(crate) enum Piece {
     /// Some bytes, in which is no line feed.
     Part,

@@ -8,7 +8,7 @@ use std::fmt;
 pub(crate) const LAST_PORT: u32 = 65_535;
 
 /// Where lines are taken: a port of 127.0.0.1, or the path of a socket of Unix.
-#[derive(Clone, Copy, Debug, PartialEq, Eq)]
+#[derive(Clone, Copy, PartialEq, Eq)]
 pub enum Address<'a> {
     Port(u16),
     Path(&'a str),

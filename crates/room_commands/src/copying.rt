@@ -9,7 +9,7 @@ use crate::words::{COPY, is_command};
 use std::alloc::Global;
 
 /// The command `copy`: the path of a database, and the path where its copy goes.
-#[derive(Clone, Copy, Debug)]
+#[derive(Clone, Copy)]
 pub struct Copying<'a> {
     pub database: &'a str,
     pub file: &'a str,

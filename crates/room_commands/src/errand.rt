@@ -10,7 +10,7 @@ use std::alloc::Global;
 
 /// A command over an operator's address, whose port is not 0: `ping`, `end`, `report`, `waiting`,
 /// `expire` or `refund`.
-#[derive(Clone, Copy, Debug)]
+#[derive(Clone, Copy)]
 pub struct Errand<'a> {
     pub address: Address<'a>,
     pub task: Task,

@@ -9,7 +9,7 @@ use std::alloc::Global;
 
 /// The command `listen`: so many connections, at most 1000000, one after another on a port of
 /// 127.0.0.1, which is not 0.
-#[derive(Clone, Copy, Debug)]
+#[derive(Clone, Copy)]
 pub struct Listening<'a> {
     pub database: &'a str,
     pub port: u16,

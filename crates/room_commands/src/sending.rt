@@ -10,7 +10,7 @@ use std::alloc::Global;
 
 /// The command `send`: the lines of standard input, or its grants, go to an address, whose port is
 /// not 0.
-#[derive(Clone, Copy, Debug)]
+#[derive(Clone, Copy)]
 pub struct Sending<'a> {
     pub address: Address<'a>,
     /// Whether the input is a file of grants.

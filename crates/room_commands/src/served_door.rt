@@ -13,7 +13,7 @@ use std::alloc::Global;
 const LOG: &str = "--log";
 
 /// A door that `serve` opens. A port of 0 is a free one.
-#[derive(Clone, Copy, Debug)]
+#[derive(Clone, Copy)]
 pub struct ServedDoor<'a> {
     pub visitors: Visitors,
     pub address: Address<'a>,

@@ -10,7 +10,7 @@ use crate::words::{SERVE, is_command};
 use std::alloc::Global;
 
 /// The command `serve`.
-#[derive(Debug, Drop)]
+#[derive(Drop)]
 pub struct Serving<'a> {
     pub database: &'a str,
     /// Of clients, of stations, of operators, and those that options name, in their order.

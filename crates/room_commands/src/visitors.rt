@@ -3,7 +3,7 @@ ghost use Rattle.std.specs.Prelude.{◌≡◌, IfSome};
 ghost use Rattle.room_commands.specs.Visitors.{name_of, needs_port, option_of};
 
 /// Who comes in by a door.
-#[derive(Clone, Copy, Debug, PartialEq, Eq)]
+#[derive(Clone, Copy, PartialEq, Eq)]
 pub enum Visitors {
     /// Over HTTP, at the queues.
     Clients,

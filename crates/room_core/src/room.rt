@@ -21,7 +21,7 @@ use std::marker::Model;
 /// One account whole. Contracts see it as its value in the definitions: when it was opened, the
 /// number of its next job, and the maps of its jobs, their documents and its grants, which keep
 /// their rules.
-#[derive(Debug, Drop)]
+#[derive(Drop)]
 pub struct Room {
     account: Account,
     jobs: List<Job>,

@@ -18,7 +18,7 @@ use std::alloc::{AllocError, Global};
 use std::io::{BufRead, Write};
 
 /// Which jobs expire, and whether they are only to be shown.
-#[derive(Clone, Copy, Debug)]
+#[derive(Clone, Copy)]
 pub(crate) struct Expiry {
     pub(crate) age: Age,
     pub(crate) shown_only: bool,

@@ -12,7 +12,7 @@ use room_rules::{FIRST_MONTH, MOST_PAGES};
 pub(crate) const AFTER_REFUNDS: u32 = 24_000;
 
 /// Pages that were granted for a month.
-#[derive(Clone, Copy, Debug, PartialEq, Eq)]
+#[derive(Clone, Copy, PartialEq, Eq)]
 pub(crate) struct Granted {
     pub(crate) month: u32,
     pub(crate) pages: u32,

@@ -9,7 +9,7 @@ use room_client::ClientFault;
 use room_input::decimal;
 
 /// What a line tells of a job, each word as it was told.
-#[derive(Clone, Copy, Debug)]
+#[derive(Clone, Copy)]
 pub(crate) struct TellsJob<'a> {
     pub(crate) job: &'a [u8],
     pub(crate) state: &'a [u8],

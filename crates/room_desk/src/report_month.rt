@@ -10,7 +10,7 @@ pub const FIRST_REPORT: u32 = AFTER_REFUNDS;
 
 /// A month of which there is a report: from 2000-01 to 2099-12. Its number is twelve times the year,
 /// and 0 for January to 11 for December.
-#[derive(Clone, Copy, Debug)]
+#[derive(Clone, Copy)]
 pub struct ReportMonth {
     pub month: u32,
     pub ghost first: { 24000 ≤ month },

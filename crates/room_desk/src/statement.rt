@@ -9,7 +9,7 @@ use room_client::ClientFault;
 use room_input::decimal;
 
 /// The numbers of a statement. All but the first are as they were told.
-#[derive(Clone, Copy, Debug)]
+#[derive(Clone, Copy)]
 pub(crate) struct Statement<'a> {
     pub(crate) granted: u64,
     pub(crate) reserved: &'a [u8],

@@ -18,7 +18,7 @@ use std::alloc::Global;
 use std::io::{BufRead, Write};
 
 /// What an operator wants done.
-#[derive(Clone, Copy, Debug)]
+#[derive(Clone, Copy)]
 pub enum Task {
     /// To hear whether the process answers.
     Ping,

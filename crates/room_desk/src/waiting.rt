@@ -19,7 +19,7 @@ use std::alloc::Global;
 use std::io::{BufRead, Write};
 
 /// Jobs of any age, or those that were made at least so many days before now.
-#[derive(Clone, Copy, Debug)]
+#[derive(Clone, Copy)]
 pub(crate) struct Age {
     pub(crate) days: Option<u32>,
     pub(crate) now: u64,

@@ -15,7 +15,7 @@ use room_requests::BODY_LIMIT;
 const LINE_LIMIT: usize = 256;
 
 /// What came in the place of a line that tells a size.
-#[derive(Clone, Copy, Debug, PartialEq, Eq)]
+#[derive(Clone, Copy, PartialEq, Eq)]
 pub(crate) enum SizeLine {
     Size(u64),
     /// No such line.
@@ -23,7 +23,7 @@ pub(crate) enum SizeLine {
 }
 
 /// What came in the place of the chunks.
-#[derive(Clone, Copy, Debug, PartialEq, Eq)]
+#[derive(Clone, Copy, PartialEq, Eq)]
 pub(crate) enum Chunks {
     /// Chunks, and the line of size 0.
     Whole,

@@ -4,7 +4,7 @@ ghost use Rattle.room_http.specs.Fields.{is_named, plain_field, values_named};
 ghost use Rattle.room_http.specs.ProofFinding.{FindsMore, FoundIs};
 
 /// A field of a head.
-#[derive(Clone, Copy, Debug, Default)]
+#[derive(Clone, Copy, Default)]
 pub struct Field<'a> {
     pub name: &'a [u8],
     /// Without the white space round it.
@@ -20,7 +20,7 @@ impl<'a> Field<'a> {
 }
 
 /// The fields of a name.
-#[derive(Clone, Copy, Debug)]
+#[derive(Clone, Copy)]
 pub(crate) enum Found<'a> {
     Absent,
     /// There is one, of this value.

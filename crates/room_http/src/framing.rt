@@ -8,7 +8,7 @@ use crate::digits::short_number;
 use crate::fields::{Field, Found, find_field};
 
 /// Where the body of a message ends (RFC 9112 section 6).
-#[derive(Clone, Copy, Debug, PartialEq, Eq)]
+#[derive(Clone, Copy, PartialEq, Eq)]
 pub enum Framing {
     /// It has so many bytes.
     Length(u64),

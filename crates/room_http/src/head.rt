@@ -12,7 +12,7 @@ use room_input::Source;
 use room_requests::HEAD_LIMIT;
 
 /// What came in the place of a head.
-#[derive(Clone, Copy, Debug)]
+#[derive(Clone, Copy)]
 pub(crate) enum Head {
     /// A head, and nothing after it.
     Whole(RequestSpans),

@@ -11,7 +11,7 @@ use room_requests::{BODY_LIMIT, Refusal, account_of, is_ipp_type, is_post};
 use room_rules::Name;
 
 /// The head of a request.
-#[derive(Clone, Copy, Debug)]
+#[derive(Clone, Copy)]
 pub struct Request<'a> {
     pub method: &'a [u8],
     pub target: &'a [u8],
@@ -21,7 +21,7 @@ pub struct Request<'a> {
 }
 
 /// What a head that is not refused orders.
-#[derive(Clone, Copy, Debug)]
+#[derive(Clone, Copy)]
 pub struct Order {
     /// Whose queue the message is for.
     pub account: Name,

@@ -39,7 +39,7 @@ pub enum Received {
 }
 
 /// What came in the place of a head.
-#[derive(Clone, Copy, Debug)]
+#[derive(Clone, Copy)]
 pub(crate) enum Opening {
     Nothing,
     Refused(Refusal),

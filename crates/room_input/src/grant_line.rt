@@ -11,7 +11,7 @@ use csv::ByteRecord;
 use room_rules::{MOST_PAGES, Name};
 
 /// What a record says.
-#[derive(Clone, Copy, Debug, PartialEq)]
+#[derive(Clone, Copy, PartialEq)]
 pub enum GrantLine {
     /// The account is granted pages once, to be used in the month or later. The month is the year
     /// times 12, and 0 for January to 11 for December.

@@ -3,7 +3,7 @@ use crate::owner_request::OwnerRequest;
 use room_events::{Event, Name};
 
 /// One thing that a line asks the rooms or the devices to do.
-#[derive(Debug, Drop)]
+#[derive(Drop)]
 pub enum Action {
     /// Opens an account.
     Open {

@@ -9,7 +9,7 @@ use room_events::Event;
 use std::alloc::{AllocError, Global};
 
 /// What to do, and the moment at which it counts as done, in seconds since 1970-01-01T00:00:00Z.
-#[derive(Debug, Drop)]
+#[derive(Drop)]
 pub struct Line {
     pub moment: u64,
     pub action: Action,

@@ -18,7 +18,7 @@ use room_input::FieldFault;
 use std::alloc::Global;
 
 /// Which lines an input may have.
-#[derive(Clone, Copy, Debug)]
+#[derive(Clone, Copy)]
 pub enum Grammar {
     /// Every kind of line, each begun by its moment and a space.
     Script,

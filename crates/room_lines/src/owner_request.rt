@@ -13,7 +13,7 @@ use room_rules::QUEUES;
 use std::alloc::{AllocError, Global};
 
 /// What is asked.
-#[derive(Clone, Copy, Debug, PartialEq, Eq)]
+#[derive(Clone, Copy, PartialEq, Eq)]
 pub enum OwnerAct {
     /// Cancel-Job.
     Cancel,
@@ -46,7 +46,7 @@ impl OwnerAct {
 }
 
 /// A request that the owner of an account could send about a job, and its message.
-#[derive(Debug, Drop)]
+#[derive(Drop)]
 pub struct OwnerRequest {
     pub act: OwnerAct,
     pub account: Name,

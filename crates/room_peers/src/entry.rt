@@ -14,7 +14,6 @@ use room_log::Door;
 
 /// What a connection asked of the rooms or the devices, at a moment in seconds since
 /// 1970-01-01T00:00:00Z.
-#[derive(Debug)]
 pub enum Entry {
     /// A message of IPP for the queue of an account.
     Message {

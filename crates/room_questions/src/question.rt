@@ -6,7 +6,7 @@ ghost use Rattle.room_questions.specs.Questions.{asks_end};
 use room_rules::Name;
 
 /// One question.
-#[derive(Clone, Copy, Debug)]
+#[derive(Clone, Copy)]
 pub enum Question {
     /// Whether anybody answers.
     Ping,
@@ -33,7 +33,7 @@ impl Question {
 
 /// What is asked about an account. A month is the year times 12, and 0 for January to 11 for
 /// December: 23640 (1970-01) to 25199 (2099-12).
-#[derive(Clone, Copy, Debug)]
+#[derive(Clone, Copy)]
 pub enum About {
     /// The quota up to a month.
     Left { month: u32 },

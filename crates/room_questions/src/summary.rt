@@ -1,7 +1,7 @@
 //! What an account's jobs come to.
 
 /// What the jobs of an account come to, and what of it in one month.
-#[derive(Clone, Copy, Debug, PartialEq, Eq)]
+#[derive(Clone, Copy, PartialEq, Eq)]
 pub struct Summary {
     /// Units of the quota that jobs reserve.
     pub reserved: u64,

@@ -8,7 +8,7 @@ ghost use Rattle.room_requests.specs.Texts.{status_of};
 use http::StatusCode;
 
 /// Why a message is not carried out. The connection ends with it.
-#[derive(Clone, Copy, Debug, PartialEq, Eq)]
+#[derive(Clone, Copy, PartialEq, Eq)]
 pub enum Refusal {
     /// What came is no message of HTTP, or none of this profile.
     BadRequest,

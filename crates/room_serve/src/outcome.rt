@@ -7,7 +7,7 @@ use room_events::Reply;
 use room_store::StoreFault;
 
 /// The outcome of an event of a list.
-#[derive(Debug, Drop)]
+#[derive(Drop)]
 pub enum Outcome {
     Answered(Reply),
     /// It could not be answered, and has changed nothing, as far as the connection is still open.

@@ -11,7 +11,7 @@ pub struct Wire<R, W> {
 }
 
 /// Whether a connection goes on.
-#[derive(Clone, Copy, Debug, PartialEq, Eq)]
+#[derive(Clone, Copy, PartialEq, Eq)]
 pub enum After {
     /// Another message may come.
     Again,

@@ -1,35 +1,49 @@
 use crate::Spare;
-use std::fs;
+use std::fs::{self, File, Files};
 use std::os::unix::fs::MetadataExt;
+use std::process::Abort;
 use std::test::Fail;
+
+// A call costs a test's proof less than a macro, behind which all that is open is closed.
+fn expect(rt: &impl Abort, is_so: bool) {
+    assert!(rt; is_so);
+}
+
+fn expect_takes(rt: &impl Abort, spare: &Spare, bytes: usize) {
+    assert_eq!(rt; spare.takes(), bytes);
+}
+
+fn expect_length<R: Abort + Files<File = File>>(rt: &R, bytes: u64) -> Result<(), Fail> {
+    assert_eq!(rt; fs::metadata(rt, "spare")?.len(), bytes);
+    Ok(())
+}
 
 #[test]
 fn none_takes_any_request(rt: HostRuntime) -> Result<(), Fail> {
     let mut spare = Spare::none();
-    assert!(rt; !spare.mend());
-    assert_eq!(rt; spare.takes(), usize::MAX);
-    assert!(rt; !spare.give_up(1));
+    expect(&rt, !spare.mend());
+    expect_takes(&rt, &spare, usize::MAX);
+    expect(&rt, !spare.give_up(1));
     Ok(())
 }
 
 #[test]
 fn is_filled_and_given_up(rt: HostRuntime) -> Result<(), Fail> {
     let mut spare = Spare::open(&rt, "spare")?;
-    assert_eq!(rt; fs::metadata(&rt, "spare")?.len(), 37_748_736);
-    assert_eq!(rt; spare.takes(), 17_301_504);
-    assert!(rt; spare.give_up(1_000_000));
-    assert_eq!(rt; fs::metadata(&rt, "spare")?.len(), 36_748_736);
-    assert!(rt; spare.give_up(usize::MAX));
-    assert!(rt; !spare.give_up(1));
-    assert_eq!(rt; spare.takes(), 0);
-    assert_eq!(rt; fs::metadata(&rt, "spare")?.len(), 0);
+    expect_length(&rt, 37_748_736)?;
+    expect_takes(&rt, &spare, 17_301_504);
+    expect(&rt, spare.give_up(1_000_000));
+    expect_length(&rt, 36_748_736)?;
+    expect(&rt, spare.give_up(usize::MAX));
+    expect(&rt, !spare.give_up(1));
+    expect_takes(&rt, &spare, 0);
+    expect_length(&rt, 0)?;
     // What is written then begins at the start again, with no hole before it.
-    assert!(rt; spare.mend());
-    let found = fs::metadata(&rt, "spare")?;
-    assert_eq!(rt; found.len(), 65_536);
-    assert!(rt; found.blocks() >= 128);
+    expect(&rt, spare.mend());
+    expect_length(&rt, 65_536)?;
+    expect(&rt, fs::metadata(&rt, "spare")?.blocks() >= 128);
     spare.fill();
-    assert_eq!(rt; spare.takes(), 17_301_504);
+    expect_takes(&rt, &spare, 17_301_504);
     Ok(())
 }
 
@@ -38,20 +52,20 @@ fn keeps_what_stands_there(rt: HostRuntime) -> Result<(), Fail> {
     let first = Spare::open(&rt, "spare")?;
     drop(first);
     let second = Spare::open(&rt, "spare")?;
-    assert_eq!(rt; fs::metadata(&rt, "spare")?.len(), 37_748_736);
-    assert_eq!(rt; second.takes(), 17_301_504);
+    expect_length(&rt, 37_748_736)?;
+    expect_takes(&rt, &second, 17_301_504);
     Ok(())
 }
 
 #[test]
 fn is_lent_where_as_much_is_left(rt: HostRuntime) -> Result<(), Fail> {
     let mut spare = Spare::open(&rt, "spare")?;
-    assert!(rt; !spare.lend(35_127_296, usize::MAX));
-    assert!(rt; spare.lend(1_000_000, 100_000));
-    assert_eq!(rt; spare.takes(), 17_251_504);
-    assert!(rt; spare.lend(1_000_000, usize::MAX));
-    assert_eq!(rt; spare.takes(), 237_856);
-    assert!(rt; !spare.lend(1_000_000, 1));
+    expect(&rt, !spare.lend(35_127_296, usize::MAX));
+    expect(&rt, spare.lend(1_000_000, 100_000));
+    expect_takes(&rt, &spare, 17_251_504);
+    expect(&rt, spare.lend(1_000_000, usize::MAX));
+    expect_takes(&rt, &spare, 237_856);
+    expect(&rt, !spare.lend(1_000_000, 1));
     Ok(())
 }
 
@@ -59,11 +73,11 @@ fn is_lent_where_as_much_is_left(rt: HostRuntime) -> Result<(), Fail> {
 fn takes_more_for_jobs_that_ended(rt: HostRuntime) -> Result<(), Fail> {
     let mut spare = Spare::open(&rt, "spare")?;
     spare.ended();
-    assert_eq!(rt; spare.takes(), 36_438_016);
+    expect_takes(&rt, &spare, 36_438_016);
     spare.took();
-    assert_eq!(rt; spare.takes(), 17_301_504);
+    expect_takes(&rt, &spare, 17_301_504);
     spare.ended();
-    assert!(rt; spare.give_up(1));
-    assert_eq!(rt; spare.takes(), 17_301_503);
+    expect(&rt, spare.give_up(1));
+    expect_takes(&rt, &spare, 17_301_503);
     Ok(())
 }
