@@ -1,7 +1,7 @@
-use Rattle.std.proofs.Common.{◌≡◌, ◌+◌, ◌*◌, ◌<◌, ◌≤◌, ◌++◌, [], ◌∷◌, length, rules, arith}
+use Rattle.std.proofs.Common.{◌≡◌, ◌+◌, ◌*◌, ◌<◌, ◌≤◌, ◌++◌, ◌∙◌, [], ◌∷◌, length, refl, sym, rules, arith}
 use Rattle.httparse.specs.Ascii.{crlf_bytes}
 use Rattle.httparse.specs.Grammar.{chunk_size, print_chunk_line}
-use Rattle.room_http.specs.Chunks.{Chunk, IsNoChunk, IsTooLongWith, has_no_line}
+use Rattle.room_http.specs.Chunks.{AreChunks, Chunk, IsNoChunk, IsTooLongWith, has_no_line}
 use Rattle.room_http.specs.Exchange.{most_of_chunks}
 use Rattle.room_http.proofs.ChunkSteps.{chunk_cut, chunk_not_ended, chunk_taken, chunk_too_long, longer_by, one_more, takes_behind}
 use Rattle.room_http.proofs.Streams.{Yields_more}
@@ -148,3 +148,30 @@ returns-then-not-branch-2-clause-bounded g c =
     let some : 0 < c.in-Size.size = omega (arith, c.in-Size.size-test.1) in
     let fits : 259 * length body + (256 + c.in-Size.size + 2) ≤ most_of_chunks = omega (arith, limit, some) in
     takes_behind_chunks (left c.args.reader.now) (left c.chunks.reader) (left c.read_line_end.new.reader) so_far.0 so_far.1 body (256 + c.in-Size.size + 2) so_far.2 so_far.3 (takes_both (takes_both {most = 256 + c.in-Size.size} c.read_size_line.ensures.bounded c.read_into.ensures.bounded (omega arith)) c.read_line_end.ensures.bounded (omega arith)) fits
+
+pub chunks-init : goal.chunks-init
+chunks-init g c =
+    let are : AreChunks [] [] c.args.body.now.items = record { each = tt; spelled = refl; together = c.requires.empty } in
+    ([], [], are, (λ rest h. h), rw c.requires.empty (omega arith), refl)
+
+pub chunks-smaller : goal.chunks-smaller
+chunks-smaller g c =
+    let body = c.chunks.body.items in
+    let bulk = rw c.if-not-branch.false at c.in_ok-read_into-in-Size.ensures.is in
+    let limit : length body + c.in-Size.size ≤ 16842752 = search rules in
+    omega (arith, longer_by body c.read_into.new.body.items bulk.0 bulk.2, bulk.1, c.in-Size.size-test.1, limit)
+
+pub returns-in-Size-eq0-clause-is : goal.returns-in-Size-eq0-clause-is
+returns-in-Size-eq0-clause-is g c =
+    let left = g.R.Source.left in
+    let so_far = c.chunks.invariant in
+    let line = rw c.in-Size-eq0.is at c.in_ok-read_size_line.ensures.is in
+    let last : chunk_size line.0 ≡ 0 = sym line.3 ∙ c.in-Size-eq0.field-0-test in
+    (so_far.0, so_far.1, line.0, so_far.2, (line.1, last), so_far.4, Yields_more (left c.args.reader.now) (left c.chunks.reader) (left c.read_size_line.new.reader) so_far.1 (print_chunk_line line.0) so_far.3 line.2)
+
+-- the body is never longer than it may be
+pub returns-clause-is : goal.returns-clause-is
+returns-clause-is g c = absurd (omega (arith, c.chunks-test.false, c.len.ensures, c.chunks.invariant.4))
+
+pub returns-clause-bounded : goal.returns-clause-bounded
+returns-clause-bounded g c = absurd (omega (arith, c.chunks-test.false, c.len.ensures, c.chunks.invariant.4))

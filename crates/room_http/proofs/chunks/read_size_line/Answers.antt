@@ -7,7 +7,7 @@ use Rattle.httparse.specs.declared.Status.{Status}
 use Rattle.room_input.specs.Streams.{Yields}
 use Rattle.room_http.proofs.Lines.{line_cut, line_refused, line_too_long, no_line_in_nothing, no_line_with_byte, size_line_found}
 use Rattle.room_http.proofs.Streams.{Yields_more}
-use Rattle.room_http.proofs.Taking.{takes_more}
+use Rattle.room_http.proofs.Taking.{takes_more, takes_text}
 use Rattle.room_http.proofs.chunks.read_size_line.Goals as goal
 
 pub bytes-init : goal.bytes-init
@@ -79,3 +79,34 @@ returns-in-Ok-Complete-clause-bounded g c =
     let before = c.bytes.line.items in
     let short : length before + 1 ≤ 256 = search rules in
     takes_more (left c.args.reader.now) (left c.bytes.reader) (left c.read_byte.new.reader) before 1 256 c.bytes.invariant.took c.read_byte.ensures.bounded short
+
+pub returns-in_default-clause-bounded : goal.returns-in_default-clause-bounded
+returns-in_default-clause-bounded g c =
+    let left = g.R.Source.left in
+    let before = c.bytes.line.items in
+    let short : length before + 1 ≤ 256 = search rules in
+    takes_more (left c.args.reader.now) (left c.bytes.reader) (left c.read_byte.new.reader) before 1 256 c.bytes.invariant.took c.read_byte.ensures.bounded short
+
+pub returns-in-Err-clause-bounded : goal.returns-in-Err-clause-bounded
+returns-in-Err-clause-bounded g c =
+    let left = g.R.Source.left in
+    let before = c.bytes.line.items in
+    let short : length before + 1 ≤ 256 = search rules in
+    takes_more (left c.args.reader.now) (left c.bytes.reader) (left c.read_byte.new.reader) before 1 256 c.bytes.invariant.took c.read_byte.ensures.bounded short
+
+pub returns-clause-bounded : goal.returns-clause-bounded
+returns-clause-bounded g c =
+    let left = g.R.Source.left in
+    takes_text (left c.args.reader.now) (left c.bytes.reader) c.bytes.line.items 256 c.bytes.invariant.took c.bytes.invariant.fits
+
+pub bytes-preserved-in-Ok-Partial : goal.bytes-preserved-in-Ok-Partial
+bytes-preserved-in-Ok-Partial g c =
+    let left = g.R.Source.left in
+    let before = c.bytes.line.items in
+    let byte = c.in-Some.byte in
+    record {
+      fits = search rules;
+      none = search rules;
+      took = rw c.push.ensures.items (Yields_more (left c.args.reader.now) (left c.bytes.reader) (left c.read_byte.new.reader) before (byte ∷ []) c.bytes.invariant.took (rw c.in-Some.is at c.in_ok-byte.ensures.took));
+      count = search rules;
+    }

@@ -1,6 +1,35 @@
-use Rattle.std.proofs.Common.{◌≡◌, ◌∷◌, [], codes, ap, refl, arith}
+use Rattle.std.proofs.Common.{◌≡◌, ℕ, ◌<◌, ◌≤◌, Bool, ◌&&◌, ◌∷◌, [], codes, ap, refl, arith}
 use Rattle.std.proofs.lemmas.Slice.Eq.{text_from_reads}
+use Rattle.std.specs.Prelude.{nat_le}
+use Rattle.std.proofs.lemmas.Bool.{le-leb}
+use Rattle.std.proofs.lemmas.Bool.Decides.{nat_tests}
+use Rattle.std.specs.Bool.{IsTrue}
+use Rattle.room_rules.specs.Limits.{last_next_job, may_be_job, most_impressions}
+use Rattle.room_lines.specs.Actions.{are_impressions}
 use Rattle.room_lines.proofs.lines.station_action.Goals as goal
+
+is_job : (job : ℕ) → 1 ≤ job → job < last_next_job → IsTrue (may_be_job job)
+is_job job some small = grind (arith, nat_tests)
+
+both : (a b : Bool) → IsTrue a → IsTrue b → IsTrue (a && b)
+both a b one other = rw one other
+
+pub returns-in_ok-number-in-start-clause-range : goal.returns-in_ok-number-in-start-clause-range
+returns-in_ok-number-in-start-clause-range c =
+    let job = c.in_ok-number-in-start.ensures.range in
+    is_job c.in_ok-number-in-start.field-0 job.0 (omega (arith, job.1))
+
+pub returns-in_ok-choice-in-settle-clause-range : goal.returns-in_ok-choice-in-settle-clause-range
+returns-in_ok-choice-in-settle-clause-range c =
+    let job = c.in_ok-number-in-settle in
+    let impressions = c.in_ok-number-in-settle-2 in
+    both (may_be_job job.field-0) (nat_le impressions.field-0 most_impressions) (is_job job.field-0 job.ensures.range.0 (omega (arith, job.ensures.range.1))) (le-leb impressions.field-0 most_impressions impressions.ensures.range.1)
+
+pub returns-in_ok-impressions-in-release-clause-range : goal.returns-in_ok-impressions-in-release-clause-range
+returns-in_ok-impressions-in-release-clause-range c =
+    let job = c.in_ok-number-in-release in
+    let impressions = c.in_ok-impressions-in-release in
+    both (may_be_job job.field-0) (are_impressions impressions.field-0) (is_job job.field-0 job.ensures.range.0 (omega (arith, job.ensures.range.1))) impressions.ensures.range
 
 pub returns-in_ok-number-in-start-clause-said : goal.returns-in_ok-number-in-start-clause-said
 returns-in_ok-number-in-start-clause-said c =

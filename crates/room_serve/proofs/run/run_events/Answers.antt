@@ -1,5 +1,5 @@
-use Rattle.std.proofs.Common.{◌≡◌, ◌+◌, List, [], ◌∷◌, ◌++◌, map, take, IsTrue, sym, subst, ◌∙◌, ap, arith}
-use Rattle.std.proofs.lemmas.List.{map-append, take_all, take_more}
+use Rattle.std.proofs.Common.{◌≡◌, ◌+◌, List, [], ◌∷◌, ◌++◌, ◌≤◌, length, map, take, IsTrue, sym, subst, ◌∙◌, ap, arith}
+use Rattle.std.proofs.lemmas.List.{length-map, map-append, take_all, take_more}
 use Rattle.std.proofs.lemmas.List.Elements.{All-get_or}
 use Rattle.sqlite.specs.Held.{state}
 use Rattle.sqlite.specs.State.{HasCleanDisk}
@@ -11,6 +11,7 @@ use Rattle.room_serve.proofs.LivesOn.{lives_go_on_in_runs}
 use Rattle.room_serve.proofs.RunLemmas.{applied_more, one_more}
 use Rattle.room_serve.specs.Crashes.{IsFound}
 use Rattle.room_serve.specs.LivesInFiles.{IsLifeIn, exchanges_of}
+use Rattle.room_serve.specs.Runs.{AreApplied, LeavesTheRest, RunsAlone, RunsDevices}
 use Rattle.room_serve.proofs.run.run_events.Goals as goal
 
 pub apply-answer-requires : goal.apply-answer-requires
@@ -35,6 +36,38 @@ loop-now-preserved g c =
       applied = rw (mapped, c.keep.ensures.kept, c.from.ensures) (applied_more g.S.Store (map plain_timed front) c.loop-now.outcomes.items e c.args.store.now c.loop-now.store c.apply-answer.new.self c.apply-answer.result c.loop-now.invariant.applied applied);
       fits = omega (arith, c.loop-now.invariant.fits, c.keep.ensures.capacity);
     }
+
+pub returns-clause-applied : goal.returns-clause-applied
+returns-clause-applied g c =
+    let all = ap (map plain_timed) (take_all c.loop-now.now-index c.args.events.now c.loop-now-test.false) in
+    subst (λ (run : List Timed). AreApplied g.S.Store run c.loop-now.outcomes.items c.args.store.now c.loop-now.store) all c.loop-now.invariant.applied
+
+pub returns-clause-each : goal.returns-clause-each
+returns-clause-each g c =
+    let events = c.args.events.now in
+    let whole : length events ≤ c.loop-now.now-index = omega arith in
+    c.loop-now.invariant.run.shows.each ∙ length-map (take c.loop-now.now-index events) plain_timed ∙ ap length (take_all c.loop-now.now-index events whole)
+
+pub returns-clause-alone : goal.returns-clause-alone
+returns-clause-alone g c clean has =
+    let old = state g.S.Store c.args.store.now in
+    let new = state g.S.Store c.loop-now.store in
+    let all = ap (map plain_timed) (take_all c.loop-now.now-index c.args.events.now c.loop-now-test.false) in
+    subst (λ (run : List Timed). RunsAlone run c.loop-now.outcomes.items old.now new.is_open new.now) all (c.loop-now.invariant.run.shows.alone clean has)
+
+pub returns-clause-devices : goal.returns-clause-devices
+returns-clause-devices g c clean has =
+    let old = state g.S.Store c.args.store.now in
+    let new = state g.S.Store c.loop-now.store in
+    let all = ap (map plain_timed) (take_all c.loop-now.now-index c.args.events.now c.loop-now-test.false) in
+    subst (λ (run : List Timed). RunsDevices run c.loop-now.outcomes.items old.now new.is_open new.now) all (c.loop-now.invariant.run.shows.devices clean has)
+
+pub returns-clause-rest : goal.returns-clause-rest
+returns-clause-rest g c clean has shown =
+    let old = state g.S.Store c.args.store.now in
+    let new = state g.S.Store c.loop-now.store in
+    let all = ap (map plain_timed) (take_all c.loop-now.now-index c.args.events.now c.loop-now-test.false) in
+    subst (λ (run : List Timed). LeavesTheRest run c.loop-now.outcomes.items old.now new.is_open new.now) all (c.loop-now.invariant.run.shows.rest clean has shown)
 
 pub returns-clause-lives : goal.returns-clause-lives
 returns-clause-lives g c clean has name life lived =
