@@ -2,10 +2,11 @@
 //! who come in by them. All of it is one thread: between any two passes of the hall each visitor
 //! goes on.
 
-use room_peers::Served;
+use room_copy::CopyMaker;
+use room_peers::{Copies, Served};
 use room_sockets::{Door, Entrance, Hall, Kind};
 use serve_trials::{Fault, PRINT, PRINTED, Report, expect, expect_bytes, new_rooms, with_case};
-use sqlite::Alter;
+use sqlite::{Alter, Connection, MemStore};
 use std::hash::RandomState;
 use std::io;
 use std::io::{ErrorKind, Read, Write};
@@ -51,6 +52,24 @@ const STATION_TOLD: &[u8] =
 /// Runs the trial of this file, and tells how it ended.
 pub fn run_all<W: Write>(rt: &HostRuntime, report: &mut Report<'_, W>) {
     report.tell("visitors over sockets", visitors_over_sockets(rt));
+}
+
+/// Makes no file of a copy.
+#[derive(Drop)]
+struct NoCopies;
+
+impl CopyMaker for NoCopies {
+    type Rows = Connection<MemStore>;
+
+    fn make(&mut self, _file: &[u8]) -> Option<Connection<MemStore>> {
+        None
+    }
+
+    fn close(&mut self, _rows: Connection<MemStore>) -> bool {
+        false
+    }
+
+    fn give_up(&mut self, _rows: Connection<MemStore>) {}
 }
 
 /// The ports of the three doors.
@@ -221,7 +240,7 @@ pub fn pass_until_told<S: Alter>(
         if visitors.iter().all(|visitor| visitor.is_told_enough()) {
             break;
         }
-        hall.pass(rt, rooms)?;
+        hall.pass(rt, rooms, &mut Copies::new(NoCopies))?;
     }
     for visitor in visitors.iter() {
         visitor.expect_told(rt)?;
@@ -263,7 +282,7 @@ pub fn pass_until_ended<S: Alter>(
         if visitors.iter().all(|visitor| visitor.has_ended) {
             break;
         }
-        hall.pass(rt, rooms)?;
+        hall.pass(rt, rooms, &mut Copies::new(NoCopies))?;
     }
     for visitor in visitors.iter() {
         visitor.expect_told(rt)?;

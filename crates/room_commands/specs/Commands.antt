@@ -1,6 +1,8 @@
 -- The numbers that a command line may say (this project's own).
-use Rattle.std.specs.Prelude.{◌≡◌, ℕ, Bool, true, ◌&&◌, nat_le, ⊤, List, None, Some, drop, slice_get, option_map}
+use Rattle.std.specs.Prelude.{◌≡◌, ℕ, ◌==◌, Bool, true, not, ◌&&◌, nat_le, bytes_eq, ⊤, List, codes, None, Some, drop, take, slice_get, option_map}
+use Rattle.std.specs.List.{list_all}
 use Rattle.room_rules.specs.Limits.{last_month, most_pages, most_rate}
+use Rattle.room_commands.specs.declared.backing_up.BackingUp.{BackingUp}
 use Rattle.room_commands.specs.declared.command.Command.{Command}
 use Rattle.room_commands.specs.declared.command.Command.TheVariants as command
 use Rattle.room_commands.specs.declared.copying.Copying.{Copying}
@@ -10,7 +12,7 @@ use Rattle.room_commands.specs.declared.serving.Serving.{Serving}
 use Rattle.room_commands.specs.declared.errand.Errand.{Errand}
 use Rattle.room_desk.specs.declared.task.Task.{Task}
 use Rattle.room_desk.specs.declared.task.Task.TheVariants as task
-use Rattle.room_commands.specs.Addresses.{has_port_from}
+use Rattle.room_commands.specs.Addresses.{IsAddressOf, has_port_from}
 use Rattle.room_commands.specs.Visitors.{AreDoors, log_behind}
 
 -- connections of one run of `listen`
@@ -30,6 +32,26 @@ is_sending_in_range sending = has_port_from 1 sending.address
 pub record SaysCopying (words : List (List ℕ)) (copying : Copying) : Type 0 where
   pub database : slice_get words 1 ≡ Some copying.database.now
   pub file : slice_get words 2 ≡ Some copying.file.now
+
+-- neither a space nor a line feed
+abbrev pub is_of_field : (byte : ℕ) → Bool
+is_of_field byte = not (byte == 32) && not (byte == 10)
+
+-- a path from the root, which is one field of a line
+abbrev pub can_be_told : (path : List ℕ) → Bool
+can_be_told path = bytes_eq (take 1 path) (codes "/") && list_all is_of_field path
+
+-- an address that can be connected to, and a path that can be told there
+abbrev pub is_backing_up_in_range : BackingUp → Bool
+is_backing_up_in_range backing_up =
+    has_port_from 1 backing_up.address && can_be_told backing_up.file.now
+
+-- what the words of `backup` say by their places
+pub record SaysBackingUp (words : List (List ℕ)) (backing_up : BackingUp) : Type 0 where
+  pub word : List ℕ
+  pub first : slice_get words 1 ≡ Some word
+  pub address : IsAddressOf word 1 backing_up.address
+  pub file : slice_get words 2 ≡ Some backing_up.file.now
 
 -- days that a job waited
 abbrev pub most_days : ℕ
@@ -59,6 +81,7 @@ pub record SaysServing (words : List (List ℕ)) (serving : Serving) : Type 0 wh
 
 abbrev pub IsSaidBy : (words : List (List ℕ)) → Command → Type 0
 IsSaidBy words (command.Copy copying) = SaysCopying words copying
+IsSaidBy words (command.Backup backing_up) = SaysBackingUp words backing_up
 IsSaidBy words (command.Serve serving) = SaysServing words serving
 IsSaidBy words _ = ⊤
 
@@ -69,6 +92,7 @@ is_in_range (command.Create database) = true
 is_in_range (command.Open database account) = true
 is_in_range (command.Migrate database) = true
 is_in_range (command.Copy copying) = true
+is_in_range (command.Backup backing_up) = is_backing_up_in_range backing_up
 is_in_range (command.Device database name on) = true
 is_in_range (command.Rate database name units) = nat_le 1 units && nat_le units most_rate
 is_in_range (command.Grants database) = true

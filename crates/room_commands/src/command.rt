@@ -5,6 +5,7 @@ ghost use Rattle.room_commands.specs.Commands.{is_in_range, is_task_in_range, Is
 ghost use Rattle.room_commands.specs.Words.{placed, texts};
 
 use crate::address::{Address, LAST_PORT};
+use crate::backing_up::BackingUp;
 use crate::copying::Copying;
 use crate::errand::Errand;
 use crate::fault::Fault;
@@ -15,9 +16,9 @@ use crate::served_door::{doors_of, log_behind};
 use crate::serving::Serving;
 use crate::unfit::Unfit;
 use crate::words::{
-    ACCOUNT, ADDRESS, COPY, COUNT, CREATE, DATABASE, DAYS, DAYS_AGO, DEVICE, DEVICES, DRY_RUN, END,
-    EXPIRE, EXPLAIN, FOLDER, GRANTS, LISTEN, MIGRATE, MONTH, NAME, ON, OPEN, PING, PORT, RATE,
-    REFUND, REPORT, SCRIPT, SEND, SERVE, STATION, SWITCH, UNITS, WAITING, placed_words,
+    ACCOUNT, ADDRESS, BACKUP, COPY, COUNT, CREATE, DATABASE, DAYS, DAYS_AGO, DEVICE, DEVICES,
+    DRY_RUN, END, EXPIRE, EXPLAIN, FOLDER, GRANTS, LISTEN, MIGRATE, MONTH, NAME, ON, OPEN, PING,
+    PORT, RATE, REFUND, REPORT, SCRIPT, SEND, SERVE, STATION, SWITCH, UNITS, WAITING, placed_words,
 };
 use clap::ArgMatches;
 use room_desk::{MOST_DAYS, ReportMonth, Task};
@@ -56,6 +57,8 @@ pub enum Command<'a> {
     },
     /// Copies a database.
     Copy(Copying<'a>),
+    /// Copies the database of a running process.
+    Backup(BackingUp<'a>),
     /// Makes a device known, and turns it on or off.
     Device {
         database: &'a str,
@@ -146,6 +149,7 @@ fn of_matches<'a>(
 {
     match matches.subcommand() {
         Some((COPY, _)) => copy_command(alloc, words),
+        Some((BACKUP, _)) => backup_command(alloc, words),
         Some((SERVE, _)) => serve_command(alloc, words),
         Some((SEND, found)) => send_command(found),
         Some((EXPLAIN, _)) => Ok(Command::Explain),
@@ -233,6 +237,18 @@ fn copy_command<'a>(alloc: Global, words: &[&'a str]) -> Result<Command<'a>, Unf
         return Err(Unfit::Missing);
     };
     Ok(Command::Copy(Copying { database, file }))
+}
+
+// The words of `backup` are read by their places.
+fn backup_command<'a>(alloc: Global, words: &[&'a str]) -> Result<Command<'a>, Unfit>
+    ensures range { IfOk result (λ command. IsTrue (is_in_range command)) }
+    ensures said { IfOk result (IsSaidBy (placed (texts words.now))) }
+{
+    let placed = placed_words(alloc, words)?;
+    let [_, address, file] = placed.as_slice() else {
+        return Err(Unfit::Missing);
+    };
+    Ok(Command::Backup(BackingUp::of(address, file)?))
 }
 
 // The words of `serve` are read by their places, and its options behind them.

@@ -4,6 +4,7 @@
 
 mod address;
 mod arguments;
+mod backing_up;
 mod command;
 mod copying;
 mod errand;
@@ -25,6 +26,7 @@ mod words;
 
 pub use address::Address;
 pub use arguments::words_of;
+pub use backing_up::BackingUp;
 pub use command::MEMORY;
 pub use copying::Copying;
 pub use errand::Errand;

@@ -24,7 +24,7 @@ use std::io::{Read, Write};
 /// anything is printed. In `:memory:` each run makes tables of its own. `explain` asks for none,
 /// and none of its lines is wrong. Of `copy`, `listen`, `serve`, `send` and what is asked over an
 /// address it answers `Io` with nothing run, since it has one database and no sockets (`Copying`,
-/// `Listening`, `Serving`, `Sending` and `Errand` say what their words ask for).
+/// `Listening`, `Serving`, `Sending`, `BackingUp` and `Errand` say what their words ask for).
 pub fn run<S, F, R, W, E>(
     alloc: Global,
     words: &[&str],
@@ -93,6 +93,7 @@ where
         Command::Station { database } => run_station(alloc, now, opener, database, input, output),
         Command::Grants { database } => run_grants(alloc, now, opener, database, input, output),
         Command::Copy(_)
+        | Command::Backup(_)
         | Command::Listen(_)
         | Command::Serve(_)
         | Command::Send(_)

@@ -16,6 +16,7 @@ pub(crate) enum Unfit {
     ServedAddress,
     Option,
     Address,
+    File,
     Month,
     Days,
     Pages,
@@ -38,6 +39,7 @@ impl Unfit {
             }
             Unfit::Option => Some("options stand behind the words, each with its value"),
             Unfit::Address => Some("ADDRESS is a port from 1 to 65535, or a path"),
+            Unfit::File => Some("FILE begins with / and has no space in it"),
             Unfit::Month => Some("YYYY-MM is a month from 2000-01 to 2099-12"),
             Unfit::Days => Some("DAYS is a number from 0 to 36500"),
             Unfit::Pages => Some("UNITS is a number from 0 to 1000000000"),

@@ -35,6 +35,8 @@ pub(crate) const PING: &str = "ping";
 
 pub(crate) const END: &str = "end";
 
+pub(crate) const BACKUP: &str = "backup";
+
 pub(crate) const REPORT: &str = "report";
 
 pub(crate) const WAITING: &str = "waiting";
@@ -135,6 +137,12 @@ const ON_DATABASE: Argument = Argument {
 const TO_FILE: Argument = Argument {
     name: FILE,
     help: Some("The copy, FILE.part until it is whole"),
+    kind: Kind::Required,
+};
+
+const TO_ROOTED_FILE: Argument = Argument {
+    name: FILE,
+    help: Some("The copy, FILE.part until it is whole: a path that begins with /"),
     kind: Kind::Required,
 };
 
@@ -271,7 +279,7 @@ const INTO_FOLDER: Argument = Argument {
 };
 
 /// All commands, in the order of the help.
-pub(crate) const COMMANDS: [CommandWords; 19] = [
+pub(crate) const COMMANDS: [CommandWords; 20] = [
     CommandWords {
         name: CREATE,
         about: "Makes the tables of a database",
@@ -350,6 +358,11 @@ pub(crate) const COMMANDS: [CommandWords; 19] = [
         name: END,
         about: "Ends a process, and waits until it has ended",
         arguments: &[TO_ADDRESS],
+    },
+    CommandWords {
+        name: BACKUP,
+        about: "Copies the database of a running process",
+        arguments: &[TO_ADDRESS, TO_ROOTED_FILE],
     },
     CommandWords {
         name: REPORT,

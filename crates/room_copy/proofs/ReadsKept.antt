@@ -31,9 +31,6 @@ module _ {S T E : Type 0} (store : Ghosts S) (old new : Held S) (r : Result T E)
   pub of_read : ReadsStore store old new {T = T} {E = E} r → LeavesSource store old new r
   of_read reads = record { keeps = reads.keeps; same = reads.same; stays = reads.stays; crash = reads.crash }
 
-  pub leaves_refused : {U F : Type 0} (error : F) (fault : E) → r ≡ Err fault → LeavesSource {T = U} {E = F} store old new (Err error) → LeavesSource store old new r
-  leaves_refused error fault is leaves = subst (λ (it : Result T E). LeavesSource store old new it) (sym is) (record { keeps = leaves.keeps; same = λ _ _. tt; stays = leaves.stays; crash = leaves.crash })
-
 module _ {S T U E F : Type 0} (store : Ghosts S) (old new : Held S) (it : T) (told : U) where
   pub leaves_answered : LeavesSource {T = T} {E = E} store old new (Ok it) → LeavesSource {T = U} {E = F} store old new (Ok told)
   leaves_answered leaves = record { keeps = leaves.keeps; same = leaves.same; stays = leaves.stays; crash = leaves.crash }

@@ -25,6 +25,7 @@ mod every;
 mod grants;
 mod jobs;
 mod law;
+mod maker;
 mod removals;
 mod slices;
 #[cfg(test)]
@@ -33,4 +34,5 @@ mod tests;
 pub use again::start_again;
 pub use every::copy_all;
 pub use law::{copies_agree, slices_copy};
+pub use maker::CopyMaker;
 pub use slices::{Progress, copy_slice};

@@ -1,4 +1,5 @@
 pub mod AskedLists
+pub mod BackedUp
 pub mod Expired
 pub mod FreeMonths
 pub mod KnownNames

@@ -12,3 +12,9 @@ statement_asked account month =
 
 abbrev pub cancel_asked : (account job : List ℕ) → List ℕ
 cancel_asked account job = (account_asked (codes "cancel ") account ++ codes " ") ++ job
+
+abbrev pub backup_asked : (file : List ℕ) → List ℕ
+backup_asked file = codes "backup " ++ file
+
+abbrev pub slice_asked : (file : List ℕ) → List ℕ
+slice_asked file = codes "slice " ++ file

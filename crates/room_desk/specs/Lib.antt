@@ -1,5 +1,6 @@
 pub mod Ages
 pub mod Asked
+pub mod Backups
 pub mod Bars
 pub mod Csv
 pub mod Devices

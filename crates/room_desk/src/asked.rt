@@ -1,7 +1,7 @@
 //! The lines that are sent.
 ghost use Rattle.std.specs.Prelude.{◌≡◌, ◌≤◌, IfOk};
 ghost use Rattle.room_rules.specs.Limits.{first_month, last_month};
-ghost use Rattle.room_desk.specs.Asked.{account_asked, cancel_asked, statement_asked};
+ghost use Rattle.room_desk.specs.Asked.{account_asked, backup_asked, cancel_asked, slice_asked, statement_asked};
 ghost use Rattle.room_desk.specs.Names.{accounts_asked, last_of};
 
 use room_client::month_text;
@@ -54,5 +54,23 @@ pub(crate) fn cancel_line(alloc: Global, account: &Name, job: &[u8]) -> Result<V
     let mut line = account_line(alloc, b"cancel ", account)?;
     line.push(b' ')?;
     line.extend_from_slice(job)?;
+    Ok(line)
+}
+
+/// `backup FILE`.
+pub(crate) fn backup_line(alloc: Global, file: &str) -> Result<Vec<u8>, AllocError>
+    ensures { IfOk result (λ line. line.items ≡ backup_asked file.now) }
+{
+    let mut line = Vec::from_slice(alloc, b"backup ")?;
+    line.extend_from_slice(file.as_bytes())?;
+    Ok(line)
+}
+
+/// `slice FILE`.
+pub(crate) fn slice_line(alloc: Global, file: &str) -> Result<Vec<u8>, AllocError>
+    ensures { IfOk result (λ line. line.items ≡ slice_asked file.now) }
+{
+    let mut line = Vec::from_slice(alloc, b"slice ")?;
+    line.extend_from_slice(file.as_bytes())?;
     Ok(line)
 }

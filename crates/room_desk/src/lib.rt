@@ -4,6 +4,7 @@
 
 mod age;
 mod asked;
+mod backup;
 mod bar;
 mod csv;
 mod devices;
@@ -23,6 +24,7 @@ mod waiting;
 mod words;
 
 pub use age::MOST_DAYS;
+pub use backup::back_up;
 pub use bar::Bar;
 pub use report_month::ReportMonth;
 pub use task::{Task, perform};

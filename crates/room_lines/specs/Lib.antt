@@ -1,5 +1,6 @@
 pub mod Actions
 pub mod Asking
+pub mod Backups
 pub mod Lines
 pub mod OwnerRequests
 pub mod Saying

@@ -3,6 +3,7 @@
 #![tactic(auto)]
 
 mod action;
+mod backup;
 mod fault;
 mod fields;
 mod line;
@@ -12,6 +13,7 @@ mod printing;
 mod questions;
 
 pub use action::Action;
+pub use backup::{BackupLine, read_backup};
 pub use fault::LineFault;
 pub use line::{Line, events_of};
 pub use lines::Grammar;

@@ -1,5 +1,5 @@
 -- What comes to a journal, one after another.
-use Rattle.std.proofs.Common.{◌≡◌, Bool, not, true, false, Option, None, Some, List, [], ◌∷◌, ◌++◌, map, Result, refl, subst, sym, ap, ◌∙◌, append_assoc, inl, inr}
+use Rattle.std.proofs.Common.{◌≡◌, Bool, not, true, false, Option, None, Some, List, [], ◌∷◌, ◌++◌, map, Result, refl, subst, sym, ap, ◌∙◌, append-nil, append_assoc, inl, inr}
 use Rattle.std.proofs.lemmas.Grind.{flat_map-append}
 use Rattle.std.proofs.lemmas.List.{map-append}
 use Rattle.sqlite.specs.Held.{Held}
@@ -8,6 +8,10 @@ use Rattle.room_events.specs.declared.event.Reply.{Reply}
 use Rattle.room_questions.specs.declared.question.Question.{Question}
 use Rattle.room_store.specs.Questions.{AnswersQuestion}
 use Rattle.room_store.specs.declared.fault.StoreFault.{StoreFault}
+use Rattle.room_lines.specs.declared.backup.BackupLine.{BackupLine}
+use Rattle.room_peers.specs.Keeping.{AsksNext, backup_of}
+use Rattle.room_peers.specs.declared.backup.Backup.{Backup}
+use Rattle.room_peers.specs.declared.backup.BackupTold.{BackupTold}
 use Rattle.room_peers.specs.declared.entry.Entry.{Entry}
 use Rattle.room_peers.specs.declared.served.Served.{Served}
 use Rattle.http_server.specs.Exchange.{Call, Chain}
@@ -48,7 +52,15 @@ module _ {S : Type 0} where
     grown (asked_of old) (asked_of mid) (asked_of new) (entries first) (entries more) one.2 two.2 ∙ ap (λ x. asked_of old ++ x) (sym (entries_then first more)),
   )
 
+-- nothing but the backup that is asked for is another
+pub backup_noted : {S : Type 0} → (shares : Bool) (served : Served S) (backup : Option Backup) → Notes shares [] served (record served { backup = backup })
+backup_noted false served backup = (sym (append-nil (rounds_of served)), refl, refl)
+backup_noted true served backup = (refl, sym (append-nil (open_of served)), sym (append-nil (asked_of served)))
+
 module _ {S : Type 0} (store : Ghosts S) where
+  unfoldable pub backup_only : (served : Served S) (backup : Option Backup) → Continues store served (record served { backup = backup })
+  backup_only served backup = record { more = []; notes = backup_noted (shares_of served) served backup; does = refl; shares = refl; is_lost = refl }
+
   pub looks_only : (question : Question) (told : Result Reply StoreFault) (old new : Held S) → AnswersQuestion store question old new told → OnlyLooks store old new
   looks_only question told old new answers = record { unchanged = answers.same; connection = answers.connection }
 
@@ -61,6 +73,11 @@ module _ {S : Type 0} (store : Ghosts S) where
     shares = ap (λ (served : Served S). shares_of served) next.same;
     is_lost = ap (λ (served : Served S). is_lost_of served) next.same;
   }
+
+  -- a line of a backup
+  unfoldable pub backup_asked : (line : BackupLine) (told : BackupTold) (old new : Served S) → AsksNext line told old new → Continues store old new
+  unfolding stays
+  backup_asked line told old new next = subst (λ (served : Served S). Continues store old served) (sym next.same) (backup_only old (backup_of new))
 
   pub does_then : (shares : Bool) (first more : List (Option Told)) (old mid new : Held S) → DoesEach store shares old first mid → DoesEach store shares mid more new → DoesEach store shares old (first ++ more) new
   does_then shares [] more old mid new is later = subst (λ (held : Held S). DoesEach store shares held more new) is later
@@ -100,7 +117,8 @@ module _ {S : Type 0} (store : Ghosts S) where
       elim is.1 [
         | inl asked ↦ one_more store asked.entry asked.told old is.0 asked.next
         | inr (inl looks) ↦ looked looks.question looks.told old is.0 looks.next
-        | inr (inr bad) ↦ subst (λ (served : Served S). Continues store old served) (sym bad.1) (stays store old)
+        | inr (inr (inl backs)) ↦ backup_asked backs.asked backs.told old is.0 backs.next
+        | inr (inr (inr bad)) ↦ subst (λ (served : Served S). Continues store old served) (sym bad.1) (stays store old)
       ]
       in
       then old is.0 new first (line_chain side calls is.0 new is.2)

@@ -5,6 +5,10 @@ pub mod Running
 pub mod LineEnds
 pub mod LineCalls
 pub mod HttpMoves
+pub mod CopySteps
+pub mod Watched
+pub mod BackupMade
+pub mod BackupKept
 pub mod Ends
 pub mod Finding
 pub mod LastSteps

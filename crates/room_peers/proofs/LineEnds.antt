@@ -13,6 +13,12 @@ use Rattle.room_peers.specs.Turns.{AnswersNext, AppliesNext}
 use Rattle.room_peers.specs.Lines.{IsEntryOf, MayAsk, TakesLine, grammar_of, input_of, line_end, side_of}
 use Rattle.room_peers.specs.LineTexts.{answer_text, bad_line_text, has_to_warn, line_text}
 use Rattle.room_lines.specs.Asking.{IsQuestionOf}
+use Rattle.room_lines.specs.Backups.{IsBackupOf}
+use Rattle.room_lines.specs.declared.backup.BackupLine.{BackupLine}
+use Rattle.room_peers.specs.Backups.{backup_text}
+use Rattle.room_peers.specs.Keeping.{AsksNext}
+use Rattle.room_peers.specs.declared.backup.BackupTold.{BackupTold}
+use Rattle.room_peers.specs.declared.line_connection.Side.TheVariants.{Operator}
 use Rattle.room_peers.specs.declared.entry.Entry.{Entry}
 use Rattle.room_peers.specs.declared.line_connection.LineConnection.{LineConnection}
 use Rattle.room_peers.specs.declared.served.Served.{Served}
@@ -63,13 +69,32 @@ module _ {S : Type 0} (store : Ghosts S) where
     }));
   }
 
+  -- a line of a backup was taken
+  pub takes_backup : (before after : LineConnection) (old new : Served S) (end : ℕ) (asked : BackupLine) (told : BackupTold) → line_end (input_of before) ≡ Some end → input_of after ≡ drop (end + 1) (input_of before) → side_of before ≡ Operator
+      → IsBackupOf (take end (input_of before)) asked → AsksNext asked told old new → TakesLine store before after old (backup_text told) new
+  takes_backup before after old new end asked told first rest operator said next = record {
+    end = end;
+    first = first;
+    rest = rest;
+    gives = inr (inr (inl (record {
+      line = take end (input_of before);
+      ended = ends_with_feed (input_of before) end first;
+      asked = asked;
+      operator = operator;
+      said = said;
+      told = told;
+      next = next;
+      says = refl;
+    })));
+  }
+
   -- a line that is none of its side's
   pub takes_bad : (before after : LineConnection) (old new : Served S) (end : ℕ) → line_end (input_of before) ≡ Some end → input_of after ≡ drop (end + 1) (input_of before) → new ≡ old → TakesLine store before after old bad_line_text new
   takes_bad before after old new end first rest same = record {
     end = end;
     first = first;
     rest = rest;
-    gives = inr (inr (refl, same));
+    gives = inr (inr (inr (refl, same)));
   }
 
 -- what holds anyway holds after an error

@@ -6,18 +6,23 @@ use Rattle.sqlite_trees.specs.declared.store.Store.{Ghosts}
 use Rattle.room_events.specs.declared.event.Reply.{Reply}
 use Rattle.room_lines.specs.Lines.{IsAllowed}
 use Rattle.room_lines.specs.Asking.{IsQuestionOf, is_of_station}
+use Rattle.room_lines.specs.Backups.{IsBackupOf}
 use Rattle.room_lines.specs.Saying.{IsLineOf}
+use Rattle.room_lines.specs.declared.backup.BackupLine.{BackupLine}
 use Rattle.room_lines.specs.declared.lines.Grammar.{Grammar}
 use Rattle.room_lines.specs.declared.lines.Grammar.TheVariants as grammar_is
 use Rattle.room_lines.specs.declared.line.Line.{Line}
 use Rattle.room_questions.specs.declared.question.Question.{Question}
 use Rattle.room_store.specs.declared.fault.StoreFault.{StoreFault}
+use Rattle.room_peers.specs.declared.backup.BackupTold.{BackupTold}
 use Rattle.room_peers.specs.declared.entry.Entry.{Entry}
 use Rattle.room_peers.specs.declared.entry.Entry.TheVariants as entry_is
 use Rattle.room_peers.specs.declared.line_connection.LineConnection.{LineConnection}
 use Rattle.room_peers.specs.declared.line_connection.Side.{Side}
 use Rattle.room_peers.specs.declared.line_connection.Side.TheVariants.{Station, Operator}
 use Rattle.room_peers.specs.declared.served.Served.{Served}
+use Rattle.room_peers.specs.Backups.{backup_text}
+use Rattle.room_peers.specs.Keeping.{AsksNext}
 use Rattle.room_peers.specs.Journals.{log_lags_of, moment_of, shares_of}
 use Rattle.room_peers.specs.Turns.{AnswersNext, AppliesNext}
 use Rattle.room_peers.specs.LineTexts.{answer_text, bad_line_text, has_to_warn, line_text}
@@ -124,15 +129,27 @@ module _ {S : Type 0} (store : Ghosts S) where
     pub next : AnswersNext store question told old new
     pub says : text ≡ answer_text (has_to_warn question (log_lags_of old)) told
 
+  -- a line of a backup
+  pub record BacksUp (side : Side) (came : List ℕ) (old : Served S) (text : List ℕ) (new : Served S)
+      : Type 0 where
+    pub line : List ℕ
+    pub ended : came ≡ line ++ 10 ∷ []
+    pub asked : BackupLine
+    pub operator : side ≡ Operator
+    pub said : IsBackupOf line asked
+    pub told : BackupTold
+    pub next : AsksNext asked told old new
+    pub says : text ≡ backup_text told
+
   -- a line that is none of its side's
   abbrev pub IsBad : Served S → List ℕ → Served S → Type 0
   IsBad old text new = (text ≡ bad_line_text) × (new ≡ old)
 
-  -- a line asks for something, or asks a question, or is a bad one
+  -- a line asks for something, or asks a question, or is one of a backup, or is a bad one
   abbrev pub IsTold : (side : Side) (came : List ℕ) (old : Served S) (text : List ℕ) (new : Served S)
       → Type 0
   IsTold side came old text new = Asks side came old text new
-      ⊎ (Inquires side came old text new ⊎ IsBad old text new)
+      ⊎ (Inquires side came old text new ⊎ (BacksUp side came old text new ⊎ IsBad old text new))
 
   -- the first line that came is taken, and this is told of it
   pub record TakesLine (before after : LineConnection) (old : Served S) (text : List ℕ)

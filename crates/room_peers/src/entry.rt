@@ -2,6 +2,7 @@
 ghost use Rattle.std.specs.Prelude.{◌≡◌, IsTrue};
 ghost use Rattle.room_events.specs.Events.{plain_event};
 ghost use Rattle.room_events.specs.Fits.{fits};
+ghost use Rattle.room_serve.specs.Own.{is_of};
 ghost use Rattle.room_peers.specs.Entries.{event_of_entry, moment_at};
 ghost use Rattle.room_peers.specs.Logged.{door_for, door_of};
 ghost use Rattle.room_peers.specs.Space.{entry_needs_space, length_of_entry};
@@ -85,6 +86,21 @@ impl Entry {
             Event::Ipp { body, .. } => cancels(body),
             Event::Settle { .. } => true,
             _ => false,
+        }
+    }
+
+    /// Whether it is of the account.
+    pub(crate) fn is_of(&self, name: Name) -> bool
+        ensures { result ≡ is_of name (event_of_entry self.now) }
+    {
+        match self.event() {
+            Event::Open { account }
+            | Event::Ipp { account, .. }
+            | Event::Release { account, .. }
+            | Event::Start { account, .. }
+            | Event::Settle { account, .. }
+            | Event::Grant { account, .. } => account == name,
+            Event::Device { .. } | Event::Rate { .. } => false,
         }
     }
 

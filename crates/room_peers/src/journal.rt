@@ -4,11 +4,13 @@ ghost use Rattle.std.specs.Option.{ForSome};
 ghost use Rattle.room_log.specs.Waits.{drafts_of, logged_of};
 ghost use Rattle.room_peers.specs.Logged.{TellsRounds, log_lags};
 ghost use Rattle.room_peers.specs.Tolds.{round_in};
+ghost use Rattle.room_peers.specs.Watching.{Watches};
 
 use crate::entry::Entry;
 use crate::logging::{draft, look, note, push_out, refuse_line, refuse_request, settle};
+use crate::watch::Watch;
 use http_server::Log;
-use room_events::Reply;
+use room_events::{Name, Reply};
 use room_log::{Door, EventLog};
 use room_store::StoreFault;
 use std::fs::{File, Files};
@@ -23,8 +25,14 @@ pub struct Journal {
     /// The round that is under way.
     pub(crate) under_way: Log<Entry, Result<Reply, StoreFault>>,
     pub(crate) log: Option<EventLog>,
+    /// Whether something was asked in the round that is under way.
+    pub(crate) is_open: bool,
+    /// The account that a backup has under way.
+    pub(crate) watch: Watch,
     // The lines of the log are those of the journal.
     pub ghost told: { ForSome log (λ log. TellsRounds log (map round_in over.items) under_way.items) },
+    pub ghost none_open: { is_open ≡ false → under_way.items ≡ [] },
+    pub ghost watched: { Watches watch (map round_in over.items) under_way.items },
 }
 
 // In the place of `#[derive(Drop)]`, so that no caller proves again how each part is dropped.
@@ -34,11 +42,14 @@ impl Drop for Journal {
             over: _,
             under_way: _,
             log: _,
+            is_open: _,
+            watch: _,
         } = self;
     }
 }
 
 impl Journal {
+    ghost use Rattle.room_peers.specs.Watching.{seen_by};
     ghost use Rattle.room_peers.specs.Writing.{rounds_in, under_way_in};
 
     /// An empty one, without a log. It takes no memory.
@@ -50,6 +61,8 @@ impl Journal {
             over: Log::new(),
             under_way: Log::new(),
             log: None,
+            is_open: false,
+            watch: Watch::begin(None, false, Log::new()),
         }
     }
 
@@ -72,7 +85,10 @@ impl Journal {
         ensures under_way { under_way_in self.new ≡ under_way_in self.old }
     {
         note(&mut self.log, entry, told);
-        self.over = self.over.and(&Log::new().and(entry, told), &true);
+        self.watch.note(entry);
+        let round = Log::new().and(entry, told);
+        self.watch.close(&round, true);
+        self.over = self.over.and(&round, &true);
     }
 
     /// What came was applied in the round that is under way.
@@ -82,6 +98,8 @@ impl Journal {
             ≡ under_way_in self.old ++ (entry.now, told.now) ∷ [] }
     {
         draft(&mut self.log, entry, told);
+        self.watch.note(entry);
+        self.is_open = true;
         self.under_way = self.under_way.and(entry, told);
     }
 
@@ -90,7 +108,30 @@ impl Journal {
         ensures rounds { rounds_in self.new ≡ rounds_in self.old ++ ([], false) ∷ [] }
         ensures under_way { under_way_in self.new ≡ under_way_in self.old }
     {
-        self.over = self.over.and(&Log::new(), &false);
+        let nothing = Log::new();
+        self.watch.close(&nothing, false);
+        self.over = self.over.and(&nothing, &false);
+    }
+
+    /// A slice of a backup was done, and from now on the account is watched that it has under way.
+    pub(crate) fn add_slice(&mut self, account: Option<Name>)
+        ensures rounds { rounds_in self.new ≡ rounds_in self.old ++ ([], false) ∷ [] }
+        ensures under_way { under_way_in self.new ≡ under_way_in self.old }
+        ensures account { self.new.watch.account ≡ account }
+        ensures seen { seen_by self.new.watch ≡ rounds_in self.new }
+    {
+        let nothing = Log::new();
+        let over = self.over.and(&nothing, &false);
+        let seen = self.over.and(&nothing, &false);
+        self.watch = Watch::begin(account, self.is_open, seen);
+        self.over = over;
+    }
+
+    /// Whether anything was asked of the account since the last slice of a backup.
+    pub(crate) fn is_touched(&self) -> bool
+        ensures { result ≡ self.now.watch.touched }
+    {
+        self.watch.touched
     }
 
     /// The round that is under way is over.
@@ -100,8 +141,10 @@ impl Journal {
         ensures under_way { under_way_in self.new ≡ [] }
     {
         settle(&mut self.log, kept);
+        self.watch.close(&self.under_way, kept);
         self.over = self.over.and(&self.under_way, &kept);
         self.under_way = Log::new();
+        self.is_open = false;
     }
 
     /// Gives the log's file once more what waits for it.

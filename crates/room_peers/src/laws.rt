@@ -5,6 +5,7 @@ ghost use Rattle.ipp_coding.specs.declared.message.Header.{Header};
 ghost use Rattle.room_replies.specs.Responses.{done_text, refused_text};
 ghost use Rattle.room_replies.specs.Words.{word_text};
 ghost use Rattle.room_rules.specs.declared.refusal.Refusal.{Refusal};
+ghost use Rattle.room_peers.specs.BackupLaws.{BackupsHold};
 ghost use Rattle.room_peers.specs.LineTexts.{told_of};
 ghost use Rattle.room_peers.specs.LogLaws.{AlwaysLogged};
 ghost use Rattle.room_peers.specs.ServedRuns.{AlwaysRuns};
@@ -48,6 +49,13 @@ pub fn lives_are_always_found<S: Alter>()
 /// is under way stand apart until it is settled, and those of a lost one are dropped.
 pub fn always_logged<S: Alter>()
     ensures { AlwaysLogged S.Store }
+{}
+
+/// A backup that was made slice by slice has of each account the room that it had at one moment of it,
+/// and the devices as they were at its end, whatever was asked in between. So by `copies_agree` of
+/// `room_copy` and `isolation` each account is answered over it as over the tables of its moment.
+pub fn backups_hold<S: Alter, T: Alter>()
+    ensures { BackupsHold S.Store T.Store }
 {}
 
 /// A line that asks in the place of an account's owner is told `ok` where the request was done, and

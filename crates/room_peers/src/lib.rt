@@ -4,6 +4,8 @@
 //! holds.
 #![tactic(auto)]
 
+mod backup;
+mod copies;
 mod entry;
 mod http_peer;
 mod journal;
@@ -25,12 +27,15 @@ mod service;
 mod shared;
 mod step;
 mod turns;
+mod watch;
 
+pub use backup::BackupTold;
+pub use copies::{Copied, Copies};
 pub use entry::Entry;
 pub use http_peer::HttpPeer;
 pub use last_peer::LastPeer;
 pub use laws::{
-    always_found, always_lives, always_logged, always_runs, lines_tell_words,
+    always_found, always_lives, always_logged, always_runs, backups_hold, lines_tell_words,
     lives_are_always_found,
 };
 pub use limits::connection_config;

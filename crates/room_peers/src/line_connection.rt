@@ -2,6 +2,7 @@
 ghost use Rattle.std.specs.Prelude.{◌≡◌, ◌≢◌, ◌<◌, ◌≤◌, ◌+◌, ◌++◌, [], length, nat_lt, IfOk, IfSome, OnErr, OnOk, Ok, Some};
 ghost use Rattle.std.specs.Io.KnownBytes.{Keeps};
 ghost use Rattle.room_lines.specs.Asking.{IsQuestionOf};
+ghost use Rattle.room_lines.specs.Backups.{IsBackupOf};
 ghost use Rattle.room_peers.specs.LineTexts.{bad_line_text, has_to_warn};
 ghost use Rattle.room_peers.specs.Turns.{Continues};
 ghost use Rattle.room_peers.specs.Lines.{AnswersLine, Comes, IsEntryOf, IsNewOf, IsPutOff, IsQuiet, IsWaiting, Leaves, LosesAnswer, MayAsk, asks_documents, grammar_of, input_of, line_end, output_of, received_of, sent_of, side_of, longest_line};
@@ -12,7 +13,7 @@ use crate::served::Served;
 use bytes::{Buf, BufMut, BytesMut};
 use http_server::{Log, Rope};
 use room_input::FieldFault;
-use room_lines::{Grammar, read_question, read_station_question};
+use room_lines::{BackupLine, Grammar, read_backup, read_question, read_station_question};
 use room_log::Door;
 use room_questions::Question;
 use sqlite::Alter;
@@ -31,7 +32,8 @@ const ROOM: usize = 4_096;
 pub enum Side {
     /// `release`, `start` and `settle`, and a station's questions.
     Station,
-    /// `open`, `device`, `rate`, `grant`, `cancel` and `hold`, and an operator's questions.
+    /// `open`, `device`, `rate`, `grant`, `cancel` and `hold`, an operator's questions, and the lines
+    /// of a backup.
     Operator,
 }
 
@@ -176,10 +178,7 @@ impl LineConnection {
         ensures side { side_of self.new ≡ side_of self.old }
     {
         let Some(question) = question_of(self.side, &self.input.as_slice()[..end]) else {
-            served.log_bad_line(self.side.door());
-            self.input.advance(end + 1);
-            put_bad(&mut self.output)?;
-            return Ok(Front::Answered);
+            return self.answer_last(served, end);
         };
         if served.is_shared() {
             return Ok(Front::PutOff);
@@ -188,6 +187,34 @@ impl LineConnection {
         let told = served.answer_question(question);
         self.input.advance(end + 1);
         put_answer(self.alloc, &mut self.output, warns, told)?;
+        Ok(Front::Answered)
+    }
+
+    /// Answers a line of a backup, or a bad one, which ends there.
+    fn answer_last<S: Alter>(
+        &mut self,
+        served: &mut Served<S>,
+        end: usize,
+    ) -> Result<Front, AllocError>
+        requires first { line_end (input_of self.old) ≡ Some end }
+        ensures taken { OnOk result
+            (AnswersLine S.Store self.old self.new served.old served.new) }
+        ensures answered { IfOk result (λ front. front ≡ Front.Answered) }
+        ensures lost { OnErr result
+            (LosesAnswer S.Store self.old self.new served.old served.new) }
+        ensures continues { Continues S.Store served.old served.new }
+        ensures quiet { IsQuiet self.old self.new }
+        ensures side { side_of self.new ≡ side_of self.old }
+    {
+        let Some(line) = backup_line_of(self.side, &self.input.as_slice()[..end]) else {
+            served.log_bad_line(self.side.door());
+            self.input.advance(end + 1);
+            put_bad(&mut self.output)?;
+            return Ok(Front::Answered);
+        };
+        let told = served.ask_backup(line)?;
+        self.input.advance(end + 1);
+        self.output.put_slice(told.text())?;
         Ok(Front::Answered)
     }
 
@@ -295,6 +322,16 @@ fn question_of(side: Side, line: &[u8]) -> Option<Question>
     match read {
         Ok(question) => Some(question),
         Err(_) => None,
+    }
+}
+
+/// What a line of the side asks of a backup, if it is such a line.
+fn backup_line_of(side: Side, line: &[u8]) -> Option<BackupLine<'_>>
+    ensures { IfSome result (λ asked. (side ≡ Side.Operator) × IsBackupOf line.now asked) }
+{
+    match side {
+        Side::Station => None,
+        Side::Operator => read_backup(line).ok(),
     }
 }
 

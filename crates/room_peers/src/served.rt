@@ -1,20 +1,26 @@
 //! The rooms as one process serves them to everybody.
-ghost use Rattle.std.specs.Prelude.{◌≡◌, ◌≢◌, ◌+◌, ◌≤◌, ◌⊎◌, [], true, false, IsTrue, None, Err, IfOk, OnErr};
+ghost use Rattle.std.specs.Prelude.{◌≡◌, ◌≢◌, ◌+◌, ◌≤◌, ◌⊎◌, [], true, false, IsTrue, None, Some, Err, IfOk, OnErr};
 ghost use Rattle.room_log.specs.Waits.{drafts_of, logged_of};
 ghost use Rattle.room_peers.specs.Journals.{asked_of, ends_of, is_full_of, is_lost_of, log_lags_of, moment_of, open_of, rounds_of, shares_of, store_of};
 ghost use Rattle.room_peers.specs.Applying.{AppliesAlone, AppliesEntry};
 ghost use Rattle.room_peers.specs.Again.{IsOneMore, told_at_last};
 ghost use Rattle.room_peers.specs.Space.{entry_needs_space, lacks_space, length_of_entry, spare_of};
 ghost use Rattle.room_space.specs.Spares.{any_length, held_of, kept_back, kept_beside, takes_of};
+ghost use Rattle.room_peers.specs.Copies.{copy_in};
+ghost use Rattle.room_peers.specs.Keeping.{AsksNext, DoesSlice, KeepsBackup, MakesCopy, OnlyKeeps, backup_of, is_begun, is_wanted, stage_of};
 ghost use Rattle.room_peers.specs.Turns.{AnswersNext, AppliesNext};
 ghost use Rattle.room_peers.specs.Rounds.{IsBegun, IsNotBegun, IsSettled};
 
+use crate::backup::{Backup, BackupTold, Stage, ask_slice, begin_backup};
+use crate::copies::{Copies, Done};
 use crate::entry::Entry;
 use crate::journal::Journal;
 use crate::request::needs_space;
 use bytes::Bytes;
 use http::Request;
+use room_copy::CopyMaker;
 use room_events::{Part, Reply};
+use room_lines::BackupLine;
 use room_log::{Door, EventLog};
 use room_questions::Question;
 use room_requests::Refusal;
@@ -53,6 +59,8 @@ pub struct Served<S: Alter> {
     pub(crate) spare: Spare,
     /// Whether an operator asked that serving ends.
     pub(crate) ends: bool,
+    /// The backup that an operator asked for last.
+    pub(crate) backup: Option<Backup>,
 }
 
 // In the place of `#[derive(Drop)]`, so that no caller proves again how each part is dropped.
@@ -69,6 +77,7 @@ impl<S: Alter + Drop> Drop for Served<S> {
             bytes_told: _,
             spare: _,
             ends: _,
+            backup: _,
         } = self;
     }
 }
@@ -86,6 +95,7 @@ impl<S: Alter> Served<S> {
         ensures no_space { held_of (spare_of result) ≡ 0 }
         ensures takes_all { takes_of (spare_of result) ≡ any_length }
         ensures goes_on { ends_of result ≡ false }
+        ensures no_backup { backup_of result ≡ None }
     {
         Served {
             alloc,
@@ -98,6 +108,7 @@ impl<S: Alter> Served<S> {
             bytes_told: 0,
             spare: Spare::none(),
             ends: false,
+            backup: None,
         }
     }
 
@@ -438,6 +449,80 @@ impl<S: Alter> Served<S> {
         told
     }
 
+    /// Takes a line of a backup, and answers what it is told.
+    pub(crate) fn ask_backup(&mut self, line: BackupLine<'_>) -> Result<BackupTold, AllocError>
+        ensures asks { IfOk result (λ told. AsksNext line.entry told self.old self.new) }
+        ensures unchanged { OnErr result (self.new ≡ self.old) }
+    {
+        let moment = self.moment;
+        match line {
+            BackupLine::Begin { file } => {
+                begin_backup(self.alloc, &mut self.backup, file, moment)
+            }
+            BackupLine::Slice { file } => Ok(ask_slice(&mut self.backup, file, moment)),
+        }
+    }
+
+    /// Does what the lines of a backup ask for: makes the copy's file, or does one slice, where no
+    /// round is under way.
+    pub fn keep_backup<T: Alter, K: CopyMaker<Rows = Connection<T>>>(
+        &mut self,
+        copies: &mut Copies<T, K>,
+    )
+        ensures keeps { KeepsBackup S.Store T.Store self.old self.new
+            (copy_in copies.old) (copy_in copies.new) }
+        ensures nothing { OnlyKeeps S.Store self.old self.new }
+    {
+        if self.shares {
+            return;
+        }
+        let stage = self.backup_stage();
+        if is_begun(stage) {
+            self.make_copy(copies);
+        } else if is_wanted(stage) {
+            self.do_slice(copies);
+        }
+    }
+
+    fn backup_stage(&self) -> Option<Stage>
+        ensures { result ≡ stage_of self.now }
+    {
+        match &self.backup {
+            Some(backup) => Some(backup.stage),
+            None => None,
+        }
+    }
+
+    fn make_copy<T: Alter, K: CopyMaker<Rows = Connection<T>>>(&mut self, copies: &mut Copies<T, K>)
+        requires { IsTrue (is_begun (stage_of self.old)) }
+        ensures { MakesCopy T.Store self.old self.new (copy_in copies.new) }
+    {
+        if let Some(backup) = &mut self.backup {
+            backup.stage = if copies.make(backup.file.as_slice()) {
+                Stage::Ready
+            } else {
+                Stage::Failed
+            };
+        }
+    }
+
+    fn do_slice<T: Alter, K: CopyMaker<Rows = Connection<T>>>(&mut self, copies: &mut Copies<T, K>)
+        requires { shares_of self.old ≡ false }
+        ensures { DoesSlice S.Store T.Store self.old self.new
+            (copy_in copies.old) (copy_in copies.new) }
+    {
+        let touched = self.journal.is_touched();
+        let (stage, account) = match copies.slice(self.alloc, &mut self.rounds, touched) {
+            Done::Part(account) => (Stage::Ready, account),
+            Done::Whole => (Stage::Whole, None),
+            Done::Failed => (Stage::Failed, None),
+        };
+        self.journal.add_slice(account);
+        if let Some(backup) = &mut self.backup {
+            backup.stage = stage;
+        }
+    }
+
     /// The connection to the tables as they are. What a round that is under way has changed is on the
     /// disk only once it is settled. It takes no memory.
     pub fn close(self) -> Connection<S>
@@ -454,9 +539,22 @@ impl<S: Alter> Served<S> {
             bytes_told: _,
             spare: _,
             ends: _,
+            backup: _,
         } = self;
         rounds.close()
     }
+}
+
+fn is_begun(stage: Option<Stage>) -> bool
+    ensures { result ≡ is_begun stage }
+{
+    matches!(stage, Some(Stage::Begun))
+}
+
+fn is_wanted(stage: Option<Stage>) -> bool
+    ensures { result ≡ is_wanted stage }
+{
+    matches!(stage, Some(Stage::Wanted))
 }
 
 /// What is told of an event that was applied once more: rows that were found damaged only then are

@@ -2,6 +2,7 @@
 //! every other command by `run_on`.
 #![tactic(auto)]
 
+mod backing_up;
 mod connected;
 mod database;
 mod errands;

@@ -1,11 +1,12 @@
 //! One run of the program, from its words to its exit status.
 ghost use Rattle.std.specs.Prelude.{◌≤◌, IfOk};
 
+use crate::backing_up::run_backup;
 use crate::errands::run_errand;
 use crate::listening::listen;
 use crate::sending::send;
 use crate::serving::serve;
-use room_commands::{Errand, Fault, Listening, Sending, Serving, words_of};
+use room_commands::{BackingUp, Errand, Fault, Listening, Sending, Serving, words_of};
 use room_databases::run_on;
 use room_sockets::moment;
 use std::io::{BufWriter, Write};
@@ -55,6 +56,9 @@ fn run<W: Write>(rt: &HostRuntime, words: &[&str], output: &mut W) -> Result<u8,
     if let Some(asked) = Errand::read(alloc, words)? {
         run_errand(rt, &asked, output)?;
         return Ok(0);
+    }
+    if let Some(asked) = BackingUp::read(alloc, words)? {
+        return run_backup(rt, &asked, output);
     }
     Ok(run_on(rt, words, moment(rt), rt.stdin(), output, &mut rt.stderr()))
 }

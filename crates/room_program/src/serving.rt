@@ -5,8 +5,9 @@ ghost use Rattle.room_peers.specs.Journals.{open_of, rounds_of};
 use crate::database::serve_over;
 use crate::front::Front;
 use room_commands::{Address, Fault, MEMORY, ServedDoor, Serving, Visitors};
+use room_databases::CopyFiles;
 use room_log::{EventLog, LogFile};
-use room_peers::Served;
+use room_peers::{Copies, Served};
 use room_sockets::{Door, Entrance, Hall, Kind, moment};
 use room_space::Spare;
 use room_store::Store;
@@ -66,9 +67,14 @@ fn serve_all<S: Alter, W: Write>(
     }
     served.set_spare(spare_for(rt, asked.database)?);
     let mut hall = open(rt, asked, output)?;
-    let ended = hall.run(rt, served);
+    let ended = run(rt, &mut hall, served);
     *kept = Some(hall);
     Ok(ended?)
+}
+
+fn run<S: Alter>(rt: &HostRuntime, hall: &mut Hall, served: &mut Served<S>) -> io::Result<()> {
+    let mut copies = Copies::new(CopyFiles::new(rt));
+    hall.run(rt, served, &mut copies)
 }
 
 /// The space that is kept for a full disk: a file beside that of the database, whose name has

@@ -15,7 +15,7 @@ use Rattle.http.specs.Request.{body_of}
 use Rattle.room_requests.specs.declared.refusal.Refusal.{Refusal}
 use Rattle.room_peers.specs.ProofServices.{one_more, stays}
 use Rattle.room_peers.proofs.LineEnds.{only_ping}
-use Rattle.room_peers.proofs.Journaling.{applied_then, line_chain, looked, then}
+use Rattle.room_peers.proofs.Journaling.{applied_then, backup_only, line_chain, looked, then}
 use Rattle.room_peers.specs.Answers.{Answers, Gives}
 use Rattle.room_peers.specs.HttpPeers as http
 use Rattle.room_peers.specs.HttpPeers.{calls_of, connection_of}
@@ -25,7 +25,8 @@ use Rattle.room_peers.specs.LastPeers.{SaysLast, left_of}
 use Rattle.room_peers.specs.LinePeers as lines
 use Rattle.room_peers.specs.LinePeers.{LineCall, TakesLines, bytes_told, lines_of, taken}
 use Rattle.room_peers.specs.LineTexts.{has_to_warn}
-use Rattle.room_peers.specs.Lines.{Asks, Inquires, IsBad, IsTold, input_of, output_of, sent_of, side_of}
+use Rattle.room_peers.specs.Keeping.{backup_of}
+use Rattle.room_peers.specs.Lines.{Asks, BacksUp, Inquires, IsBad, IsTold, input_of, output_of, sent_of, side_of}
 use Rattle.room_peers.specs.Requests.{asked}
 use Rattle.room_peers.specs.Streams.{Ends}
 use Rattle.room_peers.specs.declared.entry.Entry.TheVariants as entry
@@ -253,12 +254,20 @@ module _ {S : Type 0} (store : Ghosts S) (before : Served S) (fresh : IsFresh be
 
   bad_told : (side : Side) (call : LineCall) (old new : Served S) → IsBad store old call.1 new → LineTold side call old new
   unfolding stays
-  bad_told side call old new bad = subst (λ (served : Served S). LineTold side call old served) (sym bad.1) (stays store old, λ journal is_journal calls its told later. inr (inr (bad.0, none_told side calls journal told its later)))
+  bad_told side call old new bad = subst (λ (served : Served S). LineTold side call old served) (sym bad.1) (stays store old, λ journal is_journal calls its told later. inr (inr (inr bad.0, none_told side calls journal told its later)))
+
+  backup_told : (side : Side) (call : LineCall) (old new : Served S) → BacksUp store side call.0 old call.1 new → LineTold side call old new
+  unfolding backup_only
+  backup_told side call old new is = subst (λ (served : Served S). LineTold side call old served) (sym is.next.same) (
+    backup_only store old (backup_of new),
+    λ journal is_journal calls its told later. inr (inr (inl (record { line = is.line; ended = is.ended; operator = is.operator; asked = is.asked; said = is.said; told = is.told; says = is.says }), none_told side calls journal told its later)),
+  )
 
   line_told : (side : Side) (call : LineCall) (old new : Served S) → IsServed store before old → (HasCleanDisk (state store last) → IsClean store new) → IsTold store side call.0 old call.1 new → LineTold side call old new
   line_told side call old new served clean (inl asks) = asks_told side call old new asks
   line_told side call old new served clean (inr (inl inquires)) = inquires_told side call old new served clean inquires
-  line_told side call old new served clean (inr (inr bad)) = bad_told side call old new bad
+  line_told side call old new served clean (inr (inr (inl backs))) = backup_told side call old new backs
+  line_told side call old new served clean (inr (inr (inr bad))) = bad_told side call old new bad
 
   abbrev LinesTold : (side : Side) (calls : List LineCall) (old new : Served S) → Type 0
   LinesTold side calls old new = (c : Continues store old new)

@@ -21,7 +21,7 @@ use Rattle.room_peers.specs.declared.served.Served.{Served}
 use Rattle.room_peers.specs.declared.step.Next.{Next}
 use Rattle.room_peers.specs.declared.step.Turn.{Turn}
 use Rattle.room_sockets.specs.Guests.{AsksAgain, TakesTurn, Turns, in_round, of_socket}
-use Rattle.room_sockets.specs.Halls.{Ask, Begin, BeginsRound, Does, DoesAll, Drop, Enter, GoesOn, Leave, Serve, Serves, Settle, SettlesRound, Step}
+use Rattle.room_sockets.specs.Halls.{Ask, Begin, BeginsRound, Does, DoesAll, Drop, Enter, GoesOn, Keep, Leave, Serve, Serves, Settle, SettlesRound, Step}
 use Rattle.room_sockets.specs.declared.guest.Guest.{Guest}
 use Rattle.room_sockets.specs.declared.guest.Peer.{Peer}
 use Rattle.room_sockets.specs.declared.guest.Peer.TheVariants.{Http, Last, Lines}
@@ -100,6 +100,7 @@ module _ {S : Type 0} (store : Ghosts S) where
   serves_clean (Some guest) now old new (inr gone) clean = same_clean old new (ap (λ (served : Served S). store_of served) gone.1) clean
 
   pub step_clean : (step : Step) (a b : Slab Guest) (old new : Served S) → Does store step a b old new → IsClean new → IsClean old
+  step_clean Keep a b old new does clean = continues_clean old new does.1.0 clean
   step_clean Begin a b old new does clean = elim does.2 [
     | inl under_way ↦ same_clean old new (ap (λ (served : Served S). store_of served) under_way.1) clean
     | inr (inl begun) ↦ let first = begun.begins.survives.clean in omega (arith, first, clean)
@@ -274,6 +275,7 @@ module _ {S : Type 0} (store : Ghosts S) where
       })
 
   pub step_served : (step : Step) (a b : Slab Guest) (old mid new : Served S) → IsServed old mid → Does store step a b mid new → IsServed old new
+  step_served Keep a b old mid new is does = served_continues old mid new is does.1.0
   step_served Begin a b old mid new is does = begins_served old mid new is does.2
   step_served (Ask key) a b old mid new is does = serves_served _ _ old mid new is does.1
   step_served Settle a b old mid new is does = settles_served old mid new is does.1

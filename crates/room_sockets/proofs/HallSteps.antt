@@ -11,6 +11,7 @@ use Rattle.mio.specs.declared.event.event.Event.{Event}
 use Rattle.slab.specs.Slab.{Slab, SameValues, Updates, get}
 use Rattle.sqlite_trees.specs.declared.store.Store.{Ghosts}
 use Rattle.room_peers.specs.Journals.{list_of, moment_of, shares_of}
+use Rattle.room_peers.specs.Keeping.{OnlyKeeps}
 use Rattle.room_peers.specs.Rounds.{IsBegun, IsNotBegun, IsSettled}
 use Rattle.room_peers.specs.declared.entry.Entry.{Entry}
 use Rattle.room_peers.specs.declared.served.Served.{Served}
@@ -19,7 +20,7 @@ use Rattle.room_peers.specs.declared.step.Next.TheVariants.{Close}
 use Rattle.room_peers.specs.declared.step.Turn.{Turn}
 use Rattle.room_sockets.proofs.Drives.{serves_shares}
 use Rattle.room_sockets.specs.Guests.{CameBy, IsNew, NobodyWaits, Turns, asked_in, is_waiting, peer_of, turns_of}
-use Rattle.room_sockets.specs.Halls.{AreOthersKept, Ask, Begin, BeginsRound, Does, DoesAll, Drop, Enter, GoesOn, IsAtMoment, IsDriven, IsServedFirst, IsSpared, Leave, MayGo, MayLeave, OnlyAsk, OnlyEnter, OnlyLeave, OnlyServe, Serve, Serves, ServesEach, ServesThose, Settle, SettlesRound, SharesRound, StaysAfter, Step, key_told, keys_told}
+use Rattle.room_sockets.specs.Halls.{AreOthersKept, Ask, Begin, BeginsRound, Does, DoesAll, Drop, Enter, GoesOn, IsAtMoment, IsDriven, IsServedFirst, IsSpared, Keep, Leave, MayGo, MayLeave, OnlyAsk, OnlyEnter, OnlyLeave, OnlyServe, Serve, Serves, ServesEach, ServesThose, Settle, SettlesRound, SharesRound, StaysAfter, Step, key_told, keys_told}
 use Rattle.room_sockets.specs.declared.doors.Speech.{Speech}
 use Rattle.room_sockets.specs.declared.guest.Guest.{Guest}
 use Rattle.room_sockets.specs.declared.guest.Peer.{Peer}
@@ -151,6 +152,7 @@ not_true b never =
 
 first_then : (key : ℕ) (steps more : List Step) → IsServedFirst key steps → IsServedFirst key (steps ++ more)
 first_then key [] more is = absurd is
+first_then key (Keep ∷ steps) more is = first_then key steps more is
 first_then key (Begin ∷ steps) more is = first_then key steps more is
 first_then key (Ask other ∷ steps) more is = first_then key steps more is
 first_then key (Settle ∷ steps) more is = first_then key steps more is
@@ -165,6 +167,7 @@ first_then key (Leave ∷ steps) more is = absurd is
 
 spared_then_first : (key : ℕ) (steps more : List Step) → IsSpared key steps → IsServedFirst key more → IsServedFirst key (steps ++ more)
 spared_then_first key [] more is first = first
+spared_then_first key (Keep ∷ steps) more is first = spared_then_first key steps more is first
 spared_then_first key (Begin ∷ steps) more is first = spared_then_first key steps more is first
 spared_then_first key (Ask other ∷ steps) more is first = spared_then_first key steps more is first
 spared_then_first key (Settle ∷ steps) more is first = spared_then_first key steps more is first
@@ -179,6 +182,7 @@ spared_then_first key (Leave ∷ steps) more is first = absurd is
 
 spared_then : (key : ℕ) (steps more : List Step) → IsSpared key steps → IsSpared key more → IsSpared key (steps ++ more)
 spared_then key [] more is later = later
+spared_then key (Keep ∷ steps) more is later = spared_then key steps more is later
 spared_then key (Begin ∷ steps) more is later = spared_then key steps more is later
 spared_then key (Ask other ∷ steps) more is later = spared_then key steps more is later
 spared_then key (Settle ∷ steps) more is later = spared_then key steps more is later
@@ -206,6 +210,7 @@ only_serve_then : (steps more : List Step) → OnlyServe steps → OnlyServe mor
 only_serve_then [] more is later = later
 only_serve_then (Serve key ∷ steps) more is later = only_serve_then steps more is later
 only_serve_then (Drop key ∷ steps) more is later = only_serve_then steps more is later
+only_serve_then (Keep ∷ steps) more is later = absurd is
 only_serve_then (Begin ∷ steps) more is later = absurd is
 only_serve_then (Ask key ∷ steps) more is later = absurd is
 only_serve_then (Settle ∷ steps) more is later = absurd is
@@ -216,6 +221,7 @@ only_serve_then (Leave ∷ steps) more is later = absurd is
 
 module _ {S : Type 0} (store : Ghosts S) where
   from_same_step : (step : Step) (a b c : Slab Guest) (before after : Served S) → SameValues a b → Does store step b c before after → Does store step a c before after
+  from_same_step Keep a b c before after same is = (λ key. is.0 key ∙ same key, is.1)
   from_same_step Begin a b c before after same is = (λ key. is.0 key ∙ same key, nobody_before a b same is.1, is.2)
   from_same_step (Ask key) a b c before after same is = (is.0, subst (λ (was : Option Guest). Serves store was (get c key) before after) (same key) is.1, λ other differs. is.2 other differs ∙ same other)
   from_same_step Settle a b c before after same is = (λ key. is.0 key ∙ same key, is.1)
@@ -254,6 +260,13 @@ module _ {S : Type 0} (store : Ghosts S) where
 
   pub leaves : (a b : Slab Guest) (served : Served S) → OnlyLeave a b → GoesOn store a b served served
   leaves a b served is = (Leave ∷ [], (b, served, (is, refl), (λ other. refl, refl)), λ alone. alone)
+
+  -- what a backup asked for is done before what follows
+  pub kept_first : (a b : Slab Guest) (old mid new : Served S) → OnlyKeeps store old mid → GoesOn store a b mid new → GoesOn store a b old new
+  kept_first a b old mid new keeps goes = (Keep ∷ goes.0, (a, mid, ((λ key. refl), keeps), goes.1), λ alone. goes.2 (keeps.0.shares ∙ alone))
+
+  pub kept_then_served : (keys : List ℕ) (a b : Slab Guest) (old mid new : Served S) → OnlyKeeps store old mid → ServesThose store keys a b mid new → ServesThose store keys a b old new
+  kept_then_served keys a b old mid new keeps serves = (Keep ∷ serves.0, (a, mid, ((λ key. refl), keeps), serves.1), (λ alone. serves.2 (keeps.0.shares ∙ alone)), serves.3)
 
   pub enters : (a b : Slab Guest) (served : Served S) → OnlyEnter a b → GoesOn store a b served served
   enters a b served is = (Enter ∷ [], (b, served, (is, refl), (λ other. refl, refl)), λ alone. alone)
@@ -339,6 +352,7 @@ module _ {S : Type 0} (store : Ghosts S) where
   serve_shares [] a b old new only is = ap (λ (served : Served S). shares_of served) is.1
   serve_shares (Serve key ∷ steps) a b old new only is = serve_shares steps is.0 b is.1 new only is.3 ∙ serves_shares store _ _ old is.1 is.2.1
   serve_shares (Drop key ∷ steps) a b old new only is = serve_shares steps is.0 b is.1 new only is.3 ∙ ap (λ (served : Served S). shares_of served) is.2.2
+  serve_shares (Keep ∷ steps) a b old new only is = absurd only
   serve_shares (Begin ∷ steps) a b old new only is = absurd only
   serve_shares (Ask key ∷ steps) a b old new only is = absurd only
   serve_shares (Settle ∷ steps) a b old new only is = absurd only
@@ -379,6 +393,7 @@ module _ {S : Type 0} (store : Ghosts S) where
         | inl same ↦ ap (λ (it : ℕ). is_waiting (get a it)) same ∙ left_waits_before (get a other) (get is.0 other) is.2.0 (sym (ap (λ (it : ℕ). is_waiting (get is.0 it)) same) ∙ then_waits)
         | inr differs ↦ waits_before (get a key) (get is.0 key) (is.2.1 key differs) then_waits
       ]
+  waited_before (Keep ∷ steps) a b old new key only is waits = absurd only
   waited_before (Begin ∷ steps) a b old new key only is waits = absurd only
   waited_before (Ask other ∷ steps) a b old new key only is waits = absurd only
   waited_before (Settle ∷ steps) a b old new key only is waits = absurd only
@@ -394,6 +409,7 @@ module _ {S : Type 0} (store : Ghosts S) where
         | inr later ↦ has_heard steps is.0 b is.1 new key only later is.3 waits
       ]
   has_heard (Drop other ∷ steps) a b old new key only first is waits = has_heard steps is.0 b is.1 new key only first.1 is.3 waits
+  has_heard (Keep ∷ steps) a b old new key only first is waits = absurd only
   has_heard (Begin ∷ steps) a b old new key only first is waits = absurd only
   has_heard (Ask other ∷ steps) a b old new key only first is waits = absurd only
   has_heard (Settle ∷ steps) a b old new key only first is waits = absurd only

@@ -17,7 +17,7 @@ use Rattle.room_peers.specs.declared.step.Turn.{Turn}
 use Rattle.room_sockets.proofs.Drives.{again_continues, turn_continues}
 use Rattle.room_sockets.proofs.HallSteps.{new_waits_not, served_waits_not}
 use Rattle.room_sockets.specs.Guests.{Turns, asked_in, in_round, is_waiting, of_socket}
-use Rattle.room_sockets.specs.Halls.{Ask, Begin, Does, DoesAll, Drop, Enter, IsAtMoment, Leave, MayGo, Serve, Serves, Settle, SettlesRound, Step}
+use Rattle.room_sockets.specs.Halls.{Ask, Begin, Does, DoesAll, Drop, Enter, IsAtMoment, Keep, Leave, MayGo, Serve, Serves, Settle, SettlesRound, Step}
 use Rattle.room_sockets.specs.Hearing.{AlwaysHear, StandsInRound, entries_of}
 use Rattle.room_sockets.specs.declared.guest.Guest.{Guest}
 
@@ -148,6 +148,7 @@ module _ {S : Type 0} (store : Ghosts S) where
       subst (λ b. StandsInRound b entry new) (sym (ap (λ (served : Served S). shares_of served) settled.same)) (rounds_of old, open_of old, [], settled.over, subst (λ b. StandsInRound b entry old) settled.shared stands)
 
   step_hears : (step : Step) (a b : Slab Guest) (old new : Served S) → Does store step a b old new → AllHear a old → AllHear b new
+  step_hears Keep a b old new does hears = λ key. hears_as (get a key) (get b key) new (does.0 key) (hears_still (get a key) old new (continues_keeps old new does.1.0) (hears key))
   step_hears Begin a b old new does hears = λ key. nothing_to_hear (get b key) new (ap is_waiting (does.0 key) ∙ does.1 key)
   step_hears (Ask asks) a b old new does hears = λ key.
       elim (cases_eq key asks) [

@@ -34,7 +34,7 @@ use Rattle.room_sockets.proofs.Drives.{IsClean, IsServed, again_continues, all_c
 use Rattle.room_sockets.proofs.Inquiring.{grown_alone, grown_by, journal_is, lives_on, runs_so}
 use Rattle.room_sockets.specs.EndToEnd.{AnswersCalls, AreApart, StandAt, FromEndToEnd, IsAnswered, IsFoundAgain, IsFresh, TellsLast}
 use Rattle.room_sockets.specs.Guests.{AsksAgain, CameBy, IsNew, IsTurnedAway, StaysOrTurnsAway, Turns, asked_in, in_round, is_waiting, of_socket, peer_of}
-use Rattle.room_sockets.specs.Halls.{AreOthersKept, Ask, Begin, BeginsRound, Does, DoesAll, Drop, Enter, IsAtMoment, Leave, MayGo, Serve, Serves, Settle, SettlesRound, Step}
+use Rattle.room_sockets.specs.Halls.{AreOthersKept, Ask, Begin, BeginsRound, Does, DoesAll, Drop, Enter, IsAtMoment, Keep, Leave, MayGo, Serve, Serves, Settle, SettlesRound, Step}
 use Rattle.room_sockets.specs.declared.doors.Speech.{Speech}
 use Rattle.room_sockets.specs.declared.doors.Speech.TheVariants as speech_is
 use Rattle.room_sockets.specs.declared.guest.Guest.{Guest}
@@ -450,6 +450,7 @@ module _ {S : Type 0} (store : Ghosts S) (before : Served S) (fresh : IsFresh be
       }
 
   step_goes : (step : Step) (a b : Slab Guest) (old new : Served S) → IsServed store before old → WasClean new → Does store step a b old new → AllGo a old → AllGo b new
+  step_goes Keep a b old new served clean does go = all_left a b old new go (λ key. its_places (go.places key) (get b key) new (goes_as (get a key) (get b key) (go.places key) new (does.0 key) (goes_on (get a key) (go.places key) old new (continues_keeps old new does.1.0) (go.going key))))
   step_goes Begin a b old new served clean does go = all_left a b old new go (λ key. its_places (go.places key) (get b key) new (goes_as (get a key) (get b key) (go.places key) new (does.0 key) (begins_goes (get a key) (go.places key) old new (does.1 key) does.2 (go.going key))))
   step_goes (Ask asker) a b old new served clean does go = one_goes asker a b old new served clean does.1 does.2 go
   step_goes Settle a b old new served clean does go = all_left a b old new go (λ key. left_as (go.places key) (get a key) (get b key) new (does.0 key) (settles_goes (get a key) (go.places key) old new does.1 (go.going key)))

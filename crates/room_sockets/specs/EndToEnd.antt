@@ -18,6 +18,8 @@ use Rattle.room_requests.specs.declared.refusal.Refusal.TheVariants.{NoSpace}
 use Rattle.room_events.specs.declared.event.Reply.{Reply}
 use Rattle.room_laws.specs.Lives.{IsLife, Life}
 use Rattle.room_lines.specs.Asking.{IsQuestionOf}
+use Rattle.room_lines.specs.Backups.{IsBackupOf}
+use Rattle.room_lines.specs.declared.backup.BackupLine.{BackupLine}
 use Rattle.room_questions.specs.Names.{AreNames}
 use Rattle.room_questions.specs.Questions.{answer_to, ConcernsNames, ConcernsNoOther}
 use Rattle.room_questions.specs.declared.question.Question.{Question}
@@ -30,6 +32,8 @@ use Rattle.room_tables.specs.Crashes.{IsOnDisk}
 use Rattle.room_serve.specs.Crashes.{IsFound}
 use Rattle.room_serve.specs.LivesInFiles.{IsLifeIn}
 use Rattle.room_peers.specs.Answers.{IsLost, IsRefusal, IsTold}
+use Rattle.room_peers.specs.Backups.{backup_text}
+use Rattle.room_peers.specs.declared.backup.BackupTold.{BackupTold}
 use Rattle.room_peers.specs.HttpPeers.{calls_of, connection_of}
 use Rattle.room_peers.specs.Journals.{Told, journal_of, open_of, rounds_of, shares_of, store_of}
 use Rattle.room_peers.specs.ServedRuns.{IsRunOf}
@@ -46,6 +50,7 @@ use Rattle.room_peers.specs.declared.http_peer.HttpPeer.{HttpPeer}
 use Rattle.room_peers.specs.declared.last_peer.LastPeer.{LastPeer}
 use Rattle.room_peers.specs.declared.line_connection.LineConnection.{LineConnection}
 use Rattle.room_peers.specs.declared.line_connection.Side.{Side}
+use Rattle.room_peers.specs.declared.line_connection.Side.TheVariants.{Operator}
 use Rattle.room_peers.specs.declared.served.Served.{Served}
 use Rattle.room_sockets.specs.Guests.{asked_in, peer_of}
 use Rattle.room_sockets.specs.Halls.{DoesAll, Step}
@@ -105,6 +110,16 @@ pub record TellsLine (side : Side) (call : LineCall) (told : Told) : Type 0 wher
   pub said : IsEntryOf (grammar_of side moment) line told.0
   pub says : call.1 ≡ line_text told.1
 
+-- the line is one of a backup, and is told one of its words
+pub record TellsBackup (side : Side) (call : LineCall) : Type 0 where
+  pub line : List ℕ
+  pub ended : call.0 ≡ line ++ 10 ∷ []
+  pub operator : side ≡ Operator
+  pub asked : BackupLine
+  pub said : IsBackupOf line asked
+  pub told : BackupTold
+  pub says : call.1 ≡ backup_text told
+
 module _ {S : Type 0} (store : Ghosts S) (first last : Held S) where
   -- the names of the accounts that are open, where each has a life, and has been told this
   pub record AreNamesThen (so_far : List Told) (db : Database) (names : List (List ℕ)) : Type 0 where
@@ -138,8 +153,9 @@ module _ {S : Type 0} (store : Ghosts S) (first last : Held S) where
     pub answers : AnswersBy so_far question told
 
   -- Each line is told what stands in the journal at the next of these places, which rise from the
-  -- least on. Two have no place: a question, which is answered by what stands there up to then, with
-  -- all that was told on the connection before; and a bad line, which is told to be one.
+  -- least on. Others have no place: a question, which is answered by what stands there up to then, with
+  -- all that was told on the connection before; a line of a backup, which is told how that goes on; and
+  -- a bad line, which is told to be one.
   abbrev pub AnswersLineCalls : (side : Side) → List LineCall
       → (least : ℕ) (places : List ℕ) (journal : List Told) → Type 0
   AnswersLineCalls side [] least places journal = places ≡ []
@@ -149,7 +165,8 @@ module _ {S : Type 0} (store : Ghosts S) (first last : Held S) where
       × AnswersLineCalls side calls (suc place) rest journal)
       ⊎ (((n : ℕ) × (least ≤ n) × (n ≤ length journal) × TellsAnswer side call (take n journal)
       × AnswersLineCalls side calls n places journal)
-      ⊎ ((call.1 ≡ bad_line_text) × AnswersLineCalls side calls least places journal))
+      ⊎ ((TellsBackup side call ⊎ (call.1 ≡ bad_line_text))
+      × AnswersLineCalls side calls least places journal))
 
   -- All that came are these lines, and what is no whole line yet; all that went, and what waits to
   -- go, is what is told of them, in order.

@@ -8,6 +8,7 @@ use Rattle.mio.specs.declared.token.Token.{Token}
 use Rattle.slab.specs.Slab.{Slab, SameValues, get}
 use Rattle.sqlite_trees.specs.declared.store.Store.{Ghosts}
 use Rattle.room_peers.specs.Journals.{shares_of}
+use Rattle.room_peers.specs.Keeping.{OnlyKeeps}
 use Rattle.room_peers.specs.Rounds.{IsBegun, IsNotBegun, IsSettled}
 use Rattle.room_peers.specs.Space.{spare_of}
 use Rattle.room_peers.specs.declared.served.Served.{Served}
@@ -95,6 +96,7 @@ module _ {S : Type 0} (store : Ghosts S) where
 -- ---- one thing after another
 
 pub data Step : Type 0 where
+  Keep : Step
   Begin : Step
   Ask : (key : ℕ) → Step
   Settle : Step
@@ -107,6 +109,7 @@ pub data Step : Type 0 where
 -- in which it only asks, does not serve it.
 abbrev pub IsServedFirst : (key : ℕ) (steps : List Step) → Type 0
 IsServedFirst key [] = ⊥
+IsServedFirst key (Keep ∷ steps) = IsServedFirst key steps
 IsServedFirst key (Begin ∷ steps) = IsServedFirst key steps
 IsServedFirst key (Ask other ∷ steps) = IsServedFirst key steps
 IsServedFirst key (Settle ∷ steps) = IsServedFirst key steps
@@ -118,6 +121,7 @@ IsServedFirst key (Leave ∷ steps) = ⊥
 -- the same, or nothing becomes of it
 abbrev pub IsSpared : (key : ℕ) (steps : List Step) → Type 0
 IsSpared key [] = ⊤
+IsSpared key (Keep ∷ steps) = IsSpared key steps
 IsSpared key (Begin ∷ steps) = IsSpared key steps
 IsSpared key (Ask other ∷ steps) = IsSpared key steps
 IsSpared key (Settle ∷ steps) = IsSpared key steps
@@ -144,10 +148,11 @@ module _ {S : Type 0} (store : Ghosts S) where
   SettlesRound before after =
       ((shares_of before ≡ false) × (after ≡ before)) ⊎ IsSettled store before after
 
-  -- A round begins, once everybody has heard of those before; who has a key asks in it; it is
-  -- settled. Where none is under way who has a key is served. Or who has one may be let go. All
+  -- What a backup asked for is done, and nothing is applied. A round begins, once everybody has heard of
+  -- those before; who has a key asks in it; it is settled. Where none is under way who has a key is served. Or who has one may be let go. All
   -- others stay. Or some come in, or are let go. Nothing else becomes of what is served.
   abbrev pub Does : (step : Step) (old new : Slab Guest) (before after : Served S) → Type 0
+  Does Keep old new before after = SameValues old new × OnlyKeeps store before after
   Does Begin old new before after =
       SameValues old new × NobodyWaits old × BeginsRound before after
   Does (Ask key) old new before after = IsTrue (shares_of before)

@@ -17,9 +17,10 @@ use crate::pace::Pace;
 use crate::stock::Stock;
 use mio::event::Event;
 use mio::{Events, Interest, Poll, Token};
-use room_peers::{Next, Served, Turn};
+use room_copy::CopyMaker;
+use room_peers::{Copies, Next, Served, Turn};
 use slab::Slab;
-use sqlite::Alter;
+use sqlite::{Alter, Connection};
 use std::alloc::Global;
 use std::fs::{File, Files};
 use std::hash::RandomState;
@@ -128,11 +129,12 @@ impl Hall {
 
     /// Serves whoever comes, pass after pass, until an operator asks it to end. Then what was told
     /// has some seconds to go. It ends with the first pass that fails.
-    pub fn run<S: Alter, R: Clock + Files<File = File> + Eprint>(
-        &mut self,
-        rt: &R,
-        served: &mut Served<S>,
-    ) -> io::Result<()>
+    pub fn run<
+        S: Alter,
+        T: Alter,
+        K: CopyMaker<Rows = Connection<T>>,
+        R: Clock + Files<File = File> + Eprint,
+    >(&mut self, rt: &R, served: &mut Served<S>, copies: &mut Copies<T, K>) -> io::Result<()>
         ensures goes_on { GoesOn S.Store (guests_of self.old) (guests_of self.new)
             served.old served.new }
         ensures follows { shares_of served.old ≡ false → open_of served.old ≡ []
@@ -144,17 +146,18 @@ impl Hall {
             if served.has_to_end() {
                 break;
             }
-            self.pass(rt, served)?;
+            self.pass(rt, served, copies)?;
         }
-        self.finish(rt, served)
+        self.finish(rt, served, copies)
     }
 
     /// Sends what was told, as far as peers take it in time.
-    fn finish<S: Alter, R: Clock + Files<File = File> + Eprint>(
-        &mut self,
-        rt: &R,
-        served: &mut Served<S>,
-    ) -> io::Result<()>
+    fn finish<
+        S: Alter,
+        T: Alter,
+        K: CopyMaker<Rows = Connection<T>>,
+        R: Clock + Files<File = File> + Eprint,
+    >(&mut self, rt: &R, served: &mut Served<S>, copies: &mut Copies<T, K>) -> io::Result<()>
         ensures goes_on { GoesOn S.Store (guests_of self.old) (guests_of self.new)
             served.old served.new }
         ensures follows { shares_of served.old ≡ false → open_of served.old ≡ []
@@ -166,21 +169,22 @@ impl Hall {
             if !self.peers.has_output() || self.peers.ticks(rt)? > last {
                 break;
             }
-            self.pass(rt, served)?;
+            self.pass(rt, served, copies)?;
         }
         Ok(())
     }
 
-    /// Waits until something comes, or a tick is over. Then each of whom the system told is served;
-    /// where it told of several, what they ask shares a commit, and nobody is answered before it.
+    /// Waits until something comes, or a tick is over. What the lines of a backup have asked for is
+    /// done, at most a slice of it. Then each of whom the system told is served; where it told of several, what they ask shares a commit, and nobody is answered before it.
     /// Who waits at a door is let in, who was held back goes on where there is room, and who took
     /// too long is dropped. A log whose file was moved away goes on in a new one, and one that can't be
     /// written is told once on standard error. It fails where the system can't wait, or has no clock.
-    pub fn pass<S: Alter, R: Clock + Files<File = File> + Eprint>(
-        &mut self,
-        rt: &R,
-        served: &mut Served<S>,
-    ) -> io::Result<()>
+    pub fn pass<
+        S: Alter,
+        T: Alter,
+        K: CopyMaker<Rows = Connection<T>>,
+        R: Clock + Files<File = File> + Eprint,
+    >(&mut self, rt: &R, served: &mut Served<S>, copies: &mut Copies<T, K>) -> io::Result<()>
         ensures goes_on { GoesOn S.Store (guests_of self.old) (guests_of self.new)
             served.old served.new }
         ensures follows { shares_of served.old ≡ false → open_of served.old ≡ []
@@ -191,6 +195,7 @@ impl Hall {
         let timeout = self.peers.timeout();
         self.peers.poll.poll(&mut self.events, timeout)?;
         served.look_at_log(rt, moment(rt));
+        served.keep_backup(copies);
         let ended = self.turn(rt, served);
         self.log_lags = tell_failure(rt, self.log_lags, served.log_lags());
         ended

@@ -3,6 +3,7 @@
 #![tactic(auto)]
 
 mod answers;
+mod backups;
 mod cases;
 mod expecting;
 mod fault;
@@ -50,5 +51,6 @@ pub fn all_trials_hold<W: Write>(rt: &HostRuntime, output: &mut W) -> bool {
     logs::run_all(rt, &mut report);
     sends::run_all(rt, &mut report);
     answers::run_all(rt, &mut report);
+    backups::run_all(rt, &mut report);
     report.all_hold()
 }

@@ -27,6 +27,17 @@ pub fn rooms_over<S: Alter + Drop>(
     }
 }
 
+/// Opens the rooms of a database that is there.
+pub fn rooms_in(
+    rt: &HostRuntime,
+    connection: sqlite::Connection<MemStore>,
+) -> Result<Served<MemStore>, Fault> {
+    match Store::open(connection) {
+        Ok(store) => Ok(Served::new(rt.alloc(), store, NOW)),
+        Err(refused) => Err(Fault::from(refused.fault)),
+    }
+}
+
 /// Makes rooms in memory of which none is open yet, with a log into the file.
 pub fn logged_rooms(rt: &HostRuntime, file: &str) -> Result<Served<MemStore>, Fault> {
     let file = LogFile::open(rt, file)?;

@@ -2,8 +2,9 @@ use Rattle.std.proofs.Common.{ap, refl, subst, sym}
 use Rattle.mio.specs.Events.{items}
 use Rattle.room_peers.specs.declared.served.Served.{Served}
 use Rattle.room_sockets.proofs.Drives.{follows}
-use Rattle.room_sockets.proofs.HallSteps.{same, serves_none}
-use Rattle.room_sockets.specs.Halls.{GoesOn, ServesThose, guests_of, keys_told, told_by}
+use Rattle.room_peers.specs.Keeping.{OnlyKeeps}
+use Rattle.room_sockets.proofs.HallSteps.{kept_first, kept_then_served, same, serves_none}
+use Rattle.room_sockets.specs.Halls.{guests_of, keys_told, told_by}
 use Rattle.room_sockets.proofs.hall.Hall.pass.Goals as goal
 
 pub returns-in_err-poll-clause-goes_on : goal.returns-in_err-poll-clause-goes_on
@@ -16,10 +17,10 @@ pub returns-in_err-poll-clause-serves : goal.returns-in_err-poll-clause-serves
 returns-in_err-poll-clause-serves g c = serves_none g.S.Store (keys_told (items c.poll.new.events)) (guests_of c.args.self.now) (guests_of c.args.self.now) c.args.served.now c.args.served.now (ap keys_told c.in_err-poll.ensures.err) (returns-in_err-poll-clause-goes_on g c)
 
 pub returns-clause-goes_on : goal.returns-clause-goes_on
-returns-clause-goes_on g c = subst (λ (served : Served g.row.S.Denot). GoesOn g.S.Store (guests_of c.args.self.now) (guests_of c.turn-ended.new.self) served c.turn-ended.new.served) c.look_at_log.ensures c.turn-ended.ensures.goes_on
+returns-clause-goes_on g c = kept_first g.S.Store (guests_of c.args.self.now) (guests_of c.turn-ended.new.self) c.args.served.now c.keep_backup.new.self c.turn-ended.new.served (subst (λ (served : Served g.row.S.Denot). OnlyKeeps g.S.Store served c.keep_backup.new.self) c.look_at_log.ensures c.keep_backup.ensures.nothing) c.turn-ended.ensures.goes_on
 
 pub returns-clause-follows : goal.returns-clause-follows
 returns-clause-follows g c = follows g.S.Store (guests_of c.args.self.now) (guests_of c.turn-ended.new.self) c.args.served.now c.turn-ended.new.served (returns-clause-goes_on g c)
 
 pub returns-clause-serves : goal.returns-clause-serves
-returns-clause-serves g c = subst (λ (served : Served g.row.S.Denot). ServesThose g.S.Store (told_by c.turn-ended.new.self) (guests_of c.args.self.now) (guests_of c.turn-ended.new.self) served c.turn-ended.new.served) c.look_at_log.ensures c.turn-ended.ensures.serves
+returns-clause-serves g c = kept_then_served g.S.Store (told_by c.turn-ended.new.self) (guests_of c.args.self.now) (guests_of c.turn-ended.new.self) c.args.served.now c.keep_backup.new.self c.turn-ended.new.served (subst (λ (served : Served g.row.S.Denot). OnlyKeeps g.S.Store served c.keep_backup.new.self) c.look_at_log.ensures c.keep_backup.ensures.nothing) c.turn-ended.ensures.serves

@@ -1,0 +1,78 @@
+-- What a backup's slices copy of the tables that are served (all this project's own).
+use Rattle.std.specs.Prelude.{◌≡◌, ◌⊎◌, ℕ, Bool, false, true, List, Option, None, Some, Result, Ok, Err}
+use Rattle.sqlite.specs.Effect.{Database}
+use Rattle.sqlite.specs.Held.{Held, state}
+use Rattle.sqlite.specs.State.{HasCleanDisk}
+use Rattle.sqlite_trees.specs.declared.store.Store.{Ghosts}
+use Rattle.room_copy.specs.Slices.{CopiesSlice, IfNamed, StartsAgain}
+use Rattle.room_copy.specs.declared.slices.Progress.{Progress}
+use Rattle.room_copy.specs.declared.slices.Progress.TheVariants.{UpTo, Anew, Within}
+use Rattle.room_tables.specs.Calls.{IfOurTables, KeepsConnection}
+use Rattle.room_tables.specs.Keyed.{HasSchema}
+use Rattle.room_tables.specs.Making.{IsNew}
+use Rattle.room_tables.specs.declared.fault.TableFault.{TableFault}
+use Rattle.room_peers.specs.Applying.{OnlyLooks}
+use Rattle.room_peers.specs.declared.copies.Copied.{Copied}
+use Rattle.room_peers.specs.declared.copies.Copies.{Copies}
+use Rattle.room_peers.specs.declared.copies.Done.{Done}
+use Rattle.room_peers.specs.declared.copies.Done.TheVariants.{Failed, Part, Whole}
+
+-- the copy that is under way
+abbrev pub copy_in : {T K : Type 0} → Copies T K → Option (Copied T)
+copy_in copies = copies.copy
+
+-- the account of which a part is copied
+abbrev pub under_way : Progress → Option (List ℕ)
+under_way (UpTo last) = None
+under_way (Anew name) = None
+under_way (Within name next job) = Some name
+
+-- a copy that is new: its tables have no row, where the disk was honest
+abbrev pub IsNewCopy : {T : Type 0} (copy_store : Ghosts T) → Option (Copied T) → Type 0
+IsNewCopy copy_store None = ⊥
+IsNewCopy copy_store (Some copy) = (copy.progress ≡ UpTo None)
+    × (HasCleanDisk (state copy_store copy.rows) → IsNew (state copy_store copy.rows).now)
+
+module _ {S T : Type 0} (store : Ghosts S) (copy_store : Ghosts T) where
+  -- where the account under way was touched since the last slice, it begins anew
+  abbrev pub Restarts : (touched : Bool) (from to : Progress) (rows begun : Held T) → Type 0
+  Restarts false from to rows begun = (to ≡ from) × (begun ≡ rows)
+  Restarts true from to rows begun =
+      IfOurTables copy_store rows begun (λ before. HasSchema (state copy_store begun).now
+      × StartsAgain from to before (state copy_store begun).now)
+
+  -- then the next slice is copied
+  pub record Slices (touched : Bool) (from : Progress) (to : Option Progress)
+      (source looked : Held S) (rows new : Held T) : Type 0 where
+    pub again : Progress
+    pub begun : Held T
+    pub restarts : Restarts touched from again rows begun
+    pub restarted : KeepsConnection (state copy_store rows) (state copy_store begun)
+    pub slice : IfOurTables copy_store begun new (λ before. HasSchema (state copy_store new).now
+        × IfOurTables store source looked (λ db. IfNamed db
+        (CopiesSlice again to db before (state copy_store new).now)))
+    pub copied : KeepsConnection (state copy_store begun) (state copy_store new)
+
+  -- a slice of a copy: what it has come to, or it fails
+  pub record SlicesOn (touched : Bool) (from : Progress) (source looked : Held S)
+      (result : Result (Option Progress) TableFault) (rows new : Held T) : Type 0 where
+    pub looks : OnlyLooks store source looked
+    pub slices : (to : Option Progress) → result ≡ Ok to
+        → Slices touched from to source looked rows new
+
+  -- A part of the copy, or all of it, is done, or it failed, or there is none. Where all of it is done its
+  -- file is closed, and has these rows.
+  abbrev pub CopiesPart : (touched : Bool) (source looked : Held S) (done : Done)
+      (was now : Option (Copied T)) → Type 0
+  CopiesPart touched source looked (Part account) was now = (copy : Copied T) × (further : Copied T)
+      × (was ≡ Some copy) × (now ≡ Some further) × (account ≡ under_way further.progress)
+      × Slices touched copy.progress (Some further.progress) source looked copy.rows further.rows
+  CopiesPart touched source looked Whole was now = (copy : Copied T) × (rows : Held T)
+      × (was ≡ Some copy) × (now ≡ None)
+      × Slices touched copy.progress None source looked copy.rows rows
+  CopiesPart touched source looked Failed was now = now ≡ None
+
+  pub record CopiesOn (touched : Bool) (source looked : Held S) (done : Done)
+      (was now : Option (Copied T)) : Type 0 where
+    pub looks : OnlyLooks store source looked
+    pub part : CopiesPart touched source looked done was now
