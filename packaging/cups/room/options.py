@@ -1,0 +1,35 @@
+"""What cupsd tells a filter or a backend of a job: its words, its options, its documents."""
+import os
+import re
+
+SECRET = re.compile(rb'(\bjob-password=)((?:\\.|[^\\ \0])+)', re.S)
+
+
+def read_options(text):
+    """The options of a job: words NAME=VALUE with spaces between them, in which `\\` stands before what is meant as it is."""
+    words = re.findall(r'(?:\\.|[^\\ ])+', text, re.S)
+    pairs = [re.sub(r'\\(.)', r'\1', word, flags=re.S).partition('=') for word in words]
+    return {name: value for name, _, value in pairs}
+
+
+def hide_password():
+    """Puts stars over the PIN in what `ps` shows of this process."""
+    try:
+        with open('/proc/self/stat') as file:
+            fields = file.read().rsplit(')', 1)[1].split()
+        first, end = int(fields[45]), int(fields[46])
+        with open('/proc/self/mem', 'r+b', buffering=0) as memory:
+            memory.seek(first)
+            words = memory.read(end - first)
+            memory.seek(first)
+            memory.write(SECRET.sub(lambda found: found[1] + b'*' * len(found[2]), words))
+    except OSError:
+        pass
+
+
+def count_documents(job):
+    """How many documents cupsd keeps of the job. Each comes through the filters by itself, to one run of the backend."""
+    folder, count = os.environ.get('CUPS_REQUESTROOT', '/var/spool/cups'), 0
+    while os.path.exists(f'{folder}/d{int(job):05}-{count + 1:03}'):
+        count += 1
+    return count

@@ -1,0 +1,239 @@
+"""The way of a job from its release to its settling. The state on the disk always tells how far it is, so that a station
+that was ended in the midst of it goes on from there.
+"""
+import secrets
+
+import ipp
+import ticket
+from following import Following, pages
+from server import Lost, Refused
+
+# How often a document is handed over, and the seconds between two tries and between two looks at the device.
+TRIES, AGAIN, LOOK = 4, 5, 0.5
+
+
+class Printing:
+    """Prints one job at a time of those that `server` has, at the device of this name there."""
+
+    def __init__(self, name, server, spooler, printer, state, screen, patience):
+        self.name, self.server, self.spooler, self.device = name, server, spooler, printer
+        self.state, self.screen, self.patience = state, screen, patience
+
+    def obstacle(self):
+        """Why nothing can be printed now, or None."""
+        try:
+            self.state.save()
+        except OSError as error:
+            return f"This station's disk: {error.strerror}."
+        return self.spooler.obstacle() or self.device.obstacle()
+
+    def release(self, account, row, password, impressions):
+        """Has a job released, prints and settles it. Answers the word of a refusal, or None."""
+        is_released = row.state == 'pending'
+        self.state.job = {'account': account, 'job': row.job, 'released': is_released, 'copies': row.copies,
+                          'impressions': impressions or row.impressions, 'of': None, 'documents': [], 'end': None}
+        try:
+            self.state.save()
+            word = None if is_released else self.ask_release(account, row.job, password, impressions)
+        except OSError as error:
+            word = f'disk: {error.strerror}'
+        if word:
+            self.state.job = None
+            self.state.save_if_possible()
+            return word
+        self.carry_on()
+        return None
+
+    def ask_release(self, account, job, password, impressions):
+        """The word of a refusal, or None where it is released, or no answer came."""
+        digits = password.encode().hex() or '-'
+        try:
+            word = self.server.ask(f'release {self.name} {account} {job} {digits} {impressions or "-"}')
+        except Lost:
+            return None
+        self.state.job['released'] = word.startswith('ok ')
+        # A job that is not held may be one whose release was told to nobody.
+        return None if word.startswith('ok ') or word == 'not-held' else word
+
+    def carry_on(self):
+        """Prints what is not printed yet of the job that the state has, if any, and settles it."""
+        job = self.state.job
+        self.spooler.withdraw_others([document['name'] for document in job['documents']] if job else [])
+        if job is None:
+            return
+        if job['end'] is None:
+            job['end'] = self.print_rest(job)
+            self.state.save_if_possible()
+        if job['end'] != 'elsewhere':
+            self.settle(job)
+        self.state.leftovers += [[document['name'], document['number']] for document in job['documents']]
+        self.state.job = None
+        self.state.save_if_possible()
+        self.tidy()
+
+    def tidy(self):
+        """Has CUPS remove what was printed, with its documents."""
+        left = [[name, number] for name, number in self.state.leftovers if not self.spooler.remove(name, number)]
+        if left != self.state.leftovers:
+            self.state.leftovers = left
+            self.state.save_if_possible()
+
+    def print_rest(self, job):
+        """How the job ended: `done`, `failed`, or `elsewhere` where the server has nothing of it for this device."""
+        number = f"{job['account']}'s job {job['job']}"
+        for handed in [document for document in job['documents'] if document['end'] is None]:
+            self.screen.say(f'{number} goes on.')
+            self.follow(job, handed)
+        ends = [document['end'] for document in job['documents']]
+        if 'failed' in ends or (ends and len(ends) == job['of']):
+            return 'failed' if 'failed' in ends else 'done'
+        try:
+            documents = self.fetch(job)
+        except Refused as refused:
+            self.screen.say(f'{number} is not printed here ({refused.word}).')
+            return 'failed' if refused.word == 'stopping' or ends else 'elsewhere'
+        return self.print_documents(job, documents)
+
+    def fetch(self, job):
+        """The documents of a job that is released, which starts it, or once more of one that was started."""
+        while True:
+            try:
+                return self.fetch_once(job)
+            except Lost:
+                pass
+            except Refused as refused:
+                if refused.word != 'failed':
+                    raise
+            self.wait_for_server()
+
+    def fetch_once(self, job):
+        if not job['released'] and not self.is_here(job):
+            raise Refused('not-released')
+        which = f"{self.name} {job['account']} {job['job']}"
+        try:
+            return self.server.documents(f'start {which}')
+        except Refused as refused:
+            if refused.word != 'not-pending':
+                raise
+        return self.server.documents(f'again {which}')
+
+    def wait_for_server(self):
+        self.screen.say('The print server does not answer. It is asked again.')
+        self.screen.pause(AGAIN)
+
+    def row(self, job):
+        """What the server tells of a job, or None where it has ended or another device has it."""
+        return next((row for row in self.server.jobs(self.name, job['account']) if row.job == job['job']), None)
+
+    def is_here(self, job):
+        row = self.row(job)
+        return row is not None and row.device == self.name
+
+    def print_documents(self, job, documents):
+        """Prints those that are not printed yet, once the device can do what all of them ask for."""
+        try:
+            tickets = [ticket.read(document.data) for document in documents]
+        except ticket.Bad as bad:
+            self.screen.say(f'Its ticket asks for {bad}, which this station does not know. Nothing is printed or charged.')
+            return 'failed'
+        supported = self.supported() if any(tickets) else {}
+        if supported is None:
+            return 'failed'
+        lacking = [choice for chosen in tickets for choice in ticket.lacking(chosen.items(), supported)]
+        if lacking:
+            self.screen.say(f"This printer does not have {', '.join(lacking)}. Nothing is printed or charged.")
+            return 'failed'
+        job['of'] = len(documents)
+        for number in range(len(job['documents']), len(documents)):
+            end = self.print_document(job, number, documents[number], tickets[number])
+            if end == 'failed':
+                return 'failed'
+        return 'done'
+
+    def supported(self):
+        """What the device has, or None where somebody types `stop` before it answers."""
+        while True:
+            try:
+                return self.device.supported()
+            except (OSError, ipp.Refused):
+                self.screen.say('The printer does not answer. It is asked again.')
+                if self.is_stop_typed(AGAIN):
+                    return None
+
+    def print_document(self, job, number, document, chosen):
+        """How a document ended: `done` or `failed`."""
+        told = 'CUPS does not take it'
+        for attempt in range(TRIES):
+            if attempt:
+                self.screen.say(f'{told}. It is handed over again.')
+                self.screen.pause(AGAIN)
+            try:
+                handed = self.permit(job, number)
+            except OSError as error:
+                told = f"This station's disk: {error.strerror}"
+                continue
+            try:
+                handed['number'] = self.spooler.hand(handed['name'], document, chosen)
+                self.state.save_if_possible()
+            except ipp.Refused as refused:
+                told = f"This station's queue: {refused}"
+            except OSError as error:
+                # It may have it nevertheless.
+                told = f"This station's CUPS: {error}"
+            end = self.follow(job, handed)
+            if end != 'unsent':
+                return end
+        self.screen.say(f'{told}. Nothing more of it is printed.')
+        return 'failed'
+
+    def permit(self, job, number):
+        """Allows the next document to be printed, under a name that no other ever had."""
+        name = f"room-{job['account']}-{job['job']}-{number + 1}-{secrets.token_hex(4)}"
+        handed = {'name': name, 'number': None, 'before': self.device.life_count(), 'count': 0, 'seen': False, 'end': None}
+        self.spooler.allow(name)
+        job['documents'].append(handed)
+        try:
+            self.state.save()
+        except OSError:
+            job['documents'].remove(handed)
+            self.spooler.withdraw(name)
+            raise
+        return handed
+
+    def follow(self, job, handed):
+        """Waits until a document that was handed to CUPS has ended, and keeps what the device counts. Answers how it ended:
+        `done`, `failed`, or `unsent` where the device will never get it."""
+        following = Following(self, job, handed)
+        while handed['end'] is None:
+            following.look()
+            if handed['end'] is None and self.is_stop_typed(LOOK):
+                following.stop()
+        if handed['end'] == 'unsent':
+            job['documents'].remove(handed)
+            self.state.leftovers.append([handed['name'], handed['number']])
+        self.state.save_if_possible()
+        return handed['end']
+
+    def is_stop_typed(self, seconds):
+        line = self.screen.pause(seconds)
+        return line is not None and line.strip().lower() == 'stop'
+
+    def settle(self, job):
+        """Tells the server what the device has counted, until that is answered."""
+        count = sum(document['count'] for document in job['documents'])
+        line = f"settle {self.name} {job['account']} {job['job']} {count} {job['end']}"
+        while True:
+            try:
+                word = self.server.ask(line)
+            except Lost:
+                word = 'failed'
+            if word != 'failed':
+                break
+            self.wait_for_server()
+        how = 'Printed' if job['end'] == 'done' else 'It has failed, or was stopped'
+        charged = word.split(' ')
+        if charged[0] == 'ok':
+            self.screen.say(f'{how}: {pages(count)}. Units charged: {charged[2]}, left: {charged[4]}.')
+        else:
+            # It was settled before, by this station or by hand.
+            self.screen.say(f'{how}: {pages(count)} ({word}).')
