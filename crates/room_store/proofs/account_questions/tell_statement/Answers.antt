@@ -6,7 +6,7 @@ use Rattle.room_events.specs.declared.event.Reply.{Reply}
 use Rattle.room_events.specs.declared.event.Reply.TheVariants.{Line}
 use Rattle.room_questions.specs.Summaries.{statement_text}
 use Rattle.room_questions.specs.declared.summary.Summary.{Summary}
-use Rattle.room_store.proofs.ServingLemmas.{read_passed}
+use Rattle.room_store.proofs.ServingLemmas.{looked, passed_then, read_passed}
 use Rattle.room_store.proofs.account_questions.tell_statement.Goals as goal
 use Rattle.room_tables.specs.Accounts.{HoldsRoom}
 use Rattle.room_tables.specs.Keyed.{HasSchema}
@@ -22,3 +22,8 @@ returns-clause-told g c clean has room devices holds named =
     let same = ((read_passed g.S.Store old mid _ c.in_ok-summary.ensures.reads).same mid_clean has).now in
     let granted = c.in_ok-granted.ensures.granted clean (subst HasSchema (sym same) has) room (subst (λ (db : Database). HoldsRoom db c.args.account room) (sym same) holds) in
     said _ _ _ _ _ granted (c.in_ok-summary.ensures.told mid_clean has room holds) c.in_ok-statement_line.ensures.text
+
+pub returns-clause-looks : goal.returns-clause-looks
+returns-clause-looks g c =
+    looked g.S.Store _ _ _
+    (passed_then (state g.S.Store c.args.connection.now) (state g.S.Store c.summarize.new.connection) (state g.S.Store c.granted_to.new.connection) (read_passed g.S.Store _ _ _ c.in_ok-summary.ensures.reads) (read_passed g.S.Store _ _ _ c.in_ok-granted.ensures.reads))

@@ -18,3 +18,17 @@ returns-in-Start g c =
       served = subst (λ e. DoesStep g.S.Store c.args.connection.now c.start.new.connection c.args.account (IsReadableOpen c.args.account c.args.now (plain_event e)) (λ room devices. answered_open room devices c.args.now (plain_event e)) c.start.result)
           (sym c.in-Start.is) c.start.ensures.served;
     }
+
+pub returns-in-Settle : goal.returns-in-Settle
+returns-in-Settle g c =
+    record {
+      served = subst (λ e. DoesStep g.S.Store c.args.connection.now c.settle.new.connection c.args.account (IsReadableOpen c.args.account c.args.now (plain_event e)) (λ room devices. answered_open room devices c.args.now (plain_event e)) c.settle.result)
+          (sym c.in-Settle.is) c.settle.ensures.served;
+    }
+
+pub returns-in-Grant : goal.returns-in-Grant
+returns-in-Grant g c =
+    record {
+      served = subst (λ e. DoesStep g.S.Store c.args.connection.now c.grant.new.connection c.args.account (IsReadableOpen c.args.account c.args.now (plain_event e)) (λ room devices. answered_open room devices c.args.now (plain_event e)) c.grant.result)
+          (sym c.in-Grant.is) c.grant.ensures.served;
+    }

@@ -6,6 +6,7 @@ use Rattle.room_events.specs.declared.event.Reply.TheVariants.{Line}
 use Rattle.room_questions.specs.Questions.{check_text}
 use Rattle.room_checks.specs.Checks.{IsSoundAs}
 use Rattle.room_store.specs.Questions.{TellsWhetherSound}
+use Rattle.room_store.proofs.ServingLemmas.{looked, read_passed}
 use Rattle.room_store.proofs.questions.tell_check.Goals as goal
 
 -- of an account that is open its room is told
@@ -16,3 +17,6 @@ told_open db name told false is line nothing = absurd (true≢false (sym is))
 pub returns-in_ok-check_line-in-Ok-true-clause-checked : goal.returns-in_ok-check_line-in-Ok-true-clause-checked
 returns-in_ok-check_line-in-Ok-true-clause-checked g c = λ clean has.
     told_open _ _ _ _ c.in-Ok-true.field-0-test (ap Line c.in_ok-check_line-in-Ok-true.ensures.text) (c.in-Ok-true.ensures.sound clean has)
+
+pub returns-in-Ok-false-clause-looks : goal.returns-in-Ok-false-clause-looks
+returns-in-Ok-false-clause-looks g c = looked g.S.Store c.args.connection.now c.check_account.new.connection c.refusing.result (read_passed g.S.Store _ _ _ c.in-Ok-false.ensures.reads)

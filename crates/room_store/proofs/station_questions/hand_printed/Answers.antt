@@ -10,7 +10,7 @@ use Rattle.room_rules.specs.declared.refusal.Word.{Word}
 use Rattle.room_rules.specs.declared.refusal.Word.TheVariants.{NotProcessing, OtherDevice, Stopping}
 use Rattle.room_statements.specs.Queues.{IsNumbered}
 use Rattle.room_store.proofs.Found.{act_of}
-use Rattle.room_store.proofs.ServingLemmas.{look_passed}
+use Rattle.room_store.proofs.ServingLemmas.{look_passed, looks_after}
 use Rattle.room_store.proofs.station_questions.hand_printed.Goals as goal
 use Rattle.room_store.specs.ProofKnown.{HasJobRow}
 use Rattle.room_store.specs.Questions.{PrintedIsReadable}
@@ -50,3 +50,6 @@ returns-clause-damaged g c clean has damaged readable =
     c.hand_again.ensures.damaged clean (subst HasSchema (sym same) has) damaged
     (subst (λ (r : Result Job Word). IfOk r (λ job. DocumentsAreReadable c.args.account job.job (state g.S.Store mid).now)) (sym c.printed_by.ensures)
     (subst (λ (db : Database). IfOk (printed_by c.args.device c.in_ok-found.found) (λ job. DocumentsAreReadable c.args.account job.job db)) (sym same) documents))
+
+pub returns-clause-looks : goal.returns-clause-looks
+returns-clause-looks g c = looks_after g.S.Store c.args.connection.now c.look_up.new.connection c.hand_again.new.connection c.hand_again.result (look_passed g.S.Store _ _ _ c.in_ok-found.ensures.looks) c.hand_again.ensures.looks
