@@ -28,8 +28,6 @@ mod law;
 mod maker;
 mod removals;
 mod slices;
-#[cfg(test)]
-mod tests;
 
 pub use again::start_again;
 pub use every::copy_all;

@@ -10,8 +10,6 @@ mod laws;
 mod line;
 mod outcome;
 mod refusal;
-#[cfg(test)]
-mod tests;
 mod text;
 mod waiting;
 

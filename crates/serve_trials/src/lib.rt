@@ -7,17 +7,14 @@ mod backups;
 mod cases;
 mod expecting;
 mod fault;
-mod limits;
 mod lines;
 mod logs;
 mod notices;
 mod questions;
-mod refusals;
 mod report;
 mod requests;
 mod rooms;
 mod sends;
-mod taken;
 mod talk;
 mod turns;
 mod wired;
@@ -33,7 +30,7 @@ use std::io::Write;
 /// that they do, or what differs.
 pub fn file_holds<W: Write>(rt: &HostRuntime, file: &str, output: &mut W) -> bool {
     let mut report = Report::new(output);
-    report.tell(file, refusals::expect_rows(rt, file));
+    report.tell(file, requests::expect_rows(rt, file));
     report.all_hold()
 }
 
@@ -41,9 +38,6 @@ pub fn file_holds<W: Write>(rt: &HostRuntime, file: &str, output: &mut W) -> boo
 /// differs.
 pub fn all_trials_hold<W: Write>(rt: &HostRuntime, output: &mut W) -> bool {
     let mut report = Report::new(output);
-    requests::run_all(rt, &mut report);
-    taken::run_all(rt, &mut report);
-    limits::run_all(rt, &mut report);
     lines::run_all(rt, &mut report);
     questions::run_all(rt, &mut report);
     turns::run_all(rt, &mut report);

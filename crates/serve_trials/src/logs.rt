@@ -1,5 +1,6 @@
 //! Trials of the log: what is asked leaves its lines in a file, which may be moved away.
 
+use crate::cases::{QUEUE, REQUEST, SIZED, joined};
 use crate::expecting::{expect, expect_bytes};
 use crate::fault::Fault;
 use crate::lines::PRINT;
@@ -16,32 +17,44 @@ const MOVED: &str = "events.log.1";
 
 /// What operators and stations ask, with what is no line and a question.
 const OPERATOR: &[u8] =
-    b"open alice\ndevice d1 on\nrate d1 2\ngrant alice 2026-09 500\nping\nnone\n\
-    cancel alice 7\n";
+    b"open alice\ndevice d1 on\nrate d1 2\ngrant alice 2026-09 500\ngrant alice 2026-11 500\n\
+    ping\nnone\ncancel alice 7\n";
 
 const STATION: &[u8] = b"release d1 alice 7 31323334 -\nrelease d1 alice 1 - 12\nstart d1 alice 1\n\
     settle d1 alice 1 5 done\n";
+
+/// The header of Print-Job alone.
+const HEADER_ALONE: &[u8] = b"POST /ipp/print/alice HTTP/1.1\r\nHost: localhost\r\n\
+    Content-Type: application/ipp\r\nContent-Length: 8\r\n\r\n\x01\x01\x00\x02\x00\x00\x00\x01";
 
 /// A request for a path of no queue.
 const ELSEWHERE: &[u8] = b"POST /print/alice HTTP/1.1\r\nHost: localhost\r\n\
     Content-Type: application/ipp\r\nContent-Length: 0\r\n\r\n";
 
-/// The lines of the former, of a job of alice, of a request that is refused, and of the latter.
+/// The lines of the former, of a job of alice, of requests that make none, of one that is refused, and
+/// of the latter.
 const LINES: &[u8] = b"1788220800 operators open alice ok\n\
     1788220800 operators device d1 on ok\n\
     1788220800 operators rate d1 2 ok\n\
     1788220800 operators grant alice 2026-09 500 ok\n\
+    1788220800 operators grant alice 2026-11 500 ok\n\
     1788220800 operators refused bad-line\n\
     1788220800 operators alice Cancel-Job 7 0x0406 no-job\n\
     1788220800 clients alice Print-Job 1 0x0000 successful-ok\n\
+    1788220800 clients alice Validate-Job - 0x0000 successful-ok\n\
+    1788220800 clients alice Print-Job - 0x0400 malformed\n\
     1788220800 clients refused 404 /print/alice\n\
     1788220800 stations d1 release alice 7 no-job\n\
     1788220800 stations d1 release alice 1 ok reserved 24 left 476\n\
     1788220800 stations d1 start alice 1 documents 1\n\
     1788220800 stations d1 settle alice 1 5 done ok charged 10 left 490\n";
 
-/// The line behind them.
-const NEXT: &[u8] = b"1788220800 operators device d1 off ok\n";
+/// A moment that is past all that are served: what is asked then fails.
+const LATE: u64 = 4_102_444_800;
+
+/// The lines behind them.
+const NEXT: &[u8] = b"1788220800 operators device d1 off ok\n\
+    4102444800 clients alice Print-Job - failed\n";
 
 /// Runs each trial of this file, and tells how it ended.
 pub fn run_all<W: Write>(rt: &HostRuntime, report: &mut Report<'_, W>) {
@@ -52,23 +65,32 @@ pub fn run_all<W: Write>(rt: &HostRuntime, report: &mut Report<'_, W>) {
 /// in a new file where the old one was moved away.
 fn a_log(rt: &HostRuntime) -> Result<(), Fault> {
     let mut rooms = logged_rooms(rt, FILE)?;
-    ask_all(rt, &mut rooms)?;
-    expect_file(rt, FILE, LINES)?;
-    fs::rename(rt, FILE, MOVED)?;
-    rooms.look_at_log(rt, None);
-    exchange_lines(rt, &mut rooms, Side::Operator, b"device d1 off\n", 100)?;
-    expect_file(rt, MOVED, LINES)?;
-    expect_file(rt, FILE, NEXT)?;
-    expect(rt, !rooms.log_lags(), "the log is written")?;
+    expect_logged(rt, &mut rooms)?;
     fs::remove_file(rt, MOVED)?;
     fs::remove_file(rt, FILE)?;
     Ok(())
 }
 
+/// Asks the rooms, moves the log away and asks on. Expects what stands in both files.
+fn expect_logged(rt: &HostRuntime, rooms: &mut Served<MemStore>) -> Result<(), Fault> {
+    ask_all(rt, rooms)?;
+    expect_file(rt, FILE, LINES)?;
+    fs::rename(rt, FILE, MOVED)?;
+    rooms.look_at_log(rt, None);
+    exchange_lines(rt, rooms, Side::Operator, b"device d1 off\n", 100)?;
+    rooms.set_moment(LATE);
+    exchange(rt, rooms, HEADER_ALONE, 100)?;
+    expect_file(rt, MOVED, LINES)?;
+    expect_file(rt, FILE, NEXT)?;
+    expect(rt, !rooms.log_lags(), "the log is written")
+}
+
 fn ask_all(rt: &HostRuntime, rooms: &mut Served<MemStore>) -> Result<(), Fault> {
+    let validate = joined(rt.alloc(), &[QUEUE, SIZED, REQUEST])?;
     exchange_lines(rt, rooms, Side::Operator, OPERATOR, 100)?;
-    exchange(rt, rooms, PRINT, 100)?;
-    exchange(rt, rooms, ELSEWHERE, 100)?;
+    for request in [PRINT, validate.as_slice(), HEADER_ALONE, ELSEWHERE] {
+        exchange(rt, rooms, request, 100)?;
+    }
     exchange_lines(rt, rooms, Side::Station, STATION, 100)?;
     Ok(())
 }
