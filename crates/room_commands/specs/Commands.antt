@@ -1,7 +1,7 @@
 -- The numbers that a command line may say (this project's own).
-use Rattle.std.specs.Prelude.{◌≡◌, ℕ, ◌==◌, Bool, true, not, ◌&&◌, nat_le, bytes_eq, ⊤, List, codes, None, Some, drop, take, slice_get, option_map}
+use Rattle.std.specs.Prelude.{◌≡◌, ℕ, ◌==◌, Bool, true, not, ◌&&◌, nat_le, bytes_eq, ⊤, List, codes, length, Option, None, Some, drop, take, slice_get, option_map}
 use Rattle.std.specs.List.{list_all}
-use Rattle.room_rules.specs.Limits.{last_month, most_pages, most_rate}
+use Rattle.room_rules.specs.Limits.{last_job, last_month, longest_job_name, most_copies, most_impressions, most_pages, most_rate}
 use Rattle.room_commands.specs.declared.backing_up.BackingUp.{BackingUp}
 use Rattle.room_commands.specs.declared.command.Command.{Command}
 use Rattle.room_commands.specs.declared.command.Command.TheVariants as command
@@ -10,6 +10,10 @@ use Rattle.room_commands.specs.declared.listening.Listening.{Listening}
 use Rattle.room_commands.specs.declared.sending.Sending.{Sending}
 use Rattle.room_commands.specs.declared.serving.Serving.{Serving}
 use Rattle.room_commands.specs.declared.errand.Errand.{Errand}
+use Rattle.room_commands.specs.declared.owner_errand.OwnerErrand.{OwnerErrand}
+use Rattle.room_commands.specs.declared.owner_errand.OwnerTask.{OwnerTask}
+use Rattle.room_commands.specs.declared.owner_errand.OwnerTask.TheVariants as owner
+use Rattle.room_commands.specs.declared.owner_errand.Printing.{Printing}
 use Rattle.room_desk.specs.declared.task.Task.{Task}
 use Rattle.room_desk.specs.declared.task.Task.TheVariants as task
 use Rattle.room_commands.specs.Addresses.{IsAddressOf, has_port_from}
@@ -72,6 +76,24 @@ is_task_in_range (task.Refund account pages) = nat_le pages most_pages
 abbrev pub is_errand_in_range : Errand → Bool
 is_errand_in_range errand = has_port_from 1 errand.address && is_task_in_range errand.task
 
+abbrev pub is_count_in_range : Option ℕ → Bool
+is_count_in_range None = true
+is_count_in_range (Some count) = nat_le 1 count && nat_le count most_impressions
+
+-- a name that is not too long, 1 to 999 copies, and one page or more where they are told
+abbrev pub is_printing_in_range : Printing → Bool
+is_printing_in_range printing = nat_le (length printing.name.now) longest_job_name
+    && nat_le 1 printing.copies && nat_le printing.copies most_copies
+    && is_count_in_range printing.pages
+
+abbrev pub is_owner_task_in_range : OwnerTask → Bool
+is_owner_task_in_range (owner.Print printing) = is_printing_in_range printing
+is_owner_task_in_range owner.Jobs = true
+is_owner_task_in_range (owner.Act act job) = nat_le 1 job && nat_le job last_job
+
+abbrev pub is_owner_in_range : OwnerErrand → Bool
+is_owner_in_range errand = is_owner_task_in_range errand.task
+
 -- what the words of `serve` say: by their places the database and the addresses of three doors, and
 -- behind them the options of further ones and of the log
 pub record SaysServing (words : List (List ℕ)) (serving : Serving) : Type 0 where
@@ -102,3 +124,4 @@ is_in_range (command.Listen listening) = is_listening_in_range listening
 is_in_range (command.Serve serving) = true
 is_in_range (command.Send sending) = is_sending_in_range sending
 is_in_range (command.Errand errand) = is_errand_in_range errand
+is_in_range (command.Owner errand) = is_owner_in_range errand

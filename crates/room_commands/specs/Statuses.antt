@@ -1,7 +1,7 @@
 -- The exit statuses of a run that ends early (this project's own).
 use Rattle.std.specs.Prelude.{ℕ}
 use Rattle.room_commands.specs.declared.fault.Fault.{Fault}
-use Rattle.room_commands.specs.declared.fault.Fault.TheVariants.{Usage, Name, Input, Line, Store, Memory, Io, Silent, Refused}
+use Rattle.room_commands.specs.declared.fault.Fault.TheVariants.{Usage, Name, Input, Document, Pin, Line, Store, Memory, Io, Silent, Refused}
 
 -- 1 for usage, 2 for bad input, of which nothing was run unless it was sent, 3 for the store and
 -- for memory, 4 for reading and writing, 5 for what was refused
@@ -9,6 +9,8 @@ abbrev pub exit_status_of : Fault → ℕ
 exit_status_of (Usage error) = 1
 exit_status_of Name = 2
 exit_status_of Input = 2
+exit_status_of Document = 2
+exit_status_of Pin = 2
 exit_status_of (Line number) = 2
 exit_status_of Store = 3
 exit_status_of Memory = 3

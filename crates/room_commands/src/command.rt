@@ -1,7 +1,7 @@
 //! The command line: its commands, and what their words may be.
-ghost use Rattle.std.specs.Prelude.{◌≤◌, ℕ, List, IfOk, IsTrue};
+ghost use Rattle.std.specs.Prelude.{◌≤◌, ℕ, List, IfOk, IfSome, IsTrue};
 ghost use Rattle.room_commands.specs.Addresses.{has_port_from};
-ghost use Rattle.room_commands.specs.Commands.{is_in_range, is_task_in_range, IsSaidBy};
+ghost use Rattle.room_commands.specs.Commands.{is_in_range, is_owner_task_in_range, is_task_in_range, IsSaidBy};
 ghost use Rattle.room_commands.specs.Words.{placed, texts};
 
 use crate::address::{Address, LAST_PORT};
@@ -10,21 +10,24 @@ use crate::copying::Copying;
 use crate::errand::Errand;
 use crate::fault::Fault;
 use crate::listening::Listening;
+use crate::owner_errand::{OwnerErrand, OwnerTask, Printing, job_name, queue_at};
 use crate::parser::program;
 use crate::sending::Sending;
 use crate::served_door::{doors_of, log_behind};
 use crate::serving::Serving;
 use crate::unfit::Unfit;
 use crate::words::{
-    ACCOUNT, ADDRESS, BACKUP, COPY, COUNT, CREATE, DATABASE, DAYS, DAYS_AGO, DEVICE, DEVICES,
-    DRY_RUN, END, EXPIRE, EXPLAIN, FOLDER, GRANTS, LISTEN, MIGRATE, MONTH, NAME, ON, OPEN, PING,
-    PORT, RATE, REFUND, REPORT, SCRIPT, SEND, SERVE, STATION, SWITCH, UNITS, WAITING, placed_words,
+    ACCOUNT, ADDRESS, BACKUP, CANCEL, COPIES, COPY, COUNT, CREATE, DATABASE, DAYS, DAYS_AGO,
+    DEVICE, DEVICES, DRY_RUN, END, EXPIRE, EXPLAIN, FILE, FOLDER, GRANTS, HOLD, JOB, JOB_NAME,
+    JOBS, LISTEN, MIGRATE, MONTH, NAME, ON, OPEN, PAGES, PIN, PING, PORT, PRINT, QUEUE, RATE,
+    REFUND, RELEASE, REPORT, SCRIPT, SEND, SERVE, STATION, SWITCH, UNITS, WAITING, placed_words,
 };
 use clap::ArgMatches;
 use room_desk::{MOST_DAYS, ReportMonth, Task};
 use room_events::{MOST_RATE, Name};
 use room_input::month;
-use room_rules::MOST_PAGES;
+use room_owner::JobAct;
+use room_rules::{LAST_JOB, MOST_COPIES, MOST_IMPRESSIONS, MOST_PAGES};
 use std::alloc::Global;
 
 /// The database that lives in memory for one run.
@@ -91,6 +94,8 @@ pub enum Command<'a> {
     Send(Sending<'a>),
     /// Asks an operator's address.
     Errand(Errand<'a>),
+    /// Asks the queue of an account.
+    Owner(OwnerErrand<'a>),
 }
 
 /// Why words of which one is not UTF-8 are no command line.
@@ -159,6 +164,7 @@ fn of_matches<'a>(
         Some((WAITING, found)) => errand(found, waiting_task(found)?),
         Some((EXPIRE, found)) => errand(found, expire_task(found)?),
         Some((REFUND, found)) => errand(found, refund_task(found)?),
+        Some((command, found)) if is_of_owner(command) => owner_command(command, found),
         Some((command, found)) => on_database(command, found, word(found, DATABASE)?),
         None => Err(Unfit::Missing),
     }
@@ -324,6 +330,73 @@ fn refund_task(words: &ArgMatches<'_>) -> Result<Task, Unfit>
     let pages = number(words, UNITS, 0, MOST_PAGES, Unfit::Pages)?;
     let account = name(words, ACCOUNT)?;
     Ok(Task::Refund { account, pages })
+}
+
+/// Whether a command asks the queue of an account.
+fn is_of_owner(command: &str) -> bool {
+    matches!(command, PRINT | JOBS | CANCEL | HOLD | RELEASE)
+}
+
+fn owner_command<'a>(command: &str, words: &ArgMatches<'a>) -> Result<Command<'a>, Unfit>
+    ensures range { IfOk result (λ command. IsTrue (is_in_range command)) }
+    ensures said { (given : List (List ℕ)) → IfOk result (IsSaidBy given) }
+{
+    let task = owner_task(command, words)?;
+    let queue = queue_at(word(words, QUEUE)?)?;
+    Ok(Command::Owner(OwnerErrand { queue, task }))
+}
+
+fn owner_task<'a>(command: &str, words: &ArgMatches<'a>) -> Result<OwnerTask<'a>, Unfit>
+    ensures { IfOk result (λ task. IsTrue (is_owner_task_in_range task)) }
+{
+    match command {
+        PRINT => print_task(words),
+        JOBS => Ok(OwnerTask::Jobs),
+        CANCEL => act_task(words, JobAct::Cancel),
+        HOLD => act_task(words, JobAct::Hold),
+        RELEASE => act_task(words, JobAct::Release),
+        _ => Err(Unfit::Missing),
+    }
+}
+
+fn print_task<'a>(words: &ArgMatches<'a>) -> Result<OwnerTask<'a>, Unfit>
+    ensures { IfOk result (λ task. IsTrue (is_owner_task_in_range task)) }
+{
+    let file = word(words, FILE)?;
+    Ok(OwnerTask::Print(Printing {
+        file,
+        name: job_name(words.get_str(JOB_NAME), file)?,
+        copies: copies(words)?,
+        pages: pages(words)?,
+        has_pin: words.get_flag(PIN),
+    }))
+}
+
+/// One copy where none are told.
+fn copies(words: &ArgMatches<'_>) -> Result<u32, Unfit>
+    ensures { IfOk result (λ copies. (1 ≤ copies) × (copies ≤ MOST_COPIES)) }
+{
+    match words.get_str(COPIES) {
+        Some(_) => number(words, COPIES, 1, MOST_COPIES, Unfit::Copies),
+        None => Ok(1),
+    }
+}
+
+fn pages(words: &ArgMatches<'_>) -> Result<Option<u32>, Unfit>
+    ensures { IfOk result (λ pages. IfSome pages
+        (λ count. (1 ≤ count) × (count ≤ MOST_IMPRESSIONS))) }
+{
+    match words.get_str(PAGES) {
+        Some(_) => Ok(Some(number(words, PAGES, 1, MOST_IMPRESSIONS, Unfit::Impressions)?)),
+        None => Ok(None),
+    }
+}
+
+fn act_task<'a>(words: &ArgMatches<'a>, act: JobAct) -> Result<OwnerTask<'a>, Unfit>
+    ensures { IfOk result (λ task. IsTrue (is_owner_task_in_range task)) }
+{
+    let job = number(words, JOB, 1, LAST_JOB, Unfit::Job)?;
+    Ok(OwnerTask::Act { act, job })
 }
 
 fn word<'a>(words: &ArgMatches<'a>, id: &str) -> Result<&'a str, Unfit> {

@@ -29,6 +29,12 @@ pub enum Fault {
     /// Standard input is longer than its limit, or a line of it that was to be sent is.
     #[error("ipp-room: input")]
     Input,
+    /// The document that was to be printed has over 16777216 bytes.
+    #[error("ipp-room: document")]
+    Document,
+    /// The line that was to be a PIN is empty, has over 32 bytes or no end.
+    #[error("ipp-room: pin")]
+    Pin,
     /// The line or record of this number, counted from 1, is the first that is no line of its
     /// grammar.
     #[error("ipp-room: line {0}")]
@@ -61,7 +67,7 @@ impl Fault {
     {
         match self {
             Fault::Usage(_) => 1,
-            Fault::Name | Fault::Input | Fault::Line(_) => 2,
+            Fault::Name | Fault::Input | Fault::Document | Fault::Pin | Fault::Line(_) => 2,
             Fault::Store | Fault::Memory => 3,
             Fault::Io | Fault::Silent => 4,
             Fault::Refused => 5,

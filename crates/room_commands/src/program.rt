@@ -23,8 +23,8 @@ use std::io::{Read, Write};
 /// `opener` is asked for the database once nothing else can be wrong, and gets it back before
 /// anything is printed. In `:memory:` each run makes tables of its own. `explain` asks for none,
 /// and none of its lines is wrong. Of `copy`, `listen`, `serve`, `send` and what is asked over an
-/// address it answers `Io` with nothing run, since it has one database and no sockets (`Copying`,
-/// `Listening`, `Serving`, `Sending`, `BackingUp` and `Errand` say what their words ask for).
+/// address or of a queue it answers `Io` with nothing run, since it has one database and no sockets (`Copying`,
+/// `Listening`, `Serving`, `Sending`, `BackingUp`, `Errand` and `OwnerErrand` say what their words ask for).
 pub fn run<S, F, R, W, E>(
     alloc: Global,
     words: &[&str],
@@ -97,7 +97,8 @@ where
         | Command::Listen(_)
         | Command::Serve(_)
         | Command::Send(_)
-        | Command::Errand(_) => { Err(Fault::Io) }
+        | Command::Errand(_)
+        | Command::Owner(_) => { Err(Fault::Io) }
     }
 }
 

@@ -45,6 +45,16 @@ pub(crate) const EXPIRE: &str = "expire";
 
 pub(crate) const REFUND: &str = "refund";
 
+pub(crate) const PRINT: &str = "print";
+
+pub(crate) const JOBS: &str = "jobs";
+
+pub(crate) const CANCEL: &str = "cancel";
+
+pub(crate) const HOLD: &str = "hold";
+
+pub(crate) const RELEASE: &str = "release";
+
 /// Behind it no word is a flag.
 const ESCAPE: &str = "--";
 
@@ -93,6 +103,20 @@ pub(crate) const DAYS: &str = "DAYS";
 pub(crate) const DAYS_AGO: &str = "days";
 
 pub(crate) const DRY_RUN: &str = "dry-run";
+
+pub(crate) const QUEUE: &str = "URI";
+
+pub(crate) const JOB: &str = "JOB";
+
+pub(crate) const JOB_NAME: &str = "name";
+
+pub(crate) const COPIES: &str = "copies";
+
+pub(crate) const PAGES: &str = "pages";
+
+pub(crate) const PIN: &str = "pin";
+
+const NUMBER: &str = "N";
 
 /// A command, as the help shows it.
 #[derive(Clone, Copy)]
@@ -278,8 +302,50 @@ const INTO_FOLDER: Argument = Argument {
     kind: Kind::After("into"),
 };
 
+const AT_QUEUE: Argument = Argument {
+    name: QUEUE,
+    help: Some("ipp://HOST[:PORT]/ipp/print/ACCOUNT"),
+    kind: Kind::Required,
+};
+
+const OF_FILE: Argument = Argument {
+    name: FILE,
+    help: Some("The document, of at most 16777216 bytes"),
+    kind: Kind::Required,
+};
+
+const OF_JOB: Argument = Argument {
+    name: JOB,
+    help: Some("1 to 999999"),
+    kind: Kind::Required,
+};
+
+const CALLED: Argument = Argument {
+    name: JOB_NAME,
+    help: Some("The job's name, the file's where none is told"),
+    kind: Kind::Named(NAME),
+};
+
+const SO_OFTEN: Argument = Argument {
+    name: COPIES,
+    help: Some("How many copies, 1 to 999"),
+    kind: Kind::Named(NUMBER),
+};
+
+const OF_PAGES: Argument = Argument {
+    name: PAGES,
+    help: Some("How many pages a copy has, as printed"),
+    kind: Kind::Named(NUMBER),
+};
+
+const WITH_PIN: Argument = Argument {
+    name: PIN,
+    help: Some("A line of standard input is the PIN without which it is not released"),
+    kind: Kind::Flag,
+};
+
 /// All commands, in the order of the help.
-pub(crate) const COMMANDS: [CommandWords; 20] = [
+pub(crate) const COMMANDS: [CommandWords; 25] = [
     CommandWords {
         name: CREATE,
         about: "Makes the tables of a database",
@@ -383,6 +449,31 @@ pub(crate) const COMMANDS: [CommandWords; 20] = [
         name: REFUND,
         about: "Gives pages back to an account",
         arguments: &[TO_ADDRESS, OF_ACCOUNT, GIVEN_BACK],
+    },
+    CommandWords {
+        name: PRINT,
+        about: "Sends a document to a queue",
+        arguments: &[AT_QUEUE, OF_FILE, CALLED, SO_OFTEN, OF_PAGES, WITH_PIN],
+    },
+    CommandWords {
+        name: JOBS,
+        about: "Prints the jobs of a queue that have not ended, as CSV",
+        arguments: &[AT_QUEUE],
+    },
+    CommandWords {
+        name: CANCEL,
+        about: "Cancels a job of a queue",
+        arguments: &[AT_QUEUE, OF_JOB],
+    },
+    CommandWords {
+        name: HOLD,
+        about: "Takes the release of a job back",
+        arguments: &[AT_QUEUE, OF_JOB],
+    },
+    CommandWords {
+        name: RELEASE,
+        about: "Releases a job to any device of rate 1",
+        arguments: &[AT_QUEUE, OF_JOB],
     },
     CommandWords {
         name: EXPLAIN,

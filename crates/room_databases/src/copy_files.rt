@@ -12,6 +12,7 @@ pub struct CopyFiles<'a> {
 }
 
 impl<'a> CopyFiles<'a> {
+    /// Makes copies through the files of the process.
     pub fn new(rt: &'a HostRuntime) -> CopyFiles<'a> {
         CopyFiles { rt }
     }

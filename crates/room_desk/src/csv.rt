@@ -5,7 +5,7 @@ ghost use Rattle.room_desk.specs.Csv.{doubled, field_text, needs_quotes, record_
 use std::alloc::AllocError;
 
 /// Appends a record of at least one field, with the line end behind it.
-pub(crate) fn put_record(out: &mut Vec<u8>, fields: &[&[u8]]) -> Result<(), AllocError>
+pub fn put_record(out: &mut Vec<u8>, fields: &[&[u8]]) -> Result<(), AllocError>
     ensures { OnOk result (out.new.items ≡ out.old.items ++ record_text (texts fields.now)) }
 {
     match fields {

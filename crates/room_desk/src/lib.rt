@@ -26,5 +26,6 @@ mod words;
 pub use age::MOST_DAYS;
 pub use backup::back_up;
 pub use bar::Bar;
+pub use csv::put_record;
 pub use report_month::ReportMonth;
 pub use task::{Task, perform};

@@ -1,4 +1,4 @@
-//! Connections to what serves lines on this machine, which wait only so long.
+//! Connections to what serves lines on this machine, and to queues, which wait only so long.
 
 use std::io;
 use std::net::{Ipv4Addr, TcpStream};
@@ -13,7 +13,12 @@ const PATIENCE: u64 = 30;
 
 /// A connection to a port of this machine.
 pub(crate) fn at_port(rt: &HostRuntime, port: u16) -> io::Result<TcpStream> {
-    let stream = TcpStream::connect(rt, (Ipv4Addr::LOCALHOST, port))?;
+    to_host(rt, Ipv4Addr::LOCALHOST, port)
+}
+
+/// A connection to a port of a machine.
+pub(crate) fn to_host(rt: &HostRuntime, host: Ipv4Addr, port: u16) -> io::Result<TcpStream> {
+    let stream = TcpStream::connect(rt, (host, port))?;
     stream.set_nodelay(true)?;
     stream.set_read_timeout(Some(Duration::from_secs(PATIENCE)))?;
     stream.set_write_timeout(Some(Duration::from_secs(PATIENCE)))?;

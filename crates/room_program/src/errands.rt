@@ -49,7 +49,7 @@ fn run_over<R: Read + Drop, W: Write + Drop, O: Write>(
 }
 
 /// `Refused` where not all was done.
-fn judge_done(done: bool) -> Result<(), Fault> {
+pub(crate) fn judge_done(done: bool) -> Result<(), Fault> {
     if done {
         return Ok(());
     }

@@ -1,5 +1,5 @@
-//! The program `ipp-room` as one call: `listen`, `serve` and `send` with their sockets and files, and
-//! every other command by `run_on`.
+//! The program `ipp-room` as one call: `listen`, `serve`, `send` and what is asked over a connection,
+//! with their sockets and files, and every other command by `run_on`.
 #![tactic(auto)]
 
 mod backing_up;
@@ -9,6 +9,7 @@ mod errands;
 mod folder;
 mod front;
 mod listening;
+mod owner;
 mod program;
 mod sending;
 mod serving;

@@ -4,9 +4,10 @@ ghost use Rattle.std.specs.Prelude.{◌≤◌, IfOk};
 use crate::backing_up::run_backup;
 use crate::errands::run_errand;
 use crate::listening::listen;
+use crate::owner::run_owner_errand;
 use crate::sending::send;
 use crate::serving::serve;
-use room_commands::{BackingUp, Errand, Fault, Listening, Sending, Serving, words_of};
+use room_commands::{BackingUp, Errand, Fault, Listening, OwnerErrand, Sending, Serving, words_of};
 use room_databases::run_on;
 use room_sockets::moment;
 use std::io::{BufWriter, Write};
@@ -55,6 +56,10 @@ fn run<W: Write>(rt: &HostRuntime, words: &[&str], output: &mut W) -> Result<u8,
     }
     if let Some(asked) = Errand::read(alloc, words)? {
         run_errand(rt, &asked, output)?;
+        return Ok(0);
+    }
+    if let Some(asked) = OwnerErrand::read(alloc, words)? {
+        run_owner_errand(rt, &asked, output)?;
         return Ok(0);
     }
     if let Some(asked) = BackingUp::read(alloc, words)? {

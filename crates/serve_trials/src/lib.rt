@@ -1,5 +1,5 @@
 //! Trials of what one process serves, over memory: requests of HTTP and lines, whole, in pieces and
-//! in turns; and of the client of lines. Each says whether what is found is what is due.
+//! in turns; and of the clients of lines and of queues. Each says whether what is found is what is due.
 #![tactic(auto)]
 
 mod answers;
@@ -10,6 +10,7 @@ mod fault;
 mod lines;
 mod logs;
 mod notices;
+mod owners;
 mod questions;
 mod report;
 mod requests;
@@ -44,6 +45,7 @@ pub fn all_trials_hold<W: Write>(rt: &HostRuntime, output: &mut W) -> bool {
     notices::run_all(rt, &mut report);
     logs::run_all(rt, &mut report);
     sends::run_all(rt, &mut report);
+    owners::run_all(rt, &mut report);
     answers::run_all(rt, &mut report);
     backups::run_all(rt, &mut report);
     report.all_hold()

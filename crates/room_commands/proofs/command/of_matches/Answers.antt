@@ -4,8 +4,8 @@ use Rattle.room_commands.proofs.command.of_matches.Goals as goal
 pub returns-in-Some-send-default-clause-said : goal.returns-in-Some-send-default-clause-said
 returns-in-Some-send-default-clause-said c = c.send_command.ensures.said (placed (texts c.args.words.now))
 
-pub returns-in_ok-word-in-Some-clause-said : goal.returns-in_ok-word-in-Some-clause-said
-returns-in_ok-word-in-Some-clause-said c = c.on_database.ensures.said (placed (texts c.args.words.now))
+pub returns-in_ok-word-in-Some-2-clause-said : goal.returns-in_ok-word-in-Some-2-clause-said
+returns-in_ok-word-in-Some-2-clause-said c = c.on_database.ensures.said (placed (texts c.args.words.now))
 
 pub returns-in-Some-ping-default-clause-said : goal.returns-in-Some-ping-default-clause-said
 returns-in-Some-ping-default-clause-said c = c.errand.ensures.said (placed (texts c.args.words.now))
@@ -24,3 +24,6 @@ returns-in_ok-expire_task-in-Some-expire-default-clause-said c = c.errand-in-Som
 
 pub returns-in_ok-refund_task-in-Some-refund-default-clause-said : goal.returns-in_ok-refund_task-in-Some-refund-default-clause-said
 returns-in_ok-refund_task-in-Some-refund-default-clause-said c = c.errand-in-Some-refund-default.ensures.said (placed (texts c.args.words.now))
+
+pub returns-in-Some-clause-said : goal.returns-in-Some-clause-said
+returns-in-Some-clause-said c = c.owner_command.ensures.said (placed (texts c.args.words.now))

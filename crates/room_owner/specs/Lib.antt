@@ -1,0 +1,10 @@
+pub mod Answers
+pub mod Documents
+pub mod Exchanges
+pub mod Outcomes
+pub mod Pins
+pub mod ProofHeads
+pub mod ProofSpelled
+pub mod Queues
+pub mod Requests
+pub mod Tables
