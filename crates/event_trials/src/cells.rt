@@ -8,13 +8,12 @@
 //! same event is refused at a moment that is out of range; in a file the rows are looked at in the
 //! end. Then the list is given to the store whole, over both, and in one round; and the steps of
 //! the first account alone, over one database where it is alone and over one where another is
-//! beside it. Then the list comes over connections.
+//! beside it.
 //!
 //! A list `NAME.events` has to reach, for both accounts, all that `NAME.reached` names, a name a
 //! line.
 
 use crate::beside::difference_beside;
-use crate::connections::Connections;
 use crate::players::Player;
 use crate::trial::Trial;
 use crate::whole::{Way, Whole};
@@ -78,8 +77,8 @@ where
     in_file.steps_hold(rt, players)
 }
 
-/// Runs the list as one that the store is given whole, in memory and in a file; in one round; for
-/// the first account beside another; and over connections. Answers whether it holds each time.
+/// Runs the list as one that the store is given whole, in memory and in a file; in one round; and
+/// for the first account beside another. Answers whether it holds each time.
 fn holds_whole<S, F>(rt: &HostRuntime, files: &F, players: &[Player; 2]) -> Result<bool, Fault>
 where
     S: Alter + Drop,
@@ -102,9 +101,6 @@ where
     }
     if differs.is_none() {
         differs = difference_beside(rt, first.account, firsts)?;
-    }
-    if differs.is_none() {
-        differs = Connections::new(rt)?.difference(rt, firsts, seconds)?;
     }
     print_difference(rt, "the whole list", differs)
 }

@@ -1,10 +1,8 @@
-//! Lists of events of two accounts, held against rooms in memory, shared tables and connections.
+//! Lists of events of two accounts, held against rooms in memory and shared tables.
 #![tactic(auto)]
 
 mod beside;
 mod cells;
-mod connections;
-mod front;
 mod players;
 mod trial;
 mod whole;

@@ -1,28 +1,19 @@
-//! Trials of further doors: a fourth one whose kind is made here, and doors that no hall takes.
+//! The trial of a fourth door, whose kind is made here.
 
 use crate::loopback::{
     Ports, Visitor, doors_at_free_ports, pass_until_ended, pass_until_told, port_of, ports_of,
 };
 use room_peers::{Served, Side};
 use room_sockets::{Door, Entrance, Hall, Kind, Speech};
-use serve_trials::{Fault, Report, expect, expect_equal, new_rooms};
+use serve_trials::{Fault, Report, expect, new_rooms};
 use sqlite::Alter;
 use std::hash::RandomState;
-use std::io::{ErrorKind, Write};
+use std::io::Write;
 
 /// A door for one station at a time.
 const FOR_ONE: Kind = Kind {
     speech: Speech::Lines(Side::Station),
     most: 1,
-};
-
-/// More doors than a hall has.
-const DOORS: u32 = 65;
-
-/// A door that lets in more than all doors together.
-const FOR_TOO_MANY: Kind = Kind {
-    speech: Speech::Http,
-    most: 4_097,
 };
 
 const OPERATOR: &[u8] = b"open alice\ndevice d1 on\n";
@@ -33,11 +24,9 @@ const STATION: &[u8] = b"release d1 alice 1 - -\nopen bob\n";
 
 const STATION_TOLD: &[u8] = b"no-job\nbad-line\n";
 
-/// Runs each trial of this file, and tells how it ended.
+/// Runs the trial of this file, and tells how it ended.
 pub fn run_all<W: Write>(rt: &HostRuntime, report: &mut Report<'_, W>) {
     report.tell("a fourth door", a_fourth_door(rt));
-    report.tell("too many doors", too_many_doors(rt));
-    report.tell("doors for too many", doors_for_too_many(rt));
 }
 
 /// Shows that who comes in by a fourth door speaks what its kind says, that only so many are let in
@@ -103,28 +92,4 @@ fn end_all(visitors: &[Visitor<'_>]) -> Result<(), Fault> {
         visitor.end()?;
     }
     Ok(())
-}
-
-/// Shows that no hall has more doors than it has tokens for.
-fn too_many_doors(rt: &HostRuntime) -> Result<(), Fault> {
-    let mut doors = Vec::new(rt.alloc());
-    for _ in 0..DOORS {
-        doors.push(Entrance::new(Door::at_port(rt, 0)?, FOR_ONE))?;
-    }
-    expect_refused(rt, doors)
-}
-
-/// Shows that the doors of a hall let in no more than it has room for.
-fn doors_for_too_many(rt: &HostRuntime) -> Result<(), Fault> {
-    let mut doors = Vec::new(rt.alloc());
-    doors.push(Entrance::new(Door::at_port(rt, 0)?, FOR_TOO_MANY))?;
-    expect_refused(rt, doors)
-}
-
-/// Expects that a hall behind these doors is refused.
-fn expect_refused(rt: &HostRuntime, doors: Vec<Entrance>) -> Result<(), Fault> {
-    match Hall::open(rt, doors, RandomState::new(rt)?) {
-        Ok(_) => expect(rt, false, "such a hall is refused"),
-        Err(error) => expect_equal(rt, error.kind(), ErrorKind::InvalidInput),
-    }
 }

@@ -103,7 +103,7 @@ fn line_count_said(text: &[u8]) -> Option<u32>
 }
 
 /// Whether a line has something to show, and nothing but spaces and what ASCII prints.
-pub(crate) fn is_text(line: &[u8]) -> bool
+pub fn is_text(line: &[u8]) -> bool
     ensures { result ≡ is_text line.now }
 {
     if line.is_empty() {

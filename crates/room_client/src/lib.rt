@@ -20,6 +20,7 @@ mod peer;
 mod sent;
 mod words;
 
+pub use answer::is_text;
 pub use asking::{ask_line, ask_list, judge};
 pub use fault::ClientFault;
 pub use grants::{grant_text, send_grants};

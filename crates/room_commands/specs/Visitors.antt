@@ -6,22 +6,25 @@ use Rattle.room_commands.specs.declared.address.Address.{Address}
 use Rattle.room_commands.specs.declared.address.Address.TheVariants.{Path, Port}
 use Rattle.room_commands.specs.declared.served_door.ServedDoor.{ServedDoor}
 use Rattle.room_commands.specs.declared.visitors.Visitors.{Visitors}
-use Rattle.room_commands.specs.declared.visitors.Visitors.TheVariants.{Clients, Operators, Stations}
+use Rattle.room_commands.specs.declared.visitors.Visitors.TheVariants.{Clients, Operators, Pages, Stations}
 
 abbrev pub name_of : Visitors → List ℕ
 name_of Clients = codes "clients"
+name_of Pages = codes "pages"
 name_of Stations = codes "stations"
 name_of Operators = codes "operators"
 
 -- the word behind which an address of theirs stands
 abbrev pub option_of : Visitors → List ℕ
 option_of Clients = codes "--clients"
+option_of Pages = codes "--pages"
 option_of Stations = codes "--stations"
 option_of Operators = codes "--operators"
 
 -- who comes by a port alone
 abbrev pub needs_port : Visitors → Bool
 needs_port Clients = true
+needs_port Pages = false
 needs_port Stations = false
 needs_port Operators = false
 

@@ -1,5 +1,5 @@
 -- The words of a command line (this project's own).
-use Rattle.std.specs.Prelude.{ℕ, if◌then◌else◌, List, [], ◌∷◌, map, codes, Option, option_map, slice_get}
+use Rattle.std.specs.Prelude.{◌≡◌, ◌⊎◌, ℕ, if◌then◌else◌, List, [], ◌∷◌, map, codes, Option, Some, option_map, slice_get}
 use Rattle.std.specs.Borrow.{Bor}
 use Rattle.std.specs.Str.{bytes_eq}
 
@@ -10,6 +10,18 @@ first_word words = option_map (λ (word : Bor (List ℕ)). word.now) (slice_get 
 -- each of them
 abbrev pub texts : List (Bor (List ℕ)) → List (List ℕ)
 texts words = map (λ (word : Bor (List ℕ)). word.now) words
+
+-- a command over an operator's address
+abbrev pub IsErrand : Option (List ℕ) → Type 0
+IsErrand word = (word ≡ Some (codes "ping")) ⊎ ((word ≡ Some (codes "end"))
+    ⊎ ((word ≡ Some (codes "report")) ⊎ ((word ≡ Some (codes "waiting"))
+    ⊎ ((word ≡ Some (codes "expire")) ⊎ (word ≡ Some (codes "refund"))))))
+
+-- a command over the queue of an account
+abbrev pub IsOwnerErrand : Option (List ℕ) → Type 0
+IsOwnerErrand word = (word ≡ Some (codes "print")) ⊎ ((word ≡ Some (codes "jobs"))
+    ⊎ ((word ≡ Some (codes "cancel")) ⊎ ((word ≡ Some (codes "hold"))
+    ⊎ (word ≡ Some (codes "release")))))
 
 -- without the first `--`, behind which a word that begins with a dash is no flag
 abbrev pub placed : List (List ℕ) → List (List ℕ)

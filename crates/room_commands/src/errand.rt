@@ -1,5 +1,6 @@
 //! What the commands over an operator's address ask for.
-ghost use Rattle.std.specs.Prelude.{IfOk, IfSome, IsTrue};
+ghost use Rattle.std.specs.Prelude.{◌≡◌, ◌↔◌, IfOk, IfSome, IsTrue, None, Ok};
+ghost use Rattle.room_commands.specs.Words.{first_word, IsErrand};
 
 use crate::address::Address;
 use crate::command::Command;
@@ -22,6 +23,9 @@ impl<'a> Errand<'a> {
     /// What the words after the program's name ask for, or `None` where they are another command,
     /// or ask for help.
     pub fn read(alloc: Global, words: &'a [&'a str]) -> Result<Option<Errand<'a>>, Fault>
+        ensures named { IfOk result
+            (λ found. IfSome found (λ _. IsErrand (first_word words.now))) }
+        ensures other { (IsErrand (first_word words.now) → ⊥) → result ≡ Ok None }
         ensures range { IfOk result
             (λ found. IfSome found (λ asked. IsTrue (is_errand_in_range asked))) }
     {
@@ -35,7 +39,9 @@ impl<'a> Errand<'a> {
     }
 }
 
-fn is_errand(words: &[&str]) -> bool {
+fn is_errand(words: &[&str]) -> bool
+    ensures { IsTrue result ↔ IsErrand (first_word words.now) }
+{
     is_command(words, PING)
         || is_command(words, END)
         || is_command(words, REPORT)

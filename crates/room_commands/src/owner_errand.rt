@@ -1,5 +1,6 @@
 //! What the commands over a queue ask for.
-ghost use Rattle.std.specs.Prelude.{◌≤◌, IfOk, IfSome, IsTrue, length};
+ghost use Rattle.std.specs.Prelude.{◌≡◌, ◌≤◌, ◌↔◌, IfOk, IfSome, IsTrue, None, Ok, length};
+ghost use Rattle.room_commands.specs.Words.{first_word, IsOwnerErrand};
 ghost use Rattle.room_owner.specs.Queues.{IsQueueAt};
 
 use crate::command::Command;
@@ -46,6 +47,9 @@ impl<'a> OwnerErrand<'a> {
     /// What the words after the program's name ask for, or `None` where they are another command,
     /// or ask for help.
     pub fn read(alloc: Global, words: &'a [&'a str]) -> Result<Option<OwnerErrand<'a>>, Fault>
+        ensures named { IfOk result
+            (λ found. IfSome found (λ _. IsOwnerErrand (first_word words.now))) }
+        ensures other { (IsOwnerErrand (first_word words.now) → ⊥) → result ≡ Ok None }
         ensures range { IfOk result
             (λ found. IfSome found (λ asked. IsTrue (is_owner_in_range asked))) }
     {
@@ -59,7 +63,9 @@ impl<'a> OwnerErrand<'a> {
     }
 }
 
-fn is_owner_command(words: &[&str]) -> bool {
+fn is_owner_command(words: &[&str]) -> bool
+    ensures { IsTrue result ↔ IsOwnerErrand (first_word words.now) }
+{
     is_command(words, PRINT)
         || is_command(words, JOBS)
         || is_command(words, CANCEL)

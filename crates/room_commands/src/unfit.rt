@@ -48,7 +48,11 @@ impl Unfit {
             Unfit::Month => Some("YYYY-MM is a month from 2000-01 to 2099-12"),
             Unfit::Days => Some("DAYS is a number from 0 to 36500"),
             Unfit::Pages => Some("UNITS is a number from 0 to 1000000000"),
-            Unfit::Queue => Some("URI is ipp://HOST[:PORT]/ipp/print/ACCOUNT"),
+            Unfit::Queue => {
+                Some(
+                    "URI is ipp://HOST[:PORT]/ipp/print/ACCOUNT, HOST an IPv4 address or localhost",
+                )
+            }
             Unfit::Job => Some("JOB is a number from 1 to 999999"),
             Unfit::JobName => Some("NAME has at most 255 bytes"),
             Unfit::Copies => Some("N of --copies is a number from 1 to 999"),

@@ -7,6 +7,8 @@ ghost use Rattle.room_commands.specs.Visitors.{name_of, needs_port, option_of};
 pub enum Visitors {
     /// Over HTTP, at the queues.
     Clients,
+    /// Over HTTP, at the pages.
+    Pages,
     /// By lines.
     Stations,
     /// By lines.
@@ -20,6 +22,7 @@ impl Visitors {
     {
         match self {
             Visitors::Clients => "clients",
+            Visitors::Pages => "pages",
             Visitors::Stations => "stations",
             Visitors::Operators => "operators",
         }
@@ -31,7 +34,7 @@ impl Visitors {
     {
         match self {
             Visitors::Clients => true,
-            Visitors::Stations | Visitors::Operators => false,
+            Visitors::Pages | Visitors::Stations | Visitors::Operators => false,
         }
     }
 
@@ -41,6 +44,7 @@ impl Visitors {
     {
         match word {
             "--clients" => Some(Visitors::Clients),
+            "--pages" => Some(Visitors::Pages),
             "--stations" => Some(Visitors::Stations),
             "--operators" => Some(Visitors::Operators),
             _ => None,

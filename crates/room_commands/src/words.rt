@@ -84,6 +84,8 @@ pub(crate) const OPERATORS: &str = "OPERATORS";
 
 const CLIENTS_TOO: &str = "clients";
 
+const PAGES_TOO: &str = "pages";
+
 const STATIONS_TOO: &str = "stations";
 
 const OPERATORS_TOO: &str = "operators";
@@ -228,6 +230,12 @@ const MORE_CLIENTS: Argument = Argument {
     name: CLIENTS_TOO,
     help: Some("A further port of clients"),
     kind: Kind::Named(PORT),
+};
+
+const FOR_PAGES: Argument = Argument {
+    name: PAGES_TOO,
+    help: Some("An address of browsers, for pages"),
+    kind: Kind::Named(ADDRESS),
 };
 
 const MORE_STATIONS: Argument = Argument {
@@ -405,6 +413,7 @@ pub(crate) const COMMANDS: [CommandWords; 25] = [
             FOR_STATIONS,
             FOR_OPERATORS,
             MORE_CLIENTS,
+            FOR_PAGES,
             MORE_STATIONS,
             MORE_OPERATORS,
             TO_LOG,

@@ -8,7 +8,7 @@ use Rattle.sqlite_value.specs.Order.{Row}
 use Rattle.sqlite_rules.specs.Lists.{Has}
 use Rattle.sqlite_rules.proofs.ListLemmas.{all_has, any_has}
 use Rattle.sqlite.specs.Effect.{Database}
-use Rattle.room_questions.specs.Names.{AreNames, NamesRise, from_name, next_names}
+use Rattle.room_reads.specs.Names.{AreNames, NamesRise, from_name, next_names}
 use Rattle.room_rules.specs.Devices.{name_cmp}
 use Rattle.room_rules.specs.Names.{is_name}
 use Rattle.room_tables.specs.Accounts.{account_at}

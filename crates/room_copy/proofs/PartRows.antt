@@ -9,7 +9,7 @@ use Rattle.std.proofs.lemmas.Bool.Decides.{nat_tests}
 use Rattle.sqlite_value.specs.Order.{Row}
 use Rattle.sqlite.specs.Effect.{Database}
 use Rattle.sqlite_trees.proofs.ListLemmas.{all-append}
-use Rattle.room_questions.specs.Questions.{grant_of}
+use Rattle.room_reads.specs.Grants.{grant_of}
 use Rattle.room_rules.specs.JobStates.{is_unfinished}
 use Rattle.room_rules.specs.declared.account.Grant.{Grant}
 use Rattle.room_rules.specs.declared.job.Document.{Document}

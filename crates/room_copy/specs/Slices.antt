@@ -3,7 +3,7 @@ use Rattle.std.specs.Prelude.{◌≡◌, ◌⊎◌, ℕ, Bool, true, List, [], �
 use Rattle.std.specs.Ordering.{is_lt}
 use Rattle.sqlite_rules.specs.Lists.{Has}
 use Rattle.sqlite.specs.Effect.{Database}
-use Rattle.room_questions.specs.Names.{AreNames}
+use Rattle.room_reads.specs.Names.{AreNames}
 use Rattle.room_rules.specs.Devices.{name_cmp}
 use Rattle.room_tables.specs.Accounts.{account_at, AgreeOnRows, HoldsNothing}
 use Rattle.room_statements.specs.Alone.{OnlyAccount}

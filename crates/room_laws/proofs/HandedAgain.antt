@@ -326,7 +326,7 @@ parts_as_told number ticket room job of is processing =
     ∙ ap (map (part_told number ticket.maker.copies)) (is.documents (goes_on_if_processing job.standing.state processing))
 
 pub handed_again_as_started : law.HandedAgain
-handed_again_as_started life room devices is device number parts answered =
+handed_again_as_started life room devices is account device number parts answered =
     let again = by_device room device number parts (get devices device) answered in
     let all = all_keep life (Some room) devices is in
     let told = account_told life in

@@ -34,8 +34,8 @@ pub record WasHanded (device : List ℕ) (number : ℕ) (parts : List Part) (lif
 abbrev pub HandedAgain : Type 0
 HandedAgain =
     (life : Life) (room : RoomValue) (devices : Devices) → IsLife life (Some room) devices
-    → (device : List ℕ) (number : ℕ) (parts : List Part)
-    → answer_about (Again device number) room devices ≡ reply.Documents parts
+    → (account device : List ℕ) (number : ℕ) (parts : List Part)
+    → answer_about account (Again device number) room devices ≡ reply.Documents parts
     → WasHanded device number parts life
 
 -- and a device that started a job and was handed its documents is handed these again, where nothing
@@ -48,4 +48,4 @@ HandsAgain =
     ++ ((now, OfAccount account (Start device number)), reply.Documents parts) ∷ later
     → All (λ (x : Exchange). settles number (deed_of x) ≡ false) later
     → All (λ (x : Exchange). cancels number (deed_of x) ≡ false) later
-    → answer_about (Again device number) room devices ≡ reply.Documents parts
+    → answer_about account (Again device number) room devices ≡ reply.Documents parts

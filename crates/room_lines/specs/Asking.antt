@@ -2,11 +2,11 @@
 use Rattle.std.specs.Prelude.{◌≡◌, ℕ, ◌≤◌, Bool, true, false, List, [], ◌∷◌, codes}
 use Rattle.room_lines.specs.Saying.{AreFields, SaysMonth, SaysNumber, name_said}
 use Rattle.room_questions.specs.declared.question.About.{About}
-use Rattle.room_questions.specs.declared.question.About.TheVariants.{Left, Statement, Jobs, Ended, Grants, Waiting, Again}
+use Rattle.room_questions.specs.declared.question.About.TheVariants.{Left, Statement, Jobs, Ended, Grants, Waiting, Again, OwnerPage, StatementPage}
 use Rattle.room_questions.specs.declared.question.Question.{Question}
 use Rattle.room_questions.specs.declared.question.Question.TheVariants.{Ping, End, Devices, Accounts, Check, Account}
 
--- a station asks what waits for an account, and for a job's documents again; an operator all else
+-- a station asks what waits for an account, and for a job's documents again; an operator all else that lines ask
 abbrev pub is_of_station : Question → Bool
 is_of_station (Account account (Waiting device)) = true
 is_of_station (Account account (Again device job)) = true
@@ -30,6 +30,9 @@ SaysAbout fields account (Waiting device) = fields ≡ codes "list" ∷ device �
 SaysAbout fields account (Again device job) =
     (number : List ℕ) × (fields ≡ codes "again" ∷ device ∷ account ∷ number ∷ [])
     × SaysNumber number job
+-- no line asks for a page
+SaysAbout fields account (OwnerPage month outcome stays) = ⊥
+SaysAbout fields account (StatementPage month drawn_up) = ⊥
 
 abbrev pub SaysQuestion : (fields : List (List ℕ)) → Question → Type 0
 SaysQuestion fields Ping = fields ≡ codes "ping" ∷ []

@@ -1,15 +1,14 @@
 //! The job that a request of IPP is about.
-ghost use Rattle.std.specs.Prelude.{◌≡◌, ◌<◌, ◌==◌, IfOk, IfSome, find, map, option_copied, option_map};
+ghost use Rattle.std.specs.Prelude.{◌≡◌, ◌<◌, IfOk, IfSome, map};
 ghost use Rattle.ipp_coding.specs.Plain.{plain_attribute, plain_group, plain_value};
-ghost use Rattle.room_asks.specs.Requests.{is_named, job_group_of, lone_value, named};
 ghost use Rattle.room_asks.specs.Syntaxes.{integer_said};
 ghost use Rattle.room_asks.specs.Targets.{job_id, job_numbered, lone_integer};
 ghost use Rattle.room_log.specs.Abouts.{about, job_asked, job_in, job_made, job_of, job_told, makes_job};
 
 use crate::ipp::code_of;
-use ipp_coding::tags::{INTEGER, JOB_ATTRIBUTES};
+use ipp_coding::tags::INTEGER;
 use ipp_coding::{Attribute, Group, HEADER_LENGTH, ReadFault, Value, int_of, read_message};
-use room_asks::{AskFault, read_ask};
+use room_asks::{AskFault, job_group, lone_value, named, read_ask};
 use room_events::Reply;
 use room_rules::{LAST_JOB, Name};
 use std::alloc::{AllocError, Global};
@@ -63,21 +62,6 @@ fn job_in(groups: &[Group<'_>]) -> Option<u32>
     job_id(job_group(groups)?)
 }
 
-/// The attributes of the first job group.
-fn job_group<'m, 'a>(groups: &'m [Group<'a>]) -> Option<&'m [Attribute<'a>]>
-    ensures { option_map (λ attributes. map plain_attribute attributes.now) result
-        ≡ job_group_of (map plain_group groups.now) }
-{
-    let group = first_job_group(groups)?;
-    Some(group.attributes.as_slice())
-}
-
-fn first_job_group<'m, 'a>(groups: &'m [Group<'a>]) -> Option<&'m Group<'a>>
-    ensures { option_copied result ≡ find (λ g. g.tag == 2) groups.now }
-{
-    groups.iter().find(|group| group.tag == JOB_ATTRIBUTES)
-}
-
 /// The number that job-id gives.
 fn job_id(attributes: &[Attribute<'_>]) -> Option<u32>
     ensures { result ≡ job_id (map plain_attribute attributes.now) }
@@ -87,43 +71,10 @@ fn job_id(attributes: &[Attribute<'_>]) -> Option<u32>
     Some(job_numbered(id))
 }
 
-/// The first attribute with the name.
-fn named<'m, 'a>(attributes: &'m [Attribute<'a>], name: &[u8]) -> Option<&'m Attribute<'a>>
-    ensures { option_map (λ attribute. plain_attribute attribute.now) result
-        ≡ named name.now (map plain_attribute attributes.now) }
-{
-    first_named(attributes, name)
-}
-
-/// `named`, with a contract about the attributes as they are lent.
-fn first_named<'m, 'a>(attributes: &'m [Attribute<'a>], name: &[u8]) -> Option<&'m Attribute<'a>>
-    ensures { option_copied result
-        ≡ find (λ a. is_named name.now (plain_attribute a)) attributes.now }
-{
-    attributes
-        .iter()
-        .find(|attribute| is_named(attribute, name))
-}
-
-fn is_named(attribute: &Attribute<'_>, name: &[u8]) -> bool
-    ensures { result ≡ is_named name.now (plain_attribute attribute.now) }
-{
-    attribute.name == name
-}
-
 fn lone_integer(attribute: &Attribute<'_>) -> Option<i32>
     ensures { result ≡ lone_integer (plain_attribute attribute.now) }
 {
     integer_of(lone_value(attribute.values.as_slice())?)
-}
-
-fn lone_value<'a>(values: &[Value<'a>]) -> Option<Value<'a>>
-    ensures { option_map plain_value result ≡ lone_value (map plain_value values.now) }
-{
-    match values {
-        [value] => Some(*value),
-        _ => None,
-    }
 }
 
 fn integer_of(value: Value<'_>) -> Option<i32>

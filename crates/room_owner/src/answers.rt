@@ -1,18 +1,17 @@
 //! What is printed of an answer.
 ghost use Rattle.std.specs.Prelude.{◌≡◌, ◌++◌, ℕ, List, Some, IfOk, codes, option_map};
-ghost use Rattle.std.specs.List.{list_all};
 ghost use Rattle.ipp_coding.specs.Plain.{plain_message};
-ghost use Rattle.room_client.specs.Answers.{is_text, is_text_byte};
 ghost use Rattle.room_owner.specs.Answers.{is_success, job_made, reason};
 ghost use Rattle.room_owner.specs.Outcomes.{IsDone, Tells, TellsIpp, TellsMessage};
 
 use crate::asked::Asked;
-use crate::attributes::{job_group, number_named, operation_group, text_named};
+use crate::attributes::{number_named, text_named};
 use crate::exchange::Answer;
 use crate::jobs::table_of;
 use crate::printed::{http_line, job_text};
 use ipp_coding::{Message, ReadFault, read_message};
-use room_client::ClientFault;
+use room_asks::{job_group, operation_group};
+use room_client::{ClientFault, is_text};
 use std::alloc::Global;
 
 /// Whether what was asked was done, and what is printed of it.
@@ -75,7 +74,8 @@ fn told_by(
     Ok(Told { done: false, text })
 }
 
-fn is_success(code: u16) -> bool
+/// Whether the status-code is one of success.
+pub fn is_success(code: u16) -> bool
     ensures { result ≡ is_success code }
 {
     code < 0x0100
@@ -102,7 +102,7 @@ fn done_text(
 }
 
 /// The number of the job that was made.
-fn job_made(message: &Message<'_>) -> Option<u32>
+pub fn job_made(message: &Message<'_>) -> Option<u32>
     ensures { result ≡ job_made (plain_message message.now) }
 {
     number_named(job_group(message.groups.as_slice())?, b"job-id")
@@ -121,32 +121,11 @@ fn reason_line(alloc: Global, message: &Message<'_>) -> Result<Vec<u8>, ClientFa
     Ok(text)
 }
 
-fn reason<'a>(message: &Message<'a>) -> Option<&'a [u8]>
+/// The word that tells why what was asked was refused.
+pub fn reason<'a>(message: &Message<'a>) -> Option<&'a [u8]>
     ensures { option_map (λ word. word.now) result ≡ reason (plain_message message.now) }
 {
     let group = operation_group(message.groups.as_slice())?;
     let word = text_named(group, b"status-message")?;
     if is_text(word) { Some(word) } else { None }
-}
-
-/// Whether a word has something to show, and nothing but spaces and what ASCII prints.
-fn is_text(word: &[u8]) -> bool
-    ensures { result ≡ is_text word.now }
-{
-    if word.is_empty() {
-        return false;
-    }
-    are_text_bytes(word)
-}
-
-fn are_text_bytes(word: &[u8]) -> bool
-    ensures { result ≡ list_all is_text_byte word.now }
-{
-    word.iter().all(|byte| is_text_byte(*byte))
-}
-
-fn is_text_byte(byte: u8) -> bool
-    ensures { result ≡ is_text_byte byte }
-{
-    b' ' <= byte && byte <= b'~'
 }

@@ -10,6 +10,7 @@ ghost use Rattle.room_owner.specs.Queues.{IsHost, IsPort, IsQueueAt, behind_sche
 ghost use Rattle.room_owner.specs.declared.queue.Queue.{Queue as QueueValue};
 
 use room_input::number;
+use room_requests::before;
 use room_rules::{Name, QUEUES};
 use std::net::Ipv4Addr;
 
@@ -60,24 +61,6 @@ fn behind_scheme(uri: &[u8]) -> Option<&[u8]>
     ensures { option_map (λ rest. rest.now) result ≡ behind_scheme uri.now }
 {
     uri.strip_prefix(b"ipp://").or(uri.strip_prefix(b"http://"))
-}
-
-/// What stands before the first `mark`, and all where there is none.
-fn before(mark: u8, bytes: &[u8]) -> &[u8]
-    ensures value { result.now ≡ before mark bytes.now }
-    ensures bound { length result.now ≤ length bytes.now }
-{
-    match place_of(mark, bytes) {
-        Some(end) => &bytes[..end],
-        None => bytes,
-    }
-}
-
-fn place_of(mark: u8, bytes: &[u8]) -> Option<usize>
-    ensures place { result ≡ position (λ b. b == mark) bytes.now }
-    ensures within { IfSome result (λ place. place < length bytes.now) }
-{
-    bytes.iter().position(|b| *b == mark)
 }
 
 /// The address of a host.

@@ -18,11 +18,7 @@ use room_rules::Format;
 use std::alloc::Global;
 
 /// The message that asks a queue. `TooLong` where a value of it is too long for a message.
-pub(crate) fn request_text(
-    alloc: Global,
-    uri: &[u8],
-    asked: &Asked<'_>,
-) -> Result<Vec<u8>, ClientFault>
+pub fn request_text(alloc: Global, uri: &[u8], asked: &Asked<'_>) -> Result<Vec<u8>, ClientFault>
     ensures { IfOk result
         (λ text. text.items ≡ message_spelling (request uri.now asked.now)) }
 {

@@ -6,9 +6,11 @@ pub mod LineEnds
 pub mod LineCalls
 pub mod HttpMoves
 pub mod CopySteps
+pub mod GatheringSteps
 pub mod Watched
 pub mod BackupMade
 pub mod BackupKept
+pub mod GatheringKept
 pub mod Ends
 pub mod Finding
 pub mod LastSteps

@@ -9,7 +9,7 @@ use Rattle.room_copy.specs.Copies.{AreCopies}
 use Rattle.room_copy.specs.Slices.{IsOfOne, last_of}
 use Rattle.room_copy.specs.declared.slices.Progress.{Progress}
 use Rattle.room_copy.specs.declared.slices.Progress.TheVariants.{UpTo}
-use Rattle.room_questions.specs.Names.{AreNames}
+use Rattle.room_reads.specs.Names.{AreNames}
 use Rattle.room_statements.specs.SoundRows.{AreNamed}
 use Rattle.room_tables.specs.Accounts.{account_at}
 use Rattle.room_tables.specs.Keyed.{HasSchema}

@@ -1,4 +1,5 @@
 pub mod Entries
+pub mod Gathering
 pub mod Tolds
 pub mod Watching
 pub mod Logged
@@ -23,6 +24,7 @@ pub mod LineTexts
 pub mod LastTexts
 pub mod LastPeers
 pub mod Lines
+pub mod Overviews
 pub mod Patience
 pub mod Streams
 pub mod HttpPeers

@@ -7,6 +7,7 @@
 mod backup;
 mod copies;
 mod entry;
+mod gathering;
 mod http_peer;
 mod journal;
 mod last_peer;
@@ -43,6 +44,7 @@ pub use line_connection::{Front, LineConnection, MOST_LINE, Side};
 pub use line_peer::LinePeer;
 pub use load::{LARGE, LONGEST};
 pub use patience::Patience;
+pub use request::has_long_body;
 pub use room_service::RoomService;
 pub use served::Served;
 pub use step::{Next, Turn};

@@ -48,7 +48,9 @@ fn is_ipp_value(value: Option<&HeaderValue>) -> bool
     }
 }
 
-pub(crate) fn has_long_body(request: &Request<Bytes>) -> bool
+/// Whether the body is so long that the connection ends behind it: the buffer would keep the room
+/// that it took.
+pub fn has_long_body(request: &Request<Bytes>) -> bool
     ensures { result ≡ has_long_body request.now }
 {
     request.body().len() > LONG_BODY

@@ -1,5 +1,5 @@
 //! The rooms as one process serves them to everybody.
-ghost use Rattle.std.specs.Prelude.{◌≡◌, ◌≢◌, ◌+◌, ◌≤◌, ◌⊎◌, [], true, false, IsTrue, None, Some, Err, IfOk, OnErr};
+ghost use Rattle.std.specs.Prelude.{◌≡◌, ◌≢◌, ◌+◌, ◌≤◌, ◌⊎◌, ◌++◌, ℕ, List, [], true, false, IsTrue, None, Some, Err, IfOk, OnErr, OnOk};
 ghost use Rattle.room_log.specs.Waits.{drafts_of, logged_of};
 ghost use Rattle.room_peers.specs.Journals.{asked_of, ends_of, is_full_of, is_lost_of, log_lags_of, moment_of, open_of, rounds_of, shares_of, store_of};
 ghost use Rattle.room_peers.specs.Applying.{AppliesAlone, AppliesEntry};
@@ -7,6 +7,9 @@ ghost use Rattle.room_peers.specs.Again.{IsOneMore, told_at_last};
 ghost use Rattle.room_peers.specs.Space.{entry_needs_space, lacks_space, length_of_entry, spare_of};
 ghost use Rattle.room_space.specs.Spares.{any_length, held_of, kept_back, kept_beside, takes_of};
 ghost use Rattle.room_peers.specs.Copies.{copy_in};
+ghost use Rattle.room_overview.specs.Pages.{IsPage};
+ghost use Rattle.room_peers.specs.Gathering.{asked_at, gathers};
+ghost use Rattle.room_peers.specs.Overviews.{Gathers, GathersOn, gathered_of, shown_of};
 ghost use Rattle.room_peers.specs.Keeping.{AsksNext, DoesSlice, KeepsBackup, MakesCopy, OnlyKeeps, backup_of, is_begun, is_wanted, stage_of};
 ghost use Rattle.room_peers.specs.Turns.{AnswersNext, AppliesNext};
 ghost use Rattle.room_peers.specs.Rounds.{IsBegun, IsNotBegun, IsSettled};
@@ -14,12 +17,13 @@ ghost use Rattle.room_peers.specs.Rounds.{IsBegun, IsNotBegun, IsSettled};
 use crate::backup::{Backup, BackupTold, Stage, ask_slice, begin_backup};
 use crate::copies::{Copies, Done};
 use crate::entry::Entry;
+use crate::gathering::{Gathered, Gathering};
 use crate::journal::Journal;
 use crate::request::needs_space;
 use bytes::Bytes;
 use http::Request;
 use room_copy::CopyMaker;
-use room_events::{Part, Reply};
+use room_events::{Name, Part, Reply};
 use room_lines::BackupLine;
 use room_log::{Door, EventLog};
 use room_questions::Question;
@@ -61,6 +65,8 @@ pub struct Served<S: Alter> {
     pub(crate) ends: bool,
     /// The backup that an operator asked for last.
     pub(crate) backup: Option<Backup>,
+    /// What the print room's page shows.
+    pub(crate) gathered: Gathered,
 }
 
 // In the place of `#[derive(Drop)]`, so that no caller proves again how each part is dropped.
@@ -78,6 +84,7 @@ impl<S: Alter + Drop> Drop for Served<S> {
             spare: _,
             ends: _,
             backup: _,
+            gathered: _,
         } = self;
     }
 }
@@ -109,6 +116,7 @@ impl<S: Alter> Served<S> {
             spare: Spare::none(),
             ends: false,
             backup: None,
+            gathered: Gathered::nothing(alloc, moment),
         }
     }
 
@@ -150,7 +158,13 @@ impl<S: Alter> Served<S> {
     pub fn log_refusal(&mut self, refusal: Refusal, path: &[u8])
         ensures { self.new ≡ self.old }
     {
-        let status = refusal.status().as_u16();
+        self.log_status(refusal.status().as_u16(), path);
+    }
+
+    /// Has the log tell that a request with the path was refused with the status.
+    pub fn log_status(&mut self, status: u16, path: &[u8])
+        ensures { self.new ≡ self.old }
+    {
         self.journal.refuse_request(self.moment, status, path);
     }
 
@@ -183,6 +197,13 @@ impl<S: Alter> Served<S> {
     {
         let body = request.body().as_slice();
         needs_space(body) && self.spare.takes() < body.len()
+    }
+
+    /// The moment at which what comes now counts as done.
+    pub fn moment(&self) -> u64
+        ensures { result ≡ moment_of self.now }
+    {
+        self.moment
     }
 
     /// The moment at which what comes from now on counts as done.
@@ -278,7 +299,7 @@ impl<S: Alter> Served<S> {
 
     /// Applies what came, once, and answers what that came to. In a round a peer can ask one thing
     /// before that is settled; another is not applied, as if there were no memory for it.
-    pub(crate) fn apply(&mut self, entry: Entry) -> Result<Result<Reply, StoreFault>, AllocError>
+    pub fn apply(&mut self, entry: Entry) -> Result<Result<Reply, StoreFault>, AllocError>
         ensures applies { IfOk result (λ told. AppliesNext S.Store entry told self.old self.new) }
         ensures unchanged { OnErr result (self.new ≡ self.old) }
         ensures second { OnErr result
@@ -438,7 +459,7 @@ impl<S: Alter> Served<S> {
 
     /// Answers a question by the tables as they are. No round is under way: what one has changed may
     /// still be lost.
-    pub(crate) fn answer_question(&mut self, question: Question) -> Result<Reply, StoreFault>
+    pub fn answer_question(&mut self, question: Question) -> Result<Reply, StoreFault>
         requires { shares_of self.old ≡ false }
         ensures { AnswersNext S.Store question result self.old self.new }
     {
@@ -523,6 +544,63 @@ impl<S: Alter> Served<S> {
         }
     }
 
+    /// Somebody asks for the print room's page: all accounts are gathered for it, if what it shows is
+    /// not of the last seconds.
+    pub fn ask_overview(&mut self)
+        ensures { self.new ≡ record self.old {
+          gathered = asked_at (moment_of self.old) (gathered_of self.old);
+        } }
+    {
+        self.gathered.ask(self.moment);
+    }
+
+    /// Whether accounts are being gathered for the print room's page.
+    pub fn gathers(&self) -> bool
+        ensures { result ≡ gathers (gathered_of self.now) }
+    {
+        self.gathered.under_way.is_some()
+    }
+
+    /// Appends the print room's page, by what was gathered last. Of the accounts it lists those whose
+    /// names begin so and come behind a name.
+    pub fn put_overview_page(
+        &self,
+        out: &mut Vec<u8>,
+        front: Option<Name>,
+        behind: Option<Name>,
+    ) -> Result<(), AllocError>
+        ensures { OnOk result ((page : List ℕ)
+            × IsPage (shown_of self.now) (gathers (gathered_of self.now)) front behind page
+            × (out.new.items ≡ out.old.items ++ page)) }
+    {
+        self.gathered
+            .shown
+            .put_page(out, self.gathers(), front, behind)
+    }
+
+    /// Goes on with what is gathered for the print room's page: one account is read at most, where no
+    /// round is under way.
+    pub fn gather(&mut self)
+        ensures gathers { Gathers S.Store self.old self.new }
+        ensures nothing { OnlyKeeps S.Store self.old self.new }
+    {
+        if self.shares {
+            return;
+        }
+        if let Some(gathering) = self.gathered.under_way.take() {
+            self.go_on(gathering);
+        }
+    }
+
+    fn go_on(&mut self, gathering: Gathering)
+        requires { shares_of self.old ≡ false }
+        ensures { GathersOn S.Store gathering self.old self.new }
+    {
+        let stepped = gathering.step(self.alloc, &mut self.rounds);
+        self.journal.add_nothing();
+        self.gathered.keep(stepped);
+    }
+
     /// The connection to the tables as they are. What a round that is under way has changed is on the
     /// disk only once it is settled. It takes no memory.
     pub fn close(self) -> Connection<S>
@@ -540,6 +618,7 @@ impl<S: Alter> Served<S> {
             spare: _,
             ends: _,
             backup: _,
+            gathered: _,
         } = self;
         rounds.close()
     }

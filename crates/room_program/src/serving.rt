@@ -112,6 +112,7 @@ fn door_at(rt: &HostRuntime, address: Address<'_>) -> io::Result<Door> {
 fn kind_of(visitors: Visitors) -> Kind {
     match visitors {
         Visitors::Clients => Kind::CLIENTS,
+        Visitors::Pages => Kind::PAGES,
         Visitors::Stations => Kind::STATIONS,
         Visitors::Operators => Kind::OPERATORS,
     }

@@ -1,7 +1,6 @@
 pub mod JobLines
 pub mod Lists
-pub mod Names
+pub mod Pages
 pub mod Questions
 pub mod Quotas
 pub mod Stations
-pub mod Summaries

@@ -1,6 +1,7 @@
 -- Answers of several lines (all this project's own). None has a line feed at its end.
-use Rattle.std.specs.Prelude.{ℕ, ◌+◌, ◌/◌, ◌%◌, Bool, true, false, List, ◌∷◌, ◌++◌, codes, decimal, length}
+use Rattle.std.specs.Prelude.{ℕ, Bool, true, false, List, ◌∷◌, ◌++◌, codes, decimal, length}
 use Rattle.std.specs.List.{flat_map}
+use Rattle.room_pages.specs.Moments.{month_text}
 use Rattle.room_questions.specs.JobLines.{job_text}
 use Rattle.room_rules.specs.declared.account.Grant.{Grant}
 use Rattle.room_rules.specs.declared.device.Device.{Device}
@@ -15,13 +16,6 @@ abbrev pub jobs_text : List Job → List ℕ
 jobs_text jobs = list_text (codes "jobs") job_text jobs
 
 -- ---- grants
-
-abbrev pub two_digits : ℕ → List ℕ
-two_digits n = decimal (n / 10) ++ decimal (n % 10)
-
--- YYYY-MM, of the year times 12, and 0 for January to 11 for December
-abbrev pub month_text : ℕ → List ℕ
-month_text month = decimal (month / 12) ++ (codes "-" ++ two_digits (month % 12 + 1))
 
 abbrev pub grant_text : Grant → List ℕ
 grant_text grant = codes "grant " ++ (month_text grant.month ++ (codes " " ++ decimal grant.pages))

@@ -3,18 +3,21 @@ use Rattle.std.specs.Prelude.{◌≡◌, ℕ, ⊤, Bool, true, false, List, map,
 use Rattle.std.specs.FinMap.{entries, values}
 use Rattle.room_events.specs.declared.event.Reply.{Reply}
 use Rattle.room_events.specs.declared.event.Reply.TheVariants as reply
+use Rattle.room_pages.specs.Owners.{owner_page}
+use Rattle.room_pages.specs.Statements.{statement_page}
 use Rattle.room_questions.specs.Lists.{accounts_text, devices_text, grants_text, jobs_text}
-use Rattle.room_questions.specs.Quotas.{quota_text}
-use Rattle.room_questions.specs.Summaries.{statement_text, summary_of}
+use Rattle.room_questions.specs.Pages.{owner_of, statement_of}
+use Rattle.room_questions.specs.Quotas.{quota_text, statement_text}
 use Rattle.room_questions.specs.declared.question.About.{About}
-use Rattle.room_questions.specs.declared.question.About.TheVariants.{Left, Statement, Jobs, Ended, Grants, Waiting, Again}
+use Rattle.room_questions.specs.declared.question.About.TheVariants.{Left, Statement, Jobs, Ended, Grants, Waiting, Again, OwnerPage, StatementPage}
 use Rattle.room_questions.specs.declared.question.Question.{Question}
 use Rattle.room_questions.specs.declared.question.Question.TheVariants.{Ping, End, Devices, Accounts, Check, Account}
-use Rattle.room_questions.specs.Names.{next_names}
 use Rattle.room_questions.specs.Stations.{again_told, waiting_told}
+use Rattle.room_reads.specs.Grants.{grant_of}
+use Rattle.room_reads.specs.Names.{next_names}
+use Rattle.room_reads.specs.Summaries.{summary_of}
 use Rattle.room_replies.specs.Words.{word_text}
 use Rattle.room_rules.specs.Devices.{Devices as DeviceMap}
-use Rattle.room_rules.specs.declared.account.Grant.{Grant}
 use Rattle.room_rules.specs.declared.refusal.Word.TheVariants.{NoAccount}
 use Rattle.room_state.specs.Queues.{at_most, completed, not_completed}
 use Rattle.room_state.specs.Rooms.{RoomValue}
@@ -32,16 +35,17 @@ Concerns _ name = ⊥
 abbrev pub ConcernsNoOther : Question → (name : List ℕ) → Type 0
 ConcernsNoOther question name = (other : List ℕ) → Concerns question other → other ≡ name
 
--- a station's device has to be known
-abbrev pub NamesDevice : About → Type 0
-NamesDevice (Waiting device) = ⊤
-NamesDevice (Again device job) = ⊤
-NamesDevice _ = ⊥
+-- a station's device has to be known, and the owner's page shows all devices
+abbrev pub NeedsDevices : About → Type 0
+NeedsDevices (Waiting device) = ⊤
+NeedsDevices (Again device job) = ⊤
+NeedsDevices (OwnerPage month outcome stays) = ⊤
+NeedsDevices _ = ⊥
 
 -- those of devices
 abbrev pub ConcernsDevices : Question → Type 0
 ConcernsDevices Devices = ⊤
-ConcernsDevices (Account account about) = NamesDevice about
+ConcernsDevices (Account account about) = NeedsDevices about
 ConcernsDevices _ = ⊥
 
 -- which accounts there are
@@ -61,21 +65,24 @@ abbrev pub check_text : (are_sound : Bool) → List ℕ
 check_text true = codes "sound"
 check_text false = codes "damaged"
 
-abbrev pub grant_of : (entry : ℕ × ℕ) → Grant
-grant_of entry = record { month = entry.0; pages = entry.1 }
-
 -- of an account that is open
-abbrev pub answer_about : About → (room : RoomValue) (devices : DeviceMap) → Reply
-answer_about (Left month) room devices =
+abbrev pub answer_about : (account : List ℕ) → About
+    → (room : RoomValue) (devices : DeviceMap) → Reply
+answer_about account (Left month) room devices =
     reply.Line (quota_text (granted_to room month) (reserved_in room) (charged_in room))
-answer_about (Statement month) room devices =
+answer_about account (Statement month) room devices =
     reply.Line (statement_text (granted_to room month) (summary_of month (values room.jobs)))
-answer_about Jobs room devices = reply.Line (jobs_text (not_completed (values room.jobs)))
-answer_about (Ended most) room devices =
+answer_about account Jobs room devices = reply.Line (jobs_text (not_completed (values room.jobs)))
+answer_about account (Ended most) room devices =
     reply.Line (jobs_text (at_most (Some most) (completed (values room.jobs))))
-answer_about Grants room devices = reply.Line (grants_text (map grant_of (entries room.grants)))
-answer_about (Waiting device) room devices = waiting_told room devices device
-answer_about (Again device number) room devices = again_told room devices device number
+answer_about account Grants room devices =
+    reply.Line (grants_text (map grant_of (entries room.grants)))
+answer_about account (Waiting device) room devices = waiting_told room devices device
+answer_about account (Again device number) room devices = again_told room devices device number
+answer_about account (OwnerPage month outcome stays) room devices =
+    reply.Line (owner_page (owner_of account month outcome stays room devices))
+answer_about account (StatementPage month drawn_up) room devices =
+    reply.Line (statement_page (statement_of account month drawn_up room))
 
 -- by the room of the account that it is about, if that is open, by the devices, and by the names of
 -- all accounts that are open
@@ -89,4 +96,5 @@ answer_to (Accounts behind) room devices names =
 answer_to (Check account) None devices names = reply.Line (word_text NoAccount)
 answer_to (Check account) (Some room) devices names = reply.Line (check_text true)
 answer_to (Account account about) None devices names = reply.Line (word_text NoAccount)
-answer_to (Account account about) (Some room) devices names = answer_about about room devices
+answer_to (Account account about) (Some room) devices names =
+    answer_about account about room devices

@@ -5,13 +5,15 @@
 
 mod job_line;
 mod lists;
+mod pages;
 mod question;
 mod station;
-mod summary;
 mod text;
 
 pub use lists::{accounts_lines, devices_lines, grants_lines, jobs_lines};
+pub use pages::{MOST_SHOWN, owner_page, statement_page, statement_with};
 pub use question::{About, Question};
+pub use room_pages::{Act, Outcome};
+pub use room_reads::Summary;
 pub use station::{printed_by, waiting_at};
-pub use summary::Summary;
 pub use text::{check_line, quota_line, statement_line};

@@ -1,11 +1,12 @@
 //! Answers of several lines.
 
-ghost use Rattle.std.specs.Prelude.{◌≡◌, ◌++◌, IfOk, OnOk, string_bytes};
+ghost use Rattle.std.specs.Prelude.{◌≡◌, ◌++◌, IfOk, OnOk};
 ghost use Rattle.room_questions.specs.JobLines.{job_text};
-ghost use Rattle.room_questions.specs.Lists.{account_text, accounts_text, device_text, devices_text, grant_text, grants_text, jobs_text, list_text, month_text};
+ghost use Rattle.room_questions.specs.Lists.{account_text, accounts_text, device_text, devices_text, grant_text, grants_text, jobs_text, list_text};
 
 use crate::job_line::put_job;
 use ipp_coding::List;
+use room_pages::put_month_number;
 use room_rules::{Device, Grant, Job, Name};
 use std::alloc::{AllocError, Global};
 
@@ -66,21 +67,12 @@ impl Line for Grant {
     ghost text = { grant_text };
 
     fn put(&self, out: &mut Vec<u8>) -> Result<(), AllocError> {
-        let month = month_text(*out.allocator(), self.month)?;
+        out.extend_from_slice(b"grant ")?;
+        put_month_number(out, self.month)?;
         let pages = self.pages;
-        let text = format!(in *out.allocator(); "grant {month} {pages}")?;
+        let text = format!(in *out.allocator(); " {pages}")?;
         out.extend_from_slice(text.as_bytes())
     }
-}
-
-/// A month as YYYY-MM.
-fn month_text(alloc: Global, month: u32) -> Result<String, AllocError>
-    ensures { IfOk result (λ text. string_bytes text ≡ month_text month) }
-{
-    let year = month / 12;
-    let tens = (month % 12 + 1) / 10;
-    let ones = (month % 12 + 1) % 10;
-    format!(in alloc; "{year}-{tens}{ones}")
 }
 
 /// The lines that tell names of accounts.

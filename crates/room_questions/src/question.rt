@@ -3,6 +3,7 @@
 ghost use Rattle.std.specs.Prelude.{◌≡◌};
 ghost use Rattle.room_questions.specs.Questions.{asks_end};
 
+use room_pages::Outcome;
 use room_rules::Name;
 
 /// One question.
@@ -36,17 +37,41 @@ impl Question {
 #[derive(Clone, Copy)]
 pub enum About {
     /// The quota up to a month.
-    Left { month: u32 },
+    Left {
+        month: u32,
+    },
     /// The statement of a month.
-    Statement { month: u32 },
+    Statement {
+        month: u32,
+    },
     /// The jobs that have not ended, by number.
     Jobs,
     /// The jobs that have ended, the last first, and of them so many.
-    Ended { most: u32 },
+    Ended {
+        most: u32,
+    },
     /// The grants, by month.
     Grants,
     /// The jobs that a station may release, start or settle for the owner.
-    Waiting { device: Name },
+    Waiting {
+        device: Name,
+    },
     /// The documents of a job that the device started and has not settled, and nobody canceled.
-    Again { device: Name, job: u32 },
+    Again {
+        device: Name,
+        job: u32,
+    },
+    /// The owner's page, with the quota up to a month and what came of the last act. It stays as it
+    /// is, or loads itself anew while jobs wait.
+    OwnerPage {
+        month: u32,
+        outcome: Option<Outcome>,
+        stays: bool,
+    },
+    /// The statement of a month for paper, and the moment that it is drawn up at, in seconds since
+    /// 1970-01-01T00:00:00Z.
+    StatementPage {
+        month: u32,
+        drawn_up: u64,
+    },
 }

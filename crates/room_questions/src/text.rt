@@ -2,12 +2,11 @@
 
 ghost use Rattle.std.specs.Prelude.{◌≡◌, ◌≤◌, IfOk, string_bytes};
 ghost use Rattle.room_questions.specs.Questions.{check_text};
-ghost use Rattle.room_questions.specs.Quotas.{quota_text};
-ghost use Rattle.room_questions.specs.Summaries.{statement_text};
+ghost use Rattle.room_questions.specs.Quotas.{quota_text, statement_text};
 ghost use Rattle.room_rules.specs.Limits.{most_units};
 
-use crate::summary::Summary;
 use ipp_coding::List;
+use room_reads::Summary;
 use room_rules::left;
 use std::alloc::{AllocError, Global};
 

@@ -5,6 +5,7 @@
 mod answer;
 mod digits;
 mod limits;
+mod origin;
 mod refusal;
 mod targets;
 mod words;
@@ -12,6 +13,7 @@ mod words;
 pub use answer::{last_answer_head, put, put_answer_head, refusal_text};
 pub use digits::are_digits;
 pub use limits::{BODY_LIMIT, HEAD_LIMIT, TRAILERS_LIMIT};
+pub use origin::is_foreign;
 pub use refusal::Refusal;
 pub use targets::{account_of, is_ipp_type, is_post};
-pub use words::without_margin;
+pub use words::{before, without_margin};

@@ -4,7 +4,7 @@ ghost use Rattle.std.specs.List.{list_any, position};
 ghost use Rattle.room_requests.specs.Words.{before, without_front, without_margin};
 
 /// What stands before the first `mark`, and all where there is none.
-pub(crate) fn before(mark: u8, bytes: &[u8]) -> &[u8]
+pub fn before(mark: u8, bytes: &[u8]) -> &[u8]
     ensures value { result.now ≡ before mark bytes.now }
     ensures bound { length result.now ≤ length bytes.now }
 {

@@ -39,13 +39,13 @@ pub fn print_devices(output: &mut Vec<u8>, devices: &[Device]) -> io::Result<()>
 }
 
 /// Prints the first word of a line, and a name after it.
-pub(crate) fn print_begin(output: &mut Vec<u8>, word: &str, name: Name) -> io::Result<()> {
+fn print_begin(output: &mut Vec<u8>, word: &str, name: Name) -> io::Result<()> {
     output.write_all(word.as_bytes())?;
     print_name(output, name)
 }
 
 /// Prints a space and the name.
-pub(crate) fn print_name(output: &mut Vec<u8>, name: Name) -> io::Result<()> {
+fn print_name(output: &mut Vec<u8>, name: Name) -> io::Result<()> {
     output.write_all(b" ")?;
     output.write_all(name.bytes())
 }

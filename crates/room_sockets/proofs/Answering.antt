@@ -1,6 +1,7 @@
 -- What is told in a peer's turn stands in the journal.
 use Rattle.std.proofs.Common.{◌≡◌, ◌≢◌, ◌≤◌, ◌<◌, ◌&&◌, ℕ, Bool, IsTrue, suc, true, false, length, slice_get, take, Some, arith, length-append, List, [], ◌∷◌, ◌++◌, Result, Ok, Err, refl, sym, ap, subst, ◌∙◌, append_assoc, append-nil, inl, inr}
 use Rattle.std.specs.List.{Contains}
+use Rattle.std.specs.Result.{IsOkAnd}
 use Rattle.std.proofs.Math.Seq.{get_or-append_seam, take-length}
 use Rattle.std.proofs.lemmas.Grind.{flat_map-append}
 use Rattle.std.proofs.lemmas.List.{get_or_append_left, take-append-le}
@@ -15,6 +16,7 @@ use Rattle.http.specs.Request.{body_of}
 use Rattle.room_requests.specs.declared.refusal.Refusal.{Refusal}
 use Rattle.room_peers.specs.ProofServices.{one_more, stays}
 use Rattle.room_peers.proofs.LineEnds.{only_ping}
+use Rattle.room_peers.proofs.GatheringKept.{gathered_only}
 use Rattle.room_peers.proofs.Journaling.{applied_then, backup_only, line_chain, looked, then}
 use Rattle.room_peers.specs.Answers.{Answers, Gives}
 use Rattle.room_peers.specs.HttpPeers as http
@@ -39,12 +41,20 @@ use Rattle.room_peers.specs.Space.{lacks_space, needs_space, with_space}
 use Rattle.room_peers.specs.declared.served.Served.{Served}
 use Rattle.room_peers.specs.declared.step.Next.{Next}
 use Rattle.room_peers.specs.declared.step.Next.TheVariants.{Close}
-use Rattle.room_sockets.proofs.Drives.{IsClean, IsServed, continues_clean, served_continues}
+use Rattle.room_web.specs.Answers as web
+use Rattle.room_web.specs.ProofPages.{Comes, IsApplied, IsLeft, IsLookedAt, comes}
+use Rattle.room_web.specs.Questions.{question_of}
+use Rattle.room_web.specs.Requests.{asked as asks_of}
+use Rattle.room_sockets.proofs.Drives.{IsClean, IsServed, continues_clean, pages_chain, served_continues}
 use Rattle.room_sockets.proofs.Inquiring.{answered_so, grown_alone}
-use Rattle.room_sockets.specs.EndToEnd.{AnswersBy, AnswersCall, AnswersCalls, AnswersLineCalls, HasAnsweredLines, IsAnswered, IsFresh, StandAt, TellsAnswer}
+use Rattle.room_sockets.specs.EndToEnd.{AnswersBy, AnswersCall, AnswersCalls, AnswersLineCalls, AnswersPageCalls, HasAnsweredLines, IsAnswered, IsFresh, StandAt, TellsAct, TellsAnswer, TellsPage}
 use Rattle.room_sockets.specs.Guests.{TakesTurn}
 use Rattle.room_sockets.specs.declared.guest.Peer.{Peer}
-use Rattle.room_sockets.specs.declared.guest.Peer.TheVariants.{Http, Last, Lines}
+use Rattle.room_sockets.specs.declared.guest.Peer.TheVariants.{Http, Last, Lines, Pages}
+
+-- where it is this value, it has what that has
+ok_and : (T E : Type 0) (P : T → Type 0) (r : Result T E) (value : T) → r ≡ Ok value → P value → IsOkAnd r P
+ok_and T E P r value is it = subst (λ (one : Result T E). IsOkAnd one P) (sym is) it
 
 -- ---- in a longer list
 
@@ -164,16 +174,50 @@ module _ {S : Type 0} (store : Ghosts S) (first last : Held S) where
   lines_within side (call ∷ calls) least places journal (inr (inl (n, low, within, tells, later))) place there = lines_within side calls n places journal later place there
   lines_within side (call ∷ calls) least places journal (inr (inr (bad, later))) place there = lines_within side calls least places journal later place there
 
+  pages_longer : (calls : List Call) (least : ℕ) (places : List ℕ) (journal more : List Told) → AnswersPageCalls store first last calls least places journal → AnswersPageCalls store first last calls least places (journal ++ more)
+  pages_longer [] least places journal more is = is
+  pages_longer (call ∷ calls) least places journal more (inl (told, tells, place, rest, are, low, stands, later)) = inl (told, tells, place, rest, are, low, at_longer journal more place told stands, pages_longer calls (suc place) rest journal more later)
+  pages_longer (call ∷ calls) least places journal more (inr (inl (n, low, within, tells, later))) = inr (inl (n, low, (omega (arith, within, length-append journal more)), subst (λ (so_far : List Told). TellsPage store first last call so_far) (sym (take_within journal more n within)) tells, pages_longer calls n places journal more later))
+  pages_longer (call ∷ calls) least places journal more (inr (inr (still, later))) = inr (inr (still, pages_longer calls least places journal more later))
+
+  pages_lower : (calls : List Call) (least lower : ℕ) (places : List ℕ) (journal : List Told) → lower ≤ least → AnswersPageCalls store first last calls least places journal → AnswersPageCalls store first last calls lower places journal
+  pages_lower [] least lower places journal low is = is
+  pages_lower (call ∷ calls) least lower places journal low (inl (told, tells, place, rest, are, high, stands, later)) = inl (told, tells, place, rest, are, omega (arith, low, high), stands, later)
+  pages_lower (call ∷ calls) least lower places journal low (inr (inl (n, high, within, tells, later))) = inr (inl (n, omega (arith, low, high), within, tells, later))
+  pages_lower (call ∷ calls) least lower places journal low (inr (inr (still, later))) = inr (inr (still, pages_lower calls least lower places journal low later))
+
+  pages_then : (these more : List Call) (least : ℕ) (places its : List ℕ) (journal told : List Told) → least ≤ length journal → AnswersPageCalls store first last these least places journal → AnswersPageCalls store first last more (length journal) its (journal ++ told)
+      → AnswersPageCalls store first last (these ++ more) least (places ++ its) (journal ++ told)
+  pages_then [] more least places its journal told low none is = subst (λ (at : List ℕ). AnswersPageCalls store first last more least (at ++ its) (journal ++ told)) (sym none) (pages_lower more (length journal) least its (journal ++ told) low is)
+  pages_then (call ∷ these) more least places its journal told low (inl (one, tells, place, rest, are, high, stands, later)) is =
+      let within = slice_get_within journal place one stands in
+      inl (one, tells, place, rest ++ its, ap (λ (at : List ℕ). at ++ its) are, high, at_longer journal told place one stands, pages_then these more (suc place) rest its journal told (omega (arith, within)) later is)
+  pages_then (call ∷ these) more least places its journal told low (inr (inl (n, high, within, tells, later))) is =
+      inr (inl (n, high, (omega (arith, within, length-append journal told)), subst (λ (so_far : List Told). TellsPage store first last call so_far) (sym (take_within journal told n within)) tells, pages_then these more n places its journal told within later is))
+  pages_then (call ∷ these) more least places its journal told low (inr (inr (still, later))) is = inr (inr (still, pages_then these more least places its journal told low later is))
+
+  pages_within : (calls : List Call) (least : ℕ) (places : List ℕ) (journal : List Told) → AnswersPageCalls store first last calls least places journal → (place : ℕ) → Contains places place → place < length journal
+  pages_within [] least places journal none place there = absurd (none_there place (subst (λ (at : List ℕ). Contains at place) none there))
+  pages_within (call ∷ calls) least places journal (inl (told, tells, at, rest, are, low, stands, later)) place there =
+      elim (Contains-cons_cases at place rest (subst (λ (all : List ℕ). Contains all place) are there)) [
+        | inl same ↦ subst (λ (n : ℕ). n < length journal) same (slice_get_within journal at told stands)
+        | inr behind ↦ pages_within calls (suc at) rest journal later place behind
+      ]
+  pages_within (call ∷ calls) least places journal (inr (inl (n, low, within, tells, later))) place there = pages_within calls n places journal later place there
+  pages_within (call ∷ calls) least places journal (inr (inr (still, later))) place there = pages_within calls least places journal later place there
+
   -- ---- what was told stays told
 
   pub answered_longer : (peer : Peer) (places : List ℕ) (journal more : List Told) → IsAnswered store first last peer places journal → IsAnswered store first last peer places (journal ++ more)
   answered_longer (Http peer) places journal more is = record { served = is.served; mine = is.mine; answered = is.answered; stand = stand_longer 0 places is.mine journal more is.stand }
+  answered_longer (Pages peer) places journal more is = record { served = is.served; answered = pages_longer (calls_of peer) 0 places journal more is.answered }
   answered_longer (Lines peer) places journal more is = record { calls = is.calls; came = is.came; goes = is.goes; answered = lines_longer (side_of (lines_of peer)) is.calls 0 places journal more is.answered }
   answered_longer (Last peer) places journal more (inl is) = inl (record { told = is.told; stands = stand_longer 0 places (is.told ∷ []) journal more is.stands; went = is.went; text = is.text })
   answered_longer (Last peer) places journal more (inr is) = inr is
 
   pub answered_within : (peer : Peer) (places : List ℕ) (journal : List Told) → IsAnswered store first last peer places journal → (place : ℕ) → Contains places place → place < length journal
   answered_within (Http peer) places journal is = stand_within 0 places is.mine journal is.stand
+  answered_within (Pages peer) places journal is = pages_within (calls_of peer) 0 places journal is.answered
   answered_within (Lines peer) places journal is = lines_within (side_of (lines_of peer)) is.calls 0 places journal is.answered
   answered_within (Last peer) places journal (inl is) = stand_within 0 places (is.told ∷ []) journal is.stands
   answered_within (Last peer) places journal (inr is) = subst (λ (at : List ℕ). (place : ℕ) → Contains at place → place < length journal) (sym is.nowhere) (λ place there. absurd (none_there place there))
@@ -291,6 +335,91 @@ module _ {S : Type 0} (store : Ghosts S) (before : Served S) (fresh : IsFresh be
             subst (λ (at : List ℕ). AnswersLineCalls store (store_of before) last side (call ∷ calls) (length journal) at (journal ++ applied (first.0.more ++ rest.0.more))) at (subst (λ (told : List Told). AnswersLineCalls store (store_of before) last side (call ∷ calls) (length journal) (places_from (length journal) (applied first.0.more) ++ places_from (length mid) (applied rest.0.more)) told) log all),
       )
 
+  -- ---- a browser
+
+  -- one request is told, at the end of the journal
+  abbrev PageTold : (call : Call) (old new : Served S) → Type 0
+  PageTold call old new = (c : Continues store old new)
+      × ((journal : List Told) → IsJournal journal old → (calls : List Call) (its : List ℕ) (told : List Told) → AnswersPageCalls store (store_of before) last calls (length (journal ++ applied c.more)) its ((journal ++ applied c.more) ++ told)
+      → AnswersPageCalls store (store_of before) last (call ∷ calls) (length journal) (places_from (length journal) (applied c.more) ++ its) ((journal ++ applied c.more) ++ told))
+
+  -- nothing was applied: the rest stands where it did
+  none_shown : (calls : List Call) (journal told : List Told) (its : List ℕ) → AnswersPageCalls store (store_of before) last calls (length (journal ++ [])) its ((journal ++ []) ++ told) → AnswersPageCalls store (store_of before) last calls (length journal) its ((journal ++ []) ++ told)
+  none_shown calls journal told its later = subst (λ (n : ℕ). AnswersPageCalls store (store_of before) last calls n its ((journal ++ []) ++ told)) (ap length (append-nil journal)) later
+
+  act_told : (call : Call) (old new : Served S) → IsApplied store (asks_of call.0) old call.0 call.1 new → PageTold call old new
+  unfolding one_more
+  act_told call old new is = (
+    one_more store (entry.Message (moment_of old) is.account is.message) is.applies.told old new is.applies.next,
+    λ journal is_journal calls its told later.
+        let one : Told = (entry.Message (moment_of old) is.account is.message, is.applies.told) in
+        let long : length (journal ++ one ∷ []) ≡ suc (length journal) = omega (arith, length-append journal (one ∷ [])) in
+        let stands : slice_get ((journal ++ one ∷ []) ++ told) (length journal) ≡ Some one = at_longer (journal ++ one ∷ []) told (length journal) one (at_seam journal [] one) in
+        let tells : TellsAct call one = record {
+          account = is.account;
+          act = is.act;
+          job = is.job;
+          message = is.message;
+          wants = ok_and _ _ _ (asks_of call.0) is.asks is.wanted is.is;
+          moment = moment_of old;
+          asked = refl;
+          tells = is.applies.tells;
+        } in
+        inl (one, tells, length journal, its, refl, omega arith, stands, subst (λ (n : ℕ). AnswersPageCalls store (store_of before) last calls n its ((journal ++ one ∷ []) ++ told)) long later),
+  )
+
+  shown_told : (call : Call) (old new : Served S) → IsServed store before old → (HasCleanDisk (state store last) → IsClean store new) → IsLookedAt store (asks_of call.0) old call.0 call.1 new → PageTold call old new
+  unfolding looked
+  shown_told call old new served clean is = (
+    looked store (question_of (moment_of old) is.asks) is.shows.told old new is.shows.next,
+    λ journal is_journal calls its told later.
+        let so_far : take (length journal) ((journal ++ []) ++ told) ≡ journal_of old = take_within (journal ++ []) told (length journal) (omega (arith, ap length (append-nil journal))) ∙ ap (λ x. take (length journal) x) (append-nil journal) ∙ take-length journal ∙ is_journal is.shows.next.alone in
+        inr (inl (
+          length journal,
+          omega arith,
+          omega (arith, length-append (journal ++ []) told, ap length (append-nil journal)),
+          record {
+            moment = moment_of old;
+            question = question_of (moment_of old) is.asks;
+            wants = ok_and _ _ _ (asks_of call.0) is.asks is.wanted refl;
+            told = is.shows.told;
+            shows = is.shows.tells;
+            answers = subst (λ (log : List Told). AnswersBy store (store_of before) last log (question_of (moment_of old) is.asks) is.shows.told) (sym so_far) (answered_so store before fresh last (question_of (moment_of old) is.asks) is.shows.told old new served clean is.shows.next);
+          },
+          none_shown calls journal told its later,
+        )),
+  )
+
+  left_told : (call : Call) (old new : Served S) → IsLeft store (asks_of call.0) old call.0 call.1 new → PageTold call old new
+  left_told call old new is = subst (λ (served : Served S). PageTold call old served) (sym is.1.1) (gathered_only store old is.1.0, λ journal is_journal calls its told later. inr (inr (is.0, none_shown calls journal told its later)))
+
+  page_told : (call : Call) (old new : Served S) → IsServed store before old → (HasCleanDisk (state store last) → IsClean store new) → Comes store (asks_of call.0) old call.0 call.1 new → PageTold call old new
+  page_told call old new served clean (inl is) = act_told call old new is
+  page_told call old new served clean (inr (inl is)) = shown_told call old new served clean is
+  page_told call old new served clean (inr (inr is)) = left_told call old new is
+
+  abbrev PagesTold : (calls : List Call) (old new : Served S) → Type 0
+  PagesTold calls old new = (c : Continues store old new)
+      × ((journal : List Told) → IsJournal journal old → AnswersPageCalls store (store_of before) last calls (length journal) (places_from (length journal) (applied c.more)) (journal ++ applied c.more))
+
+  pub pages_told : (calls : List Call) (old new : Served S) → IsServed store before old → (HasCleanDisk (state store last) → IsClean store new) → Chain (web.Answers store) old calls new → PagesTold calls old new
+  unfolding stays then
+  pages_told [] old new served clean is = subst (λ (it : Served S). PagesTold [] old it) (sym is) (stays store old, λ journal is_journal. refl)
+  pages_told (call ∷ calls) old new served clean is =
+      let rest_on : Continues store is.0 new = pages_chain store calls is.0 new is.2 in
+      let first = page_told call old is.0 served (λ honest. continues_clean store is.0 new rest_on (clean honest)) (comes store old call.0 call.1 is.0 is.1) in
+      let rest = pages_told calls is.0 new (served_continues store before old is.0 served first.0) clean is.2 in (
+        then store old is.0 new first.0 rest.0,
+        λ journal is_journal.
+            let mid : List Told = journal ++ applied first.0.more in
+            let later = rest.1 mid (journal_then journal old is.0 first.0 is_journal) in
+            let all = first.1 journal is_journal calls (places_from (length mid) (applied rest.0.more)) (applied rest.0.more) later in
+            let log : mid ++ applied rest.0.more ≡ journal ++ applied (first.0.more ++ rest.0.more) = append_assoc journal (applied first.0.more) (applied rest.0.more) ∙ ap (λ x. journal ++ x) (sym (applied_then first.0.more rest.0.more)) in
+            let at : places_from (length journal) (applied first.0.more) ++ places_from (length mid) (applied rest.0.more) ≡ places_from (length journal) (applied (first.0.more ++ rest.0.more)) =
+            places_then journal (applied first.0.more) (applied rest.0.more) ∙ ap (λ (told : List Told). places_from (length journal) told) (sym (applied_then first.0.more rest.0.more)) in
+            subst (λ (at : List ℕ). AnswersPageCalls store (store_of before) last (call ∷ calls) (length journal) at (journal ++ applied (first.0.more ++ rest.0.more))) at (subst (λ (told : List Told). AnswersPageCalls store (store_of before) last (call ∷ calls) (length journal) (places_from (length journal) (applied first.0.more) ++ places_from (length mid) (applied rest.0.more)) told) log all),
+      )
+
   -- ---- a turn
 
   -- who was answered is, with what this turn applies
@@ -308,6 +437,18 @@ module _ {S : Type 0} (store : Ghosts S) (before : Served S) (fresh : IsFresh be
           mine = had.mine ++ more;
           answered = subst (λ (calls : List Call). AnswersCalls calls (had.mine ++ more)) (sym is.1) (calls_then (calls_of was) is.0 had.mine more had.answered told.1);
           stand = stand_then 0 places had.mine journal more (omega arith) had.stand;
+        },
+      )
+
+  pages_answered : (was now : HttpPeer) (old new : Served S) → IsServed store before old → (HasCleanDisk (state store last) → IsClean store new) → http.CallsService (web.Answers store) was now old new → Answered (Pages was) (Pages now) old new
+  pages_answered was now old new served clean is =
+      let told = pages_told is.0 old new served clean is.2 in
+      let more : List Told = applied told.0.more in (
+        told.0,
+        λ places journal is_journal had. record {
+          served = always_served (connection_of now);
+          answered = subst (λ (calls : List Call). AnswersPageCalls store (store_of before) last calls 0 (places ++ places_from (length journal) more) (journal ++ more)) (sym is.1)
+              (pages_then store (store_of before) last (calls_of was) is.0 0 places (places_from (length journal) more) journal more (omega arith) had.answered (told.1 journal is_journal));
         },
       )
 
@@ -366,8 +507,15 @@ module _ {S : Type 0} (store : Ghosts S) (before : Served S) (fresh : IsFresh be
 
   pub turn_answered : (ends ends2 : Ends) (next : Next) (was now : Peer) (old new : Served S) → IsServed store before old → (HasCleanDisk (state store last) → IsClean store new) → next ≢ Close → TakesTurn store ends ends2 next was now old new → Answered was now old new
   turn_answered ends ends2 next (Http was) (Http now) old new served clean goes is = http_answered was now old new is.0
+  turn_answered ends ends2 next (Pages was) (Pages now) old new served clean goes is = pages_answered was now old new served clean is.0
   turn_answered ends ends2 next (Lines was) (Lines now) old new served clean goes is = line_peer_answered ends ends2 next was now old new served clean goes is
   turn_answered ends ends2 next (Last was) (Last now) old new served clean goes is = last_answered ends ends2 was now old new is.0 is.1
+  turn_answered ends ends2 next (Http was) (Pages now) old new served clean goes is = absurd is
+  turn_answered ends ends2 next (Pages was) (Http now) old new served clean goes is = absurd is
+  turn_answered ends ends2 next (Pages was) (Lines now) old new served clean goes is = absurd is
+  turn_answered ends ends2 next (Pages was) (Last now) old new served clean goes is = absurd is
+  turn_answered ends ends2 next (Lines was) (Pages now) old new served clean goes is = absurd is
+  turn_answered ends ends2 next (Last was) (Pages now) old new served clean goes is = absurd is
   turn_answered ends ends2 next (Http was) (Lines now) old new served clean goes is = absurd is
   turn_answered ends ends2 next (Http was) (Last now) old new served clean goes is = absurd is
   turn_answered ends ends2 next (Lines was) (Http now) old new served clean goes is = absurd is

@@ -5,6 +5,7 @@ use Rattle.sqlite.specs.Held.{Held, state}
 use Rattle.sqlite.specs.State.{HasCleanDisk}
 use Rattle.sqlite_trees.specs.declared.store.Store.{Ghosts}
 use Rattle.std.proofs.lemmas.Bool.{true≢false}
+use Rattle.http_server.specs.Exchange.{Call, Chain}
 use Rattle.room_peers.specs.ProofServices.{one_more, stays}
 use Rattle.room_peers.proofs.Journaling.{chain, leads_applied, leads_then, line_chain}
 use Rattle.room_peers.specs.Journals.{Notes, Round, Told, applied, by_themselves, open_of, rounds_of, shares_of, store_of}
@@ -20,11 +21,14 @@ use Rattle.room_peers.specs.Space.{spare_of}
 use Rattle.room_peers.specs.declared.served.Served.{Served}
 use Rattle.room_peers.specs.declared.step.Next.{Next}
 use Rattle.room_peers.specs.declared.step.Turn.{Turn}
+use Rattle.room_peers.proofs.Services.{calls_continue}
+use Rattle.room_web.specs.Answers.{Answers}
+use Rattle.room_web.specs.ProofPages.{answers_continue}
 use Rattle.room_sockets.specs.Guests.{AsksAgain, TakesTurn, Turns, in_round, of_socket}
 use Rattle.room_sockets.specs.Halls.{Ask, Begin, BeginsRound, Does, DoesAll, Drop, Enter, GoesOn, Keep, Leave, Serve, Serves, Settle, SettlesRound, Step}
 use Rattle.room_sockets.specs.declared.guest.Guest.{Guest}
 use Rattle.room_sockets.specs.declared.guest.Peer.{Peer}
-use Rattle.room_sockets.specs.declared.guest.Peer.TheVariants.{Http, Last, Lines}
+use Rattle.room_sockets.specs.declared.guest.Peer.TheVariants.{Http, Last, Lines, Pages}
 
 module _ {S : Type 0} (store : Ghosts S) where
   -- ---- a turn
@@ -36,10 +40,20 @@ module _ {S : Type 0} (store : Ghosts S) where
         | inr takes ↦ line_chain store _ takes.1.calls old new takes.1.chain
       ]
 
+  pub pages_chain : (calls : List Call) (old new : Served S) → Chain (Answers store) old calls new → Continues store old new
+  pages_chain calls old new is = calls_continue store (Answers store) (λ (served : Served S). served) (answers_continue store) calls old new is
+
   pub turn_continues : (ends ends2 : Ends) (next : Next) (before after : Peer) (old new : Served S) → TakesTurn store ends ends2 next before after old new → Continues store old new
   turn_continues ends ends2 next (Http before) (Http after) old new is = chain store is.0.0 old new is.0.2
+  turn_continues ends ends2 next (Pages before) (Pages after) old new is = pages_chain is.0.0 old new is.0.2
   turn_continues ends ends2 next (Lines before) (Lines after) old new is = lines_continue ends ends2 next before after old new is
   turn_continues ends ends2 next (Last before) (Last after) old new is = subst (λ (served : Served S). Continues store old served) (sym is.1) (stays store old)
+  turn_continues ends ends2 next (Http before) (Pages after) old new is = absurd is
+  turn_continues ends ends2 next (Pages before) (Http after) old new is = absurd is
+  turn_continues ends ends2 next (Pages before) (Lines after) old new is = absurd is
+  turn_continues ends ends2 next (Pages before) (Last after) old new is = absurd is
+  turn_continues ends ends2 next (Lines before) (Pages after) old new is = absurd is
+  turn_continues ends ends2 next (Last before) (Pages after) old new is = absurd is
   turn_continues ends ends2 next (Http before) (Lines after) old new is = absurd is
   turn_continues ends ends2 next (Http before) (Last after) old new is = absurd is
   turn_continues ends ends2 next (Lines before) (Http after) old new is = absurd is
@@ -50,6 +64,7 @@ module _ {S : Type 0} (store : Ghosts S) where
   pub again_continues : (lost : Bool) (asked : List Entry) (before begun : Peer) (old mid : Served S) → AsksAgain store lost asked before begun old mid → Continues store old mid
   again_continues true (entry ∷ more) before (Last begun) old mid is = one_more store entry is.told old mid is.next
   again_continues true (entry ∷ more) before (Http begun) old mid is = absurd is
+  again_continues true (entry ∷ more) before (Pages begun) old mid is = absurd is
   again_continues true (entry ∷ more) before (Lines begun) old mid is = absurd is
   again_continues true [] before begun old mid is = subst (λ (served : Served S). Continues store old served) (sym is.1) (stays store old)
   again_continues false asked before begun old mid is = subst (λ (served : Served S). Continues store old served) (sym is.1) (stays store old)

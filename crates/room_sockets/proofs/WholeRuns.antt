@@ -32,14 +32,14 @@ use Rattle.room_peers.specs.declared.step.Turn.{Turn}
 use Rattle.room_sockets.proofs.Answering.{answered_longer, answered_within, none_there, places_behind, places_from, stand_behind, turn_answered}
 use Rattle.room_sockets.proofs.Drives.{IsClean, IsServed, again_continues, all_clean, as_served, like, served_by, served_continues, step_served, turn_continues}
 use Rattle.room_sockets.proofs.Inquiring.{grown_alone, grown_by, journal_is, lives_on, runs_so}
-use Rattle.room_sockets.specs.EndToEnd.{AnswersCalls, AreApart, StandAt, FromEndToEnd, IsAnswered, IsFoundAgain, IsFresh, TellsLast}
+use Rattle.room_sockets.specs.EndToEnd.{AnswersCalls, AnswersPageCalls, AreApart, StandAt, FromEndToEnd, IsAnswered, IsFoundAgain, IsFresh, TellsLast}
 use Rattle.room_sockets.specs.Guests.{AsksAgain, CameBy, IsNew, IsTurnedAway, StaysOrTurnsAway, Turns, asked_in, in_round, is_waiting, of_socket, peer_of}
 use Rattle.room_sockets.specs.Halls.{AreOthersKept, Ask, Begin, BeginsRound, Does, DoesAll, Drop, Enter, IsAtMoment, Keep, Leave, MayGo, Serve, Serves, Settle, SettlesRound, Step}
 use Rattle.room_sockets.specs.declared.doors.Speech.{Speech}
 use Rattle.room_sockets.specs.declared.doors.Speech.TheVariants as speech_is
 use Rattle.room_sockets.specs.declared.guest.Guest.{Guest}
 use Rattle.room_sockets.specs.declared.guest.Peer.{Peer}
-use Rattle.room_sockets.specs.declared.guest.Peer.TheVariants.{Http, Last, Lines}
+use Rattle.room_sockets.specs.declared.guest.Peer.TheVariants.{Http, Last, Lines, Pages}
 use Rattle.http_server.specs.Exchange.{Call}
 use Rattle.room_serve.specs.Crashes.{IsFound}
 use Rattle.room_peers.specs.ServedLives.{told_to}
@@ -117,6 +117,10 @@ module _ {S : Type 0} (store : Ghosts S) (before : Served S) (fresh : IsFresh be
     mine = [];
     answered = subst (λ (calls : List Call). AnswersCalls calls []) (sym (ap (λ (h : History). h.calls) is)) refl;
     stand = tt;
+  }
+  new_answered speech_is.Pages (Pages peer) journal is = record {
+    served = always_served (connection_of peer);
+    answered = subst (λ (calls : List Call). AnswersPageCalls store (store_of before) last calls 0 [] journal) (sym (ap (λ (h : History). h.calls) is)) refl;
   }
   new_answered (speech_is.Lines side) (Lines peer) journal is = new_lines side peer journal is
   new_answered _ _ journal is = absurd is
@@ -289,6 +293,7 @@ module _ {S : Type 0} (store : Ghosts S) (before : Served S) (fresh : IsFresh be
   turned_away (Last peer) was end journal (inl left) = ([], (λ place there. absurd (none_there place there)), inr (record { nowhere = refl; went = []; text = sym left }))
   turned_away (Last peer) was end journal (inr none) = ([], (λ place there. absurd (none_there place there)), inr (record { nowhere = refl; went = refusal_text NoSpace; text = sym (ap (λ x. refusal_text NoSpace ++ x) none ∙ append-nil (refusal_text NoSpace)) }))
   turned_away (Http peer) was end journal is = absurd is
+  turned_away (Pages peer) was end journal is = absurd is
   turned_away (Lines peer) was end journal is = absurd is
 
   stays_or_not : (most : ℕ) (before begun : Peer) (places : List ℕ) (end : ℕ) (old mid : Served S) → StaysOrTurnsAway most before begun × (mid ≡ old) → HasAnswer before places (journal_of old) → AnsweredAt places end begun (journal_of mid)
@@ -298,6 +303,7 @@ module _ {S : Type 0} (store : Ghosts S) (before : Served S) (fresh : IsFresh be
   again_goes : (lost : Bool) (asked : List Entry) (before begun : Peer) (places : List ℕ) (old mid : Served S) → AsksAgain store lost asked before begun old mid → shares_of old ≡ false → Goes asked false lost before places old → AnsweredAt places (length (journal_of old)) begun (journal_of mid)
   again_goes true (entry ∷ more) before (Last begun) places old mid is alone going = told_again (entry, is.told) begun places old mid is.next alone is.left
   again_goes true (entry ∷ more) before (Http begun) places old mid is alone going = absurd is
+  again_goes true (entry ∷ more) before (Pages begun) places old mid is alone going = absurd is
   again_goes true (entry ∷ more) before (Lines begun) places old mid is alone going = absurd is
   again_goes true [] before begun places old mid is alone going = stays_or_not _ before begun places _ old mid is going
   again_goes false [] before begun places old mid is alone going = stays_or_not _ before begun places _ old mid is going

@@ -2,6 +2,7 @@
 -- the tables (all this project's own).
 use Rattle.std.specs.Prelude.{◌≡◌, ◌≢◌, ◌≤◌, ◌⊎◌, ⊤, ℕ, Bool, suc, true, false, length, slice_get, take, IfOk, IsTrue, Option, List, [], ◌∷◌, ◌++◌, Some, None, Result, Ok, Err}
 use Rattle.std.specs.List.{Contains}
+use Rattle.std.specs.Result.{IsOkAnd}
 use Rattle.http.specs.Request.{body_of}
 use Rattle.http_server.specs.Connection.{config_of, history}
 use Rattle.http_server.specs.Exchange.{Call}
@@ -20,7 +21,7 @@ use Rattle.room_laws.specs.Lives.{IsLife, Life}
 use Rattle.room_lines.specs.Asking.{IsQuestionOf}
 use Rattle.room_lines.specs.Backups.{IsBackupOf}
 use Rattle.room_lines.specs.declared.backup.BackupLine.{BackupLine}
-use Rattle.room_questions.specs.Names.{AreNames}
+use Rattle.room_reads.specs.Names.{AreNames}
 use Rattle.room_questions.specs.Questions.{answer_to, ConcernsNames, ConcernsNoOther}
 use Rattle.room_questions.specs.declared.question.Question.{Question}
 use Rattle.room_questions.specs.declared.question.Question.TheVariants.{Ping}
@@ -52,11 +53,16 @@ use Rattle.room_peers.specs.declared.line_connection.LineConnection.{LineConnect
 use Rattle.room_peers.specs.declared.line_connection.Side.{Side}
 use Rattle.room_peers.specs.declared.line_connection.Side.TheVariants.{Operator}
 use Rattle.room_peers.specs.declared.served.Served.{Served}
+use Rattle.room_pages.specs.declared.outcome.Act.{Act}
+use Rattle.room_web.specs.Answers.{IsMessage, IsStill}
+use Rattle.room_web.specs.Questions.{question_of}
+use Rattle.room_web.specs.Requests.{asked as asks_of}
+use Rattle.room_web.specs.Responses.{IsDone, IsLost as IsLostPage, IsShown}
 use Rattle.room_sockets.specs.Guests.{asked_in, peer_of}
 use Rattle.room_sockets.specs.Halls.{DoesAll, Step}
 use Rattle.room_sockets.specs.declared.guest.Guest.{Guest}
 use Rattle.room_sockets.specs.declared.guest.Peer.{Peer}
-use Rattle.room_sockets.specs.declared.guest.Peer.TheVariants.{Http, Last, Lines}
+use Rattle.room_sockets.specs.declared.guest.Peer.TheVariants.{Http, Last, Lines, Pages}
 
 -- these stand in the list at these places, which rise from the least on
 abbrev pub StandAt : {X : Type 0} (least : ℕ) (places : List ℕ) (some all : List X) → Type 0
@@ -120,7 +126,23 @@ pub record TellsBackup (side : Side) (call : LineCall) : Type 0 where
   pub told : BackupTold
   pub says : call.1 ≡ backup_text told
 
+-- ---- pages
+
+-- the message that an act is, or a file, was asked there, and the response tells what that came to
+pub record TellsAct (call : Call) (told : Told) : Type 0 where
+  pub account : List ℕ
+  pub act : Act
+  pub job : ℕ
+  pub message : List ℕ
+  pub wants : IsOkAnd (asks_of call.0)
+      (λ asks. IsMessage asks call.0 account act job message)
+  pub moment : ℕ
+  pub asked : told.0 ≡ entry.Message moment account message
+  pub tells : IsDone account act job (has_long_body call.0) told.1 call.1 ⊎ IsLostPage call.1
+
 module _ {S : Type 0} (store : Ghosts S) (first last : Held S) where
+  -- ---- lines
+
   -- the names of the accounts that are open, where each has a life, and has been told this
   pub record AreNamesThen (so_far : List Told) (db : Database) (names : List (List ℕ)) : Type 0 where
     pub lives : (name : List ℕ) → Life
@@ -177,6 +199,38 @@ module _ {S : Type 0} (store : Ghosts S) (first last : Held S) where
     pub goes : bytes_told calls ≡ sent_of connection ++ output_of connection
     pub answered : AnswersLineCalls (side_of connection) calls 0 places journal
 
+  -- ---- pages
+
+  -- a page is answered by what stands there so far
+  pub record TellsPage (call : Call) (so_far : List Told) : Type 0 where
+    pub moment : ℕ
+    pub question : Question
+    pub wants : IsOkAnd (asks_of call.0) (λ asks. question ≡ question_of moment asks)
+    pub told : Result Reply StoreFault
+    pub shows : IsShown (has_long_body call.0) told call.1 ⊎ IsLostPage call.1
+    pub answers : AnswersBy so_far question told
+
+  -- Each act, and each file, is told what stands in the journal at the next of these places, which
+  -- rise from the least on. Others have no place: a page, which is answered by what stands there up to
+  -- then, with all that was told on the connection before; a request that is refused; and one for the
+  -- style sheet or the script.
+  abbrev pub AnswersPageCalls : List Call → (least : ℕ) (places : List ℕ) (journal : List Told)
+      → Type 0
+  AnswersPageCalls [] least places journal = places ≡ []
+  AnswersPageCalls (call ∷ calls) least places journal =
+      ((told : Told) × TellsAct call told × (place : ℕ) × (rest : List ℕ)
+      × (places ≡ place ∷ rest) × (least ≤ place) × (slice_get journal place ≡ Some told)
+      × AnswersPageCalls calls (suc place) rest journal)
+      ⊎ (((n : ℕ) × (least ≤ n) × (n ≤ length journal) × TellsPage call (take n journal)
+      × AnswersPageCalls calls n places journal)
+      ⊎ (IsStill (asks_of call.0) call.0 call.1
+      × AnswersPageCalls calls least places journal))
+
+  -- what came are these requests, and what goes out are their responses, in order
+  pub record HasAnsweredPages (peer : HttpPeer) (places : List ℕ) (journal : List Told) : Type 0 where
+    pub served : ∥ http.IsServed (config_of (connection_of peer)) (history (connection_of peer)) ∥₁
+    pub answered : AnswersPageCalls (calls_of peer) 0 places journal
+
 -- ---- what goes last
 
 -- what is still to go is the end of what tells what stands in the journal at this one place
@@ -198,6 +252,8 @@ pub record TellsOff (peer : LastPeer) (places : List ℕ) : Type 0 where
 module _ {S : Type 0} (store : Ghosts S) (first last : Held S) where
   abbrev pub IsAnswered : Peer → (places : List ℕ) (journal : List Told) → Type 0
   IsAnswered (Http peer) places journal = HasAnsweredRequests peer places journal
+  IsAnswered (Pages peer) places journal =
+      HasAnsweredPages store first last peer places journal
   IsAnswered (Lines peer) places journal =
       HasAnsweredLines store first last (lines_of peer) places journal
   IsAnswered (Last peer) places journal = TellsLast peer places journal ⊎ TellsOff peer places

@@ -19,11 +19,12 @@ use Rattle.room_peers.specs.declared.step.Turn.{Turn}
 use Rattle.room_requests.specs.Limits.{longest_head}
 use Rattle.room_requests.specs.declared.refusal.Refusal.TheVariants.{NoSpace}
 use Rattle.room_space.specs.Spares.{takes_of}
+use Rattle.room_web.specs.Answers.{Answers}
 use Rattle.room_sockets.specs.declared.doors.Speech.{Speech}
 use Rattle.room_sockets.specs.declared.doors.Speech.TheVariants as speech_is
 use Rattle.room_sockets.specs.declared.guest.Guest.{Guest}
 use Rattle.room_sockets.specs.declared.guest.Peer.{Peer}
-use Rattle.room_sockets.specs.declared.guest.Peer.TheVariants.{Http, Last, Lines}
+use Rattle.room_sockets.specs.declared.guest.Peer.TheVariants.{Http, Last, Lines, Pages}
 
 abbrev pub peer_of : Guest → Peer
 peer_of guest = guest.peer
@@ -48,6 +49,7 @@ turns_of guest = guest.turns.items
 -- who came in by a door speaks what that door is for, and nothing came of it yet
 abbrev pub CameBy : Speech → Peer → Type 0
 CameBy speech_is.Http (Http peer) = history (http.connection_of peer) ≡ new_history
+CameBy speech_is.Pages (Pages peer) = history (http.connection_of peer) ≡ new_history
 CameBy (speech_is.Lines side) (Lines peer) = IsNewOf side (lines.lines_of peer)
 CameBy _ _ = ⊥
 
@@ -60,6 +62,7 @@ IsNew guest = (speech : Speech) × CameBy speech (peer_of guest) × (turns_of gu
 -- goes last does
 abbrev pub IsAtRest : Peer → Type 0
 IsAtRest (Http peer) = http.IsAtRest peer
+IsAtRest (Pages peer) = http.IsAtRest peer
 IsAtRest (Lines peer) = lines.HasTaken (lines.lines_of peer)
 IsAtRest (Last peer) = last.left_of peer ≢ []
 
@@ -74,6 +77,7 @@ in_round = (None, Some [])
 -- of a client's request more has come than this, in bytes of its body
 abbrev pub HasSentMore : (most : ℕ) → Peer → Type 0
 HasSentMore most (Http peer) = most + longest_head < http.came_of peer
+HasSentMore most (Pages peer) = most + longest_head < http.came_of peer
 HasSentMore most _ = ⊥
 
 -- it is told that there is no space, and nothing more
@@ -87,12 +91,15 @@ StaysOrTurnsAway most before after =
 
 module _ {S : Type 0} (store : Ghosts S) where
   -- What came on this connection is taken, by what is spoken on it, and nothing else becomes of the
-  -- rooms: each request is a call of the service, and each line is applied, or a bad one. Behind what
-  -- goes last nothing that comes is taken, and nothing becomes of the rooms.
+  -- rooms: each request is a call of the service of queues or of that of pages, and each line is
+  -- applied, or a bad one. Behind what goes last nothing that comes is taken, and nothing becomes of the rooms.
   abbrev pub TakesTurn : (ends ends2 : Ends) (next : Next) (before after : Peer)
       (old new : Served S) → Type 0
   TakesTurn ends ends2 next (Http before) (Http after) old new =
       http.MakesCalls store before after old new × http.IsLater ends ends2 before after
+  TakesTurn ends ends2 next (Pages before) (Pages after) old new =
+      http.CallsService (Answers store) before after old new
+      × http.IsLater ends ends2 before after
   TakesTurn ends ends2 next (Lines before) (Lines after) old new =
       lines.TakesTurn store ends ends2 next before after old new
   TakesTurn ends ends2 next (Last before) (Last after) old new =
@@ -107,6 +114,7 @@ module _ {S : Type 0} (store : Ghosts S) where
   AsksAgain true (entry ∷ more) before (Last begun) old mid =
       last.IsToldAgain store entry begun old mid
   AsksAgain true (entry ∷ more) before (Http begun) old mid = ⊥
+  AsksAgain true (entry ∷ more) before (Pages begun) old mid = ⊥
   AsksAgain true (entry ∷ more) before (Lines begun) old mid = ⊥
   AsksAgain _ _ before begun old mid =
       StaysOrTurnsAway (takes_of (spare_of old)) before begun × (mid ≡ old)

@@ -148,7 +148,7 @@ module _ {S : Type 0} (store : Ghosts S) where
   SettlesRound before after =
       ((shares_of before ≡ false) × (after ≡ before)) ⊎ IsSettled store before after
 
-  -- What a backup asked for is done, and nothing is applied. A round begins, once everybody has heard of
+  -- What a backup asked for is done, or an account is gathered, and nothing is applied. A round begins, once everybody has heard of
   -- those before; who has a key asks in it; it is settled. Where none is under way who has a key is served. Or who has one may be let go. All
   -- others stay. Or some come in, or are let go. Nothing else becomes of what is served.
   abbrev pub Does : (step : Step) (old new : Slab Guest) (before after : Served S) → Type 0

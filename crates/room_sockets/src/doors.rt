@@ -21,6 +21,8 @@ pub(crate) const MOST_GUESTS: usize = 4_096;
 pub enum Speech {
     /// HTTP, with the service of the queues.
     Http,
+    /// HTTP, with the service of pages.
+    Pages,
     /// Lines of a side.
     Lines(Side),
 }
@@ -34,6 +36,7 @@ impl Speech {
     {
         match self {
             Speech::Http => Peer::Http(HttpPeer::new(alloc, keys, ticks)),
+            Speech::Pages => Peer::Pages(HttpPeer::new(alloc, keys, ticks)),
             Speech::Lines(side) => Peer::Lines(LinePeer::new(alloc, side, ticks)),
         }
     }
@@ -53,6 +56,12 @@ impl Kind {
     pub const CLIENTS: Kind = Kind {
         speech: Speech::Http,
         most: 768,
+    };
+
+    /// Browsers, at the pages.
+    pub const PAGES: Kind = Kind {
+        speech: Speech::Pages,
+        most: 256,
     };
 
     pub const STATIONS: Kind = Kind {

@@ -12,6 +12,7 @@ use http_server::Log;
 use mio::{Interest, Registry, Token};
 use room_peers::{Entry, HttpPeer, LARGE, LastPeer, LinePeer, Next, Patience, Served, Turn};
 use room_requests::Refusal;
+use room_web::drive_pages;
 use sqlite::Alter;
 use std::alloc::Global;
 use std::io;
@@ -19,7 +20,10 @@ use std::io::{Read, Write};
 
 /// What a peer speaks.
 pub(crate) enum Peer {
+    /// A client of the queues.
     Http(HttpPeer),
+    /// A browser at the pages.
+    Pages(HttpPeer),
     Lines(LinePeer),
     /// Its round was lost: it is told what it asked in it came to, and nothing more.
     Last(LastPeer),
@@ -30,6 +34,7 @@ impl Drop for Peer {
     fn drop(self) {
         match self {
             Peer::Http(_) => {}
+            Peer::Pages(_) => {}
             Peer::Lines(_) => {}
             Peer::Last(_) => {}
         }
@@ -54,6 +59,7 @@ impl Peer {
     {
         match self {
             Peer::Http(peer) => peer.drive(reader, writer, served, turn),
+            Peer::Pages(peer) => drive_pages(peer, reader, writer, served, turn),
             Peer::Lines(peer) => peer.drive(reader, writer, served, turn),
             Peer::Last(peer) => peer.drive(reader, writer, turn),
         }
@@ -129,7 +135,7 @@ impl Guest {
         ensures { HasTurn S.Store turn result self.old self.new served.old served.new }
     {
         let hears = Turn {
-            reads: self.asked.is_none(),
+            reads: turn.reads && self.asked.is_none(),
             ..turn
         };
         self.ask_again(alloc, served, turn.ticks);
@@ -181,8 +187,14 @@ impl Guest {
     {
         match &self.peer {
             Peer::Http(peer) => peer.outgrows(most),
+            Peer::Pages(peer) => peer.outgrows(most),
             Peer::Lines(_) | Peer::Last(_) => false,
         }
+    }
+
+    /// Whether it has no turn in a round: pages are shown as the tables are between rounds.
+    pub(crate) fn asks_alone(&self) -> bool {
+        matches!(self.peer, Peer::Pages(_))
     }
 
     /// Tells the peer that nothing more comes.
@@ -211,6 +223,7 @@ impl Guest {
     fn patience(&self) -> Patience {
         match &self.peer {
             Peer::Http(peer) => peer.patience(),
+            Peer::Pages(peer) => peer.patience(),
             Peer::Lines(peer) => peer.patience(),
             Peer::Last(peer) => peer.patience(),
         }
@@ -220,6 +233,7 @@ impl Guest {
     pub(crate) fn bytes_held(&self) -> usize {
         match &self.peer {
             Peer::Http(peer) => peer.bytes_held(),
+            Peer::Pages(peer) => peer.bytes_held(),
             Peer::Lines(peer) => peer.bytes_held(),
             Peer::Last(peer) => peer.bytes_held(),
         }
@@ -229,6 +243,7 @@ impl Guest {
     pub(crate) fn has_output(&self) -> bool {
         match &self.peer {
             Peer::Http(peer) => peer.has_output(),
+            Peer::Pages(peer) => peer.has_output(),
             Peer::Lines(peer) => peer.has_output(),
             Peer::Last(peer) => peer.bytes_held() > 0,
         }
@@ -238,6 +253,7 @@ impl Guest {
     pub(crate) fn is_large(&self) -> bool {
         match &self.peer {
             Peer::Http(peer) => peer.is_large(),
+            Peer::Pages(peer) => peer.is_large(),
             Peer::Lines(peer) => peer.bytes_held() > LARGE,
             Peer::Last(peer) => peer.bytes_held() > LARGE,
         }
@@ -253,6 +269,7 @@ impl Guest {
     pub(crate) fn has_large_answer(&self) -> bool {
         match &self.peer {
             Peer::Http(peer) => peer.has_large_answer(),
+            Peer::Pages(peer) => peer.has_large_answer(),
             Peer::Lines(_) | Peer::Last(_) => false,
         }
     }

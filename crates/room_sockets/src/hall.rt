@@ -65,6 +65,9 @@ pub(crate) struct Peers {
     pub(crate) dropped_late_at: u64,
     /// Whether who waits is let in, and what comes is read.
     pub(crate) receives: bool,
+    /// Whether a browser had its turn in the pass. What others ask waits for the next, so that
+    /// nobody who prints waits for more than one page.
+    has_shown: bool,
 }
 
 impl Hall {
@@ -119,6 +122,7 @@ impl Hall {
             pace: Pace::new(ticks(rt)?),
             dropped_late_at: 0,
             receives: true,
+            has_shown: false,
         };
         Ok(Hall {
             peers,
@@ -175,7 +179,9 @@ impl Hall {
     }
 
     /// Waits until something comes, or a tick is over. What the lines of a backup have asked for is
-    /// done, at most a slice of it. Then each of whom the system told is served; where it told of several, what they ask shares a commit, and nobody is answered before it.
+    /// done, at most a slice of it. Where accounts are gathered for the print room's page nothing is
+    /// waited for, and one of them is read. Then each of whom the system told is served; where it told
+    /// of several, what they ask shares a commit, and nobody is answered before it.
     /// Who waits at a door is let in, who was held back goes on where there is room, and who took
     /// too long is dropped. A log whose file was moved away goes on in a new one, and one that can't be
     /// written is told once on standard error. It fails where the system can't wait, or has no clock.
@@ -192,10 +198,11 @@ impl Hall {
         ensures serves { ServesThose S.Store (told_by self.new)
             (guests_of self.old) (guests_of self.new) served.old served.new }
     {
-        let timeout = self.peers.timeout();
+        let timeout = self.peers.timeout(served.gathers());
         self.peers.poll.poll(&mut self.events, timeout)?;
         served.look_at_log(rt, moment(rt));
         served.keep_backup(copies);
+        served.gather();
         let ended = self.turn(rt, served);
         self.log_lags = tell_failure(rt, self.log_lags, served.log_lags());
         ended
@@ -210,6 +217,7 @@ impl Hall {
         ensures serves { ServesThose S.Store (told_by self.new)
             (guests_of self.old) (guests_of self.new) served.old served.new }
     {
+        self.peers.has_shown = false;
         self.peers.share(&self.events, clock, served);
         self.peers.serve_all(&self.events, clock, served);
         let ticks = self.peers.ticks(clock)?;
@@ -245,8 +253,12 @@ impl Peers {
         Ok(self.pace.look(ticks(clock)?))
     }
 
-    /// Where nobody is there, nothing but what comes is waited for.
-    fn timeout(&self) -> Option<Duration> {
+    /// Where nobody is there, nothing but what comes is waited for, and where there is something to go
+    /// on with, nothing is.
+    fn timeout(&self, goes_on: bool) -> Option<Duration> {
+        if goes_on {
+            return Some(Duration::ZERO);
+        }
         let waits = self.entrances.iter().any(|entrance| entrance.waits);
         if self.guests.is_empty() && !waits {
             return None;
@@ -298,12 +310,14 @@ impl Peers {
         };
         served.set_moment(moment);
         served.mend_space();
+        let rests = self.has_to_rest(key);
         let turn = Turn {
             ticks,
             has_room: self.stock.has_room(key),
             is_last,
-            reads: self.receives,
+            reads: self.may_read(rests),
         };
+        self.has_shown |= self.asks_alone(key);
         let alloc = self.alloc;
         let shares = served.is_shared();
         let Some(guest) = self.guests.get_mut(key) else {
@@ -313,7 +327,17 @@ impl Peers {
         let next = guest.drive(alloc, served, turn);
         self.stock
             .changed(key, before, guest.bytes_held(), guest.is_large());
-        self.after_turn(key, next, shares);
+        self.after_turn(key, next, shares, rests);
+    }
+
+    /// Whether it is a browser, and another had its turn in the pass.
+    fn has_to_rest(&self, key: usize) -> bool {
+        self.has_shown && self.asks_alone(key)
+    }
+
+    /// Whether what a peer sends is read in its turn.
+    fn may_read(&self, rests: bool) -> bool {
+        self.receives && !rests
     }
 
     /// Whether something that was told is still to go.
@@ -322,25 +346,31 @@ impl Peers {
     }
 
     /// What a turn came to: the peer stays, or is let go.
-    fn after_turn(&mut self, key: usize, next: Next, shares: bool)
+    fn after_turn(&mut self, key: usize, next: Next, shares: bool, rests: bool)
         ensures stays { StaysAfter next
             (get self.old.guests key) (get self.new.guests key) }
         ensures others { AreOthersKept key self.old.guests self.new.guests }
     {
-        if !self.goes_on_after(key, next, shares) {
+        if !self.goes_on_after(key, next, shares, rests) {
             self.close(key);
         }
     }
 
     /// Whether the peer stays after a turn. A turn in a round is followed by another, so the system
-    /// need not tell again.
-    fn goes_on_after(&mut self, key: usize, next: Next, shares: bool) -> bool
+    /// need not tell again. Of a browser that rested in its turn it has to, since what it asks is
+    /// still to be read.
+    fn goes_on_after(&mut self, key: usize, next: Next, shares: bool, rests: bool) -> bool
         ensures same { SameValues self.old.guests self.new.guests }
         ensures goes { IsFalse result → MayLeave next }
         ensures stays { IsTrue result → next ≢ Next.Close }
     {
         match next {
-            Next::Wait | Next::Parted => true,
+            Next::Wait | Next::Parted => {
+                if rests {
+                    self.rearm(key);
+                }
+                true
+            }
             Next::Again => shares || self.rearm(key),
             Next::HeldBack => {
                 self.stock.hold_back();

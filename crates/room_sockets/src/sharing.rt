@@ -41,17 +41,29 @@ impl Peers {
         }
     }
 
-    /// The peer's turn in the round. It has none where no round could begin, the round is full, or
-    /// much is held and the peer is not the favoured one: then it asks by itself, in `serve_all`.
+    /// The peer's turn in the round. It has none where no round could begin, the round is full, much
+    /// is held and the peer is not the favoured one, or it is one that asks alone: then it asks by
+    /// itself, in `serve_all`.
     fn ask<S: Alter>(&mut self, clock: &impl Clock, event: &Event, served: &mut Served<S>)
         ensures { OnlyAsk S.Store (keys_told (event.now ∷ []))
             self.old.guests self.new.guests served.old served.new }
     {
         let token = event.token().0;
         if let Some(key) = token.checked_sub(MOST_DOORS) {
-            if served.is_shared() && !served.is_full() && self.stock.has_room(key) {
+            if served.is_shared() && !served.is_full() && self.may_share(key) {
                 self.serve(clock, key, served, event.is_read_closed());
             }
+        }
+    }
+
+    fn may_share(&self, key: usize) -> bool {
+        self.stock.has_room(key) && !self.asks_alone(key)
+    }
+
+    pub(crate) fn asks_alone(&self, key: usize) -> bool {
+        match self.guests.get(key) {
+            Some(guest) => guest.asks_alone(),
+            None => false,
         }
     }
 }

@@ -19,7 +19,7 @@ use Rattle.sqlite_rules.proofs.ProbeLemmas.{has_mapped}
 use Rattle.sqlite.specs.Effect.{Database}
 use Rattle.sqlite.specs.Listing.{understood}
 use Rattle.room_rules.specs.declared.account.Grant.{Grant}
-use Rattle.room_questions.specs.Questions.{grant_of}
+use Rattle.room_reads.specs.Grants.{grant_of}
 use Rattle.room_state.specs.Rooms.{RoomValue}
 use Rattle.room_state.specs.RoomRules.{IsGrant}
 use Rattle.room_state.proofs.FiniteMaps.{all_along, all_above, entries_here, T_first, T_second}

@@ -16,8 +16,8 @@ use Rattle.sqlite_rules.proofs.ListLemmas.{all_has}
 use Rattle.sqlite_rules.proofs.ProbeLemmas.{has_mapped}
 use Rattle.sqlite.specs.Effect.{Database}
 use Rattle.sqlite.specs.Listing.{understood}
-use Rattle.room_questions.specs.Summaries.{charged_then, is_held, is_in_month, is_pending, summary_of}
-use Rattle.room_questions.specs.declared.summary.Summary.{Summary}
+use Rattle.room_reads.specs.Summaries.{charged_then, is_held, is_in_month, is_pending, summary_of}
+use Rattle.room_reads.specs.declared.summary.Summary.{Summary}
 use Rattle.room_rules.specs.JobStates.{is_processing}
 use Rattle.room_rules.specs.Limits.{last_next_job, most_units, IsMoment}
 use Rattle.room_rules.specs.declared.job.Job.{Job}

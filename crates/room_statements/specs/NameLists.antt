@@ -5,7 +5,7 @@ use Rattle.sqlite_value.specs.declared.value.Value.TheVariants.{Text}
 use Rattle.sqlite_value.specs.Order.{Row, column}
 use Rattle.sqlite_rules.specs.Lists.{Has}
 use Rattle.sqlite.specs.Effect.{Database}
-use Rattle.room_questions.specs.Names.{next_names, AreNames}
+use Rattle.room_reads.specs.Names.{next_names, AreNames}
 use Rattle.room_rules.specs.Names.{is_name}
 use Rattle.room_tables.specs.Accounts.{account_at}
 

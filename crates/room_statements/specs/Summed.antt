@@ -1,9 +1,9 @@
 -- What the jobs of an account come to for the statement of a month, one after another (all this
--- project's own). What all of a list come to is summary_of of room_questions.
+-- project's own). What all of a list come to is summary_of of room_reads.
 use Rattle.std.specs.Prelude.{◌≡◌, ℕ, ◌+◌, ◌≤◌, if◌then◌else◌, [], ◌∷◌, Option, IfSome}
 use Rattle.sqlite_value.specs.Order.{Row, column}
-use Rattle.room_questions.specs.Summaries.{charged_then, is_held, is_in_month, is_pending}
-use Rattle.room_questions.specs.declared.summary.Summary.{Summary}
+use Rattle.room_reads.specs.Summaries.{charged_then, is_held, is_in_month, is_pending}
+use Rattle.room_reads.specs.declared.summary.Summary.{Summary}
 use Rattle.room_rules.specs.JobStates.{is_processing}
 use Rattle.room_rules.specs.Limits.{most_units, IsMoment}
 use Rattle.room_rules.specs.declared.job.JobState.{JobState}

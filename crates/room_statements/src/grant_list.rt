@@ -3,7 +3,7 @@
 ghost use Rattle.std.specs.Prelude.{◌≡◌, ℕ, map, Err, IfOk, OnOk};
 ghost use Rattle.std.specs.List.{AllByRecursion};
 ghost use Rattle.std.specs.FinMap.{entries};
-ghost use Rattle.room_questions.specs.Questions.{grant_of};
+ghost use Rattle.room_reads.specs.Grants.{grant_of};
 ghost use Rattle.room_state.specs.RoomRules.{IsGrant};
 ghost use Rattle.room_statements.specs.Prelude.{HasGathered, HoldsRoom, IfOurTables, KeepsOpen, ReadsStore, RoomValue, WalksStore};
 ghost use Rattle.room_statements.specs.GrantLists.{tells_no_grant, AreByMonth, IsInRange, ListsGrant};

@@ -2,8 +2,8 @@
 
 ghost use Rattle.std.specs.Prelude.{◌≡◌, ◌≤◌, ℕ, map, Err, IfOk, IfSome, None, OnOk, Option, IsPermutation};
 ghost use Rattle.std.specs.FinMap.{values};
-ghost use Rattle.room_questions.specs.Summaries.{is_held, is_in_month, is_pending, summary_of};
-ghost use Rattle.room_questions.specs.declared.summary.Summary.{Summary as SummaryValue};
+ghost use Rattle.room_reads.specs.Summaries.{is_held, is_in_month, is_pending, summary_of};
+ghost use Rattle.room_reads.specs.declared.summary.Summary.{Summary as SummaryValue};
 ghost use Rattle.room_rules.specs.Limits.{most_units, IsMoment};
 ghost use Rattle.room_statements.specs.Prelude.{HasGathered, HoldsRoom, IfOurTables, KeepsOpen, ReadsStore, RoomValue, WalksStore, column};
 ghost use Rattle.room_statements.specs.SoundRows.{job_rows, CanBeSummed};
@@ -11,7 +11,7 @@ ghost use Rattle.room_statements.specs.Summed.{gathers_summed, refuses_summed, s
 ghost use Rattle.room_tables.specs.Cells.{moment};
 
 use crate::walking::{Gather, walk};
-use room_questions::Summary;
+use room_reads::Summary;
 use room_rules::{JobState, Moment, Name, month_of};
 use room_state::sum_of_units;
 use room_tables::TableFault;

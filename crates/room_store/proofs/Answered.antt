@@ -3,11 +3,12 @@ use Rattle.std.proofs.Common.{◌≡◌, ℕ, List, Option, Some, None, Result, 
 use Rattle.sqlite_value.specs.Order.{Row}
 use Rattle.sqlite.specs.Effect.{Database}
 use Rattle.room_asks.specs.declared.ask.Which.TheVariants.{NotCompleted, Completed}
+use Rattle.room_questions.specs.Pages.{most_shown}
 use Rattle.room_questions.specs.Stations.{printed_by}
 use Rattle.room_questions.specs.declared.question.About.{About}
-use Rattle.room_questions.specs.declared.question.About.TheVariants.{Left, Statement, Jobs, Ended, Grants, Waiting, Again}
+use Rattle.room_questions.specs.declared.question.About.TheVariants.{Left, Statement, Jobs, Ended, Grants, Waiting, Again, OwnerPage, StatementPage}
 use Rattle.room_questions.specs.declared.question.Question.TheVariants.{Ping, End, Devices, Accounts, Check, Account}
-use Rattle.room_questions.specs.Questions.{NamesDevice}
+use Rattle.room_questions.specs.Questions.{NeedsDevices}
 use Rattle.room_rules.specs.Devices.{Devices as DeviceMap}
 use Rattle.room_statements.proofs.SoundReads.{sound_rows_are_read}
 use Rattle.room_statements.specs.SoundRows.{AccountsRead}
@@ -28,7 +29,7 @@ module _ (db : Database) (has : HasSchema db) (name : List ℕ) (sound : IsSound
   read : AccountsRead db name
   read = sound_rows_are_read.accounts db name has sound
 
-  about_readable : (about : About) → (NamesDevice about → AreSoundDevices db) → AboutIsReadable name db about
+  about_readable : (about : About) → (NeedsDevices about → AreSoundDevices db) → AboutIsReadable name db about
   about_readable (Left month) devices = record { jobs = read.counted; grants = read.added month }
   about_readable (Statement month) devices = record { jobs = read.summed; grants = read.added month }
   about_readable Jobs devices = jobs_readable db has name sound NotCompleted None
@@ -37,6 +38,16 @@ module _ (db : Database) (has : HasSchema db) (name : List ℕ) (sound : IsSound
   about_readable (Waiting device) devices = ((sound_rows_are_read.of_devices db has (devices tt)).devices device, λ known. jobs_readable db has name sound NotCompleted None)
   about_readable (Again device number) devices =
       ((sound_rows_are_read.of_devices db has (devices tt)).devices device, λ known. act_readable db has name sound number _ (λ it is there. on_ok (printed_by device (Some it)) (read.documents number)))
+  about_readable (OwnerPage month outcome stays) devices = record {
+    quota = record { jobs = read.counted; grants = read.added month };
+    waiting = jobs_readable db has name sound NotCompleted None;
+    ended = jobs_readable db has name sound Completed (Some most_shown);
+    devices = (sound_rows_are_read.of_devices db has (devices tt)).listed;
+  }
+  about_readable (StatementPage month drawn_up) devices = record {
+    statement = record { jobs = read.summed; grants = read.added month };
+    ended = jobs_readable db has name sound Completed None;
+  }
 
 pub sound_rows_are_answered : SoundRowsAreAnswered
 sound_rows_are_answered Ping db has sound = tt

@@ -7,11 +7,12 @@ use Rattle.sqlite_trees.specs.declared.store.Store.{Ghosts}
 use Rattle.room_asks.specs.declared.ask.Which.TheVariants.{NotCompleted, Completed}
 use Rattle.room_events.specs.declared.event.Reply.{Reply}
 use Rattle.room_events.specs.declared.event.Reply.TheVariants as reply
-use Rattle.room_questions.specs.Names.{AreNames}
-use Rattle.room_questions.specs.Questions.{answer_about, answer_to, check_text, Concerns, ConcernsDevices, ConcernsNames, NamesDevice}
+use Rattle.room_reads.specs.Names.{AreNames}
+use Rattle.room_questions.specs.Pages.{most_shown}
+use Rattle.room_questions.specs.Questions.{answer_about, answer_to, check_text, Concerns, ConcernsDevices, ConcernsNames, NeedsDevices}
 use Rattle.room_questions.specs.Stations.{printed_by}
 use Rattle.room_questions.specs.declared.question.About.{About}
-use Rattle.room_questions.specs.declared.question.About.TheVariants.{Left, Statement, Jobs, Ended, Grants, Waiting, Again}
+use Rattle.room_questions.specs.declared.question.About.TheVariants.{Left, Statement, Jobs, Ended, Grants, Waiting, Again, OwnerPage, StatementPage}
 use Rattle.room_questions.specs.declared.question.Question.{Question}
 use Rattle.room_questions.specs.declared.question.Question.TheVariants.{Ping, End, Devices, Accounts, Check, Account}
 use Rattle.room_replies.specs.Words.{word_text}
@@ -72,6 +73,18 @@ abbrev pub AgainIsReadable : (name device : List ℕ) (number : ℕ) (db : Datab
 AgainIsReadable name device number db = DeviceIsReadable device db
     × (IsSome (device_at db device) → PrintedIsReadable name device number db)
 
+-- the quota, the jobs that have not ended, the last that have, and all devices
+pub record OwnerPageIsReadable (name : List ℕ) (month : ℕ) (db : Database) : Type 0 where
+  pub quota : SumsAreReadable name month db
+  pub waiting : JobsAreReadable name NotCompleted None db
+  pub ended : JobsAreReadable name Completed (Some most_shown) db
+  pub devices : CanBeListed db
+
+-- a statement, and all jobs that have ended
+pub record StatementPageIsReadable (name : List ℕ) (month : ℕ) (db : Database) : Type 0 where
+  pub statement : StatementIsReadable name month db
+  pub ended : JobsAreReadable name Completed None db
+
 -- of an account that is open
 abbrev pub AboutIsReadable : (name : List ℕ) (db : Database) → About → Type 0
 AboutIsReadable name db (Left month) = SumsAreReadable name month db
@@ -81,6 +94,8 @@ AboutIsReadable name db (Ended most) = JobsAreReadable name Completed (Some most
 AboutIsReadable name db Grants = GrantsAreReadable name db
 AboutIsReadable name db (Waiting device) = WaitingIsReadable name device db
 AboutIsReadable name db (Again device number) = AgainIsReadable name device number db
+AboutIsReadable name db (OwnerPage month outcome stays) = OwnerPageIsReadable name month db
+AboutIsReadable name db (StatementPage month drawn_up) = StatementPageIsReadable name month db
 
 -- of an account that is not open its own row alone is read
 pub record AccountIsAnswerable (name : List ℕ) (about : About) (db : Database) : Type 0 where
@@ -141,7 +156,7 @@ abbrev pub TellsAbout : {S : Type 0} → (store : Ghosts S) (old new : Held S) (
     (about : About) (result : Result Reply TableFault) → Type 0
 TellsAbout store old new name about result = IfOurTables store old new (λ db. IfOk result (λ told.
     (room : RoomValue) (devices : DeviceMap) → HoldsRoom db name room
-    → (NamesDevice about → HoldsDevices db devices) → told ≡ answer_about about room devices))
+    → (NeedsDevices about → HoldsDevices db devices) → told ≡ answer_about name about room devices))
 
 -- ---- two databases
 

@@ -1,14 +1,18 @@
 //! What is asked about an account that is open.
 
-ghost use Rattle.std.specs.Prelude.{◌≡◌, Some, None, Err};
+ghost use Rattle.std.specs.Prelude.{◌≡◌, ◌≤◌, Some, None, Err, IfOk};
+ghost use Rattle.std.specs.FinMap.{values};
 ghost use Rattle.room_asks.specs.declared.ask.Which.TheVariants.{NotCompleted, Completed};
+ghost use Rattle.room_reads.specs.Summaries.{summary_of};
 ghost use Rattle.room_questions.specs.declared.question.About.TheVariants as about;
+ghost use Rattle.room_rules.specs.Limits.{most_units};
+ghost use Rattle.room_state.specs.Sums.{charged_in, granted_to, reserved_in};
 ghost use Rattle.room_store.specs.Questions.{GrantsAreReadable, StatementIsReadable, SumsAreReadable, TellsAbout};
-ghost use Rattle.room_store.specs.Prelude.{IfOurTables, LooksUp};
+ghost use Rattle.room_store.specs.Prelude.{HoldsRoom, IfOurTables, LooksUp, RoomValue};
 ghost use Rattle.room_store.specs.Reading.{JobsAreReadable};
 
 use room_events::{Name, Reply};
-use room_questions::{grants_lines, jobs_lines, quota_line, statement_line};
+use room_questions::{Summary, grants_lines, jobs_lines, quota_line, statement_line};
 use room_statements::{
     ended_jobs, granted_to, list_grants, summarize, tally_jobs, unfinished_jobs,
 };
@@ -28,9 +32,45 @@ pub(crate) fn tell_left<S: Alter>(
         (λ db. result ≡ Err TableFault.Damaged → SumsAreReadable account month db → ⊥) }
     ensures looks { LooksUp S.Store connection.old connection.new result }
 {
+    let quota = read_quota(connection, account, month)?;
+    let line = quota_line(alloc, quota.granted, quota.reserved, quota.charged)?;
+    Ok(Reply::Line(line))
+}
+
+/// The quota of an account, in units.
+#[derive(Clone, Copy)]
+pub(crate) struct Quota {
+    /// What was granted.
+    pub(crate) granted: u64,
+    /// What jobs reserve.
+    pub(crate) reserved: u64,
+    /// What jobs were charged.
+    pub(crate) charged: u64,
+}
+
+/// The quota up to a month.
+pub(crate) fn read_quota<S: Alter>(
+    connection: &mut Connection<S>,
+    account: Name,
+    month: u32,
+) -> Result<Quota, TableFault>
+    ensures told { IfOurTables S.Store connection.old connection.new (λ db.
+        (room : RoomValue) → HoldsRoom db account room → IfOk result (λ quota.
+        (quota.granted ≡ granted_to room month) × (quota.reserved ≡ reserved_in room)
+        × (quota.charged ≡ charged_in room))) }
+    ensures bounds { IfOk result (λ quota. (quota.granted ≤ most_units)
+        × (quota.reserved ≤ most_units) × (quota.charged ≤ most_units)) }
+    ensures damaged { IfOurTables S.Store connection.old connection.new
+        (λ db. result ≡ Err TableFault.Damaged → SumsAreReadable account month db → ⊥) }
+    ensures looks { LooksUp S.Store connection.old connection.new result }
+{
     let tally = tally_jobs(connection, account)?;
     let granted = granted_to(connection, account, month)?;
-    Ok(Reply::Line(quota_line(alloc, granted, tally.reserved, tally.charged)?))
+    Ok(Quota {
+        granted,
+        reserved: tally.reserved,
+        charged: tally.charged,
+    })
 }
 
 /// Tells the statement of a month.
@@ -45,9 +85,28 @@ pub(crate) fn tell_statement<S: Alter>(
         (λ db. result ≡ Err TableFault.Damaged → StatementIsReadable account month db → ⊥) }
     ensures looks { LooksUp S.Store connection.old connection.new result }
 {
+    let (granted, summary) = read_statement(connection, account, month)?;
+    Ok(Reply::Line(statement_line(alloc, granted, summary)?))
+}
+
+/// What was granted up to a month, and what the jobs come to.
+pub(crate) fn read_statement<S: Alter>(
+    connection: &mut Connection<S>,
+    account: Name,
+    month: u32,
+) -> Result<(u64, Summary), TableFault>
+    ensures told { IfOurTables S.Store connection.old connection.new (λ db.
+        (room : RoomValue) → HoldsRoom db account room → IfOk result (λ told.
+        (told.0 ≡ granted_to room month) × (told.1 ≡ summary_of month (values room.jobs)))) }
+    ensures bounds { IfOk result (λ told. (told.0 ≤ most_units)
+        × (told.1.reserved ≤ most_units) × (told.1.charged ≤ most_units)) }
+    ensures damaged { IfOurTables S.Store connection.old connection.new
+        (λ db. result ≡ Err TableFault.Damaged → StatementIsReadable account month db → ⊥) }
+    ensures looks { LooksUp S.Store connection.old connection.new result }
+{
     let summary = summarize(connection, account, month)?;
     let granted = granted_to(connection, account, month)?;
-    Ok(Reply::Line(statement_line(alloc, granted, summary)?))
+    Ok((granted, summary))
 }
 
 /// Tells the jobs that have not ended.

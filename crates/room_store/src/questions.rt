@@ -4,8 +4,8 @@ ghost use Rattle.std.specs.Prelude.{◌≡◌, ℕ, List, Option, Err, IfOk, cod
 ghost use Rattle.std.specs.FinMap.{values};
 ghost use Rattle.room_events.specs.declared.event.Reply.TheVariants as reply;
 ghost use Rattle.room_questions.specs.Lists.{accounts_text, devices_text};
-ghost use Rattle.room_questions.specs.Names.{next_names};
-ghost use Rattle.room_questions.specs.Questions.{NamesDevice, answer_to};
+ghost use Rattle.room_reads.specs.Names.{next_names};
+ghost use Rattle.room_questions.specs.Questions.{NeedsDevices, answer_to};
 ghost use Rattle.room_questions.specs.declared.question.Question.TheVariants as question;
 ghost use Rattle.room_rules.specs.Devices.{Devices};
 ghost use Rattle.room_statements.specs.SoundRows.{AreNamed, CanBeListed};
@@ -16,6 +16,7 @@ ghost use Rattle.room_tables.specs.Devices.{HoldsDevices};
 
 use crate::account_questions::{tell_ended, tell_grants, tell_jobs, tell_left, tell_statement};
 use crate::events::knock;
+use crate::page_questions::{tell_owner_page, tell_statement_page};
 use crate::station_questions::{tell_again, tell_waiting};
 use crate::told::{refusing, telling};
 use room_checks::check_account;
@@ -137,7 +138,7 @@ fn tell_account<S: Alter>(
 ) -> Result<Reply, TableFault>
     ensures told { IfOurTables S.Store connection.old connection.new (λ db. IfOk result (λ told.
         (room : Option RoomValue) (devices : Devices) → Holds db account room
-        → (NamesDevice about → HoldsDevices db devices) → (names : List (List ℕ))
+        → (NeedsDevices about → HoldsDevices db devices) → (names : List (List ℕ))
         → told ≡ answer_to (question.Account account about) room devices names)) }
     ensures damaged { IfOurTables S.Store connection.old connection.new
         (λ db. result ≡ Err TableFault.Damaged → AccountIsAnswerable account about db → ⊥) }
@@ -170,5 +171,13 @@ fn tell_about<S: Alter>(
         About::Grants => tell_grants(alloc, connection, account),
         About::Waiting { device } => tell_waiting(alloc, connection, account, device),
         About::Again { device, job } => tell_again(alloc, connection, account, device, job),
+        About::OwnerPage {
+            month,
+            outcome,
+            stays,
+        } => tell_owner_page(alloc, connection, account, month, outcome, stays),
+        About::StatementPage { month, drawn_up } => {
+            tell_statement_page(alloc, connection, account, month, drawn_up)
+        }
     }
 }

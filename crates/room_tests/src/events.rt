@@ -1,5 +1,5 @@
-//! Tests of one account's machine by itself: an account that is opened, events that do not fit,
-//! moments that are none.
+//! Tests of one account's machine by itself: an account that is opened, and an event that does not
+//! fit.
 
 ghost use Rattle.std.specs.List.{AllByRecursion};
 ghost use Rattle.std.specs.Prelude.{IsTrue};
@@ -13,62 +13,20 @@ use room_core::{CoreFault, Device, Event, Name, Reply, Room, answer, fits};
 use std::alloc::Global;
 use std::process::Abort;
 
-const NEXT_CENTURY: u64 = 4_102_444_800;
-
 /// Answers `alice`, as an account and as a device.
 fn alice(rt: &impl Abort) -> Name {
     Name::read(b"alice").expect(rt, "a name")
 }
 
-/// Shows that an event does not fit if a month, pages, a rate or impressions are past their limits.
+/// Shows that a grant of a month before 1970 does not fit.
 #[test]
-fn numbers_past_their_limits(rt: HostRuntime) {
-    let name = alice(&rt);
-    for (month, pages) in [(23_639, 1), (25_200, 1), (25_199, 1_000_000_001)] {
-        let grant = Event::Grant {
-            account: name,
-            month,
-            pages,
-        };
-        assert!(rt; !fits(&grant), "{month} {pages}");
-    }
-    for units in [0, 101] {
-        assert!(rt; !fits(&Event::Rate { name, units }), "{units}");
-    }
-    let impressions = 2_147_483_648;
-    let settle = Event::Settle {
-        device: name,
-        account: name,
-        job: 1,
-        impressions,
-        failed: false,
+fn a_month_before_the_first(rt: HostRuntime) {
+    let grant = Event::Grant {
+        account: alice(&rt),
+        month: 23_639,
+        pages: 1,
     };
-    holds(&rt, !fits(&settle));
-    let release = Event::Release {
-        device: name,
-        account: name,
-        job: 1,
-        password: b"",
-        impressions,
-    };
-    holds(&rt, !fits(&release));
-}
-
-/// Shows that an event at a moment out of range fails for that, whatever it asks, and changes
-/// nothing.
-#[test]
-fn moments_come_first(rt: HostRuntime) {
-    let account = alice(&rt);
-    let short = Event::Ipp {
-        account,
-        body: b"\x01\x01\x00\x04\x00\x00\x00",
-    };
-    let mut room = None;
-    for event in &[short, Event::Open { account }] {
-        let late = answer_with(rt.alloc(), &mut room, &[], NEXT_CENTURY, event);
-        holds(&rt, matches!(&late, Err(CoreFault::Moment)));
-        holds(&rt, room.is_none());
-    }
+    holds(&rt, !fits(&grant));
 }
 
 /// Answers the machine's reply at a moment. It promises nothing here: a test looks at what runs.

@@ -3,8 +3,6 @@
 #![tactic(auto)]
 
 #[cfg(test)]
-mod answers;
-#[cfg(test)]
 mod asks;
 #[cfg(test)]
 mod coding;
@@ -15,14 +13,8 @@ mod examples;
 #[cfg(test)]
 mod expect;
 #[cfg(test)]
-mod explained;
-#[cfg(test)]
 mod memory;
 #[cfg(test)]
-mod notation;
-#[cfg(test)]
 mod rules;
-#[cfg(test)]
-mod tallies;
 #[cfg(test)]
 mod texts;

@@ -1,5 +1,5 @@
-//! Trials of what one process serves, over memory: requests of HTTP and lines, whole, in pieces and
-//! in turns; and of the clients of lines and of queues. Each says whether what is found is what is due.
+//! Trials of what one process serves, over memory: rows of what its doors are sent; turns, the log and
+//! backups; and of the clients of lines and of queues. Each says whether what is found is what is due.
 #![tactic(auto)]
 
 mod answers;
@@ -9,9 +9,7 @@ mod expecting;
 mod fault;
 mod lines;
 mod logs;
-mod notices;
 mod owners;
-mod questions;
 mod report;
 mod requests;
 mod rooms;
@@ -27,8 +25,8 @@ pub use report::Report;
 pub use rooms::{new_rooms, rooms_over};
 use std::io::Write;
 
-/// Runs each row of the file of requests over HTTP, `NAME.served`. Answers whether all hold; prints
-/// that they do, or what differs.
+/// Runs each row of the file of what the doors are sent, `NAME.served`. Answers whether all hold;
+/// prints that they do, or what differs.
 pub fn file_holds<W: Write>(rt: &HostRuntime, file: &str, output: &mut W) -> bool {
     let mut report = Report::new(output);
     report.tell(file, requests::expect_rows(rt, file));
@@ -40,9 +38,7 @@ pub fn file_holds<W: Write>(rt: &HostRuntime, file: &str, output: &mut W) -> boo
 pub fn all_trials_hold<W: Write>(rt: &HostRuntime, output: &mut W) -> bool {
     let mut report = Report::new(output);
     lines::run_all(rt, &mut report);
-    questions::run_all(rt, &mut report);
     turns::run_all(rt, &mut report);
-    notices::run_all(rt, &mut report);
     logs::run_all(rt, &mut report);
     sends::run_all(rt, &mut report);
     owners::run_all(rt, &mut report);

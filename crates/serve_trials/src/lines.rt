@@ -3,7 +3,7 @@
 use crate::expecting::{expect, expect_bytes};
 use crate::fault::Fault;
 use crate::report::Report;
-use crate::rooms::{exchange, exchange_lines, hear_lines, new_rooms};
+use crate::rooms::{exchange_lines, hear_lines, new_rooms};
 use room_peers::{Front, LineConnection, MOST_LINE, Served, Side};
 use sqlite::MemStore;
 use std::io::Write;
@@ -27,64 +27,11 @@ pub const PRINTED: &[u8] =
     \x23\x00\x09job-state\x00\x04\x00\x00\x00\x04\
     \x44\x00\x11job-state-reasons\x00\x18job-hold-until-specified\x03";
 
-const OPERATOR: &[u8] = b"open alice\nopen alice\ndevice d1 on\nrate d1 2\nrate d9 2\n\
-    grant alice 2026-09 100\ngrant alice 2026-09 100\ngrant alice 2026-09 90\ngrant carol 2026-09 1\n\
-    rate d1 101\nrelease d1 alice 1 - -\nipp alice 00\n\nopen alice \n\
-    ping\nleft alice 2026-08\nleft alice 2026-09\nleft carol 2026-09\nleft alice\nping \n";
-
-const OPERATOR_TOLD: &[u8] = b"ok\nexists\nok\nok\nno-device\nok\nsame\nconflict 100\nno-account\n\
-    bad-line\nbad-line\nbad-line\nbad-line\nbad-line\n\
-    ok\nok granted 0 reserved 0 charged 0 left 0\nok granted 100 reserved 0 charged 0 left 100\n\
-    no-account\nbad-line\nbad-line\n";
-
-const STATION: &[u8] =
-    b"start d1 alice 1\nrelease d1 alice 1 - 12\nstart d1 alice 1\nsettle d1 alice 1 5 done\n\
-    settle d1 alice 1 5 done\nopen bob\nrelease d1 bob 1 - -\nrelease d1 alice 1 - - -\r\nping\n";
-
-const STATION_TOLD: &[u8] =
-    b"not-pending\nok reserved 24 left 76\ndocuments 1\ndocument 1 1 application/octet-stream 5\nHello\n\
-    ok charged 10 left 90\nnot-processing\nbad-line\nno-account\nbad-line\nbad-line\n";
-
-/// What is left of alice's quota behind those lines.
-const LEFT: &[u8] = b"ok granted 100 reserved 0 charged 10 left 90\n";
-
 /// Runs each trial of this file, and tells how it ended.
 pub fn run_all<W: Write>(rt: &HostRuntime, report: &mut Report<'_, W>) {
-    report.tell("lines in pieces of each size", in_pieces_of_each_size(rt));
     report.tell("a line that is cut off", a_line_that_is_cut_off(rt));
     report.tell("long lines", long_lines(rt));
     report.tell("a question in a round", a_question_in_a_round(rt));
-}
-
-/// Shows that an operator's lines, a job and a station's lines are answered the same a byte at a
-/// time, cut within lines, and all at once.
-fn in_pieces_of_each_size(rt: &HostRuntime) -> Result<(), Fault> {
-    for piece in [1, 13, 100_000] {
-        expect_told_in_pieces(rt, piece)?;
-    }
-    Ok(())
-}
-
-/// Sends all of it to new rooms, in pieces of so many bytes. Expects each answer.
-fn expect_told_in_pieces(rt: &HostRuntime, piece: usize) -> Result<(), Fault> {
-    let mut rooms = new_rooms(rt)?;
-    expect_all_told(rt, &mut rooms, piece)
-}
-
-/// Sends an operator's lines, a job and a station's lines to the rooms. Expects each answer.
-fn expect_all_told(
-    rt: &HostRuntime,
-    rooms: &mut Served<MemStore>,
-    piece: usize,
-) -> Result<(), Fault> {
-    let told = exchange_lines(rt, rooms, Side::Operator, OPERATOR, piece)?;
-    expect_bytes(rt, told.as_slice(), OPERATOR_TOLD)?;
-    let printed = exchange(rt, rooms, PRINT, piece)?;
-    expect_bytes(rt, printed.as_slice(), PRINTED)?;
-    let told = exchange_lines(rt, rooms, Side::Station, STATION, piece)?;
-    expect_bytes(rt, told.as_slice(), STATION_TOLD)?;
-    let told = exchange_lines(rt, rooms, Side::Operator, b"left alice 2026-09\n", piece)?;
-    expect_bytes(rt, told.as_slice(), LEFT)
 }
 
 /// Shows that a question that comes within a round is answered once the round is over.

@@ -3,8 +3,11 @@
 use crate::fault::Fault;
 use http_server::Connection;
 use room_log::{EventLog, LogFile};
-use room_peers::{Front, LineConnection, Served, Side, answer_requests, connection_config};
+use room_peers::{
+    Front, HttpPeer, LineConnection, Next, Served, Side, Turn, answer_requests, connection_config,
+};
 use room_store::Store;
+use room_web::drive_pages;
 use sqlite::{Alter, MemStore};
 use std::alloc::Global;
 use std::hash::RandomState;
@@ -127,6 +130,31 @@ fn read_once(
         connection.write_to(output)?;
     }
     Ok(())
+}
+
+const ROOM: Turn = Turn {
+    ticks: 0,
+    has_room: true,
+    is_last: false,
+    reads: true,
+};
+
+/// Sends the input on one connection of a browser, all at once. Answers what goes out.
+pub fn show(
+    rt: &HostRuntime,
+    rooms: &mut Served<MemStore>,
+    input: &[u8],
+) -> Result<Vec<u8>, Fault> {
+    let keys = RandomState::new(rt)?;
+    let mut peer = HttpPeer::new(rt.alloc(), keys, 0);
+    let mut output = Vec::new(rt.alloc());
+    let mut reader = input;
+    for _ in 0..MANY {
+        if drive_pages(&mut peer, &mut reader, &mut output, rooms, ROOM) != Next::Again {
+            break;
+        }
+    }
+    Ok(output)
 }
 
 /// Sends lines on one connection of a station or an operator, in pieces of so many bytes. Answers

@@ -144,11 +144,6 @@ fn answer_once<S: Alter>(
     command: &Command<'_>,
 ) -> Result<Answer, Fault> {
     match command {
-        Command::Ask(ask) => ask.answer(rt.alloc(), connection),
-        Command::Change(change) => {
-            change.apply(connection)?;
-            Ok(Answer::Ok)
-        }
         Command::Sql(text) => run_batch(connection, text),
         Command::Read(file) => run_file(rt, connection, file),
         Command::Number(text) => query_number(connection, text),
@@ -193,15 +188,22 @@ fn run_file<S: Alter>(
     run_batch(connection, text.as_str())
 }
 
-/// Runs SQL statements in a transaction of their own. Answers `Wrong::InTransaction` if one is
-/// open.
+/// Runs SQL statements in a transaction of their own, or in the round that is under way.
 fn run_batch<S: Alter>(connection: &mut Connection<S>, text: &str) -> Result<Answer, Fault> {
     if !connection.is_autocommit() {
-        return Err(Fault::Notation(Wrong::InTransaction));
+        return run_in_round(connection, text);
     }
     let mut transaction = connection.transaction();
     transaction.execute_batch(text)?;
     transaction.commit()?;
+    Ok(Answer::Ok)
+}
+
+/// Runs SQL statements in the round that is under way. Of those that are refused nothing is done.
+fn run_in_round<S: Alter>(connection: &mut Connection<S>, text: &str) -> Result<Answer, Fault> {
+    let mut savepoint = connection.savepoint()?;
+    savepoint.execute_batch(text)?;
+    savepoint.commit()?;
     Ok(Answer::Ok)
 }
 

@@ -1,6 +1,5 @@
 //! Why it can't be told whether rows hold.
 
-use room_input::FieldFault;
 use room_statements::TableFault;
 use room_store::OpenFault;
 use sqlite::ErrorCode;
@@ -20,9 +19,6 @@ pub enum Fault {
     Open(OpenFault),
     #[error("{0}")]
     Statement(sqlite::Error),
-    /// What a row sets is out of the range that the tables take.
-    #[error("what is set is out of range")]
-    Range,
     /// A call that was refused left other tables after.
     #[error("a call that was refused changed the tables")]
     Changed,
@@ -47,20 +43,6 @@ pub enum Wrong {
     MissingWord,
     #[error("a word too many")]
     FurtherWord,
-    #[error("a word is no name")]
-    Name,
-    #[error("a word is no number")]
-    Number,
-    #[error("a word is none of the two that may stand there")]
-    Choice,
-    #[error("a word is no row of hexadecimal digits")]
-    Bytes,
-    #[error("a word is no format")]
-    Format,
-    #[error("a word is no state")]
-    State,
-    #[error("a transaction is open")]
-    InTransaction,
     #[error("an answer is no text")]
     Answer,
 }
@@ -91,15 +73,6 @@ impl From<OpenFault> for Fault {
 impl From<sqlite::Error> for Fault {
     fn from(error: sqlite::Error) -> Fault {
         Fault::Statement(error)
-    }
-}
-
-impl From<FieldFault> for Fault {
-    fn from(fault: FieldFault) -> Fault {
-        match fault {
-            FieldFault::Malformed => Fault::Notation(Wrong::Bytes),
-            FieldFault::Memory => Fault::Memory,
-        }
     }
 }
 

@@ -1,10 +1,7 @@
-//! Files of rows that are held against the statements and the store: what each statement finds and
-//! writes, and what each call of a store tells.
+//! Files of rows that are held against the store: what each call tells, and what it leaves in the tables.
 #![tactic(auto)]
 
 mod answer;
-mod ask;
-mod change;
 mod command;
 mod database;
 mod fault;

@@ -140,7 +140,7 @@ where
 
 /// Reads the command of a line. If it is none, prints the line on standard error and answers why.
 fn command_of<'a>(rt: &HostRuntime, line: &'a str) -> Result<Command<'a>, Fault> {
-    match Command::read(rt.alloc(), line) {
+    match Command::read(line) {
         Err(Fault::Notation(why)) => {
             writeln!(rt.stderr(), "{line}")?;
             Err(Fault::Notation(why))

@@ -52,11 +52,6 @@ pub fn rows_of<S: Alter + Drop>(alloc: Global, tables: &mut Tables<S>) -> Result
     Ok(rows)
 }
 
-/// Answers the tables' rows of both accounts and of the devices as a text.
-pub fn rows_text<S: Alter + Drop>(alloc: Global, tables: &mut Tables<S>) -> Result<String, Fault> {
-    text_of(rows_of(alloc, tables)?)
-}
-
 /// Compares two texts line by line. Answers the first line that differs, as found and as due, or
 /// `None` if all are the same.
 pub fn difference_text(alloc: Global, found: String, due: String) -> Result<Option<String>, Fault> {

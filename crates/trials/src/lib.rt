@@ -13,7 +13,7 @@ mod wires;
 
 pub use accounts::{ACCOUNTS, account_of};
 pub use comparing::{
-    difference_text, first_other_row, print_accounts, print_difference, rows_of, rows_text, text_of,
+    difference_text, first_other_row, print_accounts, print_difference, rows_of, text_of,
 };
 pub use fault::Fault;
 pub use library::example_holds;

@@ -1,6 +1,6 @@
 use Rattle.std.proofs.Common.{sym, subst, refl}
 use Rattle.sqlite.specs.Held.{state}
-use Rattle.room_questions.specs.Names.{from_name}
+use Rattle.room_reads.specs.Names.{from_name}
 use Rattle.room_tables.specs.Queries.{Means, TakesParams}
 use Rattle.room_statements.specs.NameLists.{name_cells, ShowsNames}
 use Rattle.room_statements.proofs.WalkLemmas.{told_as}

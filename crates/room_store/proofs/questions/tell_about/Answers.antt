@@ -65,3 +65,17 @@ returns-in-Again g c = record {
   damaged = damaged_as g.S.Store c.args.connection.now c.tell_again.new.connection c.args.account c.tell_again.result c.in-Again.is c.tell_again.ensures.damaged;
   looks = c.tell_again.ensures.looks;
 }
+
+pub returns-in-OwnerPage : goal.returns-in-OwnerPage
+returns-in-OwnerPage g c = record {
+  told = told_as g.S.Store c.args.connection.now c.tell_owner_page.new.connection c.args.account c.tell_owner_page.result c.in-OwnerPage.is c.tell_owner_page.ensures.told;
+  damaged = damaged_as g.S.Store c.args.connection.now c.tell_owner_page.new.connection c.args.account c.tell_owner_page.result c.in-OwnerPage.is c.tell_owner_page.ensures.damaged;
+  looks = c.tell_owner_page.ensures.looks;
+}
+
+pub returns-in-StatementPage : goal.returns-in-StatementPage
+returns-in-StatementPage g c = record {
+  told = told_as g.S.Store c.args.connection.now c.tell_statement_page.new.connection c.args.account c.tell_statement_page.result c.in-StatementPage.is c.tell_statement_page.ensures.told;
+  damaged = damaged_as g.S.Store c.args.connection.now c.tell_statement_page.new.connection c.args.account c.tell_statement_page.result c.in-StatementPage.is c.tell_statement_page.ensures.damaged;
+  looks = c.tell_statement_page.ensures.looks;
+}

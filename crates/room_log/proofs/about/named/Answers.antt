@@ -1,7 +1,0 @@
-use Rattle.ipp_coding.specs.Plain.{plain_attribute}
-use Rattle.room_asks.specs.Requests.{is_named}
-use Rattle.room_log.proofs.Lookups.{found_among}
-use Rattle.room_log.proofs.about.named.Goals as goal
-
-pub returns : goal.returns
-returns c = found_among (is_named c.args.name.now) plain_attribute c.args.attributes.now c.first_named.result c.first_named.ensures

@@ -1,0 +1,2 @@
+pub mod OldestKept
+pub mod Sums

@@ -1,0 +1,5 @@
+pub mod Lines
+pub mod Overviews
+pub mod Pages
+pub mod ProofOldest
+pub mod Surveys

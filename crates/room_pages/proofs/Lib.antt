@@ -1,0 +1,3 @@
+pub mod Days
+pub mod Escapes
+pub mod TagLemmas

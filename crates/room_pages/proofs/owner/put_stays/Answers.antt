@@ -1,0 +1,6 @@
+use Rattle.room_pages.specs.Owners.{stays}
+use Rattle.room_pages.proofs.owner.put_stays.Goals as goal
+
+pub returns : goal.returns
+unfolding stays
+returns c = c.put_all.ensures

@@ -1,0 +1,63 @@
+//! Markup that is the same on each page.
+
+pub(crate) const DOCUMENT: &str = "<!DOCTYPE html>
+<html lang=\"en\">
+<head>
+<meta charset=\"utf-8\">
+<meta name=\"viewport\" content=\"width=device-width, initial-scale=1\">
+<link rel=\"icon\" href=\"data:,\">
+<link rel=\"stylesheet\" href=\"/style.css\">
+";
+
+pub(crate) const PAGE_SCRIPT: &str = "<script src=\"/print.js\" defer></script>\n";
+
+/// Has a browser load the page that it shows anew.
+pub(crate) const RELOAD_SOON: &str = "<meta http-equiv=\"refresh\" content=\"2\">\n";
+
+pub(crate) const BODY: &str = "</head>\n<body>\n";
+
+/// The signs, each with the name by which it is drawn.
+pub(crate) const SIGNS: &str = "<svg class=\"unseen\" aria-hidden=\"true\">
+<symbol id=\"sprig\" viewBox=\"0 0 24 24\"><path d=\"M12 22V8m0 5L7.5 8.500M12 13l4.500-4.500M12 18l-5.500-5.500M12 18l5.500-5.500\"/><circle cx=\"12\" cy=\"4.500\" r=\"2.500\"/></symbol>
+<symbol id=\"held\" viewBox=\"0 0 16 16\"><path d=\"M5.500 3.500v9m5-9v9\"/></symbol>
+<symbol id=\"lock\" viewBox=\"0 0 16 16\"><path d=\"M3.500 7.500h9v6h-9zm2 0V5.250a2.500 2.500 0 0 1 5 0V7.500\"/></symbol>
+<symbol id=\"open\" viewBox=\"0 0 16 16\"><path d=\"M3.500 8h.01M8 8h.01m4.490 0h.01\"/></symbol>
+<symbol id=\"released\" viewBox=\"0 0 16 16\"><path d=\"M2.500 8h10.500M9 4l4 4-4 4\"/></symbol>
+<symbol id=\"printing\" viewBox=\"0 0 16 16\"><path d=\"M4.500 6V2.500h7V6m-7 5H2.500V6h11v5h-2m-7-1.500h7v4h-7z\"/></symbol>
+<symbol id=\"stopping\" viewBox=\"0 0 16 16\"><path d=\"M4 4h8v8H4z\"/></symbol>
+<symbol id=\"done\" viewBox=\"0 0 16 16\"><path d=\"m3 8.500 3.250 3.250L13 4.750\"/></symbol>
+<symbol id=\"canceled\" viewBox=\"0 0 16 16\"><path d=\"m4 4 8 8m0-8-8 8\"/></symbol>
+<symbol id=\"failed\" viewBox=\"0 0 16 16\"><path d=\"M8 2.500 1.750 13.500h12.500zM8 6.750v3m0 1.900v.01\"/></symbol>
+<symbol id=\"on\" viewBox=\"0 0 16 16\"><path d=\"M8 2.250v5M4.900 4.400a5 5 0 1 0 6.200 0\"/></symbol>
+<symbol id=\"off\" viewBox=\"0 0 16 16\"><circle cx=\"8\" cy=\"8\" r=\"5.500\"/><path d=\"m4.250 11.750 7.500-7.500\"/></symbol>
+</svg>
+";
+
+pub(crate) const TIME_START: &str = "<time datetime=\"";
+
+pub(crate) const TIME_MIDDLE: &str = "\">";
+
+pub(crate) const TIME_END: &str = "</time>";
+
+/// The look of the act that a job waits for.
+pub(crate) const FIRST_ACT: &str = " class=\"first\"";
+
+pub(crate) const END_OF_ACTS: &str = "</form></td></tr>\n";
+
+pub(crate) const END_OF_TABLE: &str = "</tbody>\n</table>\n";
+
+pub(crate) const END_OF_CARD: &str = "</section>\n";
+
+pub(crate) const END_OF_NOTE: &str = "</p></div>\n";
+
+pub(crate) const LIST_OF_DEVICES: &str = "<ul class=\"devices\">\n";
+
+pub(crate) const END_OF_LIST: &str = "</ul>\n";
+
+pub(crate) const PAIR: &str = "<div class=\"pair\">\n";
+
+pub(crate) const END_OF_PAIR: &str = "</div>\n";
+
+pub(crate) const END_OF_CHART: &str = "</tbody>\n</table></div>\n</details>\n</section>\n";
+
+pub(crate) const END_OF_PAGE: &str = "</p></footer>\n</body>\n</html>\n";

@@ -1,0 +1,3 @@
+pub mod Grants
+pub mod Names
+pub mod Summaries

@@ -1,0 +1,57 @@
+use Rattle.std.proofs.Common.{None, Err, ap, subst, sym, arith}
+use Rattle.std.proofs.lemmas.Result.{err_from_is_err_and}
+use Rattle.sqlite.specs.Effect.{Database}
+use Rattle.sqlite.specs.Held.{state}
+use Rattle.sqlite.specs.State.{HasCleanDisk}
+use Rattle.room_asks.specs.declared.ask.Which.TheVariants.{Completed}
+use Rattle.room_store.proofs.Paged.{statement_told}
+use Rattle.room_store.proofs.ServingLemmas.{fault_of, look_passed, looked, looks_after, looks_as, looks_read, passed_then, read_passed}
+use Rattle.room_store.proofs.page_questions.tell_statement_page.Goals as goal
+use Rattle.room_store.specs.Reading.{JobsAreReadable}
+use Rattle.room_tables.specs.Accounts.{HoldsRoom}
+use Rattle.room_tables.specs.Keyed.{HasSchema}
+
+pub returns-in_err-granted-clause-damaged : goal.returns-in_err-granted-clause-damaged
+returns-in_err-granted-clause-damaged g c clean has is readable =
+    let told = err_from_is_err_and c.from_residual.result c.from_residual.ensures.1 in
+    c.in_err-granted.ensures.damaged clean has (ap (λ e. Err e) (fault_of c.from_residual.result told.0 _ _ told.1 told.2 is)) readable.statement
+
+pub returns-in_err-ended-clause-damaged : goal.returns-in_err-ended-clause-damaged
+returns-in_err-ended-clause-damaged g c clean has is readable =
+    let old = c.args.connection.now in
+    let mid = c.read_statement.new.connection in
+    let told = err_from_is_err_and c.from_residual-in_err-ended.result c.from_residual-in_err-ended.ensures.1 in
+    let was : HasCleanDisk (state g.S.Store mid) = omega (arith, c.in_err-ended.ensures.reads.keeps.clean, clean) in
+    let same = ((look_passed g.S.Store old mid _ c.in_ok-granted.ensures.looks).same was has).now in
+    c.in_err-ended.ensures.damaged clean (subst HasSchema (sym same) has) (ap (λ e. Err e) (fault_of c.from_residual-in_err-ended.result told.0 _ _ told.1 told.2 is))
+    (subst (λ (db : Database). JobsAreReadable c.args.account Completed None db) (sym same) readable.ended)
+
+pub returns-in_err-ended-clause-looks : goal.returns-in_err-ended-clause-looks
+returns-in_err-ended-clause-looks g c =
+    let mid = c.read_statement.new.connection in
+    let new = c.ended_jobs.new.connection in
+    let told = err_from_is_err_and c.from_residual-in_err-ended.result c.from_residual-in_err-ended.ensures.1 in
+    looks_after g.S.Store c.args.connection.now mid new c.from_residual-in_err-ended.result (look_passed g.S.Store _ _ _ c.in_ok-granted.ensures.looks)
+    (looks_as g.S.Store mid new c.from_residual-in_err-ended.result told.0 _ told.1 told.2 (looks_read g.S.Store mid new _ c.in_err-ended.ensures.reads))
+
+pub returns-in_err-statement_page-clause-looks : goal.returns-in_err-statement_page-clause-looks
+returns-in_err-statement_page-clause-looks g c =
+    looked g.S.Store _ _ c.from_residual-in_err-statement_page.result
+    (passed_then (state g.S.Store c.args.connection.now) (state g.S.Store c.read_statement.new.connection) (state g.S.Store c.ended_jobs.new.connection) (look_passed g.S.Store _ _ _ c.in_ok-granted.ensures.looks) (read_passed g.S.Store _ _ _ c.in_ok-ended.ensures.reads))
+
+pub returns-clause-told : goal.returns-clause-told
+returns-clause-told g c clean has room devices holds needs =
+    let old = c.args.connection.now in
+    let mid = c.read_statement.new.connection in
+    let was : HasCleanDisk (state g.S.Store mid) = omega (arith, c.in_ok-ended.ensures.reads.keeps.clean, clean) in
+    let same = ((look_passed g.S.Store old mid _ c.in_ok-granted.ensures.looks).same was has).now in
+    statement_told c.args.account c.args.month c.args.drawn_up room _ _ _ _ _
+    (c.in_ok-granted.ensures.told was has room holds)
+    (c.in_ok-ended.ensures.listed clean (subst HasSchema (sym same) has) room (subst (λ (db : Database). HoldsRoom db c.args.account room) (sym same) holds))
+    c.statement_with-statement.ensures
+    c.in_ok-statement_page.ensures.bytes
+
+pub returns-clause-looks : goal.returns-clause-looks
+returns-clause-looks g c =
+    looked g.S.Store _ _ _
+    (passed_then (state g.S.Store c.args.connection.now) (state g.S.Store c.read_statement.new.connection) (state g.S.Store c.ended_jobs.new.connection) (look_passed g.S.Store _ _ _ c.in_ok-granted.ensures.looks) (read_passed g.S.Store _ _ _ c.in_ok-ended.ensures.reads))

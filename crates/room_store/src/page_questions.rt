@@ -1,0 +1,94 @@
+//! The pages of an account that is open.
+
+ghost use Rattle.std.specs.Prelude.{◌≡◌, Some, None, Err, IfOk};
+ghost use Rattle.std.specs.FinMap.{values};
+ghost use Rattle.room_asks.specs.declared.ask.Which.TheVariants.{NotCompleted, Completed};
+ghost use Rattle.room_questions.specs.Pages.{most_shown};
+ghost use Rattle.room_questions.specs.declared.question.About.TheVariants as about;
+ghost use Rattle.room_state.specs.Queues.{at_most, completed, not_completed};
+ghost use Rattle.room_store.specs.Prelude.{HoldsRoom, IfOurTables, LooksUp, RoomValue};
+ghost use Rattle.room_store.specs.Questions.{OwnerPageIsReadable, StatementPageIsReadable, TellsAbout};
+ghost use Rattle.room_store.specs.Reading.{JobsAreReadable};
+
+use crate::account_questions::{read_quota, read_statement};
+use ipp_coding::List;
+use room_events::{Job, Name, Reply};
+use room_pages::{Outcome, Owner};
+use room_questions::{MOST_SHOWN, owner_page, statement_page, statement_with};
+use room_statements::{ended_jobs, list_devices, unfinished_jobs};
+use room_tables::TableFault;
+use sqlite::{Alter, Connection};
+use std::alloc::Global;
+
+/// Tells the page of the account's owner.
+pub(crate) fn tell_owner_page<S: Alter>(
+    alloc: Global,
+    connection: &mut Connection<S>,
+    account: Name,
+    month: u32,
+    outcome: Option<Outcome>,
+    stays: bool,
+) -> Result<Reply, TableFault>
+    ensures told { TellsAbout S.Store connection.old connection.new account
+        (about.OwnerPage month outcome stays) result }
+    ensures damaged { IfOurTables S.Store connection.old connection.new
+        (λ db. result ≡ Err TableFault.Damaged → OwnerPageIsReadable account month db → ⊥) }
+    ensures looks { LooksUp S.Store connection.old connection.new result }
+{
+    let quota = read_quota(connection, account, month)?;
+    let (waiting, ended) = read_jobs(alloc, connection, account)?;
+    let devices = list_devices(alloc, connection)?;
+    let owner = Owner {
+        account,
+        month,
+        granted: quota.granted,
+        reserved: quota.reserved,
+        charged: quota.charged,
+        waiting,
+        ended,
+        devices,
+        outcome,
+        stays,
+    };
+    Ok(Reply::Line(owner_page(alloc, &owner)?))
+}
+
+/// The jobs that have not ended, and the last that have.
+fn read_jobs<S: Alter>(
+    alloc: Global,
+    connection: &mut Connection<S>,
+    account: Name,
+) -> Result<(List<Job>, List<Job>), TableFault>
+    ensures told { IfOurTables S.Store connection.old connection.new (λ db.
+        (room : RoomValue) → HoldsRoom db account room → IfOk result (λ jobs.
+        (jobs.0 ≡ not_completed (values room.jobs))
+        × (jobs.1 ≡ at_most (Some most_shown) (completed (values room.jobs))))) }
+    ensures damaged { IfOurTables S.Store connection.old connection.new (λ db.
+        result ≡ Err TableFault.Damaged → JobsAreReadable account NotCompleted None db
+        → JobsAreReadable account Completed (Some most_shown) db → ⊥) }
+    ensures looks { LooksUp S.Store connection.old connection.new result }
+{
+    let waiting = unfinished_jobs(alloc, connection, account, None)?;
+    let ended = ended_jobs(alloc, connection, account, Some(MOST_SHOWN))?;
+    Ok((waiting, ended))
+}
+
+/// Tells the statement of a month for paper.
+pub(crate) fn tell_statement_page<S: Alter>(
+    alloc: Global,
+    connection: &mut Connection<S>,
+    account: Name,
+    month: u32,
+    drawn_up: u64,
+) -> Result<Reply, TableFault>
+    ensures told { TellsAbout S.Store connection.old connection.new account
+        (about.StatementPage month drawn_up) result }
+    ensures damaged { IfOurTables S.Store connection.old connection.new
+        (λ db. result ≡ Err TableFault.Damaged → StatementPageIsReadable account month db → ⊥) }
+    ensures looks { LooksUp S.Store connection.old connection.new result }
+{
+    let (granted, summary) = read_statement(connection, account, month)?;
+    let ended = ended_jobs(alloc, connection, account, None)?;
+    let statement = statement_with(account, month, drawn_up, granted, summary, ended);
+    Ok(Reply::Line(statement_page(alloc, &statement)?))
+}

@@ -1,0 +1,4 @@
+pub mod FewDigits
+pub mod FieldLists
+pub mod ForeignForms
+pub mod PageCalls

@@ -1,0 +1,16 @@
+pub mod Parts
+pub mod Numbers
+pub mod Words
+pub mod Came
+pub mod Places
+pub mod Refusals
+pub mod Queries
+pub mod Requests
+pub mod Messages
+pub mod Questions
+pub mod Told
+pub mod Fields
+pub mod Responses
+pub mod Answers
+pub mod Laws
+pub mod ProofPages

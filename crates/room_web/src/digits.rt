@@ -1,0 +1,63 @@
+//! Numbers in digits.
+ghost use Rattle.std.specs.Prelude.{◌≡◌, ◌≤◌, ◌<◌, length, IfSome, IsTrue};
+ghost use Rattle.std.specs.Char.{is_ascii_digit};
+ghost use Rattle.std.specs.List.{list_all};
+ghost use Rattle.std.specs.Str.Parse.{digits_value};
+ghost use Rattle.room_web.specs.Numbers.{is_number, large_said, number_said};
+
+use room_requests::are_digits;
+
+/// The number that 1 to 8 digits write, and `None` of anything else.
+pub(crate) fn number(digits: &[u8]) -> Option<u32>
+    ensures { result ≡ number_said digits.now }
+{
+    if is_number(8, digits) {
+        Some(number_of(digits))
+    } else {
+        None
+    }
+}
+
+/// The number that 1 to 18 digits write.
+pub(crate) fn large_number(digits: &[u8]) -> Option<u64>
+    ensures said { result ≡ large_said digits.now }
+    ensures within { IfSome result (λ number. number < 1000000000000000000) }
+{
+    if is_number(18, digits) {
+        Some(large_number_of(digits))
+    } else {
+        None
+    }
+}
+
+fn is_number(most: usize, digits: &[u8]) -> bool
+    ensures { result ≡ is_number most digits.now }
+{
+    !digits.is_empty() && digits.len() <= most && are_digits(digits)
+}
+
+/// The number that a few digits write.
+fn number_of(digits: &[u8]) -> u32
+    requires are_digits { IsTrue (list_all is_ascii_digit digits.now) }
+    requires few { length digits.now ≤ 8 }
+    ensures { result ≡ digits_value 10 digits.now }
+{
+    let mut number = 0;
+    for digit in digits {
+        number = number * 10 + u32::from(*digit - b'0');
+    }
+    number
+}
+
+fn large_number_of(digits: &[u8]) -> u64
+    requires are_digits { IsTrue (list_all is_ascii_digit digits.now) }
+    requires few { length digits.now ≤ 18 }
+    ensures value { result ≡ digits_value 10 digits.now }
+    ensures within { result < 1000000000000000000 }
+{
+    let mut number = 0;
+    for digit in digits {
+        number = number * 10 + u64::from(*digit - b'0');
+    }
+    number
+}

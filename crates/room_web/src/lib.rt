@@ -1,0 +1,24 @@
+//! What a browser asks over HTTP: the pages of accounts and of the print room, acts on jobs and files
+//! that are to be printed, each of which is one message of IPP. A form that another site may have
+//! sent does nothing.
+#![tactic(auto)]
+
+mod answer;
+mod asked;
+mod came;
+mod digits;
+mod fields;
+mod laws;
+mod message;
+mod pages;
+mod place;
+mod query;
+mod questions;
+mod refusal;
+mod replaced;
+mod told;
+mod turn;
+mod word;
+
+pub use laws::{foreign_forms_do_nothing, without_origin_nothing_is_applied};
+pub use turn::drive_pages;
