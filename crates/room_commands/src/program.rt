@@ -69,8 +69,8 @@ where
     match Command::read(alloc, words)? {
         Command::Help { text } => Ok(print_text(output, text.as_str())?),
         Command::Explain => explain(alloc, input, output),
-        Command::Create { database } => make(opener, database, Begin::Create, output),
-        Command::Migrate { database } => make(opener, database, Begin::Migrate, output),
+        Command::Create { database } => make(alloc, opener, database, Begin::Create, output),
+        Command::Migrate { database } => make(alloc, opener, database, Begin::Migrate, output),
         Command::Open { database, account } => {
             let action = Action::Open { account };
             run_now(alloc, now, opener, database, action, output)
@@ -108,13 +108,19 @@ fn explain<R: Read + Drop, W: Write>(alloc: Global, input: R, output: &mut W) ->
 }
 
 // The tables, made or brought up to date.
-fn make<S, F, W>(opener: F, database: &str, how: Begin, output: &mut W) -> Result<(), Fault>
+fn make<S, F, W>(
+    alloc: Global,
+    opener: F,
+    database: &str,
+    how: Begin,
+    output: &mut W,
+) -> Result<(), Fault>
 where
     S: Alter + Drop,
     F: Opener<Kept = Connection<S>> + Drop,
     W: Write,
 {
-    prepare(opener, database, how)?;
+    prepare(alloc, opener, database, how)?;
     Ok(print_text(output, "ok\n")?)
 }
 

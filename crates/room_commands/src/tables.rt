@@ -15,21 +15,24 @@ use sqlite::{Alter, Connection};
 use std::alloc::Global;
 
 /// How a command comes by the tables of its database: it makes them, brings them up to date, or
-/// finds them. In memory they are always made, since no run before can have made them.
+/// finds them. Who serves opens the file anew, so that what accounts were charged can be kept in
+/// memory. Those of `:memory:` are always made, since no run before can have made them.
 #[derive(Clone, Copy)]
 pub enum Begin {
     Create,
     Migrate,
     Open,
+    Serve,
 }
 
 /// Opens the database, comes by its tables as `how` says, and closes it.
 pub fn prepare<S: Alter + Drop, F: Opener<Kept = Connection<S>> + Drop>(
+    alloc: Global,
     mut opener: F,
     database: &str,
     how: Begin,
 ) -> Result<(), Fault> {
-    let store = store_of(&mut opener, database, how)?;
+    let store = store_of(alloc, &mut opener, database, how)?;
     opener.close(store.close());
     Ok(())
 }
@@ -46,7 +49,7 @@ pub fn outcomes_of<S: Alter + Drop, F: Opener<Kept = Connection<S>> + Drop>(
         × AreApplied S.Store (map plain_timed events.now) outcomes.items old new) }
     ensures each { IfOk result (λ outcomes. length outcomes.items ≡ length events.now) }
 {
-    let mut store = store_of(&mut opener, database, Begin::Open)?;
+    let mut store = store_of(alloc, &mut opener, database, Begin::Open)?;
     let outcomes = run_events(alloc, &mut store, events);
     opener.close(store.close());
     Ok(outcomes?)
@@ -61,8 +64,9 @@ pub fn first_failure(outcomes: &[Outcome]) -> Option<Fault> {
 }
 
 /// The store that a command works on. The tables of `:memory:` are made whatever `how` says; after
-/// a refusal the opener has its connection back.
+/// a refusal the opener has its connection back, unless the file could not be opened anew.
 pub fn store_of<S: Alter + Drop, F: Opener<Kept = Connection<S>>>(
+    alloc: Global,
     opener: &mut F,
     database: &str,
     how: Begin,
@@ -72,10 +76,16 @@ pub fn store_of<S: Alter + Drop, F: Opener<Kept = Connection<S>>>(
         Begin::Create => Store::create(connection),
         _ if database == MEMORY => Store::create(connection),
         Begin::Migrate => Store::migrate(connection),
-        Begin::Open => Store::open(connection),
+        Begin::Open | Begin::Serve => Store::open(connection),
     };
     match store {
-        Ok(store) => Ok(store),
+        Ok(store) => {
+            if matches!(how, Begin::Serve) && database != MEMORY {
+                Ok(store.reopen(alloc)?)
+            } else {
+                Ok(store)
+            }
+        }
         Err(Refused { connection, fault }) => {
             opener.close(connection);
             Err(Fault::from(fault))

@@ -12,15 +12,16 @@ use crate::grants::copy_grants;
 use crate::jobs::copy_jobs;
 use crate::slices::Progress;
 use room_rules::Name;
-use room_statements::{TableFault, find_account, set_account};
-use sqlite::{Alter, Connection, Savepoint};
+use room_statements::{TableFault, set_account};
+use room_store::{Rounds, find_account};
+use sqlite::{Alter, Savepoint};
 use std::alloc::Global;
 
 /// Copies the account's own row and its first jobs, and if these are all of them, its grants, inside
 /// a savepoint. An account that is not in the source is not in the copy either, and is done.
 pub(crate) fn begin_account<S: Alter, T: Alter>(
     alloc: Global,
-    source: &mut Connection<S>,
+    source: &mut Rounds<S>,
     savepoint: &mut Savepoint<'_, T>,
     account: Name,
     most: Option<u32>,
@@ -44,7 +45,7 @@ pub(crate) fn begin_account<S: Alter, T: Alter>(
 /// grants, inside a savepoint.
 pub(crate) fn go_on<S: Alter, T: Alter>(
     alloc: Global,
-    source: &mut Connection<S>,
+    source: &mut Rounds<S>,
     savepoint: &mut Savepoint<'_, T>,
     account: Name,
     next: u32,

@@ -9,14 +9,15 @@ ghost use Rattle.room_tables.specs.Calls.{Changes, IfOurTables, ReadsStore, Writ
 ghost use Rattle.room_tables.specs.declared.fault.TableFault.TheVariants.{Damaged};
 
 use room_rules::Device;
-use room_statements::{TableFault, list_devices, set_device, set_rate};
-use sqlite::{Alter, Connection, Error, Savepoint};
+use room_statements::{TableFault, set_device, set_rate};
+use room_store::{Rounds, list_devices};
+use sqlite::{Alter, Error, Savepoint};
 use std::alloc::Global;
 
 /// Copies the devices with their rates as they are in the source now, inside a savepoint.
 pub(crate) fn copy_devices<S: Alter, T: Alter>(
     alloc: Global,
-    source: &mut Connection<S>,
+    source: &mut Rounds<S>,
     savepoint: &mut Savepoint<'_, T>,
 ) -> Result<(), TableFault>
     ensures copies { Changes T.Store savepoint.old.conn.now savepoint.new.conn.now result

@@ -12,14 +12,15 @@ ghost use Rattle.room_tables.specs.Tables.{document as document_table};
 ghost use Rattle.room_tables.specs.declared.fault.TableFault.TheVariants.{Damaged};
 
 use room_rules::{Document, Name};
-use room_statements::{TableFault, add_document, find_documents};
-use sqlite::{Alter, Connection, Savepoint};
+use room_statements::{TableFault, add_document};
+use room_store::{Rounds, find_documents};
+use sqlite::{Alter, Savepoint};
 use std::alloc::Global;
 
 /// Copies the documents of a job of the account, inside a savepoint. It answers whether it has any.
 pub(crate) fn copy_documents<S: Alter, T: Alter>(
     alloc: Global,
-    source: &mut Connection<S>,
+    source: &mut Rounds<S>,
     savepoint: &mut Savepoint<'_, T>,
     account: Name,
     job: u32,

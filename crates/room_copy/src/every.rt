@@ -8,6 +8,7 @@ ghost use Rattle.room_tables.specs.declared.fault.TableFault.TheVariants.{Damage
 
 use crate::slices::{Progress, copy_slice};
 use room_statements::TableFault;
+use room_store::Rounds;
 use sqlite::{Alter, Connection};
 use std::alloc::Global;
 
@@ -17,7 +18,7 @@ use std::alloc::Global;
 /// the source are not sound; `Storage`, that a disk failed, or that the copy's tables are not new.
 pub fn copy_all<S: Alter, T: Alter>(
     alloc: Global,
-    source: &mut Connection<S>,
+    source: &mut Rounds<S>,
     copy: &mut Connection<T>,
 ) -> Result<(), TableFault>
     ensures copies { Changes T.Store copy.old copy.new result (λ before after.

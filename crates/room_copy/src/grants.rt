@@ -9,14 +9,15 @@ ghost use Rattle.room_tables.specs.Calls.{Changes, IfOurTables, ReadsStore};
 ghost use Rattle.room_tables.specs.declared.fault.TableFault.TheVariants.{Damaged};
 
 use room_rules::{Grant, Name};
-use room_statements::{TableFault, list_grants, set_grant};
-use sqlite::{Alter, Connection, Error, Savepoint};
+use room_statements::{TableFault, set_grant};
+use room_store::{Rounds, list_grants};
+use sqlite::{Alter, Error, Savepoint};
 use std::alloc::Global;
 
 /// Copies the grants of the account, inside a savepoint.
 pub(crate) fn copy_grants<S: Alter, T: Alter>(
     alloc: Global,
-    source: &mut Connection<S>,
+    source: &mut Rounds<S>,
     savepoint: &mut Savepoint<'_, T>,
     account: Name,
 ) -> Result<(), TableFault>

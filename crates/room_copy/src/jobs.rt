@@ -15,15 +15,16 @@ ghost use Rattle.room_tables.specs.declared.fault.TableFault.TheVariants.{Damage
 
 use crate::documents::copy_documents;
 use room_rules::{Job, Name};
-use room_statements::{TableFault, add_job, find_job};
-use sqlite::{Alter, Connection, Savepoint};
+use room_statements::{TableFault, add_job};
+use room_store::{Rounds, find_job};
+use sqlite::{Alter, Savepoint};
 use std::alloc::Global;
 
 /// Copies the jobs of the account from the number `first` on that come before `next`, so many at most
 /// and none behind one with documents, inside a savepoint. It answers the number that comes next.
 pub(crate) fn copy_jobs<S: Alter, T: Alter>(
     alloc: Global,
-    source: &mut Connection<S>,
+    source: &mut Rounds<S>,
     savepoint: &mut Savepoint<'_, T>,
     account: Name,
     first: u32,
@@ -59,7 +60,7 @@ fn is_enough(most: Option<u32>, jobs: u32, has_documents: bool) -> bool {
 /// savepoint. It answers whether it has documents.
 fn copy_job<S: Alter, T: Alter>(
     alloc: Global,
-    source: &mut Connection<S>,
+    source: &mut Rounds<S>,
     savepoint: &mut Savepoint<'_, T>,
     account: Name,
     number: u32,

@@ -12,7 +12,8 @@ ghost use Rattle.room_tables.specs.declared.fault.TableFault.TheVariants.{Damage
 use crate::accounts::{begin_account, go_on};
 use crate::devices::copy_devices;
 use room_rules::Name;
-use room_statements::{TableFault, next_accounts};
+use room_statements::TableFault;
+use room_store::{Rounds, next_accounts};
 use sqlite::{Alter, Connection, Savepoint};
 use std::alloc::Global;
 
@@ -40,7 +41,7 @@ pub enum Progress {
 /// memory at a time.
 pub fn copy_slice<S: Alter, T: Alter>(
     alloc: Global,
-    source: &mut Connection<S>,
+    source: &mut Rounds<S>,
     copy: &mut Connection<T>,
     progress: &Progress,
     most: Option<u32>,
@@ -61,7 +62,7 @@ pub fn copy_slice<S: Alter, T: Alter>(
 /// Does the next slice, inside a savepoint.
 fn copy_part<S: Alter, T: Alter>(
     alloc: Global,
-    source: &mut Connection<S>,
+    source: &mut Rounds<S>,
     savepoint: &mut Savepoint<'_, T>,
     progress: &Progress,
     most: Option<u32>,
@@ -91,7 +92,7 @@ fn copy_part<S: Alter, T: Alter>(
 /// a savepoint.
 fn copy_next<S: Alter, T: Alter>(
     alloc: Global,
-    source: &mut Connection<S>,
+    source: &mut Rounds<S>,
     savepoint: &mut Savepoint<'_, T>,
     last: Option<Name>,
     most: Option<u32>,
@@ -115,7 +116,7 @@ fn copy_next<S: Alter, T: Alter>(
 /// The account that comes behind the last one, if one does.
 fn next_account<S: Alter>(
     alloc: Global,
-    source: &mut Connection<S>,
+    source: &mut Rounds<S>,
     last: Option<Name>,
 ) -> Result<Option<Name>, TableFault>
     ensures next { IfOurTables S.Store source.old source.new

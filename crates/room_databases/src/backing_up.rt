@@ -8,6 +8,7 @@ use crate::placing::{
 };
 use room_client::{ClientFault, Peer};
 use room_commands::{BackingUp, Fault};
+use room_store::Rounds;
 use sqlite::{Alter, Connection};
 use std::io::{BufRead, Write};
 
@@ -91,7 +92,7 @@ fn ask_part<S, K, R, W>(
     peer: &mut Peer<R, W>,
     part: &str,
     file: &str,
-) -> Result<Connection<S>, Failed>
+) -> Result<Rounds<S>, Failed>
 where
     S: Alter + Drop,
     K: Keeper<Kept = Connection<S>>,

@@ -7,8 +7,8 @@ use crate::placing::{
 };
 use room_commands::{Copying, Fault};
 use room_copy::copy_all;
-use room_statements::{TableFault, next_accounts};
-use room_store::Store;
+use room_statements::TableFault;
+use room_store::{Rounds, Store, next_accounts};
 use sqlite::{Alter, Connection};
 use std::io::Write;
 
@@ -40,7 +40,7 @@ fn perform<S: Alter + Drop, K: Keeper<Kept = Connection<S>>, W: Write>(
     let part = at(Place::Part, part_of(rt, asked.file))?;
     let mut source = at(Place::Source, open_tables(rt, keeper, asked.database))?;
     let copied = copy_from(rt, keeper, &mut source, part.as_str(), asked.file);
-    let _ = keeper.close(source);
+    let _ = keeper.close(source.close());
     copied?;
     at(Place::File, print_ok(output))
 }
@@ -48,7 +48,7 @@ fn perform<S: Alter + Drop, K: Keeper<Kept = Connection<S>>, W: Write>(
 fn copy_from<S: Alter + Drop, K: Keeper<Kept = Connection<S>>>(
     rt: &HostRuntime,
     keeper: &K,
-    source: &mut Connection<S>,
+    source: &mut Rounds<S>,
     part: &str,
     file: &str,
 ) -> Result<(), Failed> {
@@ -63,7 +63,7 @@ fn copy_from<S: Alter + Drop, K: Keeper<Kept = Connection<S>>>(
 fn make_and_place<S: Alter + Drop, K: Keeper<Kept = Connection<S>>>(
     rt: &HostRuntime,
     keeper: &K,
-    source: &mut Connection<S>,
+    source: &mut Rounds<S>,
     older: Option<Connection<S>>,
     part: &str,
     file: &str,
@@ -77,9 +77,9 @@ fn make_and_place<S: Alter + Drop, K: Keeper<Kept = Connection<S>>>(
 fn make_part<S: Alter + Drop, K: Keeper<Kept = Connection<S>>>(
     rt: &HostRuntime,
     keeper: &K,
-    source: &mut Connection<S>,
+    source: &mut Rounds<S>,
     part: &str,
-) -> Result<Connection<S>, Failed> {
+) -> Result<Rounds<S>, Failed> {
     let mut copy = at(Place::Part, new_tables(rt, keeper, part))?;
     let copied = copy_all(rt.alloc(), source, &mut copy);
     let closed = keeper.close(copy);
@@ -98,16 +98,12 @@ fn new_tables<S: Alter + Drop, K: Keeper<Kept = Connection<S>>>(
 ) -> Result<Connection<S>, Fault> {
     remove_database(rt, keeper, part)?;
     let connection = keeper.open(part)?;
-    tables_of(keeper, Store::create(connection))
+    Ok(tables_of(keeper, Store::create(connection))?.close())
 }
 
 /// Where copying failed. Damaged rows are the database's. Where a disk failed the database answers
 /// no more, or it is the other one.
-fn failed_copy<S: Alter>(
-    rt: &HostRuntime,
-    source: &mut Connection<S>,
-    fault: TableFault,
-) -> Failed {
+fn failed_copy<S: Alter>(rt: &HostRuntime, source: &mut Rounds<S>, fault: TableFault) -> Failed {
     let (place, fault) = match fault {
         TableFault::Memory => (Place::Part, Fault::Memory),
         TableFault::Damaged => (Place::Source, Fault::Store),

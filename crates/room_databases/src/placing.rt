@@ -5,7 +5,7 @@ ghost use Rattle.room_commands.specs.Statuses.{exit_status_of};
 
 use crate::file::connect;
 use room_commands::{Fault, MEMORY, print_text};
-use room_store::{Refused, Store};
+use room_store::{Refused, Rounds, Store};
 use sqlite::{Alter, Connection, File, FileStore};
 use std::fmt::Display;
 use std::io::{ErrorKind, Write};
@@ -92,12 +92,12 @@ fn log_of(rt: &HostRuntime, path: &str) -> Result<String, Fault> {
     Ok(format!(in rt.alloc(); "{path}-wal")?)
 }
 
-/// A connection to a database that is there, whose tables are the store's.
+/// The tables of a database that is there, which are the store's.
 pub(crate) fn open_tables<S: Alter + Drop, K: Keeper<Kept = Connection<S>>>(
     rt: &HostRuntime,
     keeper: &K,
     path: &str,
-) -> Result<Connection<S>, Fault> {
+) -> Result<Rounds<S>, Fault> {
     if is_free(rt, path) {
         return Err(Fault::Store);
     }
@@ -105,13 +105,13 @@ pub(crate) fn open_tables<S: Alter + Drop, K: Keeper<Kept = Connection<S>>>(
     tables_of(keeper, Store::open(connection))
 }
 
-/// The connection of a store, or of what is none, which is closed.
+/// The tables of a store, or of what is none, whose connection is closed.
 pub(crate) fn tables_of<S: Alter + Drop, K: Keeper<Kept = Connection<S>>>(
     keeper: &K,
     store: Result<Store<S>, Refused<S>>,
-) -> Result<Connection<S>, Fault> {
+) -> Result<Rounds<S>, Fault> {
     match store {
-        Ok(store) => Ok(store.close()),
+        Ok(store) => Ok(Rounds::over(store)),
         Err(Refused { connection, fault }) => {
             let _ = keeper.close(connection);
             Err(Fault::from(fault))

@@ -1,5 +1,5 @@
 -- A step of what is gathered, by what its read says.
-use Rattle.std.proofs.Common.{◌≡◌, ◌≤◌, ◌<◌, ℕ, List, Option, Some, None, Bor, MatchOption, HoldsAt, IfSome, Result, Ok, Err, IfOk, get_or, length, slice_get, refl, sym, subst}
+use Rattle.std.proofs.Common.{◌≡◌, ◌≤◌, ◌<◌, ℕ, List, Option, Some, None, Bor, MatchOption, HoldsAt, IfSome, Result, Ok, Err, IfOk, get_or, length, slice_get, refl, sym}
 use Rattle.std.proofs.lemmas.Option.{slice_get_past, slice_get_read}
 use Rattle.std.specs.Option.{option_copied}
 use Rattle.std.specs.FinMap.{values}
@@ -26,19 +26,19 @@ pub got : {X : Type 0} (lent : Option (Bor X)) (xs : List X) (i : ℕ) → IfSom
 got None xs i is at = sym (slice_get_past xs i at)
 got (Some x) xs i is at = sym (slice_get_read xs (length xs) i x.now refl at.0 is)
 
--- the connection is lent as it is
-module _ {S : Type 0} (store : Ghosts S) (old lent new : Held S) where
-  pub devices_told : (r : Result (List Device) TableFault) → lent ≡ old → IfOurTables store lent new (λ db. (devices : Devices) → HoldsDevices db devices → IfOk r (λ listed. listed ≡ values devices)) → IfOk r (λ listed. AreDevices store listed old new)
-  devices_told (Ok listed) same told = subst (λ (held : Held S). AreDevices store listed held new) same told
-  devices_told (Err fault) same told = tt
+-- where a read answers
+module _ {S : Type 0} (store : Ghosts S) (old new : Held S) where
+  pub devices_told : (r : Result (List Device) TableFault) → IfOurTables store old new (λ db. (devices : Devices) → HoldsDevices db devices → IfOk r (λ listed. listed ≡ values devices)) → IfOk r (λ listed. AreDevices store listed old new)
+  devices_told (Ok listed) told = told
+  devices_told (Err fault) told = tt
 
-  pub names_told : (behind : Option (List ℕ)) (r : Result (List (List ℕ)) TableFault) → lent ≡ old → IfOurTables store lent new (λ db. (names : List (List ℕ)) → OpenNames db names → IfOk r (λ next. next ≡ next_names behind names)) → IfOk r (λ found. AreNext store behind found old new)
-  names_told behind (Ok found) same told = subst (λ (held : Held S). AreNext store behind found held new) same told
-  names_told behind (Err fault) same told = tt
+  pub names_told : (behind : Option (List ℕ)) (r : Result (List (List ℕ)) TableFault) → IfOurTables store old new (λ db. (names : List (List ℕ)) → OpenNames db names → IfOk r (λ next. next ≡ next_names behind names)) → IfOk r (λ found. AreNext store behind found old new)
+  names_told behind (Ok found) told = told
+  names_told behind (Err fault) told = tt
 
-  pub survey_told : (month : ℕ) (account : List ℕ) (r : Result Survey TableFault) → lent ≡ old → IfOurTables store lent new (λ db. (room : RoomValue) → HoldsRoom db account room → IfOk r (IsSurvey month room)) → IfOk r (λ survey. Surveys store month account survey old new)
-  survey_told month account (Ok survey) same told = subst (λ (held : Held S). Surveys store month account survey held new) same told
-  survey_told month account (Err fault) same told = tt
+  pub survey_told : (month : ℕ) (account : List ℕ) (r : Result Survey TableFault) → IfOurTables store old new (λ db. (room : RoomValue) → HoldsRoom db account room → IfOk r (IsSurvey month room)) → IfOk r (λ survey. Surveys store month account survey old new)
+  survey_told month account (Ok survey) told = told
+  survey_told month account (Err fault) told = tt
 
-  pub damaged_told : (month : ℕ) (account : List ℕ) (r : Result Survey TableFault) → lent ≡ old → IfOurTables store lent new (λ db. r ≡ Err Damaged → SurveyIsReadable account month db → ⊥) → r ≡ Err Damaged → IsDamaged store month account old new
-  damaged_told month account r same told is = subst (λ (held : Held S). IsDamaged store month account held new) same (λ clean has. told clean has is)
+  pub damaged_told : (month : ℕ) (account : List ℕ) (r : Result Survey TableFault) → IfOurTables store old new (λ db. r ≡ Err Damaged → SurveyIsReadable account month db → ⊥) → r ≡ Err Damaged → IsDamaged store month account old new
+  damaged_told month account r told is clean has = told clean has is

@@ -26,10 +26,16 @@ pub struct Copied<T: Alter> {
 }
 
 /// Who makes the files of copies, and the copy that is under way.
-#[derive(Drop)]
 pub struct Copies<T: Alter, K> {
     pub(crate) maker: K,
     pub(crate) copy: Option<Copied<T>>,
+}
+
+// In the place of `#[derive(Drop)]`, so that no caller proves again how each part is dropped.
+impl<T: Alter + Drop, K: Drop> Drop for Copies<T, K> {
+    fn drop(self) {
+        let Copies { maker: _, copy: _ } = self;
+    }
 }
 
 /// What a slice has come to.
@@ -184,5 +190,5 @@ fn slice_on<S: Alter, T: Alter>(
     } else {
         progress
     };
-    copy_slice(alloc, source.connection(), rows, &from, most)
+    copy_slice(alloc, source, rows, &from, most)
 }

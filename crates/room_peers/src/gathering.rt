@@ -8,9 +8,7 @@ ghost use Rattle.room_peers.specs.Gathering.{asked_at, gathered_then, is_fresh, 
 use ipp_coding::List;
 use room_overview::{Overview, Survey};
 use room_rules::{Device, LAST_MONTH, Moment, Name, month_of};
-use room_statements::{list_devices, next_accounts};
-use room_store::Rounds;
-use room_survey::survey;
+use room_store::{Rounds, list_devices, next_accounts, survey};
 use room_tables::TableFault;
 use sqlite::Alter;
 use std::alloc::Global;
@@ -19,20 +17,38 @@ use std::alloc::Global;
 const FRESH: u64 = 10;
 
 /// What the print room's page shows, and what is gathered for it.
-#[derive(Drop)]
 pub struct Gathered {
     /// What was gathered last, if something was.
     pub(crate) shown: Overview,
     pub(crate) under_way: Option<Gathering>,
 }
 
+// In the place of `#[derive(Drop)]`, so that no caller proves again how each part is dropped.
+impl Drop for Gathered {
+    fn drop(self) {
+        let Gathered {
+            shown: _,
+            under_way: _,
+        } = self;
+    }
+}
+
 /// What is gathered, and how far it is.
-#[derive(Drop)]
 pub enum Gathering {
     /// Since this moment it is asked for.
     Begun(Moment),
     /// The devices are known, and accounts are added.
     Adds(Adding),
+}
+
+// In the place of `#[derive(Drop)]`, so that no caller proves again how each part is dropped.
+impl Drop for Gathering {
+    fn drop(self) {
+        match self {
+            Gathering::Begun(_) => {}
+            Gathering::Adds(_) => {}
+        }
+    }
 }
 
 /// An overview to which accounts are added, by their names.
@@ -239,7 +255,7 @@ fn read_devices<S: Alter>(alloc: Global, rounds: &mut Rounds<S>) -> Result<List<
     if rounds.is_under_way() {
         return Err(TableFault::Storage);
     }
-    list_devices(alloc, rounds.connection())
+    list_devices(alloc, rounds)
 }
 
 fn read_names<S: Alter>(
@@ -253,7 +269,7 @@ fn read_names<S: Alter>(
     if rounds.is_under_way() {
         return Err(TableFault::Storage);
     }
-    next_accounts(alloc, rounds.connection(), behind)
+    next_accounts(alloc, rounds, behind)
 }
 
 fn read_account<S: Alter>(
@@ -272,5 +288,5 @@ fn read_account<S: Alter>(
     if rounds.is_under_way() {
         return Err(TableFault::Storage);
     }
-    survey(alloc, rounds.connection(), account, month)
+    survey(alloc, rounds, account, month)
 }

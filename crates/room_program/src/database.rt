@@ -35,7 +35,7 @@ where
     T: Front,
     W: Write,
 {
-    let store = store_of(&mut opener, database, Begin::Open)?;
+    let store = store_of(rt.alloc(), &mut opener, database, Begin::Serve)?;
     let (connection, served) = front.serve(rt, store, output);
     opener.close(connection);
     served

@@ -67,7 +67,6 @@ impl Peer {
 }
 
 /// A peer that came in by a door.
-#[derive(Drop)]
 pub(crate) struct Guest {
     stream: Stream,
     peer: Peer,
@@ -77,6 +76,19 @@ pub(crate) struct Guest {
     asked: Option<Entry>,
     /// Its turns so far, each with what came of it. They take no memory: only proofs read them.
     turns: Log<Turn, Next>,
+}
+
+// In the place of `#[derive(Drop)]`, so that no caller proves again how each part is dropped.
+impl Drop for Guest {
+    fn drop(self) {
+        let Guest {
+            stream: _,
+            peer: _,
+            door: _,
+            asked: _,
+            turns: _,
+        } = self;
+    }
 }
 
 impl Guest {

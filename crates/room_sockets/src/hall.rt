@@ -50,7 +50,6 @@ pub struct Hall {
 }
 
 /// The peers of all doors, and what it takes to serve them.
-#[derive(Drop)]
 pub(crate) struct Peers {
     pub(crate) alloc: Global,
     pub(crate) keys: RandomState,
@@ -68,6 +67,25 @@ pub(crate) struct Peers {
     /// Whether a browser had its turn in the pass. What others ask waits for the next, so that
     /// nobody who prints waits for more than one page.
     has_shown: bool,
+}
+
+// In the place of `#[derive(Drop)]`, so that no caller proves again how each part is dropped.
+impl Drop for Peers {
+    fn drop(self) {
+        let Peers {
+            alloc: _,
+            keys: _,
+            poll: _,
+            entrances: _,
+            guests: _,
+            most_guests: _,
+            stock: _,
+            pace: _,
+            dropped_late_at: _,
+            receives: _,
+            has_shown: _,
+        } = self;
+    }
 }
 
 impl Hall {

@@ -11,19 +11,19 @@ ghost use Rattle.room_store.specs.Questions.{GrantsAreReadable, StatementIsReada
 ghost use Rattle.room_store.specs.Prelude.{HoldsRoom, IfOurTables, LooksUp, RoomValue};
 ghost use Rattle.room_store.specs.Reading.{JobsAreReadable};
 
+use crate::rounds::Rounds;
+use crate::rounds::lists::{list_grants, summarize};
+use crate::rounds::reads::{ended_jobs, granted_to, tally_jobs, unfinished_jobs};
 use room_events::{Name, Reply};
 use room_questions::{Summary, grants_lines, jobs_lines, quota_line, statement_line};
-use room_statements::{
-    ended_jobs, granted_to, list_grants, summarize, tally_jobs, unfinished_jobs,
-};
 use room_tables::TableFault;
-use sqlite::{Alter, Connection};
+use sqlite::Alter;
 use std::alloc::Global;
 
 /// Tells the quota up to a month.
 pub(crate) fn tell_left<S: Alter>(
     alloc: Global,
-    connection: &mut Connection<S>,
+    connection: &mut Rounds<S>,
     account: Name,
     month: u32,
 ) -> Result<Reply, TableFault>
@@ -50,7 +50,7 @@ pub(crate) struct Quota {
 
 /// The quota up to a month.
 pub(crate) fn read_quota<S: Alter>(
-    connection: &mut Connection<S>,
+    connection: &mut Rounds<S>,
     account: Name,
     month: u32,
 ) -> Result<Quota, TableFault>
@@ -76,7 +76,7 @@ pub(crate) fn read_quota<S: Alter>(
 /// Tells the statement of a month.
 pub(crate) fn tell_statement<S: Alter>(
     alloc: Global,
-    connection: &mut Connection<S>,
+    connection: &mut Rounds<S>,
     account: Name,
     month: u32,
 ) -> Result<Reply, TableFault>
@@ -91,7 +91,7 @@ pub(crate) fn tell_statement<S: Alter>(
 
 /// What was granted up to a month, and what the jobs come to.
 pub(crate) fn read_statement<S: Alter>(
-    connection: &mut Connection<S>,
+    connection: &mut Rounds<S>,
     account: Name,
     month: u32,
 ) -> Result<(u64, Summary), TableFault>
@@ -112,7 +112,7 @@ pub(crate) fn read_statement<S: Alter>(
 /// Tells the jobs that have not ended.
 pub(crate) fn tell_jobs<S: Alter>(
     alloc: Global,
-    connection: &mut Connection<S>,
+    connection: &mut Rounds<S>,
     account: Name,
 ) -> Result<Reply, TableFault>
     ensures told { TellsAbout S.Store connection.old connection.new account about.Jobs result }
@@ -127,7 +127,7 @@ pub(crate) fn tell_jobs<S: Alter>(
 /// Tells the last jobs that have ended.
 pub(crate) fn tell_ended<S: Alter>(
     alloc: Global,
-    connection: &mut Connection<S>,
+    connection: &mut Rounds<S>,
     account: Name,
     most: u32,
 ) -> Result<Reply, TableFault>
@@ -143,7 +143,7 @@ pub(crate) fn tell_ended<S: Alter>(
 /// Tells the grants.
 pub(crate) fn tell_grants<S: Alter>(
     alloc: Global,
-    connection: &mut Connection<S>,
+    connection: &mut Rounds<S>,
     account: Name,
 ) -> Result<Reply, TableFault>
     ensures told { TellsAbout S.Store connection.old connection.new account about.Grants result }

@@ -9,15 +9,16 @@ ghost use Rattle.sqlite.specs.Held.{state};
 
 use crate::events::{answer_on_disk, is_short};
 use crate::fault::StoreFault;
+use crate::rounds::Rounds;
 use room_events::{Event, Moment, Reply};
-use sqlite::{Alter, Connection};
+use sqlite::Alter;
 use std::alloc::Global;
 
 /// Answers the event at the moment `now`, in seconds from 1970. `Moment` is looked at first;
 /// `Storage` tells also that a transaction is under way.
 pub(crate) fn apply_alone<S: Alter>(
     alloc: Global,
-    connection: &mut Connection<S>,
+    connection: &mut Rounds<S>,
     now: u64,
     e: &Event<'_>,
 ) -> Result<Reply, StoreFault>
@@ -37,7 +38,7 @@ pub(crate) fn apply_alone<S: Alter>(
 
 /// Whether no transaction is under way. Then, while the connection is open, what is seen is what
 /// was committed, and what a crash leaves. `Store::is_on_disk` says the same of a store.
-fn is_alone<S: Alter>(connection: &Connection<S>) -> bool
+fn is_alone<S: Alter>(connection: &Rounds<S>) -> bool
     ensures mode { result ≡ not (state S.Store connection.now).in_transaction }
     ensures settled { IsTrue result → IsTrue (state S.Store connection.now).is_open
         → (state S.Store connection.now).now ≡ (state S.Store connection.now).committed }

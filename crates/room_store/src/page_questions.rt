@@ -11,19 +11,21 @@ ghost use Rattle.room_store.specs.Questions.{OwnerPageIsReadable, StatementPageI
 ghost use Rattle.room_store.specs.Reading.{JobsAreReadable};
 
 use crate::account_questions::{read_quota, read_statement};
+use crate::rounds::Rounds;
+use crate::rounds::lists::list_devices;
+use crate::rounds::reads::{ended_jobs, unfinished_jobs};
 use ipp_coding::List;
 use room_events::{Job, Name, Reply};
 use room_pages::{Outcome, Owner};
 use room_questions::{MOST_SHOWN, owner_page, statement_page, statement_with};
-use room_statements::{ended_jobs, list_devices, unfinished_jobs};
 use room_tables::TableFault;
-use sqlite::{Alter, Connection};
+use sqlite::Alter;
 use std::alloc::Global;
 
 /// Tells the page of the account's owner.
 pub(crate) fn tell_owner_page<S: Alter>(
     alloc: Global,
-    connection: &mut Connection<S>,
+    connection: &mut Rounds<S>,
     account: Name,
     month: u32,
     outcome: Option<Outcome>,
@@ -56,7 +58,7 @@ pub(crate) fn tell_owner_page<S: Alter>(
 /// The jobs that have not ended, and the last that have.
 fn read_jobs<S: Alter>(
     alloc: Global,
-    connection: &mut Connection<S>,
+    connection: &mut Rounds<S>,
     account: Name,
 ) -> Result<(List<Job>, List<Job>), TableFault>
     ensures told { IfOurTables S.Store connection.old connection.new (λ db.
@@ -76,7 +78,7 @@ fn read_jobs<S: Alter>(
 /// Tells the statement of a month for paper.
 pub(crate) fn tell_statement_page<S: Alter>(
     alloc: Global,
-    connection: &mut Connection<S>,
+    connection: &mut Rounds<S>,
     account: Name,
     month: u32,
     drawn_up: u64,

@@ -15,22 +15,22 @@ ghost use Rattle.room_tables.specs.Accounts.{Holds};
 ghost use Rattle.room_tables.specs.Devices.{HoldsDevices};
 
 use crate::account_questions::{tell_ended, tell_grants, tell_jobs, tell_left, tell_statement};
-use crate::events::knock;
 use crate::page_questions::{tell_owner_page, tell_statement_page};
+use crate::rounds::Rounds;
+use crate::rounds::lists::{check_account, list_devices, next_accounts};
+use crate::rounds::reads::{find_account, knock};
 use crate::station_questions::{tell_again, tell_waiting};
 use crate::told::{refusing, telling};
-use room_checks::check_account;
 use room_events::{Name, Reply, Success, Word};
 use room_questions::{About, Question, accounts_lines, check_line, devices_lines};
-use room_statements::{find_account, list_devices, next_accounts};
 use room_tables::TableFault;
-use sqlite::{Alter, Connection};
+use sqlite::Alter;
 use std::alloc::Global;
 
 /// Answers a question.
 pub(crate) fn answer_question<S: Alter>(
     alloc: Global,
-    connection: &mut Connection<S>,
+    connection: &mut Rounds<S>,
     asked: Question,
 ) -> Result<Reply, TableFault>
     ensures told { IfOurTables S.Store connection.old connection.new (λ db. IfOk result (λ told.
@@ -53,7 +53,7 @@ pub(crate) fn answer_question<S: Alter>(
 }
 
 /// Tells `ok` where the tables can be asked.
-fn tell_ok<S: Alter>(alloc: Global, connection: &mut Connection<S>) -> Result<Reply, TableFault>
+fn tell_ok<S: Alter>(alloc: Global, connection: &mut Rounds<S>) -> Result<Reply, TableFault>
     ensures told { IfOk result (λ told. told ≡ reply.Line (codes "ok")) }
     ensures damaged { result ≡ Err TableFault.Damaged → ⊥ }
     ensures looks { LooksUp S.Store connection.old connection.new result }
@@ -64,10 +64,7 @@ fn tell_ok<S: Alter>(alloc: Global, connection: &mut Connection<S>) -> Result<Re
 }
 
 /// Tells the devices.
-fn tell_devices<S: Alter>(
-    alloc: Global,
-    connection: &mut Connection<S>,
-) -> Result<Reply, TableFault>
+fn tell_devices<S: Alter>(alloc: Global, connection: &mut Rounds<S>) -> Result<Reply, TableFault>
     ensures told { IfOurTables S.Store connection.old connection.new (λ db. IfOk result (λ told.
         (devices : Devices) → HoldsDevices db devices
         → told ≡ reply.Line (devices_text (values devices)))) }
@@ -83,7 +80,7 @@ fn tell_devices<S: Alter>(
 /// Tells the names of accounts that come next.
 fn tell_accounts<S: Alter>(
     alloc: Global,
-    connection: &mut Connection<S>,
+    connection: &mut Rounds<S>,
     behind: Option<Name>,
 ) -> Result<Reply, TableFault>
     ensures told { IfOurTables S.Store connection.old connection.new (λ db. IfOk result (λ told.
@@ -102,7 +99,7 @@ fn tell_accounts<S: Alter>(
 /// way.
 fn tell_check<S: Alter>(
     alloc: Global,
-    connection: &mut Connection<S>,
+    connection: &mut Rounds<S>,
     account: Name,
 ) -> Result<Reply, TableFault>
     ensures told { IfOurTables S.Store connection.old connection.new (λ db. IfOk result (λ told.
@@ -132,7 +129,7 @@ fn tell_check<S: Alter>(
 /// Tells what is asked about an account, where that is open.
 fn tell_account<S: Alter>(
     alloc: Global,
-    connection: &mut Connection<S>,
+    connection: &mut Rounds<S>,
     account: Name,
     about: About,
 ) -> Result<Reply, TableFault>
@@ -154,7 +151,7 @@ fn tell_account<S: Alter>(
 /// Tells what is asked about an account that is open.
 fn tell_about<S: Alter>(
     alloc: Global,
-    connection: &mut Connection<S>,
+    connection: &mut Rounds<S>,
     account: Name,
     about: About,
 ) -> Result<Reply, TableFault>

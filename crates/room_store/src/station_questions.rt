@@ -8,20 +8,20 @@ ghost use Rattle.room_store.specs.Questions.{AgainIsReadable, PrintedIsReadable,
 ghost use Rattle.room_store.specs.Prelude.{HoldsRoom, IfOurTables, LooksUp, RoomValue};
 ghost use Rattle.room_store.specs.Reading.{DocumentsAreReadable};
 
-use crate::lookup::look_up;
+use crate::rounds::Rounds;
+use crate::rounds::reads::{find_device, find_documents, look_up, unfinished_jobs};
 use crate::stations::parts;
 use crate::told::refusing;
 use room_events::{Job, Name, Reply, Word, known_device};
 use room_questions::{jobs_lines, printed_by, waiting_at};
-use room_statements::{find_device, find_documents, unfinished_jobs};
 use room_tables::TableFault;
-use sqlite::{Alter, Connection};
+use sqlite::Alter;
 use std::alloc::Global;
 
 /// Tells the jobs that a station may release, start or settle for the owner.
 pub(crate) fn tell_waiting<S: Alter>(
     alloc: Global,
-    connection: &mut Connection<S>,
+    connection: &mut Rounds<S>,
     account: Name,
     device: Name,
 ) -> Result<Reply, TableFault>
@@ -41,7 +41,7 @@ pub(crate) fn tell_waiting<S: Alter>(
 /// Hands the documents of a job to the device once more that started it and has not settled it.
 pub(crate) fn tell_again<S: Alter>(
     alloc: Global,
-    connection: &mut Connection<S>,
+    connection: &mut Rounds<S>,
     account: Name,
     device: Name,
     number: u32,
@@ -60,7 +60,7 @@ pub(crate) fn tell_again<S: Alter>(
 /// Hands the documents of a job over that the device prints.
 fn hand_printed<S: Alter>(
     alloc: Global,
-    connection: &mut Connection<S>,
+    connection: &mut Rounds<S>,
     account: Name,
     device: Name,
     number: u32,
@@ -79,7 +79,7 @@ fn hand_printed<S: Alter>(
 /// Hands the job's documents over, as they are.
 fn hand_again<S: Alter>(
     alloc: Global,
-    connection: &mut Connection<S>,
+    connection: &mut Rounds<S>,
     account: Name,
     decided: Result<Job, Word>,
 ) -> Result<Reply, TableFault>

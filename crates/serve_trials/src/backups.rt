@@ -7,6 +7,7 @@ use crate::report::Report;
 use crate::rooms::{exchange, exchange_lines, new_rooms, rooms_in};
 use room_copy::{CopyMaker, copy_all};
 use room_peers::{Copies, Served, Side};
+use room_store::{Rounds, Store};
 use room_tables::TableFault;
 use sqlite::{Connection, MemStore};
 use std::alloc::Global;
@@ -91,10 +92,14 @@ fn copy_rooms(rt: &HostRuntime, shelf: &Shelf) -> Result<Connection<MemStore>, F
 /// still there then.
 fn expect_copy(
     rt: &HostRuntime,
-    mut source: Connection<MemStore>,
+    source: Connection<MemStore>,
     copy: Connection<MemStore>,
 ) -> Result<(), Fault> {
     let mut copy = expect_answers(rt, copy)?;
+    let mut source = match Store::open(source) {
+        Ok(store) => Rounds::over(store),
+        Err(refused) => return Err(Fault::from(refused.fault)),
+    };
     let again = copy_all(rt.alloc(), &mut source, &mut copy);
     expect(
         rt,

@@ -1,9 +1,6 @@
-use Rattle.std.proofs.Common.{◌≡◌, false, true, IfOk, Result, Option, refl, sym, subst, ◌∙◌}
-use Rattle.sqlite.specs.Held.{Held, state}
-use Rattle.room_copy.specs.Slices.{CopiesSlice, IfNamed}
-use Rattle.room_copy.specs.Sources.{LeavesSource}
+use Rattle.std.proofs.Common.{◌≡◌, false, sym, ◌∙◌}
+use Rattle.sqlite.specs.Held.{state}
 use Rattle.room_serve.proofs.RunLemmas.{begins}
-use Rattle.room_tables.specs.Calls.{ChangesWhole, IfOurTables}
 use Rattle.room_peers.proofs.CopySteps.{begins_as, begun_anew, gone_on, only_looks, slices_by}
 use Rattle.room_peers.proofs.copies.slice_on.Goals as goal
 use Rattle.room_peers.proofs.copies.slice_on.Goals.{then-touched+in_ok-from, else-touched}
@@ -11,15 +8,12 @@ use Rattle.room_peers.proofs.copies.slice_on.Goals.{then-touched+in_ok-from, els
 pub returns : goal.returns
 returns g c =
     let alone : (state g.S.Store c.args.source.now).in_transaction ≡ false = sym c.is_under_way.ensures.mode ∙ c.if-is_under_way.false in
-    let leaves = subst (λ (held : Held g.row.S.Denot). LeavesSource g.S.Store held c.copy_slice.new.source c.copy_slice.result) c.connection.ensures.same c.copy_slice.ensures.source in
-    let copies = subst (λ (held : Held g.row.S.Denot). ChangesWhole g.T.Store c.if-touched.rows c.copy_slice.new.copy c.copy_slice.result
-    (λ before after. IfOurTables g.S.Store held c.copy_slice.new.source (λ db. IfNamed db (IfOk c.copy_slice.result (λ to. CopiesSlice c.if-touched.from to db before after))))) c.connection.ensures.same c.copy_slice.ensures.copies in
     record {
-      looks = only_looks g.S.Store c.args.source.now c.copy_slice.new.source c.copy_slice.result alone (c.is_under_way.ensures.settled c.if-is_under_way.false) leaves;
+      looks = only_looks g.S.Store c.args.source.now c.copy_slice.new.source c.copy_slice.result alone (c.is_under_way.ensures.settled c.if-is_under_way.false) c.copy_slice.ensures.source;
       slices = slices_by g.S.Store g.T.Store c.args.touched c.args.progress c.if-touched.from c.args.source.now c.copy_slice.new.source c.copy_slice.result c.args.rows.now c.if-touched.rows c.copy_slice.new.copy (elim c.if-touched.branch [
         | then-touched+in_ok-from w ↦ begins_as g.S.Store g.T.Store c.args.touched c.args.progress w.in_ok-from.from c.if-touched.from c.args.rows.now w.start_again.new.copy c.if-touched.rows w.from-is w.rows-is
             (begun_anew g.S.Store g.T.Store c.args.touched c.args.progress w.in_ok-from.from c.args.rows.now w.start_again.new.copy w.start_again.result w.if-touched.true w.in_ok-from.was w.start_again.ensures.again, w.start_again.ensures.copy)
         | else-touched w ↦ begins_as g.S.Store g.T.Store c.args.touched c.args.progress c.args.progress c.if-touched.from c.args.rows.now c.args.rows.now c.if-touched.rows w.from-is w.rows-is
             (gone_on g.S.Store g.T.Store c.args.touched c.args.progress c.args.rows.now w.if-touched.false, (begins (state g.T.Store c.args.rows.now)).connection)
-      ]) copies;
+      ]) c.copy_slice.ensures.copies;
     }

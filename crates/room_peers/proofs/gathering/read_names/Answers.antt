@@ -1,8 +1,6 @@
-use Rattle.std.proofs.Common.{◌≡◌, false, sym, subst, ◌∙◌}
-use Rattle.sqlite.specs.Held.{Held, state}
+use Rattle.std.proofs.Common.{◌≡◌, false, sym, ◌∙◌}
+use Rattle.sqlite.specs.Held.{state}
 use Rattle.room_copy.proofs.ReadsKept.{of_read}
-use Rattle.room_tables.specs.Calls.{IfOurTables, ReadsStore}
-use Rattle.room_tables.specs.declared.fault.TableFault.{TableFault}
 use Rattle.room_peers.proofs.CopySteps.{only_looks}
 use Rattle.room_peers.proofs.GatheringSteps.{names_told}
 use Rattle.room_peers.proofs.gathering.read_names.Goals as goal
@@ -10,8 +8,7 @@ use Rattle.room_peers.proofs.gathering.read_names.Goals as goal
 pub returns-clause-looks : goal.returns-clause-looks
 returns-clause-looks g c =
     let alone : (state g.S.Store c.args.rounds.now).in_transaction ≡ false = sym c.is_under_way.ensures.mode ∙ c.if-is_under_way.false in
-    let reads = subst (λ (held : Held g.row.S.Denot). ReadsStore g.S.Store held c.next_accounts.new.connection {E = TableFault} c.next_accounts.result) c.connection.ensures.same c.next_accounts.ensures.reads in
-    only_looks g.S.Store c.args.rounds.now c.next_accounts.new.connection c.next_accounts.result alone (c.is_under_way.ensures.settled c.if-is_under_way.false) (of_read g.S.Store c.args.rounds.now c.next_accounts.new.connection c.next_accounts.result reads)
+    only_looks g.S.Store c.args.rounds.now c.next_accounts.new.connection c.next_accounts.result alone (c.is_under_way.ensures.settled c.if-is_under_way.false) (of_read g.S.Store c.args.rounds.now c.next_accounts.new.connection c.next_accounts.result c.next_accounts.ensures.reads)
 
 pub returns-clause-told : goal.returns-clause-told
-returns-clause-told g c = names_told g.S.Store c.args.rounds.now c.connection.result.now c.next_accounts.new.connection c.args.behind c.next_accounts.result c.connection.ensures.same c.next_accounts.ensures.listed
+returns-clause-told g c = names_told g.S.Store c.args.rounds.now c.next_accounts.new.connection c.args.behind c.next_accounts.result c.next_accounts.ensures.listed

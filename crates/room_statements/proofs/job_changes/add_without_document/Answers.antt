@@ -12,7 +12,7 @@ returns-clause-adds g c clean =
     (λ counts has.
     let job = c.in_ok-add_job.ensures.sets was_clean has in
     let next = counts job.0 in
-    (next.0, record { with_job = mid.now; with_document = mid.now; job_row = job.1; document_row = refl; account_row = next.1 }))
+    (next.0, record { with_job = mid.now; with_document = mid.now; job_row = job.1; was_free = c.in_ok-add_job.ensures.free was_clean has; document_row = refl; account_row = next.1 }))
     (c.count_on.ensures.counts clean)
 
 pub returns-clause-inside : goal.returns-clause-inside

@@ -1,0 +1,44 @@
+-- What an account was charged and how many of its jobs have not ended, by the rows of its jobs alone,
+-- whatever else its rows are (all this project's own).
+use Rattle.std.specs.Prelude.{◌≡◌, if◌then◌else◌, ℕ, ◌+◌, ℤ, List, length, Some, is_some, option_map}
+use Rattle.std.specs.List.{sum_by}
+use Rattle.std.specs.Ordering.{nat_cmp}
+use Rattle.std.specs.FinMap.{FinMap, get, values}
+use Rattle.sqlite.specs.Effect.{Database}
+use Rattle.room_rules.specs.declared.job.Job.{Job}
+use Rattle.room_rules.specs.declared.job.Standing.{Standing}
+use Rattle.room_tables.specs.Accounts.{job_at, under}
+use Rattle.room_tables.specs.Cells.{job_cells}
+use Rattle.room_tables.specs.Keyed.{HasSchema}
+use Rattle.room_statements.specs.SoundRows.{unfinished_rows}
+
+-- the rows of the account's jobs are those of these jobs, which may break rules
+pub record HoldsJobs (db : Database) (name : List ℕ) (jobs : FinMap nat_cmp Job) : Type 0 where
+  pub rows : (number : ℤ) → job_at db name number ≡ option_map (job_cells name) (under jobs number)
+  pub numbered : (number : ℕ) (it : Job) → get jobs number ≡ Some it → it.job ≡ number
+
+abbrev pub charged_of : FinMap nat_cmp Job → ℕ
+charged_of jobs = sum_by (λ job. job.standing.charged) (values jobs)
+
+-- adding up its jobs gives so many units
+abbrev pub IsCharged : (db : Database) (name : List ℕ) (units : ℕ) → Type 0
+IsCharged db name units =
+    (jobs : FinMap nat_cmp Job) → HoldsJobs db name jobs → units ≡ charged_of jobs
+
+-- one of its jobs was charged so much, and now is
+abbrev pub MovesCharge : (name : List ℕ) (was is : ℕ) (before after : Database) → Type 0
+MovesCharge name was is before after =
+    (units : ℕ) → IsCharged before name (units + was) → IsCharged after name (units + is)
+
+-- so many rows of its jobs tell no moment of an end
+abbrev pub IsCounted : (db : Database) (name : List ℕ) (count : ℕ) → Type 0
+IsCounted db name count = count ≡ length (unfinished_rows db name)
+
+-- a job counts one until it ends
+abbrev pub counts : Standing → ℕ
+counts standing = if is_some standing.ended then 0 else 1
+
+-- one of its jobs counted so much, and now does
+abbrev pub MovesCount : (name : List ℕ) (was is : ℕ) (before after : Database) → Type 0
+MovesCount name was is before after = HasSchema before → HasSchema after → (count : ℕ)
+    → IsCounted before name (count + was) → IsCounted after name (count + is)

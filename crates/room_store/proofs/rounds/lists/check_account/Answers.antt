@@ -1,0 +1,20 @@
+use Rattle.std.proofs.Common.{IfOk, not, ap, subst, ◌∙◌}
+use Rattle.sqlite.specs.Held.{state}
+use Rattle.sqlite.specs.State.{HasCleanDisk}
+use Rattle.room_checks.specs.Checks.{IsSoundAs}
+use Rattle.room_store.proofs.KeptLemmas.{told_kept}
+use Rattle.room_store.proofs.ServingLemmas.{looks_read}
+use Rattle.room_store.proofs.rounds.lists.check_account.Goals as goal
+use Rattle.room_tables.specs.Keyed.{HasSchema}
+
+pub invariant_of-connection : goal.invariant_of-connection
+invariant_of-connection g c ours =
+    let reads = c.check_account-found.ensures.reads in
+    told_kept (state g.S.Store c.connection.inside.connection) (state g.S.Store c.check_account-found.new.connection) _ _ reads.keeps
+    (λ opened mode. c.is_autocommit-alone.ensures.settled (c.is_autocommit-alone.ensures.value ∙ ap not mode) opened)
+    (c.connection.invariant ours) c.check_account-found.result reads.same (looks_read g.S.Store _ _ _ reads).undone c.mind.ensures
+
+pub returns-clause-sound : goal.returns-clause-sound
+returns-clause-sound g c =
+    subst (λ h. HasCleanDisk (state g.S.Store c.check_account-found.new.connection) → HasSchema (state g.S.Store h).now → IfOk c.check_account-found.result (IsSoundAs (state g.S.Store h).now c.args.account))
+    c.connection.view_is c.check_account-found.ensures.sound
