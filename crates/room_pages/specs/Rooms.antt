@@ -1,5 +1,5 @@
 -- The print room's page.
-use Rattle.std.specs.Prelude.{ℕ, Bool, true, false, List, [], ◌∷◌, ◌++◌, Option, Some, None, codes}
+use Rattle.std.specs.Prelude.{ℕ, ◌||◌, Bool, true, false, List, [], ◌∷◌, ◌++◌, Option, Some, None, codes, is_none}
 use Rattle.room_pages.specs.Accounts.{accounts_card}
 use Rattle.room_pages.specs.Begun.{begun_card}
 use Rattle.room_pages.specs.Charts.{chart}
@@ -77,8 +77,7 @@ front_text (Some name) = name
 
 -- ---- the page
 
--- while all of it is gathered anew, the page loads itself again
-abbrev pub reload_if : (gathers : Bool) → List ℕ
+abbrev pub reload_if : (reloads : Bool) → List ℕ
 reload_if false = []
 reload_if true = RELOAD_SOON.now
 
@@ -87,9 +86,11 @@ abbrev pub remark_if : (holds : Bool) (said : List ℕ) → List ℕ
 remark_if false said = []
 remark_if true said = html (remark said)
 
+-- the page loads itself again while all of it is gathered anew, and where nothing was gathered yet
 unfoldable pub room_start : Room → List ℕ
 room_start it =
-    html (document OPERATORS.now) ++ (reload_if it.gathers ++ html (top OPERATORS.now))
+    html (document OPERATORS.now)
+    ++ (reload_if (it.gathers || is_none it.as_of) ++ html (top OPERATORS.now))
 
 unfoldable pub room_head : Room → List ℕ
 room_head it =

@@ -30,7 +30,8 @@ use std::alloc::AllocError;
 pub struct Room<'a> {
     /// In seconds since 1970-01-01T00:00:00Z, if something was gathered yet.
     pub as_of: Option<u64>,
-    /// Whether all of it is being gathered anew. Then the page loads itself again.
+    /// Whether all of it is being gathered anew. Then the page loads itself again, as it does where
+    /// nothing was gathered yet.
     pub gathers: bool,
     /// Whether accounts were left out whose rows are damaged.
     pub skips: bool,
@@ -79,14 +80,14 @@ fn put_room_start(out: &mut Vec<u8>, room: &Room<'_>) -> Result<(), AllocError>
     ensures { OnOk result (out.new.items ≡ out.old.items ++ room_start room.now) }
 {
     put_document(out, OPERATORS.as_bytes())?;
-    put_reload_if(out, room.gathers)?;
+    put_reload_if(out, room.gathers || room.as_of.is_none())?;
     put_top(out, OPERATORS)
 }
 
-fn put_reload_if(out: &mut Vec<u8>, gathers: bool) -> Result<(), AllocError>
-    ensures { OnOk result (out.new.items ≡ out.old.items ++ reload_if gathers) }
+fn put_reload_if(out: &mut Vec<u8>, reloads: bool) -> Result<(), AllocError>
+    ensures { OnOk result (out.new.items ≡ out.old.items ++ reload_if reloads) }
 {
-    if !gathers {
+    if !reloads {
         return Ok(());
     }
     out.extend_from_slice(RELOAD_SOON.as_bytes())

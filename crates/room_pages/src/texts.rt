@@ -370,7 +370,7 @@ pub(crate) const DAY: &str = "Day";
 
 pub(crate) const UNITS_OF_DAY: &str = "Units";
 
-pub(crate) const NO_ACCOUNTS: &str = "No account is open whose name begins so.";
+pub(crate) const NO_ACCOUNTS: &str = "No account that was counted has such a name.";
 
 pub(crate) const NEXT_ACCOUNTS: &str = "Next accounts";
 

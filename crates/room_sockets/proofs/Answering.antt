@@ -47,7 +47,12 @@ use Rattle.room_web.specs.Questions.{question_of}
 use Rattle.room_web.specs.Requests.{asked as asks_of}
 use Rattle.room_sockets.proofs.Drives.{IsClean, IsServed, continues_clean, pages_chain, served_continues}
 use Rattle.room_sockets.proofs.Inquiring.{answered_so, grown_alone}
-use Rattle.room_sockets.specs.EndToEnd.{AnswersBy, AnswersCall, AnswersCalls, AnswersLineCalls, AnswersPageCalls, HasAnsweredLines, IsAnswered, IsFresh, StandAt, TellsAct, TellsAnswer, TellsPage}
+use Rattle.room_sockets.specs.Places.{StandAt}
+use Rattle.room_sockets.specs.Requests.{AnswersCall, AnswersCalls}
+use Rattle.room_sockets.specs.Questions.{AnswersBy}
+use Rattle.room_sockets.specs.Lines.{AnswersLineCalls, HasAnsweredLines, TellsAnswer}
+use Rattle.room_sockets.specs.Pages.{AnswersPageCalls, TellsAct, TellsPage}
+use Rattle.room_sockets.specs.EndToEnd.{IsAnswered, IsFresh}
 use Rattle.room_sockets.specs.Guests.{TakesTurn}
 use Rattle.room_sockets.specs.declared.guest.Peer.{Peer}
 use Rattle.room_sockets.specs.declared.guest.Peer.TheVariants.{Http, Last, Lines, Pages}

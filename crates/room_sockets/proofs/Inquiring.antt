@@ -22,7 +22,8 @@ use Rattle.room_peers.specs.ServedRuns.{IsRunOf}
 use Rattle.room_peers.specs.ServedLives.{told_to}
 use Rattle.room_peers.specs.declared.served.Served.{Served}
 use Rattle.room_sockets.proofs.Drives.{IsClean, IsServed}
-use Rattle.room_sockets.specs.EndToEnd.{AnswersBy, AreNamesThen, IsFresh, LivesOn}
+use Rattle.room_sockets.specs.Questions.{AnswersBy, AreNamesThen}
+use Rattle.room_sockets.specs.EndToEnd.{IsFresh, LivesOn}
 use Rattle.room_state.specs.Rooms.{RoomValue}
 use Rattle.room_store.specs.Questions.{AnswersQuestion, IsAbout, OpenNames}
 use Rattle.room_store.specs.declared.fault.StoreFault.{StoreFault}

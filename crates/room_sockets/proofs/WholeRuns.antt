@@ -32,7 +32,11 @@ use Rattle.room_peers.specs.declared.step.Turn.{Turn}
 use Rattle.room_sockets.proofs.Answering.{answered_longer, answered_within, none_there, places_behind, places_from, stand_behind, turn_answered}
 use Rattle.room_sockets.proofs.Drives.{IsClean, IsServed, again_continues, all_clean, as_served, like, served_by, served_continues, step_served, turn_continues}
 use Rattle.room_sockets.proofs.Inquiring.{grown_alone, grown_by, journal_is, lives_on, runs_so}
-use Rattle.room_sockets.specs.EndToEnd.{AnswersCalls, AnswersPageCalls, AreApart, StandAt, FromEndToEnd, IsAnswered, IsFoundAgain, IsFresh, TellsLast}
+use Rattle.room_sockets.specs.Places.{AreApart, StandAt}
+use Rattle.room_sockets.specs.Requests.{AnswersCalls}
+use Rattle.room_sockets.specs.Pages.{AnswersPageCalls}
+use Rattle.room_sockets.specs.Last.{TellsLast}
+use Rattle.room_sockets.specs.EndToEnd.{FromEndToEnd, IsAnswered, IsFoundAgain, IsFresh}
 use Rattle.room_sockets.specs.Guests.{AsksAgain, CameBy, IsNew, IsTurnedAway, StaysOrTurnsAway, Turns, asked_in, in_round, is_waiting, of_socket, peer_of}
 use Rattle.room_sockets.specs.Halls.{AreOthersKept, Ask, Begin, BeginsRound, Does, DoesAll, Drop, Enter, IsAtMoment, Keep, Leave, MayGo, Serve, Serves, Settle, SettlesRound, Step}
 use Rattle.room_sockets.specs.declared.doors.Speech.{Speech}

@@ -2,6 +2,12 @@ pub mod Doors
 pub mod Guests
 pub mod Halls
 pub mod Hearing
+pub mod Places
+pub mod Requests
+pub mod Questions
+pub mod Lines
+pub mod Pages
+pub mod Last
 pub mod EndToEnd
 pub mod Paces
 pub mod Stocks

@@ -1,5 +1,5 @@
 //! Numbers in digits.
-ghost use Rattle.std.specs.Prelude.{◌≡◌, ◌≤◌, ◌<◌, length, IfSome, IsTrue};
+ghost use Rattle.std.specs.Prelude.{◌≡◌, ◌≤◌, ◌<◌, ◌^◌, length, IfSome, IsTrue};
 ghost use Rattle.std.specs.Char.{is_ascii_digit};
 ghost use Rattle.std.specs.List.{list_all};
 ghost use Rattle.std.specs.Str.Parse.{digits_value};
@@ -12,7 +12,7 @@ pub(crate) fn number(digits: &[u8]) -> Option<u32>
     ensures { result ≡ number_said digits.now }
 {
     if is_number(8, digits) {
-        Some(number_of(digits))
+        Some(number_of(digits) as u32)
     } else {
         None
     }
@@ -24,7 +24,7 @@ pub(crate) fn large_number(digits: &[u8]) -> Option<u64>
     ensures within { IfSome result (λ number. number < 1000000000000000000) }
 {
     if is_number(18, digits) {
-        Some(large_number_of(digits))
+        Some(number_of(digits))
     } else {
         None
     }
@@ -37,23 +37,11 @@ fn is_number(most: usize, digits: &[u8]) -> bool
 }
 
 /// The number that a few digits write.
-fn number_of(digits: &[u8]) -> u32
-    requires are_digits { IsTrue (list_all is_ascii_digit digits.now) }
-    requires few { length digits.now ≤ 8 }
-    ensures { result ≡ digits_value 10 digits.now }
-{
-    let mut number = 0;
-    for digit in digits {
-        number = number * 10 + u32::from(*digit - b'0');
-    }
-    number
-}
-
-fn large_number_of(digits: &[u8]) -> u64
+fn number_of(digits: &[u8]) -> u64
     requires are_digits { IsTrue (list_all is_ascii_digit digits.now) }
     requires few { length digits.now ≤ 18 }
     ensures value { result ≡ digits_value 10 digits.now }
-    ensures within { result < 1000000000000000000 }
+    ensures within { result < 10 ^ length digits.now }
 {
     let mut number = 0;
     for digit in digits {
