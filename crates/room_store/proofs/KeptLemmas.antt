@@ -1,6 +1,7 @@
 -- What is kept in memory stays so, whatever a call came to.
-use Rattle.std.proofs.Common.{◌≡◌, ◌≤◌, ◌+◌, ℕ, Bool, true, false, List, [], Contains, Option, Some, None, IfSome, Result, Ok, Err, IfOk, OnOk, OnErr, IsTrue, option_map, pos, refl, sym, ap, subst, ◌∙◌, inl, inr, arith}
-use Rattle.sqlite_rules.proofs.ListLemmas.{has_contained}
+use Rattle.std.proofs.Common.{◌≡◌, ◌≢◌, ◌≤◌, ◌+◌, ℕ, Bool, true, false, List, [], Option, Some, None, IfSome, unwrap_or, Result, Ok, Err, IfOk, OnOk, OnErr, IsTrue, option_map, pos, refl, sym, ap, subst, ◌∙◌, inl, inr, arith, bytes_eq, ℤ}
+use Rattle.std.proofs.lemmas.Slice.Eq.{bytes_eq-Decides}
+use Rattle.lru.specs.LruCache.{LruCache}
 use Rattle.sqlite_trees.specs.View.{doubt}
 use Rattle.sqlite_trees.specs.declared.store.Store.{Ghosts}
 use Rattle.sqlite.specs.Effect.{Database}
@@ -20,37 +21,65 @@ use Rattle.room_statements.proofs.CountWalk.{count_of_room}
 use Rattle.room_statements.specs.Charged.{IsCharged, IsCounted, MovesCharge, MovesCount, counts}
 use Rattle.room_statements.specs.Rounds.{BeginsRound, EndsRound}
 use Rattle.room_statements.specs.Queues.{IsNumbered}
-use Rattle.room_store.specs.Kept.{AreCounted, AreRight, IsKept, IsNothing, IsOpenIn, IsSeen, KeepsSum, MindsAccount, MindsAccountChange, MindsCount, MindsJob, MindsMove, MindsTally, Outlasts, WhereOpen, added_by, kept_in, nothing, sum_of}
-use Rattle.room_store.specs.ProofKnown.{HasJobRow}
+use Rattle.room_store.specs.Kept.{AreRight, HasCharge, HasCount, HasRow, IsKept, IsMoved, IsNothing, IsRight, IsSeen, KeepsKept, MindsAccount, MindsCount, MindsJob, MindsMaking, MindsMove, MindsOpening, MindsTally, MovesTo, Outlasts, SetsKept, WhereOpen, added_by, kept_in, kept_of, known_of, nothing, unknown}
+use Rattle.room_store.specs.ProofKnown.{HasAccountRow, HasJobRow}
 use Rattle.room_store.specs.Serving.{LooksUp}
 use Rattle.room_store.specs.declared.memory.Added.{Added}
 use Rattle.room_store.specs.declared.memory.Memory.{Memory}
 use Rattle.room_store.specs.declared.memory.Seen.{Seen}
-use Rattle.room_store.specs.declared.sums.Sum.{Sum}
-use Rattle.room_store.specs.declared.sums.Sums.{Sums}
+use Rattle.room_store.specs.declared.cache.Kept.{Kept}
+use Rattle.room_store.specs.declared.cache.Key.{Key}
 use Rattle.room_tables.specs.Accounts.{AgreeOnRows, HoldsRoom, account_at, job_at}
 use Rattle.room_tables.specs.Calls.{ChangesWhole, IsUnchanged, IsUndone, KeepsConnection, KeepsTransaction, ReadsStore, UnchangedOrUndone}
 use Rattle.room_tables.specs.Cells.{account_cells, job_cells}
 use Rattle.room_tables.specs.Keyed.{HasSchema}
 use Rattle.room_tables.specs.declared.fault.TableFault.{TableFault}
 
-none_right : (db : Database) (sums : List Sum) → sums ≡ [] → AreRight db sums
-none_right db sums none it there = absurd (has_contained [] it (subst (λ (l : List Sum). Contains l it) none there))
+abbrev Entries : Type 0
+Entries = List (Key × Kept)
 
-none_counted : (db : Database) (queues : List Sum) → queues ≡ [] → AreCounted db queues
-none_counted db queues none it there = absurd (has_contained [] it (subst (λ (l : List Sum). Contains l it) none there))
+none_right : (db : Database) (accounts : Entries) → accounts ≡ [] → AreRight db accounts
+none_right db accounts none = subst (AreRight db) (sym none) (λ name. tt)
 
 none_so : {X : Type 0} (P : X → Type 0) (o : Option X) → o ≡ None → IfSome o P
 none_so P o none = subst (λ o. IfSome o P) (sym none) tt
+
+if_so : {X : Type 0} (P Q : X → Type 0) (o : Option X) → ((x : X) → P x → Q x) → IfSome o P → IfSome o Q
+if_so P Q None each held = tt
+if_so P Q (Some x) each held = each x held
+
+-- ---- what is kept of accounts
+
+unknown_right : (db : Database) (name : List ℕ) → IsRight db name unknown
+unknown_right db name = record { row = tt; charged = tt; unfinished = tt }
+
+known_so : (db : Database) (name : List ℕ) (o : Option Kept) → IfSome o (IsRight db name) → IsRight db name (unwrap_or o unknown)
+known_so db name None right = unknown_right db name
+known_so db name (Some it) right = right
+
+known_right : (db : Database) (accounts : Entries) (name : List ℕ) → AreRight db accounts → IsRight db name (known_of accounts name)
+known_right db accounts name right = known_so db name (kept_of accounts name) (right name)
+
+same_or_other : (P : Type 0) (other name : List ℕ) → (other ≡ name → P) → (other ≢ name → P) → P
+same_or_other P other name same apart = (elim (bytes_eq other name) as (λ b. bytes_eq other name ≡ b → P) [
+  | true ↦ λ e. same ((bytes_eq-Decides other name).0 e)
+  | false ↦ λ e. apart (λ is. let both = sym ((bytes_eq-Decides other name).1 is) ∙ e in absurd (let it = both in cc))
+]) refl
+
+-- where one is put that is right, and the others are right as they were
+set_right : (old new : Database) (name : List ℕ) (it : Kept) (before after : Entries) → ((other : List ℕ) → other ≢ name → (is : Kept) → IsRight old other is → IsRight new other is) → IsRight new name it → AreRight old before → SetsKept name it before after → AreRight new after
+set_right old new name it before after others own right sets other =
+    same_or_other (IfSome (kept_of after other) (IsRight new other)) other name
+    (λ same. subst (λ (n : List ℕ). IfSome (kept_of after n) (IsRight new n)) (sym same) (if_so (λ is. is ≡ it) (IsRight new name) (kept_of after name) (λ is e. subst (IsRight new name) (sym e) own) sets.own))
+    (λ apart. if_so (λ is. kept_of before other ≡ Some is) (IsRight new other) (kept_of after other)
+    (λ is e. others other apart is (subst (λ (o : Option Kept). IfSome o (IsRight old other)) e (right other))) (sets.others other apart))
 
 -- nothing is kept
 pub nothing_kept : (now : State) (memory : Memory) → HasSchema now.now → (IsTrue now.in_transaction → HasSchema now.committed) → IsNothing memory → IsKept now memory
 nothing_kept now memory schema committed none = record {
   schema = schema;
   committed = committed;
-  sums = none_right now.now (kept_in memory.sums) none.sums;
-  queues = none_counted now.now (kept_in memory.queues) none.queues;
-  account = none_so (IsOpenIn now.now) memory.account none.account;
+  accounts = none_right now.now (kept_in memory.accounts) none.accounts;
   job = none_so (IsSeen now.now) memory.job none.job;
 }
 
@@ -58,21 +87,26 @@ pub unchanged_kept : (old new : State) (memory : Memory) → IsUnchanged old new
 unchanged_kept old new memory same kept = record {
   schema = subst HasSchema (sym same.now) kept.schema;
   committed = λ mode. subst HasSchema (sym same.committed) (kept.committed (sym same.mode ∙ mode));
-  sums = subst (λ db. AreRight db (kept_in memory.sums)) (sym same.now) kept.sums;
-  queues = subst (λ db. AreCounted db (kept_in memory.queues)) (sym same.now) kept.queues;
-  account = subst (λ db. IfSome memory.account (IsOpenIn db)) (sym same.now) kept.account;
+  accounts = subst (λ db. AreRight db (kept_in memory.accounts)) (sym same.now) kept.accounts;
   job = subst (λ db. IfSome memory.job (IsSeen db)) (sym same.now) kept.job;
 }
 
--- sums may be kept
-pub opened_kept : (now : State) (before after : Memory) → kept_in after.sums ≡ kept_in before.sums → kept_in after.queues ≡ kept_in before.queues → after.account ≡ before.account → after.job ≡ before.job → IsKept now before → IsKept now after
-opened_kept now before after sums queues account job kept = record {
+-- accounts may be kept
+pub opened_kept : (now : State) (before after : Memory) → kept_in after.accounts ≡ kept_in before.accounts → after.job ≡ before.job → IsKept now before → IsKept now after
+opened_kept now before after accounts job kept = record {
   schema = kept.schema;
   committed = kept.committed;
-  sums = subst (AreRight now.now) (sym sums) kept.sums;
-  queues = subst (AreCounted now.now) (sym queues) kept.queues;
-  account = subst (λ (o : Option (List ℕ)). IfSome o (IsOpenIn now.now)) (sym account) kept.account;
+  accounts = subst (AreRight now.now) (sym accounts) kept.accounts;
   job = subst (λ (o : Option Seen). IfSome o (IsSeen now.now)) (sym job) kept.job;
+}
+
+-- this is kept of an account, of which it is right
+put_kept : (now : State) (before after : Memory) (name : List ℕ) (it : Kept) → IsRight now.now name it → KeepsKept name it before after → IsKept now before → IsKept now after
+put_kept now before after name it right keeps kept = record {
+  schema = kept.schema;
+  committed = kept.committed;
+  accounts = set_right now.now now.now name it (kept_in before.accounts) (kept_in after.accounts) (λ other apart is held. held) right kept.accounts keeps.accounts;
+  job = subst (λ (o : Option Seen). IfSome o (IsSeen now.now)) (sym keeps.job) kept.job;
 }
 
 -- ---- a call that did not change the tables
@@ -101,7 +135,7 @@ module _ (old new : State) (before after : Memory) (keeps : KeepsConnection old 
   told_kept (Err e) same undone none clean opened = failed_kept undone none clean opened
 
   pub account_kept : (name : List ℕ) (r : Result (Option Account) TableFault) → (HasCleanDisk new → HasSchema old.now → OnOk r (IsUnchanged old new)) → (HasCleanDisk new → HasSchema old.now → UnchangedOrUndone old new)
-      → (HasCleanDisk new → HasSchema old.now → IfOk r (λ found. account_at old.now name ≡ option_map (account_cells name) found)) → MindsAccount name r before after → WhereOpen new (IsKept new after)
+      → (HasCleanDisk new → IsKept old before → IfOk r (λ found. account_at old.now name ≡ option_map (account_cells name) found)) → MindsAccount name r before after → WhereOpen new (IsKept new after)
   account_kept name (Ok None) same undone found out clean opened =
       let kept = kept_then clean opened in
       subst (IsKept new) (sym out) (unchanged_kept old new before (same clean kept.schema) kept)
@@ -109,14 +143,12 @@ module _ (old new : State) (before after : Memory) (keeps : KeepsConnection old 
       let kept = kept_then clean opened in
       let still = same clean kept.schema in
       let mid = unchanged_kept old new before still kept in
-      subst (IsKept new) (sym out) (record {
-        schema = mid.schema;
-        committed = mid.committed;
-        sums = mid.sums;
-        queues = mid.queues;
-        account = (row, subst (λ db. account_at db name ≡ Some (account_cells name row)) (sym still.now) (found clean kept.schema));
-        job = mid.job;
-      })
+      let was = known_right new.now (kept_in before.accounts) name mid.accounts in
+      put_kept new before after name _ (record {
+        row = subst (λ db. account_at db name ≡ Some (account_cells name row)) (sym still.now) (found clean kept);
+        charged = was.charged;
+        unfinished = was.unfinished;
+      }) out mid
   account_kept name (Err e) same undone found none clean opened = failed_kept undone none clean opened
 
   pub job_kept : (name : List ℕ) (number : ℕ) (r : Result (Option Job) TableFault) → (HasCleanDisk new → HasSchema old.now → OnOk r (IsUnchanged old new)) → (HasCleanDisk new → HasSchema old.now → OnErr r (UnchangedOrUndone old new))
@@ -132,9 +164,7 @@ module _ (old new : State) (before after : Memory) (keeps : KeepsConnection old 
       subst (IsKept new) (sym out) (record {
         schema = mid.schema;
         committed = mid.committed;
-        sums = mid.sums;
-        queues = mid.queues;
-        account = mid.account;
+        accounts = mid.accounts;
         job = (job, numbered.0, refl, subst (HasJobRow name job) (sym still.now) (found clean kept.schema));
       })
   job_kept name number (Err e) same undone found numbered none clean opened = failed_kept undone none clean opened
@@ -146,18 +176,12 @@ module _ (old new : State) (before after : Memory) (keeps : KeepsConnection old 
       let kept = kept_then clean opened in
       let still = same clean kept.schema in
       let mid = unchanged_kept old new before still kept in
-      let right : IsCharged new.now name tally.charged = subst (λ db. IsCharged db name tally.charged) (sym still.now) (charged clean kept) in
-      record {
-        schema = mid.schema;
-        committed = mid.committed;
-        sums = λ it there. elim (out.sums it there) [
-          | inl is ↦ subst (λ (s : Sum). IsCharged new.now s.account s.units) (sym is) right
-          | inr old ↦ mid.sums it old.0
-        ];
-        queues = subst (λ (o : Option Sums). AreCounted new.now (kept_in o)) (sym out.queues) mid.queues;
-        account = subst (λ (o : Option (List ℕ)). IfSome o (IsOpenIn new.now)) (sym out.account) mid.account;
-        job = subst (λ (o : Option Seen). IfSome o (IsSeen new.now)) (sym out.job) mid.job;
-      }
+      let was = known_right new.now (kept_in before.accounts) name mid.accounts in
+      put_kept new before after name _ (record {
+        row = was.row;
+        charged = subst (λ db. IsCharged db name tally.charged) (sym still.now) (charged clean kept);
+        unfinished = was.unfinished;
+      }) out mid
   tally_kept name (Err e) same undone charged none clean opened = failed_kept undone none clean opened
 
   -- one was counted, or its count was kept
@@ -167,18 +191,12 @@ module _ (old new : State) (before after : Memory) (keeps : KeepsConnection old 
       let kept = kept_then clean opened in
       let still = same clean kept.schema in
       let mid = unchanged_kept old new before still kept in
-      let right : IsCounted new.now name count = subst (λ db. IsCounted db name count) (sym still.now) (counted clean kept) in
-      record {
-        schema = mid.schema;
-        committed = mid.committed;
-        sums = subst (λ (o : Option Sums). AreRight new.now (kept_in o)) (sym out.sums) mid.sums;
-        queues = λ it there. elim (out.queues it there) [
-          | inl is ↦ subst (λ (s : Sum). IsCounted new.now s.account s.units) (sym is) right
-          | inr old ↦ mid.queues it old.0
-        ];
-        account = subst (λ (o : Option (List ℕ)). IfSome o (IsOpenIn new.now)) (sym out.account) mid.account;
-        job = subst (λ (o : Option Seen). IfSome o (IsSeen new.now)) (sym out.job) mid.job;
-      }
+      let was = known_right new.now (kept_in before.accounts) name mid.accounts in
+      put_kept new before after name _ (record {
+        row = was.row;
+        charged = was.charged;
+        unfinished = subst (λ db. IsCounted db name count) (sym still.now) (counted clean kept);
+      }) out mid
   count_kept name (Err e) same undone counted none clean opened = failed_kept undone none clean opened
 
   -- ---- rounds
@@ -190,9 +208,7 @@ module _ (old new : State) (before after : Memory) (keeps : KeepsConnection old 
       subst (IsKept new) (sym out) (record {
         schema = subst HasSchema (sym over.now) kept.schema;
         committed = λ mode. absurd (let no = sym mode ∙ over.mode in cc);
-        sums = subst (λ db. AreRight db (kept_in before.sums)) (sym over.now) kept.sums;
-        queues = subst (λ db. AreCounted db (kept_in before.queues)) (sym over.now) kept.queues;
-        account = subst (λ db. IfSome before.account (IsOpenIn db)) (sym over.now) kept.account;
+        accounts = subst (λ db. AreRight db (kept_in before.accounts)) (sym over.now) kept.accounts;
         job = subst (λ db. IfSome before.job (IsSeen db)) (sym over.now) kept.job;
       })
   ended_kept (Err e) ends stays none clean opened = failed_kept (λ clean has. stays clean) none clean opened
@@ -206,9 +222,7 @@ begun_kept old new before after less settled was (Ok done) begins stays keeps ou
     subst (IsKept new) (sym out) (record {
       schema = subst HasSchema (sym begun.now) kept.schema;
       committed = λ mode. subst HasSchema (sym begun.committed) kept.schema;
-      sums = subst (λ db. AreRight db (kept_in before.sums)) (sym begun.now) kept.sums;
-      queues = subst (λ db. AreCounted db (kept_in before.queues)) (sym begun.now) kept.queues;
-      account = subst (λ db. IfSome before.account (IsOpenIn db)) (sym begun.now) kept.account;
+      accounts = subst (λ db. AreRight db (kept_in before.accounts)) (sym begun.now) kept.accounts;
       job = subst (λ db. IfSome before.job (IsSeen db)) (sym begun.now) kept.job;
     })
 begun_kept old new before after less settled was (Err e) begins stays keeps none clean opened = failed_kept old new before after keeps settled was (λ clean has. inl (stays clean opened)) none clean opened
@@ -221,9 +235,25 @@ charged_alike name a b agree units = same_charged name a b agree.same_jobs units
 counted_alike : (name : List ℕ) (a b : Database) → HasSchema a → HasSchema b → AgreeOnRows name a b → (count : ℕ) → IsCounted a name count → IsCounted b name count
 counted_alike name a b was has agree count = same_counted name a b was has agree.same_jobs count
 
-open_alike : (a b : Database) → ((name : List ℕ) → AgreeOnRows name a b) → (o : Option (List ℕ)) → IfSome o (IsOpenIn a) → IfSome o (IsOpenIn b)
-open_alike a b agree None held = tt
-open_alike a b agree (Some name) held = (held.0, (agree name).same_account ∙ held.1)
+-- where its rows agree what is kept of the account is right
+right_alike : (name : List ℕ) (a b : Database) → HasSchema a → HasSchema b → AgreeOnRows name a b → (it : Kept) → IsRight a name it → IsRight b name it
+right_alike name a b was has agree it right = record {
+  row = if_so (λ row. HasAccountRow name row a) (λ row. HasAccountRow name row b) it.row (λ row there. agree.same_account ∙ there) right.row;
+  charged = if_so (IsCharged a name) (IsCharged b name) it.charged (charged_alike name a b agree) right.charged;
+  unfinished = if_so (IsCounted a name) (IsCounted b name) it.unfinished (counted_alike name a b was has agree) right.unfinished;
+}
+
+-- so it is of an account that is granted pages
+granted_right : (name : List ℕ) (a b : Database) → HasSchema a → HasSchema b → account_at b name ≡ account_at a name → ((n : ℤ) → job_at b name n ≡ job_at a name n) → (it : Kept) → IsRight a name it → IsRight b name it
+granted_right name a b was has same_account same_jobs it right = record {
+  row = if_so (λ row. HasAccountRow name row a) (λ row. HasAccountRow name row b) it.row (λ row there. same_account ∙ there) right.row;
+  charged = if_so (IsCharged a name) (IsCharged b name) it.charged (same_charged name a b same_jobs) right.charged;
+  unfinished = if_so (IsCounted a name) (IsCounted b name) it.unfinished (same_counted name a b was has same_jobs) right.unfinished;
+}
+
+moved_so : (P Q : ℕ → Type 0) (was is : ℕ) (before after : Option ℕ) → ((rest : ℕ) → P (rest + was) → Q (rest + is)) → IsMoved was is before after → IfSome before P → IfSome after Q
+moved_so P Q was is before None each moves held = tt
+moved_so P Q was is before (Some units) each moves held = subst Q (sym moves.2) (each moves.0 (subst (λ (o : Option ℕ). IfSome o P) moves.1 held))
 
 seen_alike : (a b : Database) → ((name : List ℕ) → AgreeOnRows name a b) → (o : Option Seen) → IfSome o (IsSeen a) → IfSome o (IsSeen b)
 seen_alike a b agree None held = tt
@@ -260,41 +290,91 @@ module _ {S : Type 0} (store : Ghosts S) (old new : Held S) (before after : Memo
     not_changed_kept : IsNothing after → WhereOpen last (IsKept last after)
     not_changed_kept none = failed_kept first last before after changes.whole.keeps settled was (λ clean has. changes.whole.undone clean) none
 
-  -- of an account, of which nothing is kept then
-  pub account_changed : {E : Type 0} (name : List ℕ) (r : Result (Unit {0}) E) → ((a b : Database) → changed a b → OnlyAccount name a b) → ChangesWhole store old new r changed → MindsAccountChange name r before after → WhereOpen last (IsKept last after)
-  account_changed name (Ok done) alone changes minds clean opened =
+  -- of an account that is opened, of which nothing is kept then
+  pub account_opened : {E : Type 0} (name : List ℕ) (r : Result (Unit {0}) E) → ((a b : Database) → changed a b → OnlyAccount name a b) → ChangesWhole store old new r changed → MindsOpening name r before after → WhereOpen last (IsKept last after)
+  account_opened name (Ok done) alone changes minds clean opened =
       let kept = kept_before changes clean opened in
       let only = alone first.now last.now (change_after changes clean opened) in
+      let has = schema_after changes clean opened in
       record {
-        schema = schema_after changes clean opened;
+        schema = has;
         committed = committed_after changes clean opened;
-        sums = λ it there. let was_there = minds.sums it there in charged_alike it.account first.now last.now (only.others it.account was_there.1) it.units (kept.sums it was_there.0);
-        queues = λ it there. let was_there = minds.queues it there in counted_alike it.account first.now last.now kept.schema (schema_after changes clean opened) (only.others it.account was_there.1) it.units (kept.queues it was_there.0);
-        account = none_so (IsOpenIn last.now) after.account minds.account;
+        accounts = set_right first.now last.now name unknown (kept_in before.accounts) (kept_in after.accounts)
+            (λ other apart. right_alike other first.now last.now kept.schema has (only.others other apart)) (unknown_right last.now name) kept.accounts minds.accounts;
         job = none_so (IsSeen last.now) after.job minds.job;
       }
-  account_changed name (Err e) alone changes none clean opened = not_changed_kept e changes none clean opened
+  account_opened name (Err e) alone changes none clean opened = not_changed_kept e changes none clean opened
+
+  -- of an account that is granted pages: its row and those of its jobs stay
+  pub account_granted : {E : Type 0} (name : List ℕ) (r : Result (Unit {0}) E)
+      → ((a b : Database) → changed a b → OnlyAccount name a b × (account_at b name ≡ account_at a name) × ((n : ℤ) → job_at b name n ≡ job_at a name n))
+      → ChangesWhole store old new r changed → Outlasts r before after → WhereOpen last (IsKept last after)
+  account_granted name (Ok done) leaves changes out clean opened =
+      let kept = kept_before changes clean opened in
+      let has = schema_after changes clean opened in
+      let left = leaves first.now last.now (change_after changes clean opened) in
+      subst (IsKept last) (sym out) (record {
+        schema = has;
+        committed = committed_after changes clean opened;
+        accounts = λ other. if_so (IsRight first.now other) (IsRight last.now other) (kept_of (kept_in before.accounts) other)
+            (λ it right. same_or_other (IsRight last.now other it) other name
+            (λ same. subst (λ (n : List ℕ). IsRight last.now n it) (sym same) (granted_right name first.now last.now kept.schema has left.1 left.2 it (subst (λ (n : List ℕ). IsRight first.now n it) same right)))
+            (λ apart. right_alike other first.now last.now kept.schema has (left.0.others other apart) it right)) (kept.accounts other);
+        job = if_so (IsSeen first.now) (IsSeen last.now) before.job
+            (λ seen held. (
+              held.0,
+              held.1,
+              held.2,
+              same_or_other (job_at last.now seen.account (pos held.0.job) ≡ Some (job_cells seen.account held.0)) seen.account name
+                  (λ same. subst (λ (n : List ℕ). job_at last.now n (pos held.0.job) ≡ job_at first.now n (pos held.0.job)) (sym same) (left.2 (pos held.0.job)) ∙ held.3)
+                  (λ apart. (left.0.others seen.account apart).same_jobs (pos held.0.job) ∙ held.3),
+            )) kept.job;
+      })
+  account_granted name (Err e) leaves changes none clean opened = not_changed_kept e changes none clean opened
+
+  -- of an account that has one job more
+  pub job_made : {E : Type 0} (name : List ℕ) (row : Option Account) (job : Job) (r : Result (Unit {0}) E) → (IsKept first before → IfSome row (λ it. HasAccountRow name it first.now))
+      → ((it : Account) → HasAccountRow name it first.now → changed first.now last.now → OnlyAccount name first.now last.now × HasAccountRow name (record it { next_job = job.job + 1 }) last.now × MovesCharge name 0 job.standing.charged first.now last.now × MovesCount name 0 (counts job.standing) first.now last.now)
+      → ChangesWhole store old new r changed → MindsMaking name row job r before after → WhereOpen last (IsKept last after)
+  job_made name (Some it) job (Ok done) there moves changes minds clean opened =
+      let kept = kept_before changes clean opened in
+      let made = moves it (there kept) (change_after changes clean opened) in
+      let has = schema_after changes clean opened in
+      let was = known_right first.now (kept_in before.accounts) name kept.accounts in
+      record {
+        schema = has;
+        committed = committed_after changes clean opened;
+        accounts = set_right first.now last.now name _ (kept_in before.accounts) (kept_in after.accounts)
+            (λ other apart. right_alike other first.now last.now kept.schema has (made.0.others other apart)) (record {
+              row = made.1;
+              charged = moved_so (IsCharged first.now name) (IsCharged last.now name) 0 job.standing.charged _ _ made.2 minds.moves.charged was.charged;
+              unfinished = moved_so (IsCounted first.now name) (IsCounted last.now name) 0 (counts job.standing) _ _ (made.3 kept.schema has) minds.moves.unfinished was.unfinished;
+            }) kept.accounts minds.accounts;
+        job = none_so (IsSeen last.now) after.job minds.job;
+      }
+  job_made name None job (Ok done) there moves changes none clean opened = none_after changes clean opened none
+  job_made name None job (Err e) there moves changes none clean opened = not_changed_kept e changes none clean opened
+  job_made name (Some it) job (Err e) there moves changes none clean opened = not_changed_kept e changes none clean opened
 
   -- of an account, of which what is kept is moved
   pub job_changed : {E : Type 0} (name : List ℕ) (was_added : Option Added) (is : Standing) (r : Result (Unit {0}) E)
-      → ((added : Added) → was_added ≡ Some added → IsKept first before → changed first.now last.now → OnlyAccount name first.now last.now × MovesCharge name added.charged is.charged first.now last.now × MovesCount name added.unfinished (counts is) first.now last.now)
+      → ((added : Added) → was_added ≡ Some added → IsKept first before → changed first.now last.now → OnlyAccount name first.now last.now × (account_at last.now name ≡ account_at first.now name) × MovesCharge name added.charged is.charged first.now last.now × MovesCount name added.unfinished (counts is) first.now last.now)
       → ChangesWhole store old new r changed → MindsMove name was_added is r before after → WhereOpen last (IsKept last after)
   job_changed name (Some added) is (Ok done) moves changes minds clean opened =
       let kept = kept_before changes clean opened in
       let made = moves added refl kept (change_after changes clean opened) in
-      let after_schema = schema_after changes clean opened in
+      let has = schema_after changes clean opened in
+      let was = known_right first.now (kept_in before.accounts) name kept.accounts in
+      let still = if_so (λ row. HasAccountRow name row first.now) (λ row. HasAccountRow name row last.now) (known_of (kept_in before.accounts) name).row (λ row there. made.1 ∙ there) was.row in
       record {
-        schema = after_schema;
+        schema = has;
         committed = committed_after changes clean opened;
-        sums = λ it there. elim (minds.sums it there) [
-          | inl other ↦ charged_alike it.account first.now last.now (made.0.others it.account other.1) it.units (kept.sums it other.0)
-          | inr own ↦ subst (λ (s : Sum). IsCharged last.now s.account s.units) (sym own.2) (made.1 own.0 (kept.sums (sum_of name (own.0 + added.charged)) own.1))
-        ];
-        queues = λ it there. elim (minds.queues it there) [
-          | inl other ↦ counted_alike it.account first.now last.now kept.schema after_schema (made.0.others it.account other.1) it.units (kept.queues it other.0)
-          | inr own ↦ subst (λ (s : Sum). IsCounted last.now s.account s.units) (sym own.2) (made.2 kept.schema after_schema own.0 (kept.queues (sum_of name (own.0 + added.unfinished)) own.1))
-        ];
-        account = none_so (IsOpenIn last.now) after.account minds.account;
+        accounts = set_right first.now last.now name _ (kept_in before.accounts) (kept_in after.accounts)
+            (λ other apart. right_alike other first.now last.now kept.schema has (made.0.others other apart)) (record {
+              row = subst (λ (o : Option Account). IfSome o (λ row. HasAccountRow name row last.now)) (sym minds.moves.row) still;
+              charged = moved_so (IsCharged first.now name) (IsCharged last.now name) added.charged is.charged _ _ made.2 minds.moves.charged was.charged;
+              unfinished = moved_so (IsCounted first.now name) (IsCounted last.now name) added.unfinished (counts is) _ _ (made.3 kept.schema has) minds.moves.unfinished was.unfinished;
+            }) kept.accounts minds.accounts;
         job = none_so (IsSeen last.now) after.job minds.job;
       }
   job_changed name None is (Ok done) moves changes none clean opened = none_after changes clean opened none
@@ -309,9 +389,7 @@ module _ {S : Type 0} (store : Ghosts S) (old new : Held S) (before after : Memo
       subst (IsKept last) (sym out) (record {
         schema = schema_after changes clean opened;
         committed = committed_after changes clean opened;
-        sums = λ it there. charged_alike it.account first.now last.now (only.accounts it.account) it.units (kept.sums it there);
-        queues = λ it there. counted_alike it.account first.now last.now kept.schema (schema_after changes clean opened) (only.accounts it.account) it.units (kept.queues it there);
-        account = open_alike first.now last.now only.accounts before.account kept.account;
+        accounts = λ name. if_so (IsRight first.now name) (IsRight last.now name) (kept_of (kept_in before.accounts) name) (right_alike name first.now last.now kept.schema (schema_after changes clean opened) (only.accounts name)) (kept.accounts name);
         job = seen_alike first.now last.now only.accounts before.job kept.job;
       })
   devices_changed (Err e) alone changes none clean opened = not_changed_kept e changes none clean opened
@@ -322,15 +400,23 @@ module _ {S : Type 0} (store : Ghosts S) (old new : Held S) (before after : Memo
 pub charged_there : (db : Database) (name : List ℕ) (room : RoomValue) → HoldsRoom db name room → (units : ℕ) → IsCharged db name units → units ≡ charged_in room
 charged_there db name room held units right = right room.jobs (record { rows = held.rows.job_rows; numbered = λ n it is. (held.is_room.jobs n it is).numbered })
 
-pub known_right : (now : State) (memory : Memory) (ours : Type 0) (name : List ℕ) (known : Option ℕ) → IfSome known (λ units. ours × Contains (kept_in memory.sums) (sum_of name units)) → IsKept now memory → IfSome known (IsCharged now.now name)
-known_right now memory ours name None found kept = tt
-known_right now memory ours name (Some units) found kept = kept.sums (sum_of name units) found.1
+-- what is known of an account where that is kept
+pub row_known : (now : State) (memory : Memory) (ours : Type 0) (name : List ℕ) (known : Option Account) → IfSome known (λ row. ours × HasRow memory name row) → IsKept now memory → IfSome known (λ row. HasAccountRow name row now.now)
+row_known now memory ours name None found kept = tt
+row_known now memory ours name (Some row) found kept = subst (λ (o : Option Account). IfSome o (λ row. HasAccountRow name row now.now)) found.1 (known_right now.now (kept_in memory.accounts) name kept.accounts).row
 
--- the account that was found is open, of which it is known that a new job added nothing
-pub found_open : (db : Database) (name : List ℕ) (found : Option (List ℕ)) (was : Option Added) (added : Added) → was ≡ Some added → IfSome was (λ a. (a ≡ nothing) × (found ≡ Some name)) → IfSome found (IsOpenIn db) → (added ≡ nothing) × IsOpenIn db name
-found_open db name found was added is told held =
-    let one = subst (λ (o : Option Added). IfSome o (λ a. (a ≡ nothing) × (found ≡ Some name))) is told in
-    (one.0, subst (λ (o : Option (List ℕ)). IfSome o (IsOpenIn db)) one.1 held)
+pub charge_known : (now : State) (memory : Memory) (ours : Type 0) (name : List ℕ) (known : Option ℕ) → IfSome known (λ units. ours × HasCharge memory name units) → IsKept now memory → IfSome known (IsCharged now.now name)
+charge_known now memory ours name None found kept = tt
+charge_known now memory ours name (Some units) found kept = subst (λ (o : Option ℕ). IfSome o (IsCharged now.now name)) found.1 (known_right now.now (kept_in memory.accounts) name kept.accounts).charged
+
+pub count_known : (now : State) (memory : Memory) (ours : Type 0) (name : List ℕ) (known : Option ℕ) → IfSome known (λ count. ours × HasCount memory name count) → IsKept now memory → IfSome known (IsCounted now.now name)
+count_known now memory ours name None found kept = tt
+count_known now memory ours name (Some count) found kept = subst (λ (o : Option ℕ). IfSome o (IsCounted now.now name)) found.1 (known_right now.now (kept_in memory.accounts) name kept.accounts).unfinished
+
+-- a new job of an account whose row is kept
+pub row_there : (now : State) (memory : Memory) (name : List ℕ) (known : Option Account) → IfSome known (HasRow memory name) → IsKept now memory → IfSome known (λ row. HasAccountRow name row now.now)
+row_there now memory name None found kept = tt
+row_there now memory name (Some row) found kept = subst (λ (o : Option Account). IfSome o (λ row. HasAccountRow name row now.now)) found (known_right now.now (kept_in memory.accounts) name kept.accounts).row
 
 pub found_seen : (db : Database) (name : List ℕ) (number : ℕ) (found : Option Seen) (was : Option Added) (added : Added) → was ≡ Some added → IfSome was (λ a. found ≡ Some (record { account = name; number = number; added = a })) → IfSome found (IsSeen db)
     → IsSeen db (record { account = name; number = number; added = added })
@@ -339,27 +425,33 @@ found_seen db name number found was added is told held =
     subst (λ (o : Option Seen). IfSome o (IsSeen db)) one held
 
 -- what was added up, or kept, is what the rows come to
-pub charged_so : (old new : State) (memory : Memory) (ours : Bool) (name : List ℕ) (known : Option ℕ) → IfSome known (λ units. IsTrue ours × Contains (kept_in memory.sums) (sum_of name units)) → (IsTrue ours → WhereOpen old (IsKept old memory)) → (r : Result Tally TableFault)
+pub charged_so : (old new : State) (memory : Memory) (ours : Bool) (name : List ℕ) (known : Option ℕ) → IfSome known (λ units. IsTrue ours × HasCharge memory name units) → (IsTrue ours → WhereOpen old (IsKept old memory)) → (r : Result Tally TableFault)
     → KeepsConnection old new → (HasCleanDisk new → OnOk r (IsTrue old.is_open × IsTrue new.is_open)) → (HasCleanDisk new → HasSchema old.now → IfSome known (IsCharged old.now name) → IfOk r (λ tally. IsCharged old.now name tally.charged))
     → HasCleanDisk new → HasSchema old.now → (room : RoomValue) → HoldsRoom old.now name room → IfOk r (λ tally. tally.charged ≡ charged_in room)
 charged_so old new memory ours name None found was (Ok tally) keeps opens told clean has room held = charged_there old.now name room held tally.charged (told clean has tt)
 charged_so old new memory ours name (Some units) found was (Ok tally) keeps opens told clean has room held =
     let kept = was found.0 (omega (arith, keeps.clean, clean)) (opens clean).0 in
-    charged_there old.now name room held tally.charged (told clean has (kept.sums (sum_of name units) found.1))
+    charged_there old.now name room held tally.charged (told clean has (charge_known old memory (IsTrue ours) name (Some units) found kept))
 charged_so old new memory ours name known found was (Err e) keeps opens told clean has room held = tt
 
-pub count_known : (now : State) (memory : Memory) (ours : Type 0) (name : List ℕ) (known : Option ℕ) → IfSome known (λ count. ours × Contains (kept_in memory.queues) (sum_of name count)) → IsKept now memory → IfSome known (IsCounted now.now name)
-count_known now memory ours name None found kept = tt
-count_known now memory ours name (Some count) found kept = kept.queues (sum_of name count) found.1
+-- the row that was read, or kept, is the account's
+pub row_so : (old new : State) (memory : Memory) (ours : Bool) (name : List ℕ) (known : Option Account) → IfSome known (λ row. IsTrue ours × HasRow memory name row) → (IsTrue ours → WhereOpen old (IsKept old memory)) → (r : Result (Option Account) TableFault)
+    → KeepsConnection old new → (HasCleanDisk new → OnOk r (IsTrue old.is_open × IsTrue new.is_open)) → (HasCleanDisk new → HasSchema old.now → IfSome known (λ row. HasAccountRow name row old.now) → IfOk r (λ found. account_at old.now name ≡ option_map (account_cells name) found))
+    → HasCleanDisk new → HasSchema old.now → IfOk r (λ found. account_at old.now name ≡ option_map (account_cells name) found)
+row_so old new memory ours name None found was (Ok row) keeps opens told clean has = told clean has tt
+row_so old new memory ours name (Some known) found was (Ok row) keeps opens told clean has =
+    let kept = was found.0 (omega (arith, keeps.clean, clean)) (opens clean).0 in
+    told clean has (row_known old memory (IsTrue ours) name (Some known) found kept)
+row_so old new memory ours name known found was (Err e) keeps opens told clean has = tt
 
 -- what was counted, or kept, is how many there are
-pub count_so : (old new : State) (memory : Memory) (ours : Bool) (name : List ℕ) (known : Option ℕ) → IfSome known (λ count. IsTrue ours × Contains (kept_in memory.queues) (sum_of name count)) → (IsTrue ours → WhereOpen old (IsKept old memory)) → (r : Result ℕ TableFault)
+pub count_so : (old new : State) (memory : Memory) (ours : Bool) (name : List ℕ) (known : Option ℕ) → IfSome known (λ count. IsTrue ours × HasCount memory name count) → (IsTrue ours → WhereOpen old (IsKept old memory)) → (r : Result ℕ TableFault)
     → KeepsConnection old new → (HasCleanDisk new → OnOk r (IsTrue old.is_open × IsTrue new.is_open)) → (HasCleanDisk new → HasSchema old.now → IfSome known (IsCounted old.now name) → IfOk r (IsCounted old.now name))
     → HasCleanDisk new → HasSchema old.now → IfOk r (IsCounted old.now name)
 count_so old new memory ours name None found was (Ok count) keeps opens told clean has = told clean has tt
 count_so old new memory ours name (Some known) found was (Ok count) keeps opens told clean has =
     let kept = was found.0 (omega (arith, keeps.clean, clean)) (opens clean).0 in
-    told clean has (kept.queues (sum_of name known) found.1)
+    told clean has (count_known old memory (IsTrue ours) name (Some known) found kept)
 count_so old new memory ours name known found was (Err e) keeps opens told clean has = tt
 
 pub count_told : (old new : State) (name : List ℕ) (r : Result ℕ TableFault) → (HasCleanDisk new → HasSchema old.now → IfOk r (IsCounted old.now name)) → HasCleanDisk new → HasSchema old.now → (room : RoomValue) → HoldsRoom old.now name room → IfOk r (λ count. count ≡ unfinished_count room)

@@ -1,5 +1,7 @@
 -- What is kept in memory of the tables, beside the connection (all this project's own).
-use Rattle.std.specs.Prelude.{◌≡◌, ◌≢◌, ◌⊎◌, ℕ, ◌+◌, Bool, List, [], Contains, Option, None, Some, IfSome, IsTrue, Result, Ok, Err, bytes_eq}
+use Rattle.std.specs.Prelude.{◌≡◌, ◌≢◌, ℕ, ◌+◌, Bool, List, [], Option, None, Some, IfSome, IsTrue, Result, Ok, Err, bytes_eq, unwrap_or}
+use Rattle.std.specs.Map.{lookup}
+use Rattle.lru.specs.LruCache.{LruCache}
 use Rattle.sqlite.specs.Effect.{Database}
 use Rattle.sqlite.specs.State.{State, HasCleanDisk}
 use Rattle.room_rules.specs.declared.account.Account.{Account}
@@ -8,47 +10,48 @@ use Rattle.room_rules.specs.declared.job.Standing.{Standing}
 use Rattle.room_state.specs.declared.tally.Tally.{Tally}
 use Rattle.room_statements.specs.Charged.{IsCharged, IsCounted, counts}
 use Rattle.room_store.specs.ProofKnown.{HasAccountRow, HasJobRow}
+use Rattle.room_store.specs.declared.cache.Kept.{Kept}
+use Rattle.room_store.specs.declared.cache.Key.{Key}
 use Rattle.room_store.specs.declared.memory.Added.{Added}
 use Rattle.room_store.specs.declared.memory.Memory.{Memory}
 use Rattle.room_store.specs.declared.memory.Seen.{Seen}
-use Rattle.room_store.specs.declared.sums.Sum.{Sum}
-use Rattle.room_store.specs.declared.sums.Sums.{Sums}
 use Rattle.room_tables.specs.Keyed.{HasSchema}
 use Rattle.room_tables.specs.declared.fault.TableFault.{TableFault}
 
--- ---- sums by account
+-- ---- accounts by name
 
-abbrev pub sum_of : (name : List ℕ) (units : ℕ) → Sum
-sum_of name units = record { account = name; units = units }
+abbrev pub is_of : (name : List ℕ) (key : Key) → Bool
+is_of name key = bytes_eq name key.name
 
-abbrev pub is_of : (name : List ℕ) (sum : Sum) → Bool
-is_of name sum = bytes_eq sum.account name
+-- what is kept of the account
+abbrev pub kept_of : (accounts : List (Key × Kept)) (name : List ℕ) → Option Kept
+kept_of accounts name = lookup (is_of name) accounts
+
+abbrev pub unknown : Kept
+unknown = record { row = None; charged = None; unfinished = None }
+
+abbrev pub known_of : (accounts : List (Key × Kept)) (name : List ℕ) → Kept
+known_of accounts name = unwrap_or (kept_of accounts name) unknown
 
 -- those that are kept, where any are
-abbrev pub kept_in : Option Sums → List Sum
+abbrev pub kept_in : Option (LruCache Key Kept) → List (Key × Kept)
 kept_in None = []
-kept_in (Some sums) = sums.items.items
+kept_in (Some accounts) = accounts.entries
 
--- no others than before, and none of this account
-abbrev pub ListsNoMore : (old : List Sum) (name : List ℕ) (new : List Sum) → Type 0
-ListsNoMore old name new = (it : Sum) → Contains new it → Contains old it × (it.account ≢ name)
+-- this of the account, or nothing, and of others what was kept, or nothing
+pub record SetsKept (name : List ℕ) (it : Kept) (before after : List (Key × Kept)) : Type 0 where
+  pub own : IfSome (kept_of after name) (λ is. is ≡ it)
+  pub others : (other : List ℕ) → other ≢ name
+      → IfSome (kept_of after other) (λ is. kept_of before other ≡ Some is)
 
--- this one, and of other accounts no others than before
-abbrev pub ListsOnly : (old : List Sum) (name : List ℕ) (units : ℕ) (new : List Sum) → Type 0
-ListsOnly old name units new = (it : Sum) → Contains new it
-    → (it ≡ sum_of name units) ⊎ (Contains old it × (it.account ≢ name))
+abbrev pub HasRow : (memory : Memory) (name : List ℕ) (row : Account) → Type 0
+HasRow memory name row = (known_of (kept_in memory.accounts) name).row ≡ Some row
 
-abbrev pub ListsFewer : (old new : List Sum) → Type 0
-ListsFewer old new = (it : Sum) → Contains new it → Contains old it
+abbrev pub HasCharge : (memory : Memory) (name : List ℕ) (units : ℕ) → Type 0
+HasCharge memory name units = (known_of (kept_in memory.accounts) name).charged ≡ Some units
 
-abbrev pub ListsOneMore : (old : List Sum) (sum : Sum) (new : List Sum) → Type 0
-ListsOneMore old sum new = (it : Sum) → Contains new it → (it ≡ sum) ⊎ Contains old it
-
--- that of the account, if it is there yet, is moved: less what a job added, and with what it adds
-abbrev pub MovesSum : (name : List ℕ) (was is : ℕ) (old new : List Sum) → Type 0
-MovesSum name was is old new = (it : Sum) → Contains new it
-    → (Contains old it × (it.account ≢ name))
-    ⊎ ((units : ℕ) × Contains old (sum_of name (units + was)) × (it ≡ sum_of name (units + is)))
+abbrev pub HasCount : (memory : Memory) (name : List ℕ) (count : ℕ) → Type 0
+HasCount memory name count = (known_of (kept_in memory.accounts) name).unfinished ≡ Some count
 
 -- what a job of this standing adds to what is kept of its account, and what one that is not there does
 abbrev pub added_by : Standing → Added
@@ -57,19 +60,26 @@ added_by standing = record { charged = standing.charged; unfinished = counts sta
 abbrev pub nothing : Added
 nothing = record { charged = 0; unfinished = 0 }
 
+-- a sum is less what a job added, and with what it adds, if it is known yet
+abbrev pub IsMoved : (was is : ℕ) (before after : Option ℕ) → Type 0
+IsMoved was is before after =
+    IfSome after (λ units. (rest : ℕ) × (before ≡ Some (rest + was)) × (units ≡ rest + is))
+
+pub record MovesTo (was is : Added) (before after : Kept) : Type 0 where
+  pub row : after.row ≡ before.row
+  pub charged : IsMoved was.charged is.charged before.charged after.charged
+  pub unfinished : IsMoved was.unfinished is.unfinished before.unfinished after.unfinished
+
 -- ---- what is kept is so
 
--- each sum is what adding up anew would give
-abbrev pub AreRight : (db : Database) (sums : List Sum) → Type 0
-AreRight db sums = (it : Sum) → Contains sums it → IsCharged db it.account it.units
+-- its row is this, its jobs were charged so much, and so many of their rows tell no moment of an end
+pub record IsRight (db : Database) (name : List ℕ) (it : Kept) : Type 0 where
+  pub row : IfSome it.row (λ row. HasAccountRow name row db)
+  pub charged : IfSome it.charged (IsCharged db name)
+  pub unfinished : IfSome it.unfinished (IsCounted db name)
 
--- each count is how many of its jobs' rows tell no moment of an end
-abbrev pub AreCounted : (db : Database) (queues : List Sum) → Type 0
-AreCounted db queues = (it : Sum) → Contains queues it → IsCounted db it.account it.units
-
--- the account is open
-abbrev pub IsOpenIn : (db : Database) (name : List ℕ) → Type 0
-IsOpenIn db name = (row : Account) × HasAccountRow name row db
+abbrev pub AreRight : (db : Database) (accounts : List (Key × Kept)) → Type 0
+AreRight db accounts = (name : List ℕ) → IfSome (kept_of accounts name) (IsRight db name)
 
 -- the job is there, and adds so much
 abbrev pub IsSeen : (db : Database) (seen : Seen) → Type 0
@@ -80,9 +90,7 @@ IsSeen db seen = (job : Job) × (job.job ≡ seen.number) × (added_by job.stand
 pub record IsKept (now : State) (memory : Memory) : Type 0 where
   pub schema : HasSchema now.now
   pub committed : IsTrue now.in_transaction → HasSchema now.committed
-  pub sums : AreRight now.now (kept_in memory.sums)
-  pub queues : AreCounted now.now (kept_in memory.queues)
-  pub account : IfSome memory.account (IsOpenIn now.now)
+  pub accounts : AreRight now.now (kept_in memory.accounts)
   pub job : IfSome memory.job (IsSeen now.now)
 
 abbrev pub WhereOpen : (now : State) → Type 0 → Type 0
@@ -91,9 +99,7 @@ WhereOpen now P = HasCleanDisk now → IsTrue now.is_open → P
 -- ---- what a call leaves of it
 
 pub record IsNothing (memory : Memory) : Type 0 where
-  pub sums : kept_in memory.sums ≡ []
-  pub queues : kept_in memory.queues ≡ []
-  pub account : memory.account ≡ None
+  pub accounts : kept_in memory.accounts ≡ []
   pub job : memory.job ≡ None
 
 -- an answer leaves all, a fault nothing
@@ -101,10 +107,16 @@ abbrev pub Outlasts : {T E : Type 0} (told : Result T E) (before after : Memory)
 Outlasts (Ok it) before after = after ≡ before
 Outlasts (Err e) before after = IsNothing after
 
+-- this is kept of the account
+pub record KeepsKept (name : List ℕ) (it : Kept) (before after : Memory) : Type 0 where
+  pub accounts : SetsKept name it (kept_in before.accounts) (kept_in after.accounts)
+  pub job : after.job ≡ before.job
+
 -- an account that was found is kept
 abbrev pub MindsAccount :
     (name : List ℕ) (told : Result (Option Account) TableFault) (before after : Memory) → Type 0
-MindsAccount name (Ok (Some row)) before after = after ≡ record before { account = Some name }
+MindsAccount name (Ok (Some row)) before after =
+    KeepsKept name (record (known_of (kept_in before.accounts) name) { row = Some row }) before after
 MindsAccount name (Ok None) before after = after ≡ before
 MindsAccount name (Err e) before after = IsNothing after
 
@@ -117,48 +129,53 @@ MindsJob name number (Ok (Some job)) before after = after ≡ record before {
 MindsJob name number (Ok None) before after = after ≡ before
 MindsJob name number (Err e) before after = IsNothing after
 
-pub record KeepsSum (name : List ℕ) (units : ℕ) (before after : Memory) : Type 0 where
-  pub sums : ListsOnly (kept_in before.sums) name units (kept_in after.sums)
-  pub queues : after.queues ≡ before.queues
-  pub account : after.account ≡ before.account
-  pub job : after.job ≡ before.job
-
 -- what was added up is kept
 abbrev pub MindsTally :
     (name : List ℕ) (told : Result Tally TableFault) (before after : Memory) → Type 0
-MindsTally name (Ok tally) before after = KeepsSum name tally.charged before after
+MindsTally name (Ok tally) before after =
+    KeepsKept name (record (known_of (kept_in before.accounts) name) { charged = Some tally.charged })
+    before after
 MindsTally name (Err e) before after = IsNothing after
-
-pub record KeepsCount (name : List ℕ) (count : ℕ) (before after : Memory) : Type 0 where
-  pub sums : after.sums ≡ before.sums
-  pub queues : ListsOnly (kept_in before.queues) name count (kept_in after.queues)
-  pub account : after.account ≡ before.account
-  pub job : after.job ≡ before.job
 
 -- what was counted is kept
 abbrev pub MindsCount :
     (name : List ℕ) (told : Result ℕ TableFault) (before after : Memory) → Type 0
-MindsCount name (Ok count) before after = KeepsCount name count before after
+MindsCount name (Ok count) before after =
+    KeepsKept name (record (known_of (kept_in before.accounts) name) { unfinished = Some count })
+    before after
 MindsCount name (Err e) before after = IsNothing after
 
--- of the account nothing is kept, nor what was found last
+-- of an account that was opened nothing is kept, nor what was found last
 pub record ForgetsAccount (name : List ℕ) (before after : Memory) : Type 0 where
-  pub sums : ListsNoMore (kept_in before.sums) name (kept_in after.sums)
-  pub queues : ListsNoMore (kept_in before.queues) name (kept_in after.queues)
-  pub account : after.account ≡ None
+  pub accounts : SetsKept name unknown (kept_in before.accounts) (kept_in after.accounts)
   pub job : after.job ≡ None
 
-abbrev pub MindsAccountChange : {E : Type 0}
+abbrev pub MindsOpening : {E : Type 0}
     (name : List ℕ) (made : Result (Unit {0}) E) (before after : Memory) → Type 0
-MindsAccountChange name (Ok done) before after = ForgetsAccount name before after
-MindsAccountChange name (Err e) before after = IsNothing after
+MindsOpening name (Ok done) before after = ForgetsAccount name before after
+MindsOpening name (Err e) before after = IsNothing after
+
+-- what is kept of an account of this row is moved by a new job, and the number of its next job
+pub record MakesKept (name : List ℕ) (row : Account) (new : Job) (before after : Memory) : Type 0 where
+  pub moved : Kept
+  pub moves : MovesTo nothing (added_by new.standing) (known_of (kept_in before.accounts) name) moved
+  pub accounts : SetsKept name
+      (record moved { row = Some (record row { next_job = new.job + 1 }) })
+      (kept_in before.accounts) (kept_in after.accounts)
+  pub job : after.job ≡ None
+
+-- where its row is known
+abbrev pub MindsMaking : {E : Type 0} (name : List ℕ) (was : Option Account) (job : Job)
+    (made : Result (Unit {0}) E) (before after : Memory) → Type 0
+MindsMaking name (Some row) job (Ok done) before after = MakesKept name row job before after
+MindsMaking name None job (Ok done) before after = IsNothing after
+MindsMaking name was job (Err e) before after = IsNothing after
 
 -- what is kept of the account is moved, and nothing is kept of what was found last
 pub record MovesKept (name : List ℕ) (was is : Added) (before after : Memory) : Type 0 where
-  pub sums : MovesSum name was.charged is.charged (kept_in before.sums) (kept_in after.sums)
-  pub queues :
-      MovesSum name was.unfinished is.unfinished (kept_in before.queues) (kept_in after.queues)
-  pub account : after.account ≡ None
+  pub moved : Kept
+  pub moves : MovesTo was is (known_of (kept_in before.accounts) name) moved
+  pub accounts : SetsKept name moved (kept_in before.accounts) (kept_in after.accounts)
   pub job : after.job ≡ None
 
 -- where it is known what the job added before

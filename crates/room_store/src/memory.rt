@@ -1,12 +1,13 @@
 //! What is kept in memory of the tables, so that it is not read again.
 
-ghost use Rattle.std.specs.Prelude.{◌≡◌, ◌≤◌, ◌+◌, ℕ, [], Contains, IfSome, Some};
-ghost use Rattle.room_rules.specs.Limits.{most_unfinished, most_units};
-ghost use Rattle.room_store.specs.Kept.{added_by, kept_in, nothing, sum_of, ForgetsAccount, IsNothing, ListsNoMore, ListsOnly, MindsAccount, MindsAccountChange, MindsCount, MindsJob, MindsMove, MindsTally, MovesKept, MovesSum, Outlasts};
+ghost use Rattle.std.specs.Prelude.{◌≡◌, ◌≤◌, ◌<◌, ◌+◌, ℕ, [], IfSome, None, Some, bytes_eq};
+ghost use Rattle.room_rules.specs.Limits.{last_next_job, most_unfinished, most_units};
+ghost use Rattle.room_store.specs.Kept.{added_by, kept_in, kept_of, known_of, unknown, HasCharge, HasCount, HasRow, IsMoved, IsNothing, KeepsKept, MakesKept, MindsAccount, MindsCount, MindsJob, MindsMaking, MindsMove, MindsOpening, MindsTally, MovesKept, MovesTo, Outlasts};
+ghost use Rattle.room_tables.specs.Accounts.{IsAccount};
 
-use crate::sums::{Sums, is_same};
+use crate::cache::{Accounts, Kept, find, no_accounts, set};
 use room_events::{Account, Job, Name, Standing, Tally};
-use room_rules::{MOST_UNFINISHED, MOST_UNITS};
+use room_rules::{LAST_JOB, LAST_MOMENT, MOST_UNFINISHED, MOST_UNITS};
 use room_tables::TableFault;
 use std::alloc::Global;
 
@@ -25,13 +26,11 @@ pub(crate) struct Seen {
     pub added: Added,
 }
 
-/// What was read of the tables and is so yet: what accounts were charged, how many of their jobs have
-/// not ended, the account that was found last and is open, and the job that was found last.
+/// What was read of the tables and is so yet: rows of accounts, what these were charged and how many
+/// of their jobs have not ended, and the job that was found last.
 #[derive(Drop)]
 pub(crate) struct Memory {
-    pub sums: Option<Sums>,
-    pub queues: Option<Sums>,
-    pub account: Option<Name>,
+    pub accounts: Option<Accounts>,
     pub job: Option<Seen>,
 }
 
@@ -41,54 +40,70 @@ impl Memory {
         ensures { IsNothing result }
     {
         Memory {
-            sums: None,
-            queues: None,
-            account: None,
+            accounts: None,
             job: None,
         }
     }
 
-    /// From now on sums may be kept. It takes no memory yet.
+    /// From now on accounts are kept, as far as there is memory for them.
     pub(crate) fn open(&mut self, alloc: Global)
-        ensures sums { kept_in self.new.sums ≡ kept_in self.old.sums }
-        ensures queues { kept_in self.new.queues ≡ kept_in self.old.queues }
-        ensures account { self.new.account ≡ self.old.account }
+        ensures accounts { kept_in self.new.accounts ≡ kept_in self.old.accounts }
         ensures job { self.new.job ≡ self.old.job }
     {
-        open(alloc, &mut self.sums);
-        open(alloc, &mut self.queues);
+        if self.accounts.is_none() {
+            self.accounts = no_accounts(alloc);
+        }
     }
 
     /// Nothing is kept any more.
     pub(crate) fn forget_all(&mut self)
         ensures { IsNothing self.new }
     {
-        clear(&mut self.sums);
-        clear(&mut self.queues);
-        self.account = None;
+        clear(&mut self.accounts);
         self.job = None;
+    }
+
+    fn find(&self, account: Name) -> Option<Kept>
+        ensures { result ≡ kept_of (kept_in self.now.accounts) account }
+    {
+        match &self.accounts {
+            Some(accounts) => find(accounts, account),
+            None => None,
+        }
+    }
+
+    /// What is known of the account, which may be nothing.
+    fn known(&self, account: Name) -> Kept
+        ensures { result ≡ known_of (kept_in self.now.accounts) account }
+    {
+        match self.find(account) {
+            Some(kept) => kept,
+            None => unknown(),
+        }
+    }
+
+    /// The account's own row, where it is kept.
+    pub(crate) fn row(&self, account: Name) -> Option<Account>
+        ensures kept { IfSome result (HasRow self.now account) }
+        ensures in_range { IfSome result IsAccount }
+    {
+        sound(self.known(account).row)
     }
 
     /// What the jobs of the account were charged, where it is kept.
     pub(crate) fn charged(&self, account: Name) -> Option<u64>
-        ensures kept { IfSome result (λ units. Contains (kept_in self.now.sums) (sum_of account units)) }
+        ensures kept { IfSome result (HasCharge self.now account) }
         ensures bound { IfSome result (λ units. units ≤ most_units) }
     {
-        match &self.sums {
-            Some(sums) => at_most(sums.find(account)),
-            None => None,
-        }
+        at_most(self.known(account).charged)
     }
 
     /// How many jobs of the account have not ended, where it is kept.
-    pub(crate) fn queued(&self, account: Name) -> Option<u32>
-        ensures kept { IfSome result (λ count. Contains (kept_in self.now.queues) (sum_of account count)) }
+    pub(crate) fn unfinished(&self, account: Name) -> Option<u32>
+        ensures kept { IfSome result (HasCount self.now account) }
         ensures few { IfSome result (λ count. count ≤ most_unfinished) }
     {
-        match &self.queues {
-            Some(queues) => few(queues.find(account)),
-            None => None,
-        }
+        few(self.known(account).unfinished)
     }
 
     /// What the job adds, if it is the one that was found last.
@@ -100,26 +115,6 @@ impl Memory {
             Some(seen) => {
                 if is_same(seen.account, account) && seen.number == number {
                     Some(seen.added)
-                } else {
-                    None
-                }
-            }
-            None => None,
-        }
-    }
-
-    /// Nothing, which a new job of the account added before, if it is the one that was found last.
-    pub(crate) fn nothing_before(&self, account: Name) -> Option<Added>
-        ensures { IfSome result (λ added. (added ≡ nothing)
-            × (self.now.account ≡ Some account)) }
-    {
-        match self.account {
-            Some(name) => {
-                if is_same(name, account) {
-                    Some(Added {
-                        charged: 0,
-                        unfinished: 0,
-                    })
                 } else {
                     None
                 }
@@ -143,10 +138,25 @@ impl Memory {
         ensures { MindsAccount account told.now self.old self.new }
     {
         match told {
-            Ok(Some(_)) => self.account = Some(account),
+            Ok(Some(row)) => self.keep_row(account, *row),
             Ok(None) => (),
             Err(_) => self.forget_all(),
         }
+    }
+
+    fn keep_row(&mut self, account: Name, row: Account)
+        ensures { KeepsKept account
+            (record (known_of (kept_in self.old.accounts) account) { row = Some row })
+            self.old self.new }
+    {
+        let known = self.known(account);
+        self.keep(
+            account,
+            Kept {
+                row: Some(row),
+                ..known
+            },
+        );
     }
 
     /// Keeps the job that was found.
@@ -176,9 +186,19 @@ impl Memory {
         ensures { MindsTally account told.now self.old self.new }
     {
         match told {
-            Ok(tally) => keep(&mut self.sums, account, tally.charged),
+            Ok(tally) => self.keep_charged(account, tally.charged),
             Err(_) => self.forget_all(),
         }
+    }
+
+    fn keep_charged(&mut self, account: Name, units: u64)
+        ensures { KeepsKept account
+            (record (known_of (kept_in self.old.accounts) account) { charged = Some units })
+            self.old self.new }
+    {
+        let known = self.known(account);
+        let charged = Some(units);
+        self.keep(account, Kept { charged, ..known });
     }
 
     /// Keeps what was counted.
@@ -186,27 +206,76 @@ impl Memory {
         ensures { MindsCount account told.now self.old self.new }
     {
         match told {
-            Ok(count) => keep(&mut self.queues, account, u64::from(*count)),
+            Ok(count) => self.keep_unfinished(account, u64::from(*count)),
             Err(_) => self.forget_all(),
         }
     }
 
-    /// After a change of the account nothing is kept of it.
-    pub(crate) fn mind_change<E>(&mut self, account: Name, made: &Result<(), E>)
-        ensures { MindsAccountChange account made.now self.old self.new }
+    fn keep_unfinished(&mut self, account: Name, count: u64)
+        ensures { KeepsKept account
+            (record (known_of (kept_in self.old.accounts) account) { unfinished = Some count })
+            self.old self.new }
+    {
+        let known = self.known(account);
+        let unfinished = Some(count);
+        self.keep(
+            account,
+            Kept {
+                unfinished,
+                ..known
+            },
+        );
+    }
+
+    /// Where the account was opened nothing is kept of it.
+    pub(crate) fn mind_opening<E>(&mut self, account: Name, made: &Result<(), E>)
+        ensures { MindsOpening account made.now self.old self.new }
     {
         match made {
-            Ok(()) => self.forget(account),
+            Ok(()) => {
+                self.keep(account, unknown());
+                self.job = None;
+            }
             Err(_) => self.forget_all(),
         }
     }
 
-    fn forget(&mut self, account: Name)
-        ensures { ForgetsAccount account self.old self.new }
+    /// After a new job of the account, which had this row: what is kept of the account is moved, if
+    /// its row is known. Else nothing is kept.
+    pub(crate) fn mind_making<E>(
+        &mut self,
+        account: Name,
+        was: Option<Account>,
+        job: &Job,
+        made: &Result<(), E>,
+    )
+        requires { job.now.job < last_next_job }
+        ensures { MindsMaking account was job.now made.now self.old self.new }
     {
-        forget(&mut self.sums, account);
-        forget(&mut self.queues, account);
-        self.account = None;
+        match made {
+            Ok(()) => match was {
+                Some(row) => self.count_on(account, row, job),
+                None => self.forget_all(),
+            },
+            Err(_) => self.forget_all(),
+        }
+    }
+
+    fn count_on(&mut self, account: Name, row: Account, job: &Job)
+        requires { job.now.job < last_next_job }
+        ensures { MakesKept account row job.now self.old self.new }
+    {
+        let nothing = Added {
+            charged: 0,
+            unfinished: 0,
+        };
+        let moved = moved_by(self.known(account), nothing, added_by(&job.standing));
+        let next = Account {
+            next_job: job.job + 1,
+            ..row
+        };
+        let row = Some(next);
+        self.keep(account, Kept { row, ..moved });
         self.job = None;
     }
 
@@ -233,11 +302,46 @@ impl Memory {
     fn shift(&mut self, account: Name, was: Added, is: Added)
         ensures { MovesKept account was is self.old self.new }
     {
-        shift(&mut self.sums, account, was.charged, is.charged);
-        shift(&mut self.queues, account, was.unfinished, is.unfinished);
-        self.account = None;
+        let moved = moved_by(self.known(account), was, is);
+        self.keep(account, moved);
         self.job = None;
     }
+
+    fn keep(&mut self, account: Name, kept: Kept)
+        ensures { KeepsKept account kept self.old self.new }
+    {
+        match &mut self.accounts {
+            Some(accounts) => set(accounts, account, kept),
+            None => (),
+        }
+    }
+}
+
+/// What is kept of an account of which nothing is known.
+fn unknown() -> Kept
+    ensures { result ≡ unknown }
+{
+    Kept {
+        row: None,
+        charged: None,
+        unfinished: None,
+    }
+}
+
+fn clear(accounts: &mut Option<Accounts>)
+    ensures { kept_in accounts.new ≡ [] }
+{
+    match accounts {
+        Some(accounts) => accounts.clear(),
+        None => (),
+    }
+}
+
+/// Whether both are one name.
+fn is_same(one: Name, other: Name) -> bool
+    ensures { result ≡ bytes_eq one other }
+{
+    one.bytes() == other.bytes()
 }
 
 /// What a job of this standing adds.
@@ -250,68 +354,38 @@ fn added_by(standing: &Standing) -> Added
     }
 }
 
-fn open(alloc: Global, sums: &mut Option<Sums>)
-    ensures { kept_in sums.new ≡ kept_in sums.old }
+/// What is kept less what a job added, and with what it adds now.
+fn moved_by(kept: Kept, was: Added, is: Added) -> Kept
+    ensures { MovesTo was is kept result }
 {
-    if sums.is_none() {
-        *sums = Some(Sums::new(alloc));
-    }
-}
-
-fn clear(sums: &mut Option<Sums>)
-    ensures { kept_in sums.new ≡ [] }
-{
-    match sums {
-        Some(sums) => sums.clear(),
-        None => (),
-    }
-}
-
-/// Keeps what the jobs of the account come to.
-fn keep(sums: &mut Option<Sums>, account: Name, units: u64)
-    ensures { ListsOnly (kept_in sums.old) account units (kept_in sums.new) }
-{
-    match sums {
-        Some(sums) => sums.keep(account, units),
-        None => (),
-    }
-}
-
-/// Nothing is kept of what the jobs of the account come to.
-fn forget(sums: &mut Option<Sums>, account: Name)
-    ensures { ListsNoMore (kept_in sums.old) account (kept_in sums.new) }
-{
-    match sums {
-        Some(sums) => sums.forget(account),
-        None => (),
-    }
-}
-
-/// Moves the sum of the account, if it is kept.
-fn shift(sums: &mut Option<Sums>, account: Name, was: u64, is: u64)
-    ensures { MovesSum account was is (kept_in sums.old) (kept_in sums.new) }
-{
-    match sums {
-        Some(sums) => move_sum(sums, account, was, is),
-        None => (),
-    }
-}
-
-/// The sum of the account, if it is kept, is less what a job added, and with what it adds now.
-fn move_sum(sums: &mut Sums, account: Name, was: u64, is: u64)
-    ensures { MovesSum account was is sums.old.items.items sums.new.items.items }
-{
-    match moved(sums.find(account), was, is) {
-        Some(units) => sums.keep(account, units),
-        None => sums.forget(account),
+    Kept {
+        row: kept.row,
+        charged: moved(kept.charged, was.charged, is.charged),
+        unfinished: moved(kept.unfinished, was.unfinished, is.unfinished),
     }
 }
 
 /// A sum less what a job added, and with what it adds now. `None` where that is no sum.
 fn moved(sum: Option<u64>, was: u64, is: u64) -> Option<u64>
-    ensures { IfSome result (λ units. (rest : ℕ) × (sum ≡ Some (rest + was)) × (units ≡ rest + is)) }
+    ensures { IsMoved was is sum result }
 {
     sum?.checked_sub(was)?.checked_add(is)
+}
+
+/// A row that an account can have.
+fn sound(row: Option<Account>) -> Option<Account>
+    ensures { IfSome result (λ it. (row ≡ Some it) × IsAccount it) }
+{
+    match row {
+        Some(it) => {
+            if it.opened <= LAST_MOMENT && 1 <= it.next_job && it.next_job <= LAST_JOB + 1 {
+                Some(it)
+            } else {
+                None
+            }
+        }
+        None => None,
+    }
 }
 
 /// A sum that an account's jobs can come to.

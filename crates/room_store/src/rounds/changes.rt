@@ -31,7 +31,7 @@ pub(crate) fn open_account<S: Alter>(
 {
     let _alone = connection.connection.is_autocommit();
     let made = room_statements::open_account(&mut connection.connection, account, now);
-    connection.memory.mind_change(account, &made);
+    connection.memory.mind_opening(account, &made);
     made
 }
 
@@ -47,7 +47,7 @@ pub(crate) fn add_grant<S: Alter>(
 {
     let _alone = connection.connection.is_autocommit();
     let made = room_statements::add_grant(&mut connection.connection, account, month, pages);
-    connection.memory.mind_change(account, &made);
+    connection.memory.mind(&made);
     made
 }
 
@@ -68,11 +68,9 @@ pub(crate) fn make_job<S: Alter>(
         IsFree account (first_of job.now.job document.entry) db → ⊥) }
 {
     let _alone = connection.connection.is_autocommit();
-    let was = connection.memory.nothing_before(account);
+    let was = connection.memory.row(account);
     let made = room_statements::make_job(&mut connection.connection, account, job, document);
-    connection
-        .memory
-        .mind_move(account, was, &job.standing, &made);
+    connection.memory.mind_making(account, was, job, &made);
     made
 }
 

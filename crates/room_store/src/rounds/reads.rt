@@ -1,7 +1,7 @@
 //! What is read of the tables. After a fault nothing is kept in memory: what was changed may be
 //! undone.
 
-ghost use Rattle.std.specs.Prelude.{◌≡◌, ◌≤◌, ◌<◌, ◌↔◌, ⊤, ℕ, Bool, Contains, List, Option, length, option_map, pos, true, Some, Err, IfOk, IfSome, IsTrue, OnErr, OnOk};
+ghost use Rattle.std.specs.Prelude.{◌≡◌, ◌≤◌, ◌<◌, ◌↔◌, ⊤, ℕ, Bool, List, Option, length, option_map, pos, true, Some, Err, IfOk, IfSome, IsTrue, OnErr, OnOk};
 ghost use Rattle.std.specs.FinMap.{get, values};
 ghost use Rattle.std.specs.List.{AllByRecursion};
 ghost use Rattle.sqlite.specs.Held.{state};
@@ -18,8 +18,8 @@ ghost use Rattle.room_statements.specs.Documents.{IsDocumentOf};
 ghost use Rattle.room_statements.specs.Prelude.{HoldsRoom, IfOurTables, IsRowOf, ReadsStore, RoomValue};
 ghost use Rattle.room_statements.specs.Queues.{by_falling_end, by_rising_number, IsNumbered};
 ghost use Rattle.room_statements.specs.SoundRows.{AreRowsOf, CanBeAdded, CanBeCounted, FirstAreRowsOf, device_rows, document_rows, ended_rows, grant_rows, job_rows, unfinished_rows};
-ghost use Rattle.room_store.specs.Kept.{kept_in, sum_of};
-ghost use Rattle.room_store.specs.ProofKnown.{HasJobRow};
+ghost use Rattle.room_store.specs.Kept.{HasCharge, HasCount, HasRow};
+ghost use Rattle.room_store.specs.ProofKnown.{HasAccountRow, HasJobRow};
 ghost use Rattle.room_store.specs.Reading.{JobIsReadable};
 ghost use Rattle.room_store.specs.Serving.{LooksUp, WasOpen};
 ghost use Rattle.room_tables.specs.Accounts.{IsAccount, account_at, grant_at, job_at};
@@ -51,9 +51,36 @@ pub fn find_account<S: Alter>(
     ensures reads { ReadsStore S.Store connection.old connection.new result }
 {
     let _alone = connection.connection.is_autocommit();
-    let found = room_statements::find_account(&mut connection.connection, account);
+    let known = row(connection.is_ours, &connection.memory, account);
+    let found = find_knowing(&mut connection.connection, account, known);
     connection.memory.mind_account(account, &found);
     found
+}
+
+/// The account's own row. Where that is known it is not read, and the connection is asked whether it
+/// is open alone.
+fn find_knowing<S: Alter>(
+    connection: &mut Connection<S>,
+    account: Name,
+    known: Option<Account>,
+) -> Result<Option<Account>, TableFault>
+    requires in_range { IfSome known IsAccount }
+    ensures found { IfOurTables S.Store connection.old connection.new (λ db.
+        IfSome known (λ row. HasAccountRow account row db) → IfOk result
+        (λ found. account_at db account ≡ option_map (account_cells account) found)) }
+    ensures in_range { IfOk result (λ found. IfSome found IsAccount) }
+    ensures damaged { IfOurTables S.Store connection.old connection.new (λ db.
+        result ≡ Err TableFault.Damaged
+        → IsRowOf (account_cells account) IsAccount (account_at db account) → ⊥) }
+    ensures reads { ReadsStore S.Store connection.old connection.new result }
+{
+    let Some(row) = known else {
+        return room_statements::find_account(connection, account);
+    };
+    match events::knock(connection) {
+        Ok(()) => Ok(Some(row)),
+        Err(fault) => Err(fault),
+    }
 }
 
 /// The account's job of this number. `None` where it has none, and without a look at the tables
@@ -249,7 +276,7 @@ pub(crate) fn count_unfinished<S: Alter>(
     ensures reads { ReadsStore S.Store connection.old connection.new result }
 {
     let _alone = connection.connection.is_autocommit();
-    let known = queued(connection.is_ours, &connection.memory, account);
+    let known = unfinished(connection.is_ours, &connection.memory, account);
     let found = count_knowing(&mut connection.connection, account, known);
     connection.memory.mind_count(account, &found);
     found
@@ -352,15 +379,22 @@ pub(crate) fn tally_jobs<S: Alter>(
     found
 }
 
+/// The account's own row, where the tables are known to be the store's and it is kept.
+fn row(is_ours: bool, memory: &Memory, account: Name) -> Option<Account>
+    ensures kept { IfSome result (λ row. IsTrue is_ours × HasRow memory.now account row) }
+    ensures in_range { IfSome result IsAccount }
+{
+    if is_ours { memory.row(account) } else { None }
+}
+
 /// How many jobs of the account have not ended, where the tables are known to be the store's and it is
 /// kept.
-fn queued(is_ours: bool, memory: &Memory, account: Name) -> Option<u32>
-    ensures kept { IfSome result (λ count. IsTrue is_ours
-        × Contains (kept_in memory.now.queues) (sum_of account count)) }
+fn unfinished(is_ours: bool, memory: &Memory, account: Name) -> Option<u32>
+    ensures kept { IfSome result (λ count. IsTrue is_ours × HasCount memory.now account count) }
     ensures few { IfSome result (λ count. count ≤ most_unfinished) }
 {
     if is_ours {
-        memory.queued(account)
+        memory.unfinished(account)
     } else {
         None
     }
@@ -368,8 +402,7 @@ fn queued(is_ours: bool, memory: &Memory, account: Name) -> Option<u32>
 
 /// What the account was charged, where the tables are known to be the store's and it is kept.
 fn charged(is_ours: bool, memory: &Memory, account: Name) -> Option<u64>
-    ensures kept { IfSome result (λ units. IsTrue is_ours
-        × Contains (kept_in memory.now.sums) (sum_of account units)) }
+    ensures kept { IfSome result (λ units. IsTrue is_ours × HasCharge memory.now account units) }
     ensures bound { IfSome result (λ units. units ≤ most_units) }
 {
     if is_ours {
@@ -398,8 +431,8 @@ pub(crate) fn knock<S: Alter>(connection: &mut Rounds<S>) -> Result<(), TableFau
     found
 }
 
-/// Whether the connection is open, as `events::knock` tells it. From now on sums are kept, as far as
-/// there is memory for them.
+/// Whether the connection is open, as `events::knock` tells it. From now on accounts are kept, as far
+/// as there is memory for them.
 pub(crate) fn ready<S: Alter>(alloc: Global, connection: &mut Rounds<S>) -> Result<(), TableFault>
     ensures looks { LooksUp S.Store connection.old connection.new result }
     ensures opened { HasCleanDisk (state S.Store connection.new)

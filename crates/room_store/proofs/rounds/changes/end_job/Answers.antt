@@ -18,6 +18,7 @@ invariant_of-connection g c ours =
     let seen = found_seen old.now c.args.account c.args.number c.connection.inside.memory.job c.added_before-was.result added is c.added_before-was.ensures kept.job in
     let there : job_at old.now c.args.account (pos c.args.number) ≡ Some (job_cells c.args.account seen.0) = subst (λ (n : ℕ). job_at old.now c.args.account (pos n) ≡ Some (job_cells c.args.account seen.0)) seen.1 seen.3 in (
       made.alone seen.0 there,
+      made.account seen.0 there,
       subst (λ (a : Added). MovesCharge c.args.account a.charged c.args.standing.now.charged old.now new.now) seen.2 (made.charged seen.0 seen.1 there),
       subst (λ (a : Added). MovesCount c.args.account a.unfinished (counts c.args.standing.now) old.now new.now) seen.2 (made.counted seen.0 seen.1 there),
     ))
