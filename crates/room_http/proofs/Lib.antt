@@ -7,7 +7,6 @@ pub mod LineEnds
 pub mod Lines
 pub mod Sections
 pub mod ChunkSteps
-pub mod Spelling
 pub mod Openings
 pub mod OneBody
 pub mod OneHead

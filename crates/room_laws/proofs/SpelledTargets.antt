@@ -12,7 +12,8 @@ use Rattle.std.proofs.lemmas.Option.{none-some, same_Some}
 use Rattle.std.proofs.lemmas.Slice.Eq.{bytes_eq-Decides}
 use Rattle.std.proofs.lemmas.Str.Parse.{IsNumeralModel}
 use Rattle.ipp_coding.specs.Plain.{PlainAttribute, PlainValue}
-use Rattle.room_asks.proofs.Digits.{digits_from, few_below}
+use Rattle.room_rules.proofs.Digits.{digits_from}
+use Rattle.room_asks.proofs.Digits.{few_below}
 use Rattle.room_asks.proofs.UriCuts.{uris_are_made_of_parts}
 use Rattle.room_asks.specs.Checks.{named_target, target_of}
 use Rattle.room_asks.specs.Operations.{is_for_job}

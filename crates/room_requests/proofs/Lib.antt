@@ -1,2 +1,3 @@
+pub mod FewDigits
 pub mod Joining
 pub mod Marks

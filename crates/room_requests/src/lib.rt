@@ -1,5 +1,5 @@
 //! Requests of IPP over HTTP/1.1, however they are read: which account one is for, why one is
-//! refused, how long its parts may be, and the texts of answers.
+//! refused, how long its parts may be, numbers in digits, and the texts of answers.
 #![tactic(auto)]
 
 mod answer;
@@ -11,7 +11,7 @@ mod targets;
 mod words;
 
 pub use answer::{last_answer_head, put, put_answer_head, refusal_text};
-pub use digits::are_digits;
+pub use digits::{are_digits, number_of};
 pub use limits::{BODY_LIMIT, HEAD_LIMIT, TRAILERS_LIMIT};
 pub use origin::is_foreign;
 pub use refusal::Refusal;

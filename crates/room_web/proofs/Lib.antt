@@ -1,4 +1,3 @@
-pub mod FewDigits
 pub mod FieldLists
 pub mod ForeignForms
 pub mod PageCalls

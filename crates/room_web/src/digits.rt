@@ -1,11 +1,8 @@
 //! Numbers in digits.
-ghost use Rattle.std.specs.Prelude.{◌≡◌, ◌≤◌, ◌<◌, ◌^◌, length, IfSome, IsTrue};
-ghost use Rattle.std.specs.Char.{is_ascii_digit};
-ghost use Rattle.std.specs.List.{list_all};
-ghost use Rattle.std.specs.Str.Parse.{digits_value};
+ghost use Rattle.std.specs.Prelude.{◌≡◌, ◌<◌, IfSome};
 ghost use Rattle.room_web.specs.Numbers.{is_number, large_said, number_said};
 
-use room_requests::are_digits;
+use room_requests::{are_digits, number_of};
 
 /// The number that 1 to 8 digits write, and `None` of anything else.
 pub(crate) fn number(digits: &[u8]) -> Option<u32>
@@ -34,18 +31,4 @@ fn is_number(most: usize, digits: &[u8]) -> bool
     ensures { result ≡ is_number most digits.now }
 {
     !digits.is_empty() && digits.len() <= most && are_digits(digits)
-}
-
-/// The number that a few digits write.
-fn number_of(digits: &[u8]) -> u64
-    requires are_digits { IsTrue (list_all is_ascii_digit digits.now) }
-    requires few { length digits.now ≤ 18 }
-    ensures value { result ≡ digits_value 10 digits.now }
-    ensures within { result < 10 ^ length digits.now }
-{
-    let mut number = 0;
-    for digit in digits {
-        number = number * 10 + u64::from(*digit - b'0');
-    }
-    number
 }

@@ -1,5 +1,5 @@
 use Rattle.std.proofs.Common.{arith}
-use Rattle.room_web.proofs.FewDigits.{eighteen_below}
+use Rattle.room_requests.proofs.FewDigits.{eighteen_below}
 use Rattle.room_web.proofs.digits.large_number.Goals as goal
 
 pub returns-then-is_number-clause-within : goal.returns-then-is_number-clause-within

@@ -1,8 +1,8 @@
 use Rattle.std.proofs.Common.{arith, lit≤}
 use Rattle.std.proofs.lemmas.Str.Parse.{digits_value-take-le}
-use Rattle.room_asks.proofs.Digits.{more_digits}
-use Rattle.room_web.proofs.FewDigits.{own_below, so_far_below}
-use Rattle.room_web.proofs.digits.number_of.Goals as goal
+use Rattle.room_rules.proofs.Digits.{more_digits}
+use Rattle.room_requests.proofs.FewDigits.{own_below, so_far_below}
+use Rattle.room_requests.proofs.digits.number_of.Goals as goal
 
 pub overflow_mul-number : goal.overflow_mul-number
 overflow_mul-number c =
