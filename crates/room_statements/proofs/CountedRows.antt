@@ -1,6 +1,5 @@
 -- How many rows of an account's jobs tell no moment of an end, and how that moves with a row that is set.
-use Rattle.std.proofs.Common.{◌≡◌, ◌≢◌, ◌==◌, ℕ, ◌+◌, ℤ, pos, negsuc, Bool, true, false, cond, not, List, [], ◌∷◌, length, map, filter, drop, codes, Option, Some, None, is_some, refl, sym, ap, subst, ◌∙◌, inl, inr, arith}
-use Rattle.std.specs.List.{AllByRecursion}
+use Rattle.std.proofs.Common.{◌≡◌, ◌≢◌, ◌==◌, ℕ, ◌+◌, ℤ, pos, negsuc, Bool, true, false, cond, not, List, [], ◌∷◌, length, filter, drop, codes, Option, Some, None, is_some, refl, sym, ap, subst, ◌∙◌, inl, inr, arith}
 use Rattle.std.specs.List.Sorted.{IsPermutation}
 use Rattle.std.proofs.lemmas.Bool.{cases_Bool}
 use Rattle.std.proofs.lemmas.Bool.Decides.{nat_tests}
@@ -35,7 +34,7 @@ use Rattle.room_tables.proofs.NoneTwice.{NoneTwice, same_members}
 use Rattle.room_tables.proofs.RowOfKey.{one_of_cells, there_at}
 use Rattle.room_tables.proofs.RowsUnder.{once_shown, row_under, under_row}
 use Rattle.room_tables.proofs.Statements.{numbered_in}
-use Rattle.room_statements.specs.Charged.{IsCounted, MovesCount, counts}
+use Rattle.room_statements.specs.JobSums.{IsCounted, MovesCount, counts}
 use Rattle.room_statements.specs.Rows.{AddsJob, EndsJob, Restands}
 use Rattle.room_statements.specs.SoundRows.{job_rows, tells_unfinished}
 use Rattle.room_statements.proofs.KeyTests.{is_at_number, number_met, number_here}

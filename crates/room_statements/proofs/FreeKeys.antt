@@ -1,10 +1,9 @@
 -- Where a row was put in its key was free.
-use Rattle.std.proofs.Common.{◌≡◌, ℤ, ℕ, ◌&&◌, Bool, true, false, not, cond, List, [], ◌∷◌, ◌++◌, suc, length, drop, find, Option, Some, None, option_map, Ok, refl, sym, ap, subst, ◌∙◌, inl, inr, is_eq}
+use Rattle.std.proofs.Common.{◌≡◌, ℤ, ℕ, true, false, not, List, [], ◌∷◌, ◌++◌, suc, length, drop, find, None, option_map, Ok, refl, ap, subst, ◌∙◌, inl, inr, is_eq}
 use Rattle.std.proofs.lemmas.Bool.{cases_Bool, and_parts, not-true}
 use Rattle.std.proofs.lemmas.Cmp.{tied_itself}
 use Rattle.sqlite_value.specs.declared.value.Value.TheVariants.{Null, Int}
 use Rattle.sqlite_value.specs.Order.{Row, value_cmp}
-use Rattle.sqlite_value.specs.Keys.{plain}
 use Rattle.sqlite_value.proofs.OrderLemmas.{value_cmp_total}
 use Rattle.sqlite_sql.specs.Term.{Term}
 use Rattle.sqlite_trees.specs.Tree.{Trees, rowid}
@@ -14,15 +13,13 @@ use Rattle.sqlite_schema.specs.declared.schema.Table.{Table}
 use Rattle.sqlite_schema.specs.declared.command.Command.{Command}
 use Rattle.sqlite_schema.specs.declared.command.Command.TheVariants.{Insert}
 use Rattle.sqlite_schema.specs.declared.command.Source.TheVariants.{Values}
-use Rattle.sqlite_schema.specs.Rules.{agree}
 use Rattle.sqlite_rules.specs.Action.{Writes}
 use Rattle.sqlite_rules.specs.Cast.{cast_all, cast_row}
 use Rattle.sqlite_rules.specs.Edit.{Edit, edit_of, is_taken, next_rowid, with_rowid}
 use Rattle.sqlite_rules.specs.Lists.{Has}
 use Rattle.sqlite_rules.specs.declared.error.Rowids.TheVariants.{Chosen}
 use Rattle.sqlite_rules.proofs.ListLemmas.{some_from}
-use Rattle.sqlite.specs.Effect.{Database}
-use Rattle.sqlite.specs.Does.{Does, Tally}
+use Rattle.sqlite.specs.Does.{Does}
 use Rattle.sqlite.specs.Listing.{understood}
 use Rattle.sqlite.specs.State.{State, Executes, mode_of}
 use Rattle.sqlite.proofs.Callers.{one_step, runs_as, statement_of}
@@ -34,7 +31,7 @@ use Rattle.room_tables.proofs.Inserts.{IsPutting}
 use Rattle.room_tables.proofs.KeyedTables.{places_from, IsInSchema}
 use Rattle.room_tables.proofs.Settings.{all_kept}
 use Rattle.room_tables.proofs.Statements.{numbered_in, once_in}
-use Rattle.room_tables.proofs.StatementParts.{cast_null, same_value, went}
+use Rattle.room_tables.proofs.StatementParts.{cast_null, went}
 
 module _ {at : ℕ} {name : List ℕ} {tree : ℕ} {columns : List Column} (key rest : Row) (in_schema : IsInSchema at name tree (length key) columns) (text : List ℕ) (terms : List Term) where
   abbrev cells : Row

@@ -1,9 +1,10 @@
 -- What is kept in memory stays so, whatever a call came to.
-use Rattle.std.proofs.Common.{◌≡◌, ◌≢◌, ◌≤◌, ◌+◌, ℕ, Bool, true, false, List, [], Option, Some, None, IfSome, unwrap_or, Result, Ok, Err, IfOk, OnOk, OnErr, IsTrue, option_map, pos, refl, sym, ap, subst, ◌∙◌, inl, inr, arith, bytes_eq, ℤ}
+use Rattle.std.proofs.Common.{◌≡◌, ◌≢◌, ◌≤◌, ◌+◌, ℕ, Bool, true, false, List, [], Option, Some, None, IfSome, unwrap_or, Result, Ok, Err, IfOk, OnOk, OnErr, IsTrue, option_map, pos, refl, sym, subst, ◌∙◌, inl, inr, arith, bytes_eq, ℤ}
 use Rattle.std.proofs.lemmas.Slice.Eq.{bytes_eq-Decides}
-use Rattle.lru.specs.LruCache.{LruCache}
 use Rattle.sqlite_trees.specs.View.{doubt}
 use Rattle.sqlite_trees.specs.declared.store.Store.{Ghosts}
+use Rattle.std.specs.FinMap.{values}
+use Rattle.std.specs.List.{sum_by}
 use Rattle.sqlite.specs.Effect.{Database}
 use Rattle.sqlite.specs.Held.{Held, state}
 use Rattle.sqlite.specs.State.{State, HasCleanDisk}
@@ -12,25 +13,25 @@ use Rattle.room_rules.specs.declared.job.Job.{Job}
 use Rattle.room_rules.specs.declared.job.Standing.{Standing}
 use Rattle.room_state.specs.RoomRules.{unfinished_count}
 use Rattle.room_state.specs.Rooms.{RoomValue}
-use Rattle.room_state.specs.Sums.{charged_in}
-use Rattle.room_state.specs.declared.tally.Tally.{Tally}
-use Rattle.room_statements.proofs.ChargedJobs.{same_charged}
+use Rattle.room_state.specs.Sums.{charged_in, reserved_in}
+use Rattle.room_statements.proofs.SummedJobs.{same_sum}
 use Rattle.room_statements.specs.Alone.{OnlyAccount, OnlyDevices}
 use Rattle.room_statements.proofs.CountedRows.{same_counted}
 use Rattle.room_statements.proofs.CountWalk.{count_of_room}
-use Rattle.room_statements.specs.Charged.{IsCharged, IsCounted, MovesCharge, MovesCount, counts}
+use Rattle.room_statements.specs.JobSums.{IsCounted, IsSum, MovesCount, MovesSum, charges, counts, reserves}
 use Rattle.room_statements.specs.Rounds.{BeginsRound, EndsRound}
 use Rattle.room_statements.specs.Queues.{IsNumbered}
-use Rattle.room_store.specs.Kept.{AreRight, HasCharge, HasCount, HasRow, IsKept, IsMoved, IsNothing, IsRight, IsSeen, KeepsKept, MindsAccount, MindsCount, MindsJob, MindsMaking, MindsMove, MindsOpening, MindsTally, MovesTo, Outlasts, SetsKept, WhereOpen, added_by, kept_in, kept_of, known_of, nothing, unknown}
+use Rattle.room_store.specs.Kept.{AreRight, HasCount, HasRow, HasSums, HaveSums, IsKept, IsMoved, IsNothing, IsRight, IsSeen, KeepsKept, MindsAccount, MindsCount, MindsJob, MindsMaking, MindsMove, MindsOpening, MindsSums, Outlasts, SetsKept, WhereOpen, kept_in, kept_of, known_of, unknown}
 use Rattle.room_store.specs.ProofKnown.{HasAccountRow, HasJobRow}
 use Rattle.room_store.specs.Serving.{LooksUp}
 use Rattle.room_store.specs.declared.memory.Added.{Added}
 use Rattle.room_store.specs.declared.memory.Memory.{Memory}
 use Rattle.room_store.specs.declared.memory.Seen.{Seen}
+use Rattle.room_store.specs.declared.memory.Sums.{Sums}
 use Rattle.room_store.specs.declared.cache.Kept.{Kept}
 use Rattle.room_store.specs.declared.cache.Key.{Key}
 use Rattle.room_tables.specs.Accounts.{AgreeOnRows, HoldsRoom, account_at, job_at}
-use Rattle.room_tables.specs.Calls.{ChangesWhole, IsUnchanged, IsUndone, KeepsConnection, KeepsTransaction, ReadsStore, UnchangedOrUndone}
+use Rattle.room_tables.specs.Calls.{ChangesWhole, IsUnchanged, IsUndone, KeepsConnection, ReadsStore, UnchangedOrUndone}
 use Rattle.room_tables.specs.Cells.{account_cells, job_cells}
 use Rattle.room_tables.specs.Keyed.{HasSchema}
 use Rattle.room_tables.specs.declared.fault.TableFault.{TableFault}
@@ -51,7 +52,7 @@ if_so P Q (Some x) each held = each x held
 -- ---- what is kept of accounts
 
 unknown_right : (db : Database) (name : List ℕ) → IsRight db name unknown
-unknown_right db name = record { row = tt; charged = tt; unfinished = tt }
+unknown_right db name = record { row = tt; reserved = tt; charged = tt; unfinished = tt }
 
 known_so : (db : Database) (name : List ℕ) (o : Option Kept) → IfSome o (IsRight db name) → IsRight db name (unwrap_or o unknown)
 known_so db name None right = unknown_right db name
@@ -146,6 +147,7 @@ module _ (old new : State) (before after : Memory) (keeps : KeepsConnection old 
       let was = known_right new.now (kept_in before.accounts) name mid.accounts in
       put_kept new before after name _ (record {
         row = subst (λ db. account_at db name ≡ Some (account_cells name row)) (sym still.now) (found clean kept);
+        reserved = was.reserved;
         charged = was.charged;
         unfinished = was.unfinished;
       }) out mid
@@ -170,19 +172,21 @@ module _ (old new : State) (before after : Memory) (keeps : KeepsConnection old 
   job_kept name number (Err e) same undone found numbered none clean opened = failed_kept undone none clean opened
 
   -- one was added up, or was kept
-  pub tally_kept : (name : List ℕ) (r : Result Tally TableFault) → (HasCleanDisk new → HasSchema old.now → OnOk r (IsUnchanged old new)) → (HasCleanDisk new → HasSchema old.now → UnchangedOrUndone old new)
-      → (HasCleanDisk new → IsKept old before → IfOk r (λ tally. IsCharged old.now name tally.charged)) → MindsTally name r before after → WhereOpen new (IsKept new after)
-  tally_kept name (Ok tally) same undone charged out clean opened =
+  pub sums_kept : (name : List ℕ) (r : Result Sums TableFault) → (HasCleanDisk new → HasSchema old.now → OnOk r (IsUnchanged old new)) → (HasCleanDisk new → HasSchema old.now → UnchangedOrUndone old new)
+      → (HasCleanDisk new → IsKept old before → IfOk r (HaveSums old.now name)) → MindsSums name r before after → WhereOpen new (IsKept new after)
+  sums_kept name (Ok sums) same undone summed out clean opened =
       let kept = kept_then clean opened in
       let still = same clean kept.schema in
       let mid = unchanged_kept old new before still kept in
       let was = known_right new.now (kept_in before.accounts) name mid.accounts in
+      let both = subst (λ db. HaveSums db name sums) (sym still.now) (summed clean kept) in
       put_kept new before after name _ (record {
         row = was.row;
-        charged = subst (λ db. IsCharged db name tally.charged) (sym still.now) (charged clean kept);
+        reserved = both.0;
+        charged = both.1;
         unfinished = was.unfinished;
       }) out mid
-  tally_kept name (Err e) same undone charged none clean opened = failed_kept undone none clean opened
+  sums_kept name (Err e) same undone summed none clean opened = failed_kept undone none clean opened
 
   -- one was counted, or its count was kept
   pub count_kept : (name : List ℕ) (r : Result ℕ TableFault) → (HasCleanDisk new → HasSchema old.now → OnOk r (IsUnchanged old new)) → (HasCleanDisk new → HasSchema old.now → UnchangedOrUndone old new)
@@ -194,6 +198,7 @@ module _ (old new : State) (before after : Memory) (keeps : KeepsConnection old 
       let was = known_right new.now (kept_in before.accounts) name mid.accounts in
       put_kept new before after name _ (record {
         row = was.row;
+        reserved = was.reserved;
         charged = was.charged;
         unfinished = subst (λ db. IsCounted db name count) (sym still.now) (counted clean kept);
       }) out mid
@@ -229,8 +234,8 @@ begun_kept old new before after less settled was (Err e) begins stays keeps none
 
 -- ---- a change
 
-charged_alike : (name : List ℕ) (a b : Database) → AgreeOnRows name a b → (units : ℕ) → IsCharged a name units → IsCharged b name units
-charged_alike name a b agree units = same_charged name a b agree.same_jobs units
+sum_alike : (of : Job → ℕ) (name : List ℕ) (a b : Database) → AgreeOnRows name a b → (units : ℕ) → IsSum of a name units → IsSum of b name units
+sum_alike of name a b agree units = same_sum of name a b agree.same_jobs units
 
 counted_alike : (name : List ℕ) (a b : Database) → HasSchema a → HasSchema b → AgreeOnRows name a b → (count : ℕ) → IsCounted a name count → IsCounted b name count
 counted_alike name a b was has agree count = same_counted name a b was has agree.same_jobs count
@@ -239,7 +244,8 @@ counted_alike name a b was has agree count = same_counted name a b was has agree
 right_alike : (name : List ℕ) (a b : Database) → HasSchema a → HasSchema b → AgreeOnRows name a b → (it : Kept) → IsRight a name it → IsRight b name it
 right_alike name a b was has agree it right = record {
   row = if_so (λ row. HasAccountRow name row a) (λ row. HasAccountRow name row b) it.row (λ row there. agree.same_account ∙ there) right.row;
-  charged = if_so (IsCharged a name) (IsCharged b name) it.charged (charged_alike name a b agree) right.charged;
+  reserved = if_so (IsSum reserves a name) (IsSum reserves b name) it.reserved (sum_alike reserves name a b agree) right.reserved;
+  charged = if_so (IsSum charges a name) (IsSum charges b name) it.charged (sum_alike charges name a b agree) right.charged;
   unfinished = if_so (IsCounted a name) (IsCounted b name) it.unfinished (counted_alike name a b was has agree) right.unfinished;
 }
 
@@ -247,7 +253,8 @@ right_alike name a b was has agree it right = record {
 granted_right : (name : List ℕ) (a b : Database) → HasSchema a → HasSchema b → account_at b name ≡ account_at a name → ((n : ℤ) → job_at b name n ≡ job_at a name n) → (it : Kept) → IsRight a name it → IsRight b name it
 granted_right name a b was has same_account same_jobs it right = record {
   row = if_so (λ row. HasAccountRow name row a) (λ row. HasAccountRow name row b) it.row (λ row there. same_account ∙ there) right.row;
-  charged = if_so (IsCharged a name) (IsCharged b name) it.charged (same_charged name a b same_jobs) right.charged;
+  reserved = if_so (IsSum reserves a name) (IsSum reserves b name) it.reserved (same_sum reserves name a b same_jobs) right.reserved;
+  charged = if_so (IsSum charges a name) (IsSum charges b name) it.charged (same_sum charges name a b same_jobs) right.charged;
   unfinished = if_so (IsCounted a name) (IsCounted b name) it.unfinished (same_counted name a b was has same_jobs) right.unfinished;
 }
 
@@ -334,7 +341,7 @@ module _ {S : Type 0} (store : Ghosts S) (old new : Held S) (before after : Memo
 
   -- of an account that has one job more
   pub job_made : {E : Type 0} (name : List ℕ) (row : Option Account) (job : Job) (r : Result (Unit {0}) E) → (IsKept first before → IfSome row (λ it. HasAccountRow name it first.now))
-      → ((it : Account) → HasAccountRow name it first.now → changed first.now last.now → OnlyAccount name first.now last.now × HasAccountRow name (record it { next_job = job.job + 1 }) last.now × MovesCharge name 0 job.standing.charged first.now last.now × MovesCount name 0 (counts job.standing) first.now last.now)
+      → ((it : Account) → HasAccountRow name it first.now → changed first.now last.now → OnlyAccount name first.now last.now × HasAccountRow name (record it { next_job = job.job + 1 }) last.now × MovesSum reserves name 0 job.standing.reserved first.now last.now × MovesSum charges name 0 job.standing.charged first.now last.now × MovesCount name 0 (counts job.standing) first.now last.now)
       → ChangesWhole store old new r changed → MindsMaking name row job r before after → WhereOpen last (IsKept last after)
   job_made name (Some it) job (Ok done) there moves changes minds clean opened =
       let kept = kept_before changes clean opened in
@@ -347,8 +354,9 @@ module _ {S : Type 0} (store : Ghosts S) (old new : Held S) (before after : Memo
         accounts = set_right first.now last.now name _ (kept_in before.accounts) (kept_in after.accounts)
             (λ other apart. right_alike other first.now last.now kept.schema has (made.0.others other apart)) (record {
               row = made.1;
-              charged = moved_so (IsCharged first.now name) (IsCharged last.now name) 0 job.standing.charged _ _ made.2 minds.moves.charged was.charged;
-              unfinished = moved_so (IsCounted first.now name) (IsCounted last.now name) 0 (counts job.standing) _ _ (made.3 kept.schema has) minds.moves.unfinished was.unfinished;
+              reserved = moved_so (IsSum reserves first.now name) (IsSum reserves last.now name) 0 job.standing.reserved _ _ made.2 minds.moves.reserved was.reserved;
+              charged = moved_so (IsSum charges first.now name) (IsSum charges last.now name) 0 job.standing.charged _ _ made.3 minds.moves.charged was.charged;
+              unfinished = moved_so (IsCounted first.now name) (IsCounted last.now name) 0 (counts job.standing) _ _ (made.4 kept.schema has) minds.moves.unfinished was.unfinished;
             }) kept.accounts minds.accounts;
         job = none_so (IsSeen last.now) after.job minds.job;
       }
@@ -358,7 +366,7 @@ module _ {S : Type 0} (store : Ghosts S) (old new : Held S) (before after : Memo
 
   -- of an account, of which what is kept is moved
   pub job_changed : {E : Type 0} (name : List ℕ) (was_added : Option Added) (is : Standing) (r : Result (Unit {0}) E)
-      → ((added : Added) → was_added ≡ Some added → IsKept first before → changed first.now last.now → OnlyAccount name first.now last.now × (account_at last.now name ≡ account_at first.now name) × MovesCharge name added.charged is.charged first.now last.now × MovesCount name added.unfinished (counts is) first.now last.now)
+      → ((added : Added) → was_added ≡ Some added → IsKept first before → changed first.now last.now → OnlyAccount name first.now last.now × (account_at last.now name ≡ account_at first.now name) × MovesSum reserves name added.reserved is.reserved first.now last.now × MovesSum charges name added.charged is.charged first.now last.now × MovesCount name added.unfinished (counts is) first.now last.now)
       → ChangesWhole store old new r changed → MindsMove name was_added is r before after → WhereOpen last (IsKept last after)
   job_changed name (Some added) is (Ok done) moves changes minds clean opened =
       let kept = kept_before changes clean opened in
@@ -372,8 +380,9 @@ module _ {S : Type 0} (store : Ghosts S) (old new : Held S) (before after : Memo
         accounts = set_right first.now last.now name _ (kept_in before.accounts) (kept_in after.accounts)
             (λ other apart. right_alike other first.now last.now kept.schema has (made.0.others other apart)) (record {
               row = subst (λ (o : Option Account). IfSome o (λ row. HasAccountRow name row last.now)) (sym minds.moves.row) still;
-              charged = moved_so (IsCharged first.now name) (IsCharged last.now name) added.charged is.charged _ _ made.2 minds.moves.charged was.charged;
-              unfinished = moved_so (IsCounted first.now name) (IsCounted last.now name) added.unfinished (counts is) _ _ (made.3 kept.schema has) minds.moves.unfinished was.unfinished;
+              reserved = moved_so (IsSum reserves first.now name) (IsSum reserves last.now name) added.reserved is.reserved _ _ made.2 minds.moves.reserved was.reserved;
+              charged = moved_so (IsSum charges first.now name) (IsSum charges last.now name) added.charged is.charged _ _ made.3 minds.moves.charged was.charged;
+              unfinished = moved_so (IsCounted first.now name) (IsCounted last.now name) added.unfinished (counts is) _ _ (made.4 kept.schema has) minds.moves.unfinished was.unfinished;
             }) kept.accounts minds.accounts;
         job = none_so (IsSeen last.now) after.job minds.job;
       }
@@ -397,17 +406,21 @@ module _ {S : Type 0} (store : Ghosts S) (old new : Held S) (before after : Memo
 -- ---- what is found of it
 
 -- of rows that are held it is what they come to
-pub charged_there : (db : Database) (name : List ℕ) (room : RoomValue) → HoldsRoom db name room → (units : ℕ) → IsCharged db name units → units ≡ charged_in room
-charged_there db name room held units right = right room.jobs (record { rows = held.rows.job_rows; numbered = λ n it is. (held.is_room.jobs n it is).numbered })
+pub sum_there : (of : Job → ℕ) (db : Database) (name : List ℕ) (room : RoomValue) → HoldsRoom db name room → (units : ℕ) → IsSum of db name units → units ≡ sum_by of (values room.jobs)
+sum_there of db name room held units right = right room.jobs (record { rows = held.rows.job_rows; numbered = λ n it is. (held.is_room.jobs n it is).numbered })
 
 -- what is known of an account where that is kept
 pub row_known : (now : State) (memory : Memory) (ours : Type 0) (name : List ℕ) (known : Option Account) → IfSome known (λ row. ours × HasRow memory name row) → IsKept now memory → IfSome known (λ row. HasAccountRow name row now.now)
 row_known now memory ours name None found kept = tt
 row_known now memory ours name (Some row) found kept = subst (λ (o : Option Account). IfSome o (λ row. HasAccountRow name row now.now)) found.1 (known_right now.now (kept_in memory.accounts) name kept.accounts).row
 
-pub charge_known : (now : State) (memory : Memory) (ours : Type 0) (name : List ℕ) (known : Option ℕ) → IfSome known (λ units. ours × HasCharge memory name units) → IsKept now memory → IfSome known (IsCharged now.now name)
-charge_known now memory ours name None found kept = tt
-charge_known now memory ours name (Some units) found kept = subst (λ (o : Option ℕ). IfSome o (IsCharged now.now name)) found.1 (known_right now.now (kept_in memory.accounts) name kept.accounts).charged
+pub sums_known : (now : State) (memory : Memory) (ours : Type 0) (name : List ℕ) (known : Option Sums) → IfSome known (λ sums. ours × HasSums memory name sums) → IsKept now memory → IfSome known (HaveSums now.now name)
+sums_known now memory ours name None found kept = tt
+sums_known now memory ours name (Some sums) found kept =
+    let right = known_right now.now (kept_in memory.accounts) name kept.accounts in (
+      subst (λ (o : Option ℕ). IfSome o (IsSum reserves now.now name)) found.1.0 right.reserved,
+      subst (λ (o : Option ℕ). IfSome o (IsSum charges now.now name)) found.1.1 right.charged,
+    )
 
 pub count_known : (now : State) (memory : Memory) (ours : Type 0) (name : List ℕ) (known : Option ℕ) → IfSome known (λ count. ours × HasCount memory name count) → IsKept now memory → IfSome known (IsCounted now.now name)
 count_known now memory ours name None found kept = tt
@@ -425,14 +438,22 @@ found_seen db name number found was added is told held =
     subst (λ (o : Option Seen). IfSome o (IsSeen db)) one held
 
 -- what was added up, or kept, is what the rows come to
-pub charged_so : (old new : State) (memory : Memory) (ours : Bool) (name : List ℕ) (known : Option ℕ) → IfSome known (λ units. IsTrue ours × HasCharge memory name units) → (IsTrue ours → WhereOpen old (IsKept old memory)) → (r : Result Tally TableFault)
-    → KeepsConnection old new → (HasCleanDisk new → OnOk r (IsTrue old.is_open × IsTrue new.is_open)) → (HasCleanDisk new → HasSchema old.now → IfSome known (IsCharged old.now name) → IfOk r (λ tally. IsCharged old.now name tally.charged))
-    → HasCleanDisk new → HasSchema old.now → (room : RoomValue) → HoldsRoom old.now name room → IfOk r (λ tally. tally.charged ≡ charged_in room)
-charged_so old new memory ours name None found was (Ok tally) keeps opens told clean has room held = charged_there old.now name room held tally.charged (told clean has tt)
-charged_so old new memory ours name (Some units) found was (Ok tally) keeps opens told clean has room held =
+pub sums_so : (old new : State) (memory : Memory) (ours : Bool) (name : List ℕ) (known : Option Sums) → IfSome known (λ sums. IsTrue ours × HasSums memory name sums) → (IsTrue ours → WhereOpen old (IsKept old memory)) → (r : Result Sums TableFault)
+    → KeepsConnection old new → (HasCleanDisk new → OnOk r (IsTrue old.is_open × IsTrue new.is_open)) → (HasCleanDisk new → HasSchema old.now → IfSome known (HaveSums old.now name) → IfOk r (HaveSums old.now name))
+    → HasCleanDisk new → HasSchema old.now → IfOk r (HaveSums old.now name)
+sums_so old new memory ours name None found was (Ok sums) keeps opens told clean has = told clean has tt
+sums_so old new memory ours name (Some known) found was (Ok sums) keeps opens told clean has =
     let kept = was found.0 (omega (arith, keeps.clean, clean)) (opens clean).0 in
-    charged_there old.now name room held tally.charged (told clean has (charge_known old memory (IsTrue ours) name (Some units) found kept))
-charged_so old new memory ours name known found was (Err e) keeps opens told clean has room held = tt
+    told clean has (sums_known old memory (IsTrue ours) name (Some known) found kept)
+sums_so old new memory ours name known found was (Err e) keeps opens told clean has = tt
+
+pub reserved_told : (old new : State) (name : List ℕ) (r : Result Sums TableFault) → (HasCleanDisk new → HasSchema old.now → IfOk r (HaveSums old.now name)) → HasCleanDisk new → HasSchema old.now → (room : RoomValue) → HoldsRoom old.now name room → IfOk r (λ sums. sums.reserved ≡ reserved_in room)
+reserved_told old new name (Ok sums) told clean has room held = sum_there reserves old.now name room held sums.reserved (told clean has).0
+reserved_told old new name (Err e) told clean has room held = tt
+
+pub charged_told : (old new : State) (name : List ℕ) (r : Result Sums TableFault) → (HasCleanDisk new → HasSchema old.now → IfOk r (HaveSums old.now name)) → HasCleanDisk new → HasSchema old.now → (room : RoomValue) → HoldsRoom old.now name room → IfOk r (λ sums. sums.charged ≡ charged_in room)
+charged_told old new name (Ok sums) told clean has room held = sum_there charges old.now name room held sums.charged (told clean has).1
+charged_told old new name (Err e) told clean has room held = tt
 
 -- the row that was read, or kept, is the account's
 pub row_so : (old new : State) (memory : Memory) (ours : Bool) (name : List ℕ) (known : Option Account) → IfSome known (λ row. IsTrue ours × HasRow memory name row) → (IsTrue ours → WhereOpen old (IsKept old memory)) → (r : Result (Option Account) TableFault)

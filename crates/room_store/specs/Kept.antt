@@ -7,11 +7,11 @@ use Rattle.sqlite.specs.State.{State, HasCleanDisk}
 use Rattle.room_rules.specs.declared.account.Account.{Account}
 use Rattle.room_rules.specs.declared.job.Job.{Job}
 use Rattle.room_rules.specs.declared.job.Standing.{Standing}
-use Rattle.room_state.specs.declared.tally.Tally.{Tally}
-use Rattle.room_statements.specs.Charged.{IsCharged, IsCounted, counts}
+use Rattle.room_statements.specs.JobSums.{IsCounted, IsSum, charges, counts, reserves}
 use Rattle.room_store.specs.ProofKnown.{HasAccountRow, HasJobRow}
 use Rattle.room_store.specs.declared.cache.Kept.{Kept}
 use Rattle.room_store.specs.declared.cache.Key.{Key}
+use Rattle.room_store.specs.declared.memory.Sums.{Sums}
 use Rattle.room_store.specs.declared.memory.Added.{Added}
 use Rattle.room_store.specs.declared.memory.Memory.{Memory}
 use Rattle.room_store.specs.declared.memory.Seen.{Seen}
@@ -28,7 +28,7 @@ abbrev pub kept_of : (accounts : List (Key × Kept)) (name : List ℕ) → Optio
 kept_of accounts name = lookup (is_of name) accounts
 
 abbrev pub unknown : Kept
-unknown = record { row = None; charged = None; unfinished = None }
+unknown = record { row = None; reserved = None; charged = None; unfinished = None }
 
 abbrev pub known_of : (accounts : List (Key × Kept)) (name : List ℕ) → Kept
 known_of accounts name = unwrap_or (kept_of accounts name) unknown
@@ -47,18 +47,24 @@ pub record SetsKept (name : List ℕ) (it : Kept) (before after : List (Key × K
 abbrev pub HasRow : (memory : Memory) (name : List ℕ) (row : Account) → Type 0
 HasRow memory name row = (known_of (kept_in memory.accounts) name).row ≡ Some row
 
-abbrev pub HasCharge : (memory : Memory) (name : List ℕ) (units : ℕ) → Type 0
-HasCharge memory name units = (known_of (kept_in memory.accounts) name).charged ≡ Some units
+abbrev pub HasSums : (memory : Memory) (name : List ℕ) (sums : Sums) → Type 0
+HasSums memory name sums =
+    ((known_of (kept_in memory.accounts) name).reserved ≡ Some sums.reserved)
+    × ((known_of (kept_in memory.accounts) name).charged ≡ Some sums.charged)
 
 abbrev pub HasCount : (memory : Memory) (name : List ℕ) (count : ℕ) → Type 0
 HasCount memory name count = (known_of (kept_in memory.accounts) name).unfinished ≡ Some count
 
 -- what a job of this standing adds to what is kept of its account, and what one that is not there does
 abbrev pub added_by : Standing → Added
-added_by standing = record { charged = standing.charged; unfinished = counts standing }
+added_by standing = record {
+  reserved = standing.reserved;
+  charged = standing.charged;
+  unfinished = counts standing;
+}
 
 abbrev pub nothing : Added
-nothing = record { charged = 0; unfinished = 0 }
+nothing = record { reserved = 0; charged = 0; unfinished = 0 }
 
 -- a sum is less what a job added, and with what it adds, if it is known yet
 abbrev pub IsMoved : (was is : ℕ) (before after : Option ℕ) → Type 0
@@ -67,15 +73,22 @@ IsMoved was is before after =
 
 pub record MovesTo (was is : Added) (before after : Kept) : Type 0 where
   pub row : after.row ≡ before.row
+  pub reserved : IsMoved was.reserved is.reserved before.reserved after.reserved
   pub charged : IsMoved was.charged is.charged before.charged after.charged
   pub unfinished : IsMoved was.unfinished is.unfinished before.unfinished after.unfinished
 
 -- ---- what is kept is so
 
--- its row is this, its jobs were charged so much, and so many of their rows tell no moment of an end
+-- its jobs reserve and were charged so much
+abbrev pub HaveSums : (db : Database) (name : List ℕ) (sums : Sums) → Type 0
+HaveSums db name sums = IsSum reserves db name sums.reserved × IsSum charges db name sums.charged
+
+-- its row is this, its jobs reserve so much and were charged so much, and so many of their rows tell no
+-- moment of an end
 pub record IsRight (db : Database) (name : List ℕ) (it : Kept) : Type 0 where
   pub row : IfSome it.row (λ row. HasAccountRow name row db)
-  pub charged : IfSome it.charged (IsCharged db name)
+  pub reserved : IfSome it.reserved (IsSum reserves db name)
+  pub charged : IfSome it.charged (IsSum charges db name)
   pub unfinished : IfSome it.unfinished (IsCounted db name)
 
 abbrev pub AreRight : (db : Database) (accounts : List (Key × Kept)) → Type 0
@@ -130,12 +143,14 @@ MindsJob name number (Ok None) before after = after ≡ before
 MindsJob name number (Err e) before after = IsNothing after
 
 -- what was added up is kept
-abbrev pub MindsTally :
-    (name : List ℕ) (told : Result Tally TableFault) (before after : Memory) → Type 0
-MindsTally name (Ok tally) before after =
-    KeepsKept name (record (known_of (kept_in before.accounts) name) { charged = Some tally.charged })
-    before after
-MindsTally name (Err e) before after = IsNothing after
+abbrev pub MindsSums :
+    (name : List ℕ) (told : Result Sums TableFault) (before after : Memory) → Type 0
+MindsSums name (Ok sums) before after = KeepsKept name
+    (record (known_of (kept_in before.accounts) name) {
+      reserved = Some sums.reserved;
+      charged = Some sums.charged;
+    }) before after
+MindsSums name (Err e) before after = IsNothing after
 
 -- what was counted is kept
 abbrev pub MindsCount :

@@ -13,7 +13,7 @@ ghost use Rattle.room_store.specs.Reading.{JobsAreReadable};
 
 use crate::rounds::Rounds;
 use crate::rounds::lists::{list_grants, summarize};
-use crate::rounds::reads::{ended_jobs, granted_to, tally_jobs, unfinished_jobs};
+use crate::rounds::reads::{ended_jobs, granted_to, sum_up, unfinished_jobs};
 use room_events::{Name, Reply};
 use room_questions::{Summary, grants_lines, jobs_lines, quota_line, statement_line};
 use room_tables::TableFault;
@@ -64,12 +64,12 @@ pub(crate) fn read_quota<S: Alter>(
         (λ db. result ≡ Err TableFault.Damaged → SumsAreReadable account month db → ⊥) }
     ensures looks { LooksUp S.Store connection.old connection.new result }
 {
-    let tally = tally_jobs(connection, account)?;
+    let sums = sum_up(connection, account)?;
     let granted = granted_to(connection, account, month)?;
     Ok(Quota {
         granted,
-        reserved: tally.reserved,
-        charged: tally.charged,
+        reserved: sums.reserved,
+        charged: sums.charged,
     })
 }
 

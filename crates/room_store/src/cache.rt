@@ -17,6 +17,8 @@ const MOST_KEPT: usize = 4096;
 pub(crate) struct Kept {
     /// Its row.
     pub row: Option<Account>,
+    /// What its jobs reserve.
+    pub reserved: Option<u64>,
     /// What its jobs were charged.
     pub charged: Option<u64>,
     /// How many of its jobs have not ended.

@@ -2,18 +2,27 @@
 
 ghost use Rattle.std.specs.Prelude.{◌≡◌, ◌≤◌, ◌<◌, ◌+◌, ℕ, [], IfSome, None, Some, bytes_eq};
 ghost use Rattle.room_rules.specs.Limits.{last_next_job, most_unfinished, most_units};
-ghost use Rattle.room_store.specs.Kept.{added_by, kept_in, kept_of, known_of, unknown, HasCharge, HasCount, HasRow, IsMoved, IsNothing, KeepsKept, MakesKept, MindsAccount, MindsCount, MindsJob, MindsMaking, MindsMove, MindsOpening, MindsTally, MovesKept, MovesTo, Outlasts};
+ghost use Rattle.room_store.specs.Kept.{added_by, kept_in, kept_of, known_of, unknown, HasCount, HasRow, HasSums, IsMoved, IsNothing, KeepsKept, MakesKept, MindsAccount, MindsCount, MindsJob, MindsMaking, MindsMove, MindsOpening, MindsSums, MovesKept, MovesTo, Outlasts};
 ghost use Rattle.room_tables.specs.Accounts.{IsAccount};
 
 use crate::cache::{Accounts, Kept, find, no_accounts, set};
-use room_events::{Account, Job, Name, Standing, Tally};
+use room_events::{Account, Job, Name, Standing};
 use room_rules::{LAST_JOB, LAST_MOMENT, MOST_UNFINISHED, MOST_UNITS};
 use room_tables::TableFault;
 use std::alloc::Global;
 
-/// What a job adds to what is kept of its account: what it was charged, and 1 until it ends.
+/// What an account's jobs reserve and were charged, in units of the quota.
+#[derive(Clone, Copy)]
+pub(crate) struct Sums {
+    pub reserved: u64,
+    pub charged: u64,
+}
+
+/// What a job adds to what is kept of its account: what it reserves and was charged, and 1 until it
+/// ends.
 #[derive(Clone, Copy)]
 pub(crate) struct Added {
+    pub reserved: u64,
     pub charged: u64,
     pub unfinished: u64,
 }
@@ -26,8 +35,8 @@ pub(crate) struct Seen {
     pub added: Added,
 }
 
-/// What was read of the tables and is so yet: rows of accounts, what these were charged and how many
-/// of their jobs have not ended, and the job that was found last.
+/// What was read of the tables and is so yet: rows of accounts, what their jobs reserve and were
+/// charged and how many of these have not ended, and the job that was found last.
 #[derive(Drop)]
 pub(crate) struct Memory {
     pub accounts: Option<Accounts>,
@@ -90,12 +99,17 @@ impl Memory {
         sound(self.known(account).row)
     }
 
-    /// What the jobs of the account were charged, where it is kept.
-    pub(crate) fn charged(&self, account: Name) -> Option<u64>
-        ensures kept { IfSome result (HasCharge self.now account) }
-        ensures bound { IfSome result (λ units. units ≤ most_units) }
+    /// What the jobs of the account reserve and were charged, where it is kept.
+    pub(crate) fn sums(&self, account: Name) -> Option<Sums>
+        ensures kept { IfSome result (HasSums self.now account) }
+        ensures bounds { IfSome result
+            (λ sums. (sums.reserved ≤ most_units) × (sums.charged ≤ most_units)) }
     {
-        at_most(self.known(account).charged)
+        let known = self.known(account);
+        Some(Sums {
+            reserved: at_most(known.reserved)?,
+            charged: at_most(known.charged)?,
+        })
     }
 
     /// How many jobs of the account have not ended, where it is kept.
@@ -182,23 +196,32 @@ impl Memory {
     }
 
     /// Keeps what was added up.
-    pub(crate) fn mind_tally(&mut self, account: Name, told: &Result<Tally, TableFault>)
-        ensures { MindsTally account told.now self.old self.new }
+    pub(crate) fn mind_sums(&mut self, account: Name, told: &Result<Sums, TableFault>)
+        ensures { MindsSums account told.now self.old self.new }
     {
         match told {
-            Ok(tally) => self.keep_charged(account, tally.charged),
+            Ok(sums) => self.keep_sums(account, *sums),
             Err(_) => self.forget_all(),
         }
     }
 
-    fn keep_charged(&mut self, account: Name, units: u64)
+    fn keep_sums(&mut self, account: Name, sums: Sums)
         ensures { KeepsKept account
-            (record (known_of (kept_in self.old.accounts) account) { charged = Some units })
+            (record (known_of (kept_in self.old.accounts) account) {
+              reserved = Some sums.reserved;
+              charged = Some sums.charged;
+            })
             self.old self.new }
     {
         let known = self.known(account);
-        let charged = Some(units);
-        self.keep(account, Kept { charged, ..known });
+        self.keep(
+            account,
+            Kept {
+                reserved: Some(sums.reserved),
+                charged: Some(sums.charged),
+                ..known
+            },
+        );
     }
 
     /// Keeps what was counted.
@@ -266,6 +289,7 @@ impl Memory {
         ensures { MakesKept account row job.now self.old self.new }
     {
         let nothing = Added {
+            reserved: 0,
             charged: 0,
             unfinished: 0,
         };
@@ -323,6 +347,7 @@ fn unknown() -> Kept
 {
     Kept {
         row: None,
+        reserved: None,
         charged: None,
         unfinished: None,
     }
@@ -349,6 +374,7 @@ fn added_by(standing: &Standing) -> Added
     ensures { result ≡ added_by standing.now }
 {
     Added {
+        reserved: standing.reserved,
         charged: standing.charged,
         unfinished: if standing.ended.is_some() { 0 } else { 1 },
     }
@@ -360,6 +386,7 @@ fn moved_by(kept: Kept, was: Added, is: Added) -> Kept
 {
     Kept {
         row: kept.row,
+        reserved: moved(kept.reserved, was.reserved, is.reserved),
         charged: moved(kept.charged, was.charged, is.charged),
         unfinished: moved(kept.unfinished, was.unfinished, is.unfinished),
     }

@@ -13,12 +13,12 @@ ghost use Rattle.room_state.specs.Queues.{at_most, completed, not_completed};
 ghost use Rattle.room_state.specs.RoomRules.{unfinished_count};
 ghost use Rattle.room_state.specs.Sums.{charged_in, granted_to, has_processing, reserved_in};
 ghost use Rattle.room_state.specs.Tallies.{tally_of};
-ghost use Rattle.room_statements.specs.Charged.{IsCounted};
+ghost use Rattle.room_statements.specs.JobSums.{IsCounted};
 ghost use Rattle.room_statements.specs.Documents.{IsDocumentOf};
 ghost use Rattle.room_statements.specs.Prelude.{HoldsRoom, IfOurTables, IsRowOf, ReadsStore, RoomValue};
 ghost use Rattle.room_statements.specs.Queues.{by_falling_end, by_rising_number, IsNumbered};
 ghost use Rattle.room_statements.specs.SoundRows.{AreRowsOf, CanBeAdded, CanBeCounted, FirstAreRowsOf, device_rows, document_rows, ended_rows, grant_rows, job_rows, unfinished_rows};
-ghost use Rattle.room_store.specs.Kept.{HasCharge, HasCount, HasRow};
+ghost use Rattle.room_store.specs.Kept.{HasCount, HasRow, HasSums, HaveSums};
 ghost use Rattle.room_store.specs.ProofKnown.{HasAccountRow, HasJobRow};
 ghost use Rattle.room_store.specs.Reading.{JobIsReadable};
 ghost use Rattle.room_store.specs.Serving.{LooksUp, WasOpen};
@@ -27,7 +27,7 @@ ghost use Rattle.room_tables.specs.Calls.{IsUnchanged, IsUndone};
 ghost use Rattle.room_tables.specs.Cells.{account_cells, document_cells, grant_cells, job_cells, on_cells, units_cells};
 ghost use Rattle.room_tables.specs.Devices.{HoldsDevices, device_at, rate_at};
 
-use crate::memory::Memory;
+use crate::memory::{Memory, Sums};
 use crate::rounds::Rounds;
 use crate::{events, lookup};
 use ipp_coding::List;
@@ -356,27 +356,72 @@ pub(crate) fn ended_jobs<S: Alter>(
     found
 }
 
-/// What the jobs of the account reserve, and what they were charged, which is added up where it is
-/// not kept. `Damaged` tells that the rows that are read can be none of sound rows.
-pub(crate) fn tally_jobs<S: Alter>(
+/// What the jobs of the account reserve and were charged, which is added up where it is not kept.
+/// `Damaged` tells that the rows that are read can be none of sound rows.
+pub(crate) fn sum_up<S: Alter>(
     connection: &mut Rounds<S>,
     account: Name,
-) -> Result<Tally, TableFault>
+) -> Result<Sums, TableFault>
     ensures reserved { IfOurTables S.Store connection.old connection.new (λ db. (room : RoomValue)
-        → HoldsRoom db account room → IfOk result (λ tally. tally.reserved ≡ reserved_in room)) }
+        → HoldsRoom db account room → IfOk result (λ sums. sums.reserved ≡ reserved_in room)) }
     ensures charged { IfOurTables S.Store connection.old connection.new (λ db. (room : RoomValue)
-        → HoldsRoom db account room → IfOk result (λ tally. tally.charged ≡ charged_in room)) }
+        → HoldsRoom db account room → IfOk result (λ sums. sums.charged ≡ charged_in room)) }
     ensures bounds { IfOk result
-        (λ tally. (tally.reserved ≤ most_units) × (tally.charged ≤ most_units)) }
+        (λ sums. (sums.reserved ≤ most_units) × (sums.charged ≤ most_units)) }
     ensures damaged { IfOurTables S.Store connection.old connection.new
         (λ db. result ≡ Err TableFault.Damaged → CanBeCounted account (job_rows db account) → ⊥) }
     ensures reads { ReadsStore S.Store connection.old connection.new result }
 {
     let _alone = connection.connection.is_autocommit();
-    let known = charged(connection.is_ours, &connection.memory, account);
-    let found = room_statements::tally_knowing(&mut connection.connection, account, known);
-    connection.memory.mind_tally(account, &found);
+    let known = sums(connection.is_ours, &connection.memory, account);
+    let found = sums_knowing(&mut connection.connection, account, known);
+    connection.memory.mind_sums(account, &found);
     found
+}
+
+/// What the jobs of the account reserve and were charged. Where that is known they are not added up,
+/// and the connection is asked whether it is open alone.
+fn sums_knowing<S: Alter>(
+    connection: &mut Connection<S>,
+    account: Name,
+    known: Option<Sums>,
+) -> Result<Sums, TableFault>
+    requires bounds { IfSome known
+        (λ sums. (sums.reserved ≤ most_units) × (sums.charged ≤ most_units)) }
+    ensures sums { IfOurTables S.Store connection.old connection.new
+        (λ db. IfSome known (HaveSums db account) → IfOk result (HaveSums db account)) }
+    ensures bounds { IfOk result
+        (λ sums. (sums.reserved ≤ most_units) × (sums.charged ≤ most_units)) }
+    ensures damaged { IfOurTables S.Store connection.old connection.new
+        (λ db. result ≡ Err TableFault.Damaged → CanBeCounted account (job_rows db account) → ⊥) }
+    ensures reads { ReadsStore S.Store connection.old connection.new result }
+{
+    let Some(sums) = known else {
+        return added_up(connection, account);
+    };
+    match events::knock(connection) {
+        Ok(()) => Ok(sums),
+        Err(fault) => Err(fault),
+    }
+}
+
+/// What the jobs of the account reserve and were charged, by their rows.
+fn added_up<S: Alter>(connection: &mut Connection<S>, account: Name) -> Result<Sums, TableFault>
+    ensures sums { IfOurTables S.Store connection.old connection.new
+        (λ db. IfOk result (HaveSums db account)) }
+    ensures bounds { IfOk result
+        (λ sums. (sums.reserved ≤ most_units) × (sums.charged ≤ most_units)) }
+    ensures damaged { IfOurTables S.Store connection.old connection.new
+        (λ db. result ≡ Err TableFault.Damaged → CanBeCounted account (job_rows db account) → ⊥) }
+    ensures reads { ReadsStore S.Store connection.old connection.new result }
+{
+    match room_statements::tally_jobs(connection, account) {
+        Ok(tally) => Ok(Sums {
+            reserved: tally.reserved,
+            charged: tally.charged,
+        }),
+        Err(fault) => Err(fault),
+    }
 }
 
 /// The account's own row, where the tables are known to be the store's and it is kept.
@@ -400,16 +445,14 @@ fn unfinished(is_ours: bool, memory: &Memory, account: Name) -> Option<u32>
     }
 }
 
-/// What the account was charged, where the tables are known to be the store's and it is kept.
-fn charged(is_ours: bool, memory: &Memory, account: Name) -> Option<u64>
-    ensures kept { IfSome result (λ units. IsTrue is_ours × HasCharge memory.now account units) }
-    ensures bound { IfSome result (λ units. units ≤ most_units) }
+/// What the jobs of the account reserve and were charged, where the tables are known to be the store's
+/// and it is kept.
+fn sums(is_ours: bool, memory: &Memory, account: Name) -> Option<Sums>
+    ensures kept { IfSome result (λ sums. IsTrue is_ours × HasSums memory.now account sums) }
+    ensures bounds { IfSome result
+        (λ sums. (sums.reserved ≤ most_units) × (sums.charged ≤ most_units)) }
 {
-    if is_ours {
-        memory.charged(account)
-    } else {
-        None
-    }
+    if is_ours { memory.sums(account) } else { None }
 }
 
 /// Whether the connection is open, as `events::knock` tells it.

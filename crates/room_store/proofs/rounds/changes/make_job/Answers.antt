@@ -10,5 +10,5 @@ invariant_of-connection g c ours =
     (λ opened mode. c.is_autocommit-alone.ensures.settled (c.is_autocommit-alone.ensures.value ∙ ap not mode) opened)
     (c.connection.invariant ours) c.args.account c.row-was.result c.args.job.now c.make_job-made.result
     (row_there old c.connection.inside.memory c.args.account c.row-was.result c.row-was.ensures.kept)
-    (λ row there made. (made.alone row there, made.account row there, made.charged row there, made.counted row there))
+    (λ row there made. (made.alone row there, made.account row there, made.reserved row there, made.charged row there, made.counted row there))
     c.make_job-made.ensures.makes c.mind_making.ensures

@@ -1,6 +1,6 @@
 use Rattle.std.proofs.Common.{◌≡◌, ℕ, pos, Some, not, ap, subst, ◌∙◌}
 use Rattle.sqlite.specs.Held.{state}
-use Rattle.room_statements.specs.Charged.{MovesCharge, MovesCount, counts}
+use Rattle.room_statements.specs.JobSums.{MovesCount, MovesSum, charges, counts, reserves}
 use Rattle.room_store.specs.declared.memory.Added.{Added}
 use Rattle.room_store.proofs.KeptLemmas.{job_changed, found_seen}
 use Rattle.room_tables.specs.Accounts.{job_at}
@@ -19,7 +19,8 @@ invariant_of-connection g c ours =
     let there : job_at old.now c.args.account (pos c.args.number) ≡ Some (job_cells c.args.account seen.0) = subst (λ (n : ℕ). job_at old.now c.args.account (pos n) ≡ Some (job_cells c.args.account seen.0)) seen.1 seen.3 in (
       made.alone seen.0 there,
       made.account seen.0 there,
-      subst (λ (a : Added). MovesCharge c.args.account a.charged c.args.standing.now.charged old.now new.now) seen.2 (made.charged seen.0 seen.1 there),
+      subst (λ (a : Added). MovesSum reserves c.args.account a.reserved c.args.standing.now.reserved old.now new.now) seen.2 (made.reserved seen.0 seen.1 there),
+      subst (λ (a : Added). MovesSum charges c.args.account a.charged c.args.standing.now.charged old.now new.now) seen.2 (made.charged seen.0 seen.1 there),
       subst (λ (a : Added). MovesCount c.args.account a.unfinished (counts c.args.standing.now) old.now new.now) seen.2 (made.counted seen.0 seen.1 there),
     ))
     c.restand_job-made.ensures.restands c.mind_move.ensures

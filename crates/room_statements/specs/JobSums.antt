@@ -1,5 +1,5 @@
--- What an account was charged and how many of its jobs have not ended, by the rows of its jobs alone,
--- whatever else its rows are (all this project's own).
+-- What an account's jobs reserve and were charged and how many of them have not ended, by the rows of
+-- its jobs alone, whatever else its rows are (all this project's own).
 use Rattle.std.specs.Prelude.{◌≡◌, if◌then◌else◌, ℕ, ◌+◌, ℤ, List, length, Some, is_some, option_map}
 use Rattle.std.specs.List.{sum_by}
 use Rattle.std.specs.Ordering.{nat_cmp}
@@ -17,18 +17,21 @@ pub record HoldsJobs (db : Database) (name : List ℕ) (jobs : FinMap nat_cmp Jo
   pub rows : (number : ℤ) → job_at db name number ≡ option_map (job_cells name) (under jobs number)
   pub numbered : (number : ℕ) (it : Job) → get jobs number ≡ Some it → it.job ≡ number
 
-abbrev pub charged_of : FinMap nat_cmp Job → ℕ
-charged_of jobs = sum_by (λ job. job.standing.charged) (values jobs)
+abbrev pub reserves : Job → ℕ
+reserves job = job.standing.reserved
+
+abbrev pub charges : Job → ℕ
+charges job = job.standing.charged
 
 -- adding up its jobs gives so many units
-abbrev pub IsCharged : (db : Database) (name : List ℕ) (units : ℕ) → Type 0
-IsCharged db name units =
-    (jobs : FinMap nat_cmp Job) → HoldsJobs db name jobs → units ≡ charged_of jobs
+abbrev pub IsSum : (of : Job → ℕ) (db : Database) (name : List ℕ) (units : ℕ) → Type 0
+IsSum of db name units =
+    (jobs : FinMap nat_cmp Job) → HoldsJobs db name jobs → units ≡ sum_by of (values jobs)
 
--- one of its jobs was charged so much, and now is
-abbrev pub MovesCharge : (name : List ℕ) (was is : ℕ) (before after : Database) → Type 0
-MovesCharge name was is before after =
-    (units : ℕ) → IsCharged before name (units + was) → IsCharged after name (units + is)
+-- one of its jobs came to so much, and now does
+abbrev pub MovesSum : (of : Job → ℕ) (name : List ℕ) (was is : ℕ) (before after : Database) → Type 0
+MovesSum of name was is before after =
+    (units : ℕ) → IsSum of before name (units + was) → IsSum of after name (units + is)
 
 -- so many rows of its jobs tell no moment of an end
 abbrev pub IsCounted : (db : Database) (name : List ℕ) (count : ℕ) → Type 0

@@ -1,11 +1,10 @@
--- What the jobs of an account were charged, and how it moves with the row of a job.
+-- What the jobs of an account come to, and how it moves with the row of a job.
 use Rattle.std.proofs.Common.{◌≡◌, ◌≢◌, ◌==◌, ℕ, ◌+◌, ℤ, pos, negsuc, Bool, true, false, cond, List, [], ◌∷◌, drop, codes, map, Option, Some, None, option_map, refl, sym, ap, subst, ◌∙◌, arith}
 use Rattle.std.specs.List.{sum_by}
 use Rattle.std.specs.List.Sorted.{IsPermutation}
 use Rattle.std.specs.Ordering.{nat_cmp}
 use Rattle.std.specs.Cmp.{nat_cmp_total, unsigned_tied}
 use Rattle.std.specs.FinMap.{FinMap, entries, get, insert, remove, values, get-insert, get-remove, same_map, nat_cmp-IsAntisymmetric}
-use Rattle.std.proofs.lemmas.Bool.{eqb-true}
 use Rattle.std.proofs.lemmas.Bool.Decides.{nat_tests}
 use Rattle.sqlite_value.specs.declared.value.Value.TheVariants.{Int, Text}
 use Rattle.sqlite_value.specs.Order.{Row, column}
@@ -18,14 +17,14 @@ use Rattle.room_rules.specs.declared.job.Standing.{Standing}
 use Rattle.room_state.proofs.KeptJobs.{sum_of_new, sum_of_other}
 use Rattle.room_tables.specs.Accounts.{account_at, job_at, under}
 use Rattle.room_tables.specs.Cells.{account_cells, number, job_cells}
-use Rattle.room_tables.specs.Keyed.{HasSchema, SetsRow, RemovesRows}
-use Rattle.room_tables.specs.Tables.{account as account_table, job as job_table, document as document_table}
+use Rattle.room_tables.specs.Keyed.{HasSchema, SetsRow}
+use Rattle.room_tables.specs.Tables.{job as job_table}
 use Rattle.room_tables.proofs.KeyedRows.{integer_at}
 use Rattle.room_tables.proofs.KeyedTables.{job_in, job_key}
 use Rattle.room_tables.proofs.MapRows.{rows_of_map}
 use Rattle.room_tables.proofs.ReadBackLemmas.{integer_in, natural_in}
-use Rattle.room_statements.specs.Charged.{HoldsJobs, IsCharged, MovesCharge, charged_of}
-use Rattle.room_statements.specs.Rows.{AddsDocument, AddsJob, EndsJob, Restands}
+use Rattle.room_statements.specs.JobSums.{HoldsJobs, IsSum, MovesSum, charges, reserves}
+use Rattle.room_statements.specs.Rows.{AddsJob, EndsJob, Restands}
 use Rattle.room_statements.specs.SoundRows.{job_rows}
 use Rattle.room_statements.proofs.KeyTests.{is_at_number, number_met, number_here}
 use Rattle.room_statements.proofs.LeftAlone.{account_row_kept, account_row_stays, job_row_stays, row_kept}
@@ -37,12 +36,19 @@ rows_of_these name db has jobs held =
     subst (IsPermutation (job_rows db name)) (sym (map-map (job_cells name) (λ (e : ℕ × Job). e.1) (entries jobs)))
     (rows_of_map (Text name ∷ []) job_in (job_key name) (refl, tt) db has (λ r there. integer_at job_in db has r there 1 (codes "job") refl) jobs (λ _ it. job_cells name it) (λ k it is. ap number (held.numbered k it is)) held.rows)
 
--- where no row of a job changed it is charged as before
-pub same_charged : (name : List ℕ) (old new : Database) → ((n : ℤ) → job_at new name n ≡ job_at old name n) → (units : ℕ) → IsCharged old name units → IsCharged new name units
-same_charged name old new same units right jobs held = right jobs (record { rows = λ n. sym (same n) ∙ held.rows n; numbered = held.numbered })
+-- where no row of a job changed it is as before
+pub same_sum : (of : Job → ℕ) (name : List ℕ) (old new : Database) → ((n : ℤ) → job_at new name n ≡ job_at old name n) → (units : ℕ) → IsSum of old name units → IsSum of new name units
+same_sum of name old new same units right jobs held = right jobs (record { rows = λ n. sym (same n) ∙ held.rows n; numbered = held.numbered })
 
-abbrev charged : Job → ℕ
-charged job = job.standing.charged
+-- which the cells of a job tell
+abbrev pub IsShown : (of : Job → ℕ) (name : List ℕ) → Type 0
+IsShown of name = (one other : Job) → job_cells name one ≡ job_cells name other → of one ≡ of other
+
+pub reserves_shown : (name : List ℕ) → IsShown reserves name
+reserves_shown name one other cells = ap (λ r. natural_in (integer_in (column r 9))) cells
+
+pub charges_shown : (name : List ℕ) → IsShown charges name
+charges_shown name one other cells = ap (λ r. natural_in (integer_in (column r 10))) cells
 
 met_is : (k n : ℕ) → (k == n) ≡ true → k ≡ n
 met_is k n e = grind (arith, nat_tests)
@@ -55,7 +61,7 @@ other_number k n apart = grind (arith, nat_tests)
 
 -- ---- a row that is set
 
-module _ (name : List ℕ) (old new : Database) (it : Job) (sets : SetsRow job_table (job_cells name it) old new) where
+module _ (of : Job → ℕ) (name : List ℕ) (shown : IsShown of name) (old new : Database) (it : Job) (sets : SetsRow job_table (job_cells name it) old new) where
   abbrev test : ℤ → Bool
   test z = is_at_number name (pos it.job) (drop 2 (job_cells name it)) name z
 
@@ -68,9 +74,9 @@ module _ (name : List ℕ) (old new : Database) (it : Job) (sets : SetsRow job_t
   now_there : job_at new name (pos it.job) ≡ Some (job_cells name it)
   now_there = sets.rows (Text name ∷ Int (pos it.job) ∷ []) ∙ ap (λ b. cond b (Some (job_cells name it)) (job_at old name (pos it.job))) (here (pos it.job) refl)
 
-  charge_of : (found : Option Job) → Some (job_cells name it) ≡ option_map (job_cells name) found → (w : Job) × (found ≡ Some w) × (charged w ≡ charged it)
-  charge_of None e = absurd (let no = e in cc)
-  charge_of (Some w) e = let cells : job_cells name it ≡ job_cells name w = cc in (w, refl, sym (ap (λ r. natural_in (integer_in (column r 10))) cells))
+  found_there : (found : Option Job) → Some (job_cells name it) ≡ option_map (job_cells name) found → (w : Job) × (found ≡ Some w) × (of w ≡ of it)
+  found_there None e = absurd (let no = e in cc)
+  found_there (Some w) e = let cells : job_cells name it ≡ job_cells name w = cc in (w, refl, sym (shown it w cells))
 
   -- in the place of another
   module _ (was : Job) (same : was.job ≡ it.job) (there : job_at old name (pos it.job) ≡ Some (job_cells name was)) where
@@ -89,12 +95,12 @@ module _ (name : List ℕ) (old new : Database) (it : Job) (sets : SetsRow job_t
       numbered = λ k x is. number_of jobs held (k == it.job) k x (met_is k it.job) (ap (λ b. cond b (Some was) (get jobs k)) (sym (unsigned_tied k it.job)) ∙ sym (get-insert nat_cmp_total jobs it.job was k) ∙ is);
     }
 
-    pub moves_charge : MovesCharge name was.standing.charged it.standing.charged old new
-    moves_charge units right jobs held =
+    pub moves_sum : MovesSum of name (of was) (of it) old new
+    moves_sum units right jobs held =
         let e = right (insert jobs it.job was) (before jobs held) in
-        let w = charge_of (get jobs it.job) (sym now_there ∙ held.rows (pos it.job)) in
-        let sums = sum_of_other charged jobs it.job w.0 was w.1 in
-        let units_same : charged w.0 ≡ it.standing.charged = w.2 in
+        let w = found_there (get jobs it.job) (sym now_there ∙ held.rows (pos it.job)) in
+        let sums = sum_of_other of jobs it.job w.0 was w.1 in
+        let units_same : of w.0 ≡ of it = w.2 in
         omega (arith, e, sums, units_same)
 
   -- where none was
@@ -136,48 +142,49 @@ module _ (name : List ℕ) (old new : Database) (it : Job) (sets : SetsRow job_t
         by_case true same = ap (get jobs) (same refl) ∙ there
         by_case false same = refl
 
-    pub adds_charge : MovesCharge name 0 it.standing.charged old new
-    adds_charge units right jobs held =
+    pub adds_sum : MovesSum of name 0 (of it) old new
+    adds_sum units right jobs held =
         let e = right (without jobs) (jobs_before jobs held) in
-        let w = charge_of (get jobs it.job) (sym now_there ∙ held.rows (pos it.job)) in
+        let w = found_there (get jobs it.job) (sym now_there ∙ held.rows (pos it.job)) in
         let whole : jobs ≡ insert (without jobs) it.job w.0 = same_map nat_cmp_total nat_cmp-IsAntisymmetric _ _ (put_back jobs w.0 w.1) in
-        let sums = sum_of_new charged (without jobs) it.job w.0 (gone jobs) in
-        let same_sum : charged_of jobs ≡ charged_of (insert (without jobs) it.job w.0) = ap charged_of whole in
-        let units_same : charged w.0 ≡ it.standing.charged = w.2 in
-        omega (arith, e, sums, same_sum, units_same)
+        let sums = sum_of_new of (without jobs) it.job w.0 (gone jobs) in
+        let same_units : sum_by of (values jobs) ≡ sum_by of (values (insert (without jobs) it.job w.0)) = ap (λ (jobs : FinMap nat_cmp Job). sum_by of (values jobs)) whole in
+        let units_same : of w.0 ≡ of it = w.2 in
+        omega (arith, e, sums, same_units, units_same)
 
 -- ---- the changes
 
--- rows of jobs are as they were before the last part of a change, or after its first
-moves_then : (name : List ℕ) (was is : ℕ) (a b c : Database) → MovesCharge name was is a b → ((n : ℤ) → job_at c name n ≡ job_at b name n) → MovesCharge name was is a c
-moves_then name was is a b c moves same units right = same_charged name b c same (units + is) (moves units right)
+module _ (of : Job → ℕ) (name : List ℕ) (shown : IsShown of name) where
+  -- rows of jobs are as they were before the last part of a change, or after its first
+  moves_then : (was is : ℕ) (a b c : Database) → MovesSum of name was is a b → ((n : ℤ) → job_at c name n ≡ job_at b name n) → MovesSum of name was is a c
+  moves_then was is a b c moves same units right = same_sum of name b c same (units + is) (moves units right)
 
-moves_after : (name : List ℕ) (was is : ℕ) (a b c : Database) → ((n : ℤ) → job_at b name n ≡ job_at a name n) → MovesCharge name was is b c → MovesCharge name was is a c
-moves_after name was is a b c same moves units right = moves units (same_charged name a b same (units + was) right)
+  moves_after : (was is : ℕ) (a b c : Database) → ((n : ℤ) → job_at b name n ≡ job_at a name n) → MovesSum of name was is b c → MovesSum of name was is a c
+  moves_after was is a b c same moves units right = moves units (same_sum of name a b same (units + was) right)
 
-pub added_job_charged : (name : List ℕ) (it : Job) (first : Option Document) (old new : Database) → AddsJob name it first old new → (of : Account) → account_at old name ≡ Some (account_cells name of) → MovesCharge name 0 it.standing.charged old new
-added_job_charged name it first old new adds of there =
-    let mid = adds.with_job in
-    let last = adds.with_document in
-    let still : account_at last name ≡ Some (account_cells name of) = account_row_stays name first mid last adds.document_row ∙ account_row_kept name old mid (pos it.job) _ adds.job_row ∙ there in
-    let counts = adds.account_row of still in
-    moves_then name 0 it.standing.charged old last new
-    (moves_then name 0 it.standing.charged old mid last (adds_charge name old mid it adds.job_row adds.was_free) (job_row_stays name first mid last adds.document_row))
-    (λ n. row_kept job_table last new (counts.rest.job (λ e. let no : ⊥ = cc in no)) (Text name ∷ Int n ∷ []))
+  pub added_job_sum : (it : Job) (first : Option Document) (old new : Database) → AddsJob name it first old new → (row : Account) → account_at old name ≡ Some (account_cells name row) → MovesSum of name 0 (of it) old new
+  added_job_sum it first old new adds row there =
+      let mid = adds.with_job in
+      let last = adds.with_document in
+      let still : account_at last name ≡ Some (account_cells name row) = account_row_stays name first mid last adds.document_row ∙ account_row_kept name old mid (pos it.job) _ adds.job_row ∙ there in
+      let counts = adds.account_row row still in
+      moves_then 0 (of it) old last new
+      (moves_then 0 (of it) old mid last (adds_sum of name shown old mid it adds.job_row adds.was_free) (job_row_stays name first mid last adds.document_row))
+      (λ n. row_kept job_table last new (counts.rest.job (λ e. let no : ⊥ = cc in no)) (Text name ∷ Int n ∷ []))
 
-pub restood_charged : (name : List ℕ) (number : ℕ) (standing : Standing) (next : Option Document) (old new : Database) → Restands name number standing next old new
-    → (of : Job) → of.job ≡ number → job_at old name (pos number) ≡ Some (job_cells name of) → MovesCharge name of.standing.charged standing.charged old new
-restood_charged name number standing next old new stands of same there =
-    let mid = stands.with_document in
-    let stays = job_row_stays name next old mid stands.document_row in
-    let still : job_at mid name (pos number) ≡ Some (job_cells name of) = stays (pos number) ∙ there in
-    moves_after name of.standing.charged standing.charged old mid new stays
-    (moves_charge name mid new (record of { standing = standing }) (stands.job_row of still) of refl (subst (λ n. job_at mid name (pos n) ≡ Some (job_cells name of)) (sym same) still))
+  pub restood_sum : (number : ℕ) (standing : Standing) (next : Option Document) (old new : Database) → Restands name number standing next old new
+      → (was : Job) → was.job ≡ number → job_at old name (pos number) ≡ Some (job_cells name was) → MovesSum of name (of was) (of (record was { standing = standing })) old new
+  restood_sum number standing next old new stands was same there =
+      let mid = stands.with_document in
+      let stays = job_row_stays name next old mid stands.document_row in
+      let still : job_at mid name (pos number) ≡ Some (job_cells name was) = stays (pos number) ∙ there in
+      moves_after (of was) (of (record was { standing = standing })) old mid new stays
+      (moves_sum of name shown mid new (record was { standing = standing }) (stands.job_row was still) was refl (subst (λ n. job_at mid name (pos n) ≡ Some (job_cells name was)) (sym same) still))
 
-pub ended_charged : (name : List ℕ) (number : ℕ) (standing : Standing) (old new : Database) → EndsJob name number standing old new
-    → (of : Job) → of.job ≡ number → job_at old name (pos number) ≡ Some (job_cells name of) → MovesCharge name of.standing.charged standing.charged old new
-ended_charged name number standing old new ends of same there =
-    let mid = ends.with_standing in
-    moves_then name of.standing.charged standing.charged old mid new
-    (moves_charge name old mid (record of { standing = standing }) (ends.job_row of there) of refl (subst (λ n. job_at old name (pos n) ≡ Some (job_cells name of)) (sym same) there))
-    (λ n. row_kept job_table mid new (ends.document_rows.rest.job (λ e. let no : ⊥ = cc in no)) (Text name ∷ Int n ∷ []))
+  pub ended_sum : (number : ℕ) (standing : Standing) (old new : Database) → EndsJob name number standing old new
+      → (was : Job) → was.job ≡ number → job_at old name (pos number) ≡ Some (job_cells name was) → MovesSum of name (of was) (of (record was { standing = standing })) old new
+  ended_sum number standing old new ends was same there =
+      let mid = ends.with_standing in
+      moves_then (of was) (of (record was { standing = standing })) old mid new
+      (moves_sum of name shown old mid (record was { standing = standing }) (ends.job_row was there) was refl (subst (λ n. job_at old name (pos n) ≡ Some (job_cells name was)) (sym same) there))
+      (λ n. row_kept job_table mid new (ends.document_rows.rest.job (λ e. let no : ⊥ = cc in no)) (Text name ∷ Int n ∷ []))
