@@ -1,5 +1,5 @@
 -- Reads one after another, where there may be none.
-use Rattle.std.proofs.Common.{◌≡◌, Result, Ok, Err, IfOk, OnOk, refl, sym, subst, inl, arith}
+use Rattle.std.proofs.Common.{Result, Ok, Err, IfOk, OnOk, refl, sym, subst, inl, arith}
 use Rattle.sqlite_trees.specs.declared.store.Store.{Ghosts}
 use Rattle.sqlite.specs.State.{State, HasCleanDisk}
 use Rattle.sqlite.specs.Held.{Held, state}

@@ -7,7 +7,7 @@ use Rattle.room_state.specs.Rooms.{RoomValue}
 use Rattle.room_tables.specs.Accounts.{Holds, IsSound}
 use Rattle.room_tables.specs.Devices.{device_at, rate_at, AreSoundDevices, HoldsDevices}
 use Rattle.room_statements.specs.Alone.{OnlyDevices}
-use Rattle.room_serve.specs.Agreement.{Agree}
+use Rattle.room_tables.specs.Agreement.{Agree}
 
 -- ---- an account
 

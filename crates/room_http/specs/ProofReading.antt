@@ -1,6 +1,6 @@
 -- For the proof of the code alone: what the calls that read a part of a message found in its
 -- place.
-use Rattle.std.specs.Prelude.{◌≡◌, ◌≢◌, ℕ, ◌<◌, ◌≤◌, Bool, true, false, List, [], ◌∷◌, ◌++◌, length, Option, Some, None}
+use Rattle.std.specs.Prelude.{◌≡◌, ◌≢◌, ℕ, ◌<◌, ◌≤◌, Bool, true, false, List, [], ◌++◌, length}
 use Rattle.httparse.specs.Grammar.{HasNoRequest, MayBecomeRequest, NeverHasRequest, ChunkLine, print_chunk_line, chunk_size}
 use Rattle.httparse.specs.Ascii.{crlf_bytes}
 use Rattle.httparse.specs.Spans.{IsRequestOf, IsRequestWithin, RequestExceeds, RequestOverflows}
@@ -31,11 +31,6 @@ use Rattle.room_http.specs.declared.receiving.Opening.TheVariants as opening_is
 -- a fault of reading, or of memory
 abbrev pub IsReading : WireFault → Type 0
 IsReading fault = (fault ≢ Write) × (fault ≢ Ended)
-
--- the byte that was read, if there was one
-abbrev pub byte_list : Option ℕ → List ℕ
-byte_list None = []
-byte_list (Some byte) = byte ∷ []
 
 -- ---- heads
 

@@ -1,9 +1,9 @@
 //! Reading the head of a request, byte by byte, so that nothing after it is taken.
 ghost use Rattle.std.specs.Prelude.{◌≡◌, ◌+◌, ◌-◌, ◌^◌, ◌<◌, ◌≤◌, ◌&&◌, [], length, IfErr, IfOk, IfNone, OnOk};
 ghost use Rattle.room_http.specs.ProofKinds.{ends_empty_line};
-ghost use Rattle.room_input.specs.Streams.{IsSpent, Yields};
+ghost use Rattle.room_input.specs.Streams.{IsSpent, Yields, byte_list};
 ghost use Rattle.room_http.specs.Exchange.{TakesAtMost, read_faults};
-ghost use Rattle.room_http.specs.ProofReading.{HeadIs, IsReading, byte_list};
+ghost use Rattle.room_http.specs.ProofReading.{HeadIs, IsReading};
 
 use crate::fault::WireFault;
 use httparse::spans::{HeaderSpan, RequestSpans, parse_request};
@@ -38,10 +38,8 @@ pub(crate) fn read_byte<R: Source>(reader: &mut R) -> Result<Option<u8>, WireFau
     ensures count { R.failures reader.new ≡ R.failures reader.old + read_faults result }
     ensures cause { IfErr result IsReading }
 {
-    let mut byte = [0u8; 1];
-    match reader.read(&mut byte) {
-        Ok(0) => Ok(None),
-        Ok(_) => Ok(Some(byte[0])),
+    match room_input::read_byte(reader) {
+        Ok(byte) => Ok(byte),
         Err(_) => Err(WireFault::Read),
     }
 }

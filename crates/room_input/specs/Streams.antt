@@ -1,12 +1,17 @@
 -- What a call of a source takes of the bytes that may be left in it, and a call of a sink of what
 -- it is handed.
-use Rattle.std.specs.Prelude.{◌≡◌, ◌==◌, ◌&&◌, ℕ, Bool, true, false, if◌then◌else◌, nat_lt, List, [], ◌++◌, length, Option, Some, None, Result, Ok, Err, ⊤}
+use Rattle.std.specs.Prelude.{◌≡◌, ◌==◌, ◌&&◌, ℕ, Bool, true, false, if◌then◌else◌, nat_lt, List, [], ◌∷◌, ◌++◌, length, Option, Some, None, Result, Ok, Err, ⊤}
 use Rattle.room_input.specs.declared.stream_fault.StreamFault.{StreamFault}
 use Rattle.room_input.specs.declared.stream_fault.StreamFault.TheVariants.{Read, Memory, TooLong}
 
 -- the bytes came first of what was left before, and what is left now came after them
 abbrev pub Yields : (before after : List ℕ → Type 0) (bytes : List ℕ) → Type 0
 Yields before after bytes = (rest : List ℕ) → after rest → before (bytes ++ rest)
+
+-- the byte that was read, if there was one
+abbrev pub byte_list : Option ℕ → List ℕ
+byte_list None = []
+byte_list (Some byte) = byte ∷ []
 
 -- nothing is left
 abbrev pub IsSpent : (List ℕ → Type 0) → Type 0

@@ -20,6 +20,6 @@ pub use grant_line::GrantLine;
 pub use grants::read_grants;
 pub use hex_text::print_hex;
 pub use sink::Sink;
-pub use source::Source;
+pub use source::{Source, read_byte};
 pub use stream_fault::StreamFault;
 pub use whole::read_whole;

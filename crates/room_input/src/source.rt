@@ -1,7 +1,7 @@
-//! What bytes are read from.
+//! What bytes are read from, and one byte of it.
 
-ghost use Rattle.std.specs.Prelude.{◌≡◌, ◌+◌, ◌-◌, ◌^◌, ◌<◌, ◌≤◌, ℕ, List, [], IfOk, OnErr, length, take};
-ghost use Rattle.room_input.specs.Streams.{IsSpent, Yields, failed_reads};
+ghost use Rattle.std.specs.Prelude.{◌≡◌, ◌+◌, ◌-◌, ◌^◌, ◌<◌, ◌≤◌, ℕ, List, [], IfNone, IfOk, OnErr, length, take};
+ghost use Rattle.room_input.specs.Streams.{IsSpent, Yields, byte_list, failed_reads};
 
 use std::io;
 
@@ -27,4 +27,20 @@ pub trait Source {
 
     // Something may be left, if nothing but the end.
     ghost some_left: { (s : Self) → (rest : List ℕ) × left s rest };
+}
+
+/// Reads the next byte, and none behind it. `None` tells the end.
+pub fn read_byte<R: Source>(reader: &mut R) -> io::Result<Option<u8>>
+    requires { R.failures reader.old < 2 ^ 64 - 1 }
+    ensures took { IfOk result
+        (λ byte. Yields (R.left reader.old) (R.left reader.new) (byte_list byte)) }
+    ensures end { IfOk result (λ byte. IfNone byte (IsSpent (R.left reader.new))) }
+    ensures failed { OnErr result (Yields (R.left reader.old) (R.left reader.new) []) }
+    ensures count { R.failures reader.new ≡ R.failures reader.old + failed_reads result }
+{
+    let mut byte = [0u8; 1];
+    match reader.read(&mut byte)? {
+        0 => Ok(None),
+        _ => Ok(Some(byte[0])),
+    }
 }

@@ -1,6 +1,6 @@
 -- Sums that are told, one account after another.
-use Rattle.std.proofs.Common.{◌≡◌, ℕ, ◌+◌, List, ◌∷◌, [], ◌++◌, min, refl, ◌∙◌, ap, sym, arith}
-use Rattle.std.specs.List.{flat_map, sum_by}
+use Rattle.std.proofs.Common.{◌≡◌, ℕ, ◌+◌, List, ◌∷◌, [], ◌++◌, ◌∙◌, ap, sym, arith}
+use Rattle.std.specs.List.{sum_by}
 use Rattle.std.proofs.lemmas.List.Sums.{sum_by_push}
 use Rattle.room_overview.specs.Overviews.{Surveyed, sum_over}
 use Rattle.room_overview.specs.Surveys.{told}

@@ -3,7 +3,7 @@ use Rattle.std.specs.Prelude.{◌≡◌, ℕ, ◌<◌, ◌≤◌, ◌-◌, ◌==
 use Rattle.std.specs.Option.{option_map_or}
 use Rattle.std.specs.List.{sum_by}
 use Rattle.std.specs.FinMap.{values}
-use Rattle.room_pages.specs.Moments.{day_in_month}
+use Rattle.room_markup.specs.Moments.{day_in_month}
 use Rattle.room_reads.specs.Summaries.{summary_of}
 use Rattle.room_rules.specs.Limits.{last_moment, most_units}
 use Rattle.room_rules.specs.Months.{month_at}

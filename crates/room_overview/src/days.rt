@@ -3,7 +3,7 @@
 ghost use Rattle.std.specs.Prelude.{◌≡◌};
 ghost use Rattle.room_overview.specs.Surveys.{place_of_day};
 
-use room_pages::day_in_month;
+use room_markup::day_in_month;
 use room_rules::{Moment, month_of};
 
 /// The days of the longest month.

@@ -7,12 +7,12 @@ use Rattle.std.specs.List.{AllByRecursion}
 use Rattle.room_rules.specs.Limits.{last_job}
 use Rattle.room_rules.specs.declared.job.Job.{Job}
 use Rattle.room_pages.specs.Ended.{ended_job, ended_name}
-use Rattle.room_pages.specs.Escaping.{escaped}
-use Rattle.room_pages.specs.Laws.{IsMarkup}
-use Rattle.room_pages.specs.Parts.{Part, Mark, Text, Number, Known, Moment, Ending, Month, MonthNumber, html, shown}
+use Rattle.room_markup.specs.Escaping.{escaped}
+use Rattle.room_markup.specs.Laws.{IsMarkup}
+use Rattle.room_markup.specs.Parts.{Part, Mark, Text, Number, Known, Moment, Ending, Month, MonthNumber, html, shown}
 use Rattle.room_pages.specs.Tags.{NamesAreNoTags, kept, named, tags, turned}
 use Rattle.room_pages.specs.Waiting.{job_name, job_row}
-use Rattle.room_pages.proofs.Escapes.{clean_text}
+use Rattle.room_markup.proofs.Escapes.{clean_text}
 
 -- ---- where a reader stands
 

@@ -2,7 +2,7 @@
 use Rattle.std.specs.Prelude.{ℕ, ◌==◌, if◌then◌else◌, length, List, [], ◌∷◌, ◌++◌, Option, Some, None, codes, flat_map}
 use Rattle.std.specs.Fmt.{signed_decimal}
 use Rattle.room_pages.specs.Frames.{card, remark}
-use Rattle.room_pages.specs.Parts.{Part, html, Mark, Text, Number}
+use Rattle.room_markup.specs.Parts.{Part, html, Mark, Text, Number}
 use Rattle.room_pages.specs.declared.accounts.AccountLine.{AccountLine}
 use Rattle.room_pages.specs.declared.markup.TheConstants.{END_OF_CARD, END_OF_TABLE}
 use Rattle.room_pages.specs.declared.texts.TheConstants.{ACCOUNT, ACCOUNTS, JOBS_WAITING, LEFT, NEXT_ACCOUNTS, NO_ACCOUNTS}

@@ -2,7 +2,7 @@
 use Rattle.std.specs.Prelude.{ℕ, pos, ◌-◌, ◌*◌, ◌/◌, ◌==◌, if◌then◌else◌, min, List, [], ◌∷◌, ◌++◌, codes}
 use Rattle.std.specs.Fmt.{signed_decimal}
 use Rattle.room_rules.specs.Quota.{left_of}
-use Rattle.room_pages.specs.Parts.{Part, html, Mark, Number}
+use Rattle.room_markup.specs.Parts.{Part, html, Mark, Number}
 use Rattle.room_pages.specs.declared.texts.TheConstants.{CHARGED, GRANTED, LEFT, RESERVED, UNITS_LEFT}
 
 -- a part of the whole in thousandths, at most all of them

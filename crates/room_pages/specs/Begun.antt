@@ -1,7 +1,7 @@
 -- What devices began and have not settled.
 use Rattle.std.specs.Prelude.{ℕ, ◌==◌, if◌then◌else◌, length, List, [], ◌∷◌, ◌++◌, codes, flat_map}
 use Rattle.room_pages.specs.Frames.{card, remark}
-use Rattle.room_pages.specs.Parts.{Part, html, Mark, Text, Number, Moment}
+use Rattle.room_markup.specs.Parts.{Part, html, Mark, Text, Number, Moment}
 use Rattle.room_pages.specs.declared.begun.BegunLine.{BegunLine}
 use Rattle.room_pages.specs.declared.markup.TheConstants.{END_OF_CARD, END_OF_TABLE}
 use Rattle.room_pages.specs.declared.texts.TheConstants.{ACCOUNT, BEGUN, BEGUN_AT, DEVICE, JOB, NOTHING_BEGUN}

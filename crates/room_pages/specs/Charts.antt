@@ -1,7 +1,7 @@
 -- The units of each day of a month, as bars and as a table.
 use Rattle.std.specs.Prelude.{ℕ, ◌-◌, max, fold, length, List, [], ◌∷◌, ◌++◌, codes, flat_map}
 use Rattle.room_pages.specs.Balances.{permille}
-use Rattle.room_pages.specs.Parts.{Part, html, Mark, Number, Month}
+use Rattle.room_markup.specs.Parts.{Part, html, Mark, Number, Month}
 use Rattle.room_pages.specs.declared.chart.DayLine.{DayLine}
 use Rattle.room_pages.specs.declared.markup.TheConstants.{END_OF_CHART}
 use Rattle.room_pages.specs.declared.texts.TheConstants.{AS_TABLE, CHART, DAY, HIGHEST, UNITS_IN_MONTH, UNITS_OF_DAY}

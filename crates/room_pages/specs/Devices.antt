@@ -3,7 +3,7 @@ use Rattle.std.specs.Prelude.{ℕ, Bool, true, false, if◌then◌else◌, List,
 use Rattle.std.specs.List.{list_any}
 use Rattle.room_rules.specs.declared.device.Device.{Device}
 use Rattle.room_pages.specs.Frames.{card, remark}
-use Rattle.room_pages.specs.Parts.{Part, html, Mark, Text, Number}
+use Rattle.room_markup.specs.Parts.{Part, html, Mark, Text, Number}
 use Rattle.room_pages.specs.declared.markup.TheConstants.{END_OF_CARD, END_OF_LIST, LIST_OF_DEVICES}
 use Rattle.room_pages.specs.declared.texts.TheConstants.{DEVICES, NO_DEVICES, OFF, ON, UNITS_A_PAGE}
 

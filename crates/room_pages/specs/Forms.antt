@@ -1,6 +1,6 @@
 -- The form to print a file. Its script (`print.js`) sends the file as it is.
 use Rattle.std.specs.Prelude.{ℕ, List, [], ◌∷◌, ◌++◌, codes}
-use Rattle.room_pages.specs.Parts.{Part, html, Mark, Text}
+use Rattle.room_markup.specs.Parts.{Part, html, Mark, Text}
 use Rattle.room_pages.specs.declared.texts.TheConstants.{COPIES, FILE, FILE_HELP, HAND_IN, PAGES_HELP, PAGES_OF_COPY, PASSWORD, PASSWORD_HELP, PRINT, SCRIPT_NEEDED, SENT_BROKEN, SENT_EMPTY, SENT_LARGE, SENT_REFUSED, SENT_SENDING}
 
 -- the head of the form to print, with what its script says

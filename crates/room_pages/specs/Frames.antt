@@ -1,6 +1,6 @@
 -- What stands around the content of a page, and of a card of it.
 use Rattle.std.specs.Prelude.{ℕ, List, [], ◌∷◌, codes}
-use Rattle.room_pages.specs.Parts.{Part, Mark, Text}
+use Rattle.room_markup.specs.Parts.{Part, Mark, Text}
 use Rattle.room_pages.specs.declared.markup.TheConstants.{BODY, DOCUMENT, SIGNS}
 use Rattle.room_pages.specs.declared.texts.TheConstants.{PRODUCT, SKIP, TIMES, UNITS}
 

@@ -5,15 +5,11 @@ pub mod ButtonLaws
 pub mod Charts
 pub mod Devices
 pub mod Ended
-pub mod Escaping
 pub mod Forms
 pub mod Frames
-pub mod Laws
 pub mod Longest
-pub mod Moments
 pub mod Outcomes
 pub mod Owners
-pub mod Parts
 pub mod PasswordLaws
 pub mod Phases
 pub mod Reasons

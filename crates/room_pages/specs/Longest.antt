@@ -1,7 +1,7 @@
 -- What has waited longest.
 use Rattle.std.specs.Prelude.{ℕ, ◌==◌, if◌then◌else◌, length, List, [], ◌∷◌, ◌++◌, codes, flat_map}
 use Rattle.room_pages.specs.Frames.{card, remark}
-use Rattle.room_pages.specs.Parts.{Part, html, Mark, Text, Number, Moment}
+use Rattle.room_markup.specs.Parts.{Part, html, Mark, Text, Number, Moment}
 use Rattle.room_pages.specs.Phases.{sign, word}
 use Rattle.room_pages.specs.declared.longest.LongestLine.{LongestLine}
 use Rattle.room_pages.specs.declared.markup.TheConstants.{END_OF_CARD, END_OF_TABLE}

@@ -1,7 +1,7 @@
 -- What came of the last act, in a sentence.
 use Rattle.std.specs.Prelude.{ℕ, List, [], ◌∷◌, ◌++◌, Option, Some, None, codes}
 use Rattle.room_rules.specs.declared.refusal.Word.{Word}
-use Rattle.room_pages.specs.Parts.{Part, html, Mark, Number}
+use Rattle.room_markup.specs.Parts.{Part, html, Mark, Number}
 use Rattle.room_pages.specs.Reasons.{reason}
 use Rattle.room_pages.specs.declared.markup.TheConstants.{END_OF_NOTE}
 use Rattle.room_pages.specs.declared.outcome.Act.{Act}

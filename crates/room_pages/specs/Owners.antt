@@ -6,7 +6,7 @@ use Rattle.room_pages.specs.Ended.{ended_card}
 use Rattle.room_pages.specs.Forms.{print_form}
 use Rattle.room_pages.specs.Frames.{document, foot, reload, top}
 use Rattle.room_pages.specs.Outcomes.{outcome_if_any}
-use Rattle.room_pages.specs.Parts.{Part, html, Mark, Text, Month, MonthNumber}
+use Rattle.room_markup.specs.Parts.{Part, html, Mark, Text, Month, MonthNumber}
 use Rattle.room_pages.specs.Waiting.{waiting_card}
 use Rattle.room_pages.specs.declared.markup.TheConstants.{END_OF_PAGE, PAGE_SCRIPT}
 use Rattle.room_pages.specs.declared.owner.Owner.{Owner}

@@ -3,7 +3,7 @@ use Rattle.std.specs.Prelude.{ℕ, List, [], ◌∷◌}
 use Rattle.std.specs.Fmt.{signed_decimal}
 use Rattle.room_rules.specs.declared.refusal.Word.{Word}
 use Rattle.room_rules.specs.declared.refusal.Word.TheVariants.{Version, Operation, Malformed, CharsetAndLanguage, Charset, Target, TargetTooLong, NotThisQueue, Syntax, Compression, DocumentFormat, WhichJobs, PasswordEncryptionMissing, PasswordEncryption, PasswordTooLong, JobNameTooLong, Template, DocumentTooLarge, NoJob, NotAccepting, Closed, TooManyDocuments, Stopping, Ended, Printing, Incomplete, Password, ImpressionsUnknown, Quota, NotHeld, NotPending, NotProcessing, OtherDevice, Rate, NoAccount, NoDevice, DeviceOff, Exists, Same, Conflict}
-use Rattle.room_pages.specs.Parts.{Part, html, Mark, Number}
+use Rattle.room_markup.specs.Parts.{Part, html, Mark, Number}
 use Rattle.room_pages.specs.declared.texts.TheConstants.{NOTHING, QUOTA_ADVICE, UNITS_HAD, UNITS_NEEDED, WHY_CLOSED, WHY_CONFLICT, WHY_DEVICE_OFF, WHY_DOCUMENT_FORMAT, WHY_DOCUMENT_TOO_LARGE, WHY_ENDED, WHY_EXISTS, WHY_IMPRESSIONS_UNKNOWN, WHY_INCOMPLETE, WHY_JOB_NAME_TOO_LONG, WHY_NOT_ACCEPTING, WHY_NO_DEVICE, WHY_NO_JOB, WHY_OTHER_DEVICE, WHY_PASSWORD, WHY_PASSWORD_TOO_LONG, WHY_PRINTING, WHY_PROTOCOL, WHY_RATE, WHY_STATE, WHY_STOPPING, WHY_TARGET, WHY_TEMPLATE, WHY_TOO_MANY_DOCUMENTS}
 
 -- Words that no act of a page meets have a sentence too. That of the quota has numbers.

@@ -1,7 +1,7 @@
 -- The page that tells a browser why what it asked was refused.
 use Rattle.std.specs.Prelude.{ℕ, List, [], ◌∷◌, ◌++◌, codes}
 use Rattle.room_pages.specs.Frames.{document, top}
-use Rattle.room_pages.specs.Parts.{Part, html, Mark}
+use Rattle.room_markup.specs.Parts.{Part, html, Mark}
 use Rattle.room_pages.specs.declared.refusal.Refusal.{Refusal}
 use Rattle.room_pages.specs.declared.refusal.Refusal.TheVariants.{BadRequest, Forbidden, NotFound, OnlyRead, OnlyPost, TooLarge, WrongType, NoSpace, Busy, Failed}
 use Rattle.room_pages.specs.declared.texts.TheConstants.{ASK_AGAIN, BAD_REQUEST, CANNOT_DO, FAILED_HERE, FROM_ELSEWHERE, HAS_FAILED, IS_BAD_REQUEST, IS_FULL, IS_ONLY_DONE, IS_ONLY_READ, IS_TOO_LARGE, IS_WRONG_TYPE, WAS_NOT_DONE, NOT_NOW, NO_PAGE, NO_SUCH_PAGE, PRINT_ROOM, START_PAGE, TOO_LARGE}

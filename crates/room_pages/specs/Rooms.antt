@@ -6,7 +6,7 @@ use Rattle.room_pages.specs.Charts.{chart}
 use Rattle.room_pages.specs.Devices.{all_devices}
 use Rattle.room_pages.specs.Frames.{document, foot, remark, top}
 use Rattle.room_pages.specs.Longest.{longest_card}
-use Rattle.room_pages.specs.Parts.{Part, html, Mark, Text, Number, Moment}
+use Rattle.room_markup.specs.Parts.{Part, html, Mark, Text, Number, Moment}
 use Rattle.room_pages.specs.declared.markup.TheConstants.{END_OF_PAGE, END_OF_PAIR, PAIR, RELOAD_SOON}
 use Rattle.room_pages.specs.declared.room.Room.{Room}
 use Rattle.room_pages.specs.declared.texts.TheConstants.{ACCOUNTS_OPEN, AS_OF, FIND, FIND_LABEL, HAS_MORE, IS_GATHERED, JOBS_WAITING, NOT_SETTLED, NOT_YET, OPERATORS, PRINT_ROOM, SKIPS, UNITS_THIS_MONTH}

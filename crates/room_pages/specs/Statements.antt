@@ -6,7 +6,7 @@ use Rattle.room_rules.specs.declared.job.Job.{Job}
 use Rattle.room_pages.specs.Balances.{left_text}
 use Rattle.room_pages.specs.Ended.{ended_columns, ended_job}
 use Rattle.room_pages.specs.Frames.{document, top}
-use Rattle.room_pages.specs.Parts.{Part, html, Mark, Text, Number, Moment, Month}
+use Rattle.room_markup.specs.Parts.{Part, html, Mark, Text, Number, Moment, Month}
 use Rattle.room_pages.specs.declared.markup.TheConstants.{END_OF_PAGE, END_OF_TABLE}
 use Rattle.room_pages.specs.declared.statement.Statement.{Statement}
 use Rattle.room_pages.specs.declared.texts.TheConstants.{BACK_TO, CHARGED_IN, CHARGED_SO_FAR, DRAWN_UP, GRANTED_UP_TO, IN_THE_MONTH, LEFT_NOW, PRINT_ROOM, RESERVED_NOW, STATEMENT, THEIR_NUMBER, TIMES, UNITS}

@@ -2,7 +2,7 @@
 use Rattle.std.specs.Prelude.{ℕ, ◌==◌, if◌then◌else◌, length, List, [], ◌∷◌, ◌++◌, Option, Some, None, codes, flat_map}
 use Rattle.room_rules.specs.declared.job.Job.{Job}
 use Rattle.room_pages.specs.Frames.{card, remark}
-use Rattle.room_pages.specs.Parts.{Part, html, Mark, Text, Number, Known, Moment}
+use Rattle.room_markup.specs.Parts.{Part, html, Mark, Text, Number, Known, Moment}
 use Rattle.room_pages.specs.Phases.{phase_of, sentence, sign, word}
 use Rattle.room_pages.specs.declared.markup.TheConstants.{END_OF_ACTS, END_OF_CARD, END_OF_TABLE, FIRST_ACT}
 use Rattle.room_pages.specs.declared.phase.Phase.{Phase}

@@ -3,12 +3,12 @@
 ghost use Rattle.std.specs.Prelude.{◌≡◌, ◌++◌, OnOk, flat_map};
 ghost use Rattle.room_pages.specs.Accounts.{account_row, accounts_columns, next_link, accounts_card, accounts_item, link_if_more, table_of_accounts};
 ghost use Rattle.room_pages.specs.Frames.{card, remark};
-ghost use Rattle.room_pages.specs.Parts.{html};
+ghost use Rattle.room_markup.specs.Parts.{html};
 
 use crate::frame::{put_card, put_remark};
 use crate::markup::{END_OF_CARD, END_OF_TABLE};
-use crate::piece::{Piece, put_all, signed_text};
 use crate::texts::{ACCOUNT, ACCOUNTS, JOBS_WAITING, LEFT, NEXT_ACCOUNTS, NO_ACCOUNTS};
+use room_markup::{Piece, put_all, signed_text};
 use room_rules::Name;
 use std::alloc::AllocError;
 

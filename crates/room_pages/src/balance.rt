@@ -3,10 +3,10 @@
 ghost use Rattle.std.specs.Prelude.{◌≡◌, ◌++◌, ◌-◌, ◌≤◌, OnOk};
 ghost use Rattle.room_rules.specs.Limits.{most_units};
 ghost use Rattle.room_pages.specs.Balances.{bar, quota_facts, units_left, balance, permille, quota, reserved_width};
-ghost use Rattle.room_pages.specs.Parts.{html};
+ghost use Rattle.room_markup.specs.Parts.{html};
 
-use crate::piece::{Piece, put_all, signed_text};
 use crate::texts::{CHARGED, GRANTED, LEFT, RESERVED, UNITS_LEFT};
+use room_markup::{Piece, put_all, signed_text};
 use room_rules::left;
 use std::alloc::AllocError;
 

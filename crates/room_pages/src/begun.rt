@@ -3,12 +3,12 @@
 ghost use Rattle.std.specs.Prelude.{◌≡◌, ◌++◌, OnOk, flat_map};
 ghost use Rattle.room_pages.specs.Begun.{begun_columns, begun_row, begun_card, begun_item, table_of_begun};
 ghost use Rattle.room_pages.specs.Frames.{card, remark};
-ghost use Rattle.room_pages.specs.Parts.{html};
+ghost use Rattle.room_markup.specs.Parts.{html};
 
 use crate::frame::{put_card, put_remark};
 use crate::markup::{END_OF_CARD, END_OF_TABLE};
-use crate::piece::{Piece, put_all};
 use crate::texts::{ACCOUNT, BEGUN, BEGUN_AT, DEVICE, JOB, NOTHING_BEGUN};
+use room_markup::{Piece, put_all};
 use room_rules::Name;
 use std::alloc::AllocError;
 

@@ -2,12 +2,12 @@
 
 ghost use Rattle.std.specs.Prelude.{◌≡◌, ◌++◌, OnOk, flat_map};
 ghost use Rattle.room_pages.specs.Charts.{bar_of_day, chart_middle, chart_start, row_of_day, bar_item, chart, day_item, highest};
-ghost use Rattle.room_pages.specs.Parts.{html};
+ghost use Rattle.room_markup.specs.Parts.{html};
 
 use crate::balance::permille;
 use crate::markup::END_OF_CHART;
-use crate::piece::{Piece, put_all};
 use crate::texts::{AS_TABLE, CHART, DAY, HIGHEST, UNITS_IN_MONTH, UNITS_OF_DAY};
+use room_markup::{Piece, put_all};
 use std::alloc::AllocError;
 
 /// What all accounts were charged on a day.

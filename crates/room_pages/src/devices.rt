@@ -4,12 +4,12 @@ ghost use Rattle.std.specs.Prelude.{◌≡◌, ◌++◌, OnOk, flat_map};
 ghost use Rattle.std.specs.List.{list_any};
 ghost use Rattle.room_pages.specs.Devices.{device_item, all_devices, device_if_on, device_row, devices_on, is_on, list_of_devices, look_of, on_sign, on_word};
 ghost use Rattle.room_pages.specs.Frames.{card, remark};
-ghost use Rattle.room_pages.specs.Parts.{html};
+ghost use Rattle.room_markup.specs.Parts.{html};
 
 use crate::frame::{put_card, put_remark};
 use crate::markup::{END_OF_CARD, END_OF_LIST, LIST_OF_DEVICES};
-use crate::piece::{Piece, put_all};
 use crate::texts::{DEVICES, NO_DEVICES, OFF, ON, UNITS_A_PAGE};
+use room_markup::{Piece, put_all};
 use room_rules::Device;
 use std::alloc::AllocError;
 

@@ -3,16 +3,16 @@
 ghost use Rattle.std.specs.Prelude.{◌≡◌, ◌++◌, OnOk, flat_map};
 ghost use Rattle.room_pages.specs.Ended.{ended_columns, ended_counts, ended_name, device_or_none, ended_card, ended_job, table_of_ended};
 ghost use Rattle.room_pages.specs.Frames.{card, remark};
-ghost use Rattle.room_pages.specs.Parts.{html};
+ghost use Rattle.room_markup.specs.Parts.{html};
 ghost use Rattle.room_pages.specs.Phases.{phase_of, sign, word};
 
 use crate::frame::{put_card, put_remark};
 use crate::markup::{END_OF_CARD, END_OF_TABLE};
 use crate::phase::{phase_of, sign, word};
-use crate::piece::{Piece, put_all};
 use crate::texts::{
     DEVICE, JOB, LAST_ENDED, NO_DEVICE, NOTHING_ENDED, NUMBER, STATE, UNITS_CHARGED, WHEN_ENDED,
 };
+use room_markup::{Piece, put_all};
 use room_rules::{Job, Name};
 use std::alloc::AllocError;
 

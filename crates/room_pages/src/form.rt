@@ -2,13 +2,13 @@
 
 ghost use Rattle.std.specs.Prelude.{◌≡◌, ◌++◌, OnOk};
 ghost use Rattle.room_pages.specs.Forms.{form_counts, form_end, form_file, form_start, print_form};
-ghost use Rattle.room_pages.specs.Parts.{html};
+ghost use Rattle.room_markup.specs.Parts.{html};
 
-use crate::piece::{Piece, put_all};
 use crate::texts::{
     COPIES, FILE, FILE_HELP, HAND_IN, PAGES_HELP, PAGES_OF_COPY, PASSWORD, PASSWORD_HELP, PRINT,
     SCRIPT_NEEDED, SENT_BROKEN, SENT_EMPTY, SENT_LARGE, SENT_REFUSED, SENT_SENDING,
 };
+use room_markup::{Piece, put_all};
 use std::alloc::AllocError;
 
 /// Appends the form to print a file in the account.

@@ -2,11 +2,11 @@
 
 ghost use Rattle.std.specs.Prelude.{◌≡◌, ◌++◌, OnOk};
 ghost use Rattle.room_pages.specs.Frames.{card, document, foot, reload, remark, top};
-ghost use Rattle.room_pages.specs.Parts.{html};
+ghost use Rattle.room_markup.specs.Parts.{html};
 
 use crate::markup::{BODY, DOCUMENT, SIGNS};
-use crate::piece::{Piece, put_all};
 use crate::texts::{PRODUCT, SKIP, TIMES, UNITS};
+use room_markup::{Piece, put_all};
 use std::alloc::AllocError;
 
 /// Appends what has a browser load the page of an account anew.

@@ -1,19 +1,8 @@
-//! What holds of each text that a page shows, and of what it offers.
+//! What holds of the rows of a page, and of what it offers.
 
 ghost use Rattle.room_pages.specs.ButtonLaws.{HoldsGoThrough, ReleasesAreOffered, ReleasesGoThrough};
-ghost use Rattle.room_pages.specs.Laws.{IsReadBack, NeverMarksUp};
 ghost use Rattle.room_pages.specs.PasswordLaws.{PasswordsAreKept};
 ghost use Rattle.room_pages.specs.Tags.{NamesAreNoTags};
-
-/// No byte of a text that is shown begins or ends markup, or the value of an attribute.
-pub fn never_marks_up()
-    ensures { NeverMarksUp }
-{}
-
-/// A reader of HTML reads the text again, with U+FFFD for what is no UTF-8 and for controls.
-pub fn is_read_back()
-    ensures { IsReadBack }
-{}
 
 /// The tags of a job's row are the same whatever its name is.
 pub fn names_are_no_tags()

@@ -1,6 +1,6 @@
 //! The pages that an owner and a print room look at: each one's bytes, as definitions over what the
-//! reads of the store give, and the functions that write them. A page is a list of parts, of which
-//! only text comes from outside, and it goes out escaped.
+//! reads of the store give, and the functions that write them. A page is a list of parts
+//! (`room_markup`).
 #![tactic(auto)]
 
 mod accounts;
@@ -9,17 +9,14 @@ mod begun;
 mod chart;
 mod devices;
 mod ended;
-mod escape;
 mod form;
 mod frame;
 mod laws;
 mod longest;
 mod markup;
-mod moment;
 mod outcome;
 mod owner;
 mod phase;
-mod piece;
 mod reason;
 mod refusal;
 mod room;
@@ -31,13 +28,11 @@ mod waiting;
 pub use accounts::AccountLine;
 pub use begun::BegunLine;
 pub use chart::DayLine;
-pub use escape::put_escaped;
 pub use laws::{
-    holds_go_through, is_read_back, names_are_no_tags, never_marks_up, passwords_are_kept,
-    releases_are_offered, releases_go_through,
+    holds_go_through, names_are_no_tags, passwords_are_kept, releases_are_offered,
+    releases_go_through,
 };
 pub use longest::LongestLine;
-pub use moment::{day_in_month, put_month_number};
 pub use outcome::{Act, Outcome};
 pub use owner::{Owner, put_owner_page};
 pub use phase::{Phase, phase_of};

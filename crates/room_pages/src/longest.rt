@@ -3,14 +3,14 @@
 ghost use Rattle.std.specs.Prelude.{◌≡◌, ◌++◌, OnOk, flat_map};
 ghost use Rattle.room_pages.specs.Longest.{longest_columns, longest_row, longest_card, longest_item, table_of_longest};
 ghost use Rattle.room_pages.specs.Frames.{card, remark};
-ghost use Rattle.room_pages.specs.Parts.{html};
+ghost use Rattle.room_markup.specs.Parts.{html};
 ghost use Rattle.room_pages.specs.Phases.{sign, word};
 
 use crate::frame::{put_card, put_remark};
 use crate::markup::{END_OF_CARD, END_OF_TABLE};
 use crate::phase::{Phase, sign, word};
-use crate::piece::{Piece, put_all};
 use crate::texts::{ACCOUNT, JOB, LONGEST, NOTHING_WAITS, SINCE, STATE};
+use room_markup::{Piece, put_all};
 use room_rules::Name;
 use std::alloc::AllocError;
 

@@ -33,12 +33,6 @@ pub(crate) const SIGNS: &str = "<svg class=\"unseen\" aria-hidden=\"true\">
 </svg>
 ";
 
-pub(crate) const TIME_START: &str = "<time datetime=\"";
-
-pub(crate) const TIME_MIDDLE: &str = "\">";
-
-pub(crate) const TIME_END: &str = "</time>";
-
 /// The look of the act that a job waits for.
 pub(crate) const FIRST_ACT: &str = " class=\"first\"";
 

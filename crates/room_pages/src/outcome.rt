@@ -2,16 +2,16 @@
 
 ghost use Rattle.std.specs.Prelude.{◌≡◌, ◌++◌, OnOk};
 ghost use Rattle.room_pages.specs.Outcomes.{done_note, failed_note, refused_file, refused_job, done, next_of, not_done, outcome_if_any, refused, refused_start, told};
-ghost use Rattle.room_pages.specs.Parts.{html};
+ghost use Rattle.room_markup.specs.Parts.{html};
 ghost use Rattle.room_pages.specs.Reasons.{reason};
 
 use crate::markup::END_OF_NOTE;
-use crate::piece::{Piece, put_all};
 use crate::reason::put_reason;
 use crate::texts::{
     DONE_CANCEL, DONE_HOLD, DONE_PRINT, DONE_RELEASE, JOB, NOT_CANCEL, NOT_DONE, NOT_HOLD,
     NOT_PRINT, NOT_RELEASE, THEN_CANCEL, THEN_HOLD, THEN_PRINT, THEN_RELEASE, TRY_AGAIN,
 };
+use room_markup::{Piece, put_all};
 use room_rules::Word;
 use std::alloc::AllocError;
 

@@ -5,7 +5,7 @@ ghost use Rattle.room_rules.specs.Limits.{most_units};
 ghost use Rattle.room_pages.specs.Balances.{balance};
 ghost use Rattle.room_pages.specs.Frames.{document, foot, reload, top};
 ghost use Rattle.room_pages.specs.Owners.{account_title, reloads, stays, content, does_reload, lists, owner_document, owner_end, owner_page, owner_start, reload_if, reload_words};
-ghost use Rattle.room_pages.specs.Parts.{html};
+ghost use Rattle.room_markup.specs.Parts.{html};
 
 use crate::balance::put_balance;
 use crate::devices::put_devices_on;
@@ -14,12 +14,12 @@ use crate::form::put_print_form;
 use crate::frame::{put_document, put_foot, put_reload, put_top};
 use crate::markup::{END_OF_PAGE, PAGE_SCRIPT};
 use crate::outcome::{Outcome, put_outcome_if_any};
-use crate::piece::{Piece, put_all};
 use crate::texts::{
     ACCOUNT, PRINT_ROOM, RELOADS, START_RELOADING, STATEMENT_FOR, STAYS, STOP_RELOADING,
 };
 use crate::waiting::put_waiting_card;
 use ipp_coding::List;
+use room_markup::{Piece, put_all};
 use room_rules::{Device, Job, Name};
 use std::alloc::AllocError;
 

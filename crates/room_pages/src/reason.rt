@@ -2,10 +2,9 @@
 
 ghost use Rattle.std.specs.Prelude.{◌≡◌, ◌++◌, OnOk};
 ghost use Rattle.std.specs.Fmt.{signed_decimal};
-ghost use Rattle.room_pages.specs.Parts.{html};
+ghost use Rattle.room_markup.specs.Parts.{html};
 ghost use Rattle.room_pages.specs.Reasons.{quota_reason, reason, sentence_of};
 
-use crate::piece::{Piece, put_all, signed_text};
 use crate::texts::{
     NOTHING, QUOTA_ADVICE, UNITS_HAD, UNITS_NEEDED, WHY_CLOSED, WHY_CONFLICT, WHY_DEVICE_OFF,
     WHY_DOCUMENT_FORMAT, WHY_DOCUMENT_TOO_LARGE, WHY_ENDED, WHY_EXISTS, WHY_IMPRESSIONS_UNKNOWN,
@@ -13,6 +12,7 @@ use crate::texts::{
     WHY_OTHER_DEVICE, WHY_PASSWORD, WHY_PASSWORD_TOO_LONG, WHY_PRINTING, WHY_PROTOCOL, WHY_RATE,
     WHY_STATE, WHY_STOPPING, WHY_TARGET, WHY_TEMPLATE, WHY_TOO_MANY_DOCUMENTS,
 };
+use room_markup::{Piece, put_all, signed_text};
 use room_rules::Word;
 use std::alloc::AllocError;
 

@@ -2,16 +2,16 @@
 
 ghost use Rattle.std.specs.Prelude.{◌≡◌, ◌++◌, OnOk};
 ghost use Rattle.room_pages.specs.Frames.{document, top};
-ghost use Rattle.room_pages.specs.Parts.{html};
+ghost use Rattle.room_markup.specs.Parts.{html};
 ghost use Rattle.room_pages.specs.Refusals.{heading, refusal_card, refusal_page, sentence};
 
 use crate::frame::{put_document, put_top};
-use crate::piece::{Piece, put_all};
 use crate::texts::{
     ASK_AGAIN, BAD_REQUEST, CANNOT_DO, FAILED_HERE, FROM_ELSEWHERE, HAS_FAILED, IS_BAD_REQUEST,
     IS_FULL, IS_ONLY_DONE, IS_ONLY_READ, IS_TOO_LARGE, IS_WRONG_TYPE, NO_PAGE, NO_SUCH_PAGE,
     NOT_NOW, PRINT_ROOM, START_PAGE, TOO_LARGE, WAS_NOT_DONE,
 };
+use room_markup::{Piece, put_all};
 use std::alloc::AllocError;
 
 /// Why a request of a browser is refused.

@@ -7,7 +7,7 @@ ghost use Rattle.room_pages.specs.Charts.{chart};
 ghost use Rattle.room_pages.specs.Devices.{all_devices};
 ghost use Rattle.room_pages.specs.Frames.{document, foot, remark, top};
 ghost use Rattle.room_pages.specs.Longest.{longest_card};
-ghost use Rattle.room_pages.specs.Parts.{html};
+ghost use Rattle.room_markup.specs.Parts.{html};
 ghost use Rattle.room_pages.specs.Rooms.{as_of, as_of_text, find_form, front_text, reload_if, remark_if, room_head, room_lists, room_page, room_start, room_sums, room_title, tiles, title_start};
 
 use crate::accounts::{AccountLine, put_accounts_card};
@@ -17,11 +17,11 @@ use crate::devices::put_all_devices;
 use crate::frame::{put_document, put_foot, put_remark, put_top};
 use crate::longest::{LongestLine, put_longest_card};
 use crate::markup::{END_OF_PAGE, END_OF_PAIR, PAIR, RELOAD_SOON};
-use crate::piece::{Piece, put_all};
 use crate::texts::{
     ACCOUNTS_OPEN, AS_OF, FIND, FIND_LABEL, HAS_MORE, IS_GATHERED, JOBS_WAITING, NOT_SETTLED,
     NOT_YET, OPERATORS, PRINT_ROOM, SKIPS, UNITS_THIS_MONTH,
 };
+use room_markup::{Piece, put_all};
 use room_rules::{Device, Name};
 use std::alloc::AllocError;
 

@@ -4,19 +4,18 @@ ghost use Rattle.std.specs.Prelude.{◌≡◌, ◌++◌, ◌≤◌, OnOk, flat_m
 ghost use Rattle.room_rules.specs.Limits.{most_units};
 ghost use Rattle.room_pages.specs.Ended.{ended_columns, ended_job};
 ghost use Rattle.room_pages.specs.Frames.{document, top};
-ghost use Rattle.room_pages.specs.Parts.{html};
+ghost use Rattle.room_markup.specs.Parts.{html};
 ghost use Rattle.room_pages.specs.Statements.{sheet_foot, statement_count, statement_sums, statement_title, is_then, job_if_then, statement_jobs, statement_page, statement_start, sums};
 
 use crate::ended::{put_ended_columns, put_ended_job};
 use crate::frame::{put_document, put_top};
 use crate::markup::{END_OF_PAGE, END_OF_TABLE};
-use crate::moment::known;
-use crate::piece::{Piece, put_all, signed_text};
 use crate::texts::{
     BACK_TO, CHARGED_IN, CHARGED_SO_FAR, DRAWN_UP, GRANTED_UP_TO, IN_THE_MONTH, LEFT_NOW,
     PRINT_ROOM, RESERVED_NOW, STATEMENT, THEIR_NUMBER, TIMES, UNITS,
 };
 use ipp_coding::List;
+use room_markup::{Piece, known, put_all, signed_text};
 use room_rules::{Job, Name, left, month_of};
 use std::alloc::AllocError;
 

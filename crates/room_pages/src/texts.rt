@@ -53,8 +53,6 @@ pub(crate) const MADE: &str = "Made";
 
 pub(crate) const ACTS: &str = "Acts";
 
-pub(crate) const UNKNOWN: &str = "unknown";
-
 // The states of a job, each with a sentence that explains it.
 pub(crate) const HELD: &str = "Held";
 
@@ -373,50 +371,3 @@ pub(crate) const UNITS_OF_DAY: &str = "Units";
 pub(crate) const NO_ACCOUNTS: &str = "No account that was counted has such a name.";
 
 pub(crate) const NEXT_ACCOUNTS: &str = "Next accounts";
-
-// ---- months
-pub(crate) const JANUARY: &str = "January";
-
-pub(crate) const FEBRUARY: &str = "February";
-
-pub(crate) const MARCH: &str = "March";
-
-pub(crate) const APRIL: &str = "April";
-
-pub(crate) const MAY: &str = "May";
-
-pub(crate) const JUNE: &str = "June";
-
-pub(crate) const JULY: &str = "July";
-
-pub(crate) const AUGUST: &str = "August";
-
-pub(crate) const SEPTEMBER: &str = "September";
-
-pub(crate) const OCTOBER: &str = "October";
-
-pub(crate) const NOVEMBER: &str = "November";
-
-pub(crate) const DECEMBER: &str = "December";
-
-pub(crate) const JAN: &str = "Jan";
-
-pub(crate) const FEB: &str = "Feb";
-
-pub(crate) const MAR: &str = "Mar";
-
-pub(crate) const APR: &str = "Apr";
-
-pub(crate) const JUN: &str = "Jun";
-
-pub(crate) const JUL: &str = "Jul";
-
-pub(crate) const AUG: &str = "Aug";
-
-pub(crate) const SEP: &str = "Sep";
-
-pub(crate) const OCT: &str = "Oct";
-
-pub(crate) const NOV: &str = "Nov";
-
-pub(crate) const DEC: &str = "Dec";

@@ -2,18 +2,18 @@
 
 ghost use Rattle.std.specs.Prelude.{◌≡◌, ◌++◌, OnOk, flat_map};
 ghost use Rattle.room_pages.specs.Frames.{card, remark};
-ghost use Rattle.room_pages.specs.Parts.{html};
+ghost use Rattle.room_markup.specs.Parts.{html};
 ghost use Rattle.room_pages.specs.Phases.{phase_of, sentence, sign, word};
 ghost use Rattle.room_pages.specs.Waiting.{acts_start, button, job_counts, job_name, job_state, waiting_columns, buttons, cancel_button, device_words, hold_buttons, job_acts, job_row, release_buttons, no_device_words, table_of_waiting, waiting_card};
 
 use crate::frame::{put_card, put_remark};
 use crate::markup::{END_OF_ACTS, END_OF_CARD, END_OF_TABLE, FIRST_ACT};
 use crate::phase::{Phase, phase_of, sentence, sign, word};
-use crate::piece::{Piece, put_all};
 use crate::texts::{
     ACTS, ANY_DEVICE, CANCEL, COPIES, DEVICE, FILES, HOLD, JOB, MADE, NO_DEVICE_YET, NOTHING_WAITS,
     NUMBER, PAGES, RELEASE, STATE, WAITING,
 };
+use room_markup::{Piece, put_all};
 use room_rules::{Job, Name};
 use std::alloc::AllocError;
 

@@ -1,7 +1,7 @@
 -- Answers of several lines (all this project's own). None has a line feed at its end.
 use Rattle.std.specs.Prelude.{ℕ, Bool, true, false, List, ◌∷◌, ◌++◌, codes, decimal, length}
 use Rattle.std.specs.List.{flat_map}
-use Rattle.room_pages.specs.Moments.{month_text}
+use Rattle.room_markup.specs.Moments.{month_text}
 use Rattle.room_questions.specs.JobLines.{job_text}
 use Rattle.room_rules.specs.declared.account.Grant.{Grant}
 use Rattle.room_rules.specs.declared.device.Device.{Device}

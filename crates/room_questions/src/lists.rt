@@ -6,7 +6,7 @@ ghost use Rattle.room_questions.specs.Lists.{account_text, accounts_text, device
 
 use crate::job_line::put_job;
 use ipp_coding::List;
-use room_pages::put_month_number;
+use room_markup::put_month_number;
 use room_rules::{Device, Grant, Job, Name};
 use std::alloc::{AllocError, Global};
 

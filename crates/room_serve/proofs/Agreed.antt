@@ -1,55 +1,20 @@
--- Databases that agree, and machines that are given the same.
-use Rattle.std.proofs.Common.{◌≡◌, ℕ, Bool, true, false, cond, List, [], ◌∷◌, filter, Option, Some, None, length, refl, sym, ap, subst, ◌∙◌, arith}
+-- Machines that are given the same.
+use Rattle.std.proofs.Common.{◌≡◌, ℕ, Bool, true, false, cond, List, [], ◌∷◌, filter, Option, length, refl, sym, ap, subst, ◌∙◌, arith}
 use Rattle.sqlite.specs.Effect.{Database}
 use Rattle.room_events.specs.Events.{Timed}
 use Rattle.room_rules.specs.Devices.{Devices}
 use Rattle.room_state.specs.Rooms.{RoomValue}
-use Rattle.room_tables.proofs.AgreedRows.{still_holds}
-use Rattle.room_tables.specs.Accounts.{AgreeOnRows, Holds}
-use Rattle.room_tables.specs.Devices.{AgreeOnDevices, HoldsDevices}
+use Rattle.room_tables.proofs.AgreedRows.{agree_again, hold_the_same}
+use Rattle.room_tables.specs.Accounts.{Holds}
+use Rattle.room_tables.specs.Agreement.{Agree}
+use Rattle.room_tables.specs.Devices.{HoldsDevices}
 use Rattle.room_serve.specs.declared.outcome.Outcome.{Outcome}
 use Rattle.room_serve.specs.declared.outcome.Outcome.TheVariants.{Answered, Failed}
 use Rattle.room_serve.specs.Own.{own}
 use Rattle.room_serve.specs.Alone.{alone}
 use Rattle.room_serve.specs.Outcomes.{NoneFailed, answered_of, failed_of}
-use Rattle.room_serve.specs.Agreement.{Agree}
 use Rattle.room_serve.specs.Isolation.{AreTheSame, IsRun}
 use Rattle.room_serve.specs.Runs.{IsAlone}
-
--- ---- databases
-
-pub still_devices : (a b : Database) → AgreeOnDevices a b → (devices : Devices) → HoldsDevices a devices → HoldsDevices b devices
-still_devices a b agree devices holds = record {
-  are_devices = holds.are_devices;
-  device_rows = λ name. agree.same_devices name ∙ holds.device_rows name;
-  rate_rows = λ name. agree.same_rates name ∙ holds.rate_rows name;
-}
-
-pub hold_the_same : (name : List ℕ) (a b : Database) → Agree name a b → (room : Option RoomValue) (devices : Devices) → Holds a name room → HoldsDevices a devices → Holds b name room × HoldsDevices b devices
-hold_the_same name a b agree room devices holds has = (still_holds name a b agree.rows room holds, still_devices a b agree.devices devices has)
-
-agree_on_rows : (name : List ℕ) (a b : Database) (room : Option RoomValue) → Holds a name room → Holds b name room → AgreeOnRows name a b
-agree_on_rows name a b None one other = record {
-  same_account = other.no_account ∙ sym one.no_account;
-  same_jobs = λ number. other.no_job number ∙ sym (one.no_job number);
-  same_documents = λ job number. other.no_document job number ∙ sym (one.no_document job number);
-  same_grants = λ month. other.no_grant month ∙ sym (one.no_grant month);
-}
-agree_on_rows name a b (Some room) one other = record {
-  same_account = other.rows.account_row ∙ sym one.rows.account_row;
-  same_jobs = λ number. other.rows.job_rows number ∙ sym (one.rows.job_rows number);
-  same_documents = λ job number. other.rows.document_rows job number ∙ sym (one.rows.document_rows job number);
-  same_grants = λ month. other.rows.grant_rows month ∙ sym (one.rows.grant_rows month);
-}
-
-pub agree_again : (name : List ℕ) (a b : Database) (room : Option RoomValue) (devices : Devices) → Holds a name room → HoldsDevices a devices → Holds b name room → HoldsDevices b devices → Agree name a b
-agree_again name a b room devices one on other off = record {
-  rows = agree_on_rows name a b room one other;
-  devices = record {
-    same_devices = λ name. off.device_rows name ∙ sym (on.device_rows name);
-    same_rates = λ name. off.rate_rows name ∙ sym (on.rate_rows name);
-  };
-}
 
 -- ---- lists of which nothing of the account's failed
 

@@ -15,7 +15,7 @@ use Rattle.room_laws.proofs.LifeLemmas.{lives_go_on}
 use Rattle.room_laws.specs.Lives.{Exchange, Life}
 use Rattle.room_store.specs.Applied.{Applies, IsDone}
 use Rattle.room_store.specs.declared.fault.StoreFault.{StoreFault}
-use Rattle.room_tables.proofs.AgreedRows.{still_holds}
+use Rattle.room_tables.proofs.AgreedRows.{still_devices, still_holds}
 use Rattle.room_tables.specs.Accounts.{AgreeOnRows, Holds, account_at, document_at, grant_at, job_at}
 use Rattle.room_tables.specs.Crashes.{IsOnDisk}
 use Rattle.room_tables.specs.Devices.{AgreeOnDevices, device_at, rate_at}
@@ -26,7 +26,6 @@ use Rattle.room_serve.specs.LivesInFiles.{IsLifeIn, exchanges_of}
 use Rattle.room_serve.specs.Outcomes.{outcome_of}
 use Rattle.room_serve.specs.Runs.{AreApplied}
 use Rattle.room_serve.specs.declared.outcome.Outcome.{Outcome}
-use Rattle.room_serve.proofs.Agreed.{still_devices}
 use Rattle.room_serve.proofs.LivesOn.{lists_run, lives_go_on_in_lists, one_applied}
 
 -- ---- rows are of the trees alone

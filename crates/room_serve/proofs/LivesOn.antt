@@ -13,7 +13,7 @@ use Rattle.room_rules.specs.Devices.{Devices}
 use Rattle.room_state.specs.Rooms.{RoomValue}
 use Rattle.room_store.specs.Applied.{Applies}
 use Rattle.room_store.specs.declared.fault.StoreFault.{StoreFault}
-use Rattle.room_tables.proofs.AgreedRows.{still_holds}
+use Rattle.room_tables.proofs.AgreedRows.{still_devices, still_holds}
 use Rattle.room_serve.specs.declared.outcome.Outcome.{Outcome}
 use Rattle.room_serve.specs.declared.outcome.Outcome.TheVariants.{Answered, Failed}
 use Rattle.room_serve.specs.Alone.{Alone, DevicesAlone, alone, change_on, devices_alone}
@@ -21,7 +21,6 @@ use Rattle.room_serve.specs.LivesInFiles.{ListsJoin, LivesAreMigrated, LivesAreO
 use Rattle.room_serve.specs.Outcomes.{answered_of, outcome_of, replies_to, result_of}
 use Rattle.room_serve.specs.Own.{is_of, is_of_device, of_devices, own}
 use Rattle.room_serve.specs.Runs.{AreApplied}
-use Rattle.room_serve.proofs.Agreed.{still_devices}
 use Rattle.room_serve.proofs.LifeLemmas.{goes_on}
 use Rattle.room_serve.proofs.RunLemmas.{SoFar, begins, one_more}
 

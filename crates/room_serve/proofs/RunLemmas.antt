@@ -16,7 +16,7 @@ use Rattle.room_store.specs.Applied.{Applies, IsAnswered}
 use Rattle.room_rules.specs.Devices.{Devices}
 use Rattle.room_state.specs.Rooms.{RoomValue}
 use Rattle.room_store.specs.declared.fault.StoreFault.{StoreFault}
-use Rattle.room_tables.proofs.AgreedRows.{still_holds}
+use Rattle.room_tables.proofs.AgreedRows.{still_devices, still_holds}
 use Rattle.room_tables.proofs.Going.{goes_on}
 use Rattle.room_tables.specs.Accounts.{AgreeOnRows, Holds}
 use Rattle.room_tables.specs.Calls.{KeepsConnection}
@@ -28,7 +28,6 @@ use Rattle.room_serve.specs.Own.{is_of, is_of_device, of_devices, own}
 use Rattle.room_serve.specs.Alone.{Alone, DevicesAlone, alone, answer_on, change_on, devices_alone}
 use Rattle.room_serve.specs.Outcomes.{answered_of, outcome_of, replies_to}
 use Rattle.room_serve.specs.Runs.{AreAlone, AreApplied, IsAlone, LeavesTheRest, RunsAlone, RunsDevices}
-use Rattle.room_serve.proofs.Agreed.{still_devices}
 use Rattle.room_serve.proofs.Grown.{alone_more, answered_more, devices_more, replies_more}
 use Rattle.room_serve.proofs.Short.{short_or_not, short_reply}
 

@@ -8,7 +8,7 @@ use Rattle.room_events.specs.Events.{Timed}
 use Rattle.room_serve.specs.Own.{is_of, own}
 use Rattle.room_serve.specs.Outcomes.{NoneFailed, replies_to}
 use Rattle.room_serve.specs.Runs.{RunsAlone}
-use Rattle.room_serve.specs.Agreement.{Agree}
+use Rattle.room_tables.specs.Agreement.{Agree}
 
 -- a list of events, what each came to, and what that made of the database, as `run_events` has it
 pub record IsRun (events : List Timed) (outcomes : List Outcome) (old : Database) (is_open : Bool)

@@ -1,4 +1,4 @@
-use Rattle.room_serve.proofs.Agreed.{agree_again}
+use Rattle.room_tables.proofs.AgreedRows.{agree_again}
 use Rattle.room_copy.proofs.law.copies_agree.Goals as goal
 
 pub returns : goal.returns

@@ -2,8 +2,8 @@ use Rattle.std.proofs.Common.{◌≡◌, ◌∙◌, arith, subst, ℤ, Result, I
 use Rattle.std.proofs.lemmas.Int.{ints}
 use Rattle.jiff_core.specs.declared.civil.date.Date.{Date}
 use Rattle.jiff_core.specs.Date.{epoch_day}
-use Rattle.room_pages.proofs.Days.{day_is}
-use Rattle.room_pages.proofs.moment.day_in_month.Goals as goal
+use Rattle.room_markup.proofs.Days.{day_is}
+use Rattle.room_markup.proofs.moment.day_in_month.Goals as goal
 
 of_day : {E : Type 0} (told : Result Date E) (date : Date) (day : ℤ) → told ≡ Ok date → IfOk told (λ it. epoch_day it ≡ day) → epoch_day date ≡ day
 of_day told date day is value = subst (λ (it : Result Date _). IfOk it (λ (of : Date). epoch_day of ≡ day)) is value

@@ -2,7 +2,7 @@
 
 ghost use Rattle.std.specs.Prelude.{◌≡◌, ◌++◌, IfOk, OnOk, map, decimal, string_bytes};
 ghost use Rattle.std.specs.Fmt.{signed_decimal};
-ghost use Rattle.room_pages.specs.Parts.{ending_text, html, count_text, part_of, shown};
+ghost use Rattle.room_markup.specs.Parts.{ending_text, html, count_text, part_of, shown};
 
 use crate::escape::put_escaped;
 use crate::moment::{put_moment, put_month, put_month_number};
@@ -11,7 +11,7 @@ use std::alloc::{AllocError, Global};
 
 /// One piece of a page.
 #[derive(Clone, Copy)]
-pub(crate) enum Piece<'a> {
+pub enum Piece<'a> {
     /// Markup, or a text of the program's own, as it is.
     Mark(&'a str),
     /// A text from outside, escaped.
@@ -30,7 +30,7 @@ pub(crate) enum Piece<'a> {
 }
 
 /// Appends pieces, one behind the other.
-pub(crate) fn put_all(out: &mut Vec<u8>, pieces: &[Piece<'_>]) -> Result<(), AllocError>
+pub fn put_all(out: &mut Vec<u8>, pieces: &[Piece<'_>]) -> Result<(), AllocError>
     ensures { OnOk result (out.new.items ≡ out.old.items ++ html (map part_of pieces.now)) }
 {
     for piece in pieces {
@@ -81,7 +81,7 @@ fn put_ending(out: &mut Vec<u8>, at: Option<u64>) -> Result<(), AllocError>
 }
 
 /// A number that may be negative, as a text.
-pub(crate) fn signed_text(alloc: Global, number: i64) -> Result<String, AllocError>
+pub fn signed_text(alloc: Global, number: i64) -> Result<String, AllocError>
     ensures { IfOk result (λ text. string_bytes text ≡ signed_decimal number) }
 {
     format!(in alloc; "{number}")

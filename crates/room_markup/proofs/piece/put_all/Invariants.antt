@@ -1,6 +1,6 @@
 use Rattle.std.proofs.Common.{◌≡◌, ◌++◌, take, map}
-use Rattle.room_pages.specs.Parts.{html, part_of}
-use Rattle.room_pages.proofs.piece.put_all.Given as goal
+use Rattle.room_markup.specs.Parts.{html, part_of}
+use Rattle.room_markup.proofs.piece.put_all.Given as goal
 
 -- the pieces so far
 abbrev pub invariant-loop-piece : goal.invariant-loop-piece

@@ -1,10 +1,10 @@
 -- The parts that a page is made of, and their bytes.
 use Rattle.std.specs.Prelude.{ℕ, ◌==◌, if◌then◌else◌, List, Option, Some, None, decimal, flat_map}
-use Rattle.room_pages.specs.Escaping.{escaped}
-use Rattle.room_pages.specs.Moments.{moment_text, month_text, month_words}
-use Rattle.room_pages.specs.declared.piece.Piece.{Piece}
-use Rattle.room_pages.specs.declared.piece.Piece.TheVariants as piece
-use Rattle.room_pages.specs.declared.texts.TheConstants.{UNKNOWN}
+use Rattle.room_markup.specs.Escaping.{escaped}
+use Rattle.room_markup.specs.Moments.{moment_text, month_text, month_words}
+use Rattle.room_markup.specs.declared.piece.Piece.{Piece}
+use Rattle.room_markup.specs.declared.piece.Piece.TheVariants as piece
+use Rattle.room_markup.specs.declared.texts.TheConstants.{UNKNOWN}
 
 pub data Part : Type 0 where
   -- markup, or a text of the program's own

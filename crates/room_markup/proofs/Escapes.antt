@@ -3,8 +3,8 @@ use Rattle.std.proofs.Common.{◌≡◌, ℕ, true, false, eqb, List, [], ◌∷
 use Rattle.std.proofs.lemmas.Bool.{cases_Bool, eqb-true}
 use Rattle.std.specs.List.{AllByRecursion}
 use Rattle.std.specs.Str.Lossy.{utf8_lossy}
-use Rattle.room_pages.specs.Escaping.{escaped, escaped_byte, is_control, readable_byte, replacement, shown_byte}
-use Rattle.room_pages.specs.Laws.{IsMarkup, Reads, ends, amp, lt, gt, quot, apos, plain}
+use Rattle.room_markup.specs.Escaping.{escaped, escaped_byte, is_control, readable_byte, replacement, shown_byte}
+use Rattle.room_markup.specs.Laws.{IsMarkup, Reads, ends, amp, lt, gt, quot, apos, plain}
 
 abbrev Clean : ℕ → Type 0
 Clean byte = IsMarkup byte → ⊥

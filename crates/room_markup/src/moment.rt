@@ -2,9 +2,8 @@
 
 ghost use Rattle.std.specs.Prelude.{◌≡◌, ◌++◌, ◌<◌, ◌≤◌, min, OnOk, IfOk, string_bytes};
 ghost use Rattle.room_rules.specs.Limits.{last_moment};
-ghost use Rattle.room_pages.specs.Moments.{clock_text, day_in_month, known_text, machine_text, moment_text, month_name, month_text, month_words, readers_text, short_month_name, time_text};
+ghost use Rattle.room_markup.specs.Moments.{clock_text, day_in_month, known_text, machine_text, moment_text, month_name, month_text, month_words, readers_text, short_month_name, time_text};
 
-use crate::markup::{TIME_END, TIME_MIDDLE, TIME_START};
 use crate::texts::{
     APR, APRIL, AUG, AUGUST, DEC, DECEMBER, FEB, FEBRUARY, JAN, JANUARY, JUL, JULY, JUN, JUNE, MAR,
     MARCH, MAY, NOV, NOVEMBER, OCT, OCTOBER, SEP, SEPTEMBER,
@@ -12,6 +11,12 @@ use crate::texts::{
 use jiff_core::civil::Date;
 use room_rules::{LAST_MOMENT, Moment, month_of};
 use std::alloc::{AllocError, Global};
+
+const TIME_START: &str = "<time datetime=\"";
+
+const TIME_MIDDLE: &str = "\">";
+
+const TIME_END: &str = "</time>";
 
 /// Appends a moment as an element that programs read too. One past the last that the rules know is
 /// shown as that.
@@ -22,7 +27,7 @@ pub(crate) fn put_moment(out: &mut Vec<u8>, at: u64) -> Result<(), AllocError>
 }
 
 /// A moment that the rules know: past their last it is that.
-pub(crate) fn known(at: u64) -> Moment
+pub fn known(at: u64) -> Moment
     ensures { result ≡ min at last_moment }
 {
     Moment::new(at.min(LAST_MOMENT)).unwrap()

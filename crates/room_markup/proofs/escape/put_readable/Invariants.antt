@@ -1,6 +1,6 @@
 use Rattle.std.proofs.Common.{◌≡◌, ◌++◌, take, flat_map}
-use Rattle.room_pages.specs.Escaping.{shown_byte}
-use Rattle.room_pages.proofs.escape.put_readable.Given as goal
+use Rattle.room_markup.specs.Escaping.{shown_byte}
+use Rattle.room_markup.proofs.escape.put_readable.Given as goal
 
 -- the bytes so far
 abbrev pub invariant-loop-byte : goal.invariant-loop-byte

@@ -1,13 +1,13 @@
 //! Text as a page shows it.
 
 ghost use Rattle.std.specs.Prelude.{◌≡◌, ◌++◌, OnOk, flat_map};
-ghost use Rattle.room_pages.specs.Escaping.{escaped, is_control, shown_byte};
+ghost use Rattle.room_markup.specs.Escaping.{escaped, is_control, shown_byte};
 
 use std::alloc::AllocError;
 
 /// Appends a text as HTML shows it, in an element or in a quoted attribute. What is no UTF-8 and
 /// what controls a terminal is shown as U+FFFD.
-pub fn put_escaped(out: &mut Vec<u8>, text: &[u8]) -> Result<(), AllocError>
+pub(crate) fn put_escaped(out: &mut Vec<u8>, text: &[u8]) -> Result<(), AllocError>
     ensures { OnOk result (out.new.items ≡ out.old.items ++ escaped text.now) }
 {
     let readable = String::from_utf8_lossy(*out.allocator(), text)?;

@@ -1,7 +1,7 @@
 -- What holds of each text that is shown.
 use Rattle.std.specs.Prelude.{◌≡◌, ◌≢◌, ◌⊎◌, ℕ, List, [], ◌∷◌, ◌++◌, codes}
 use Rattle.std.specs.List.{AllByRecursion}
-use Rattle.room_pages.specs.Escaping.{escaped, readable}
+use Rattle.room_markup.specs.Escaping.{escaped, readable}
 
 -- < > " ' begin or end markup, or the value of an attribute
 abbrev pub IsMarkup : ℕ → Type 0

@@ -10,7 +10,7 @@ use Rattle.jiff_core.proofs.DateLemmas.{civil}
 use Rattle.jiff_core.proofs.CalendarLemmas.{day_count-epoch, days_from_civil-day_count, day_count-day, day_count-lt_year, day_count-lt_month}
 use Rattle.room_rules.specs.Months.{IsMonthOf, day_of, days_before}
 use Rattle.room_rules.proofs.MonthLemmas.{month_at_is, since_1970}
-use Rattle.room_pages.specs.Moments.{day_in_month}
+use Rattle.room_markup.specs.Moments.{day_in_month}
 
 count_from_epoch : (date : Date) (day : ℕ) → epoch_day date ≡ pos day → day_count date.year date.month date.day ≡ day + 4_371_953
 count_from_epoch date day e = omega (arith, days_from_civil-day_count date.year date.month date.day, ap up e, ap down e)

@@ -2,8 +2,8 @@
 use Rattle.std.specs.Prelude.{ℕ, ◌+◌, ◌-◌, ◌/◌, ◌%◌, ◌==◌, if◌then◌else◌, min, List, ◌++◌, codes, decimal}
 use Rattle.room_rules.specs.Limits.{last_moment}
 use Rattle.room_rules.specs.Months.{day_of, days_before, month_at}
-use Rattle.room_pages.specs.declared.markup.TheConstants.{TIME_END, TIME_MIDDLE, TIME_START}
-use Rattle.room_pages.specs.declared.texts.TheConstants.{APR, APRIL, AUG, AUGUST, DEC, DECEMBER, FEB, FEBRUARY, JAN, JANUARY, JUL, JULY, JUN, JUNE, MAR, MARCH, MAY, NOV, NOVEMBER, OCT, OCTOBER, SEP, SEPTEMBER}
+use Rattle.room_markup.specs.declared.moment.TheConstants.{TIME_END, TIME_MIDDLE, TIME_START}
+use Rattle.room_markup.specs.declared.texts.TheConstants.{APR, APRIL, AUG, AUGUST, DEC, DECEMBER, FEB, FEBRUARY, JAN, JANUARY, JUL, JULY, JUN, JUNE, MAR, MARCH, MAY, NOV, NOVEMBER, OCT, OCTOBER, SEP, SEPTEMBER}
 
 -- ---- months
 

@@ -1,0 +1,5 @@
+use Rattle.room_markup.proofs.Escapes.{clean_text}
+use Rattle.room_markup.proofs.laws.never_marks_up.Goals as goal
+
+pub returns : goal.returns
+returns c = clean_text

@@ -1,0 +1,4 @@
+pub mod Escaping
+pub mod Laws
+pub mod Moments
+pub mod Parts
