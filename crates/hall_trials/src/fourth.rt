@@ -5,10 +5,10 @@ use crate::loopback::{
 };
 use room_peers::{Served, Side};
 use room_sockets::{Door, Entrance, Hall, Kind, Speech};
-use serve_trials::{Fault, Report, expect, new_rooms};
 use sqlite::Alter;
 use std::hash::RandomState;
 use std::io::Write;
+use trial_rooms::{Fault, Report, expect, new_rooms};
 
 /// A door for one station at a time.
 const FOR_ONE: Kind = Kind {

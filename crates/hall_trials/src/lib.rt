@@ -7,8 +7,8 @@ mod fourth;
 mod loopback;
 mod lost;
 
-use serve_trials::Report;
 use std::io::Write;
+use trial_rooms::Report;
 
 /// Runs each trial. Answers whether all hold; prints of each its name, and that it holds or what
 /// differs.

@@ -5,12 +5,12 @@
 use room_copy::CopyMaker;
 use room_peers::{Copies, Served};
 use room_sockets::{Door, Entrance, Hall, Kind};
-use serve_trials::{Fault, PRINT, PRINTED, Report, expect, expect_bytes, new_rooms, with_case};
 use sqlite::{Alter, Connection, MemStore};
 use std::hash::RandomState;
 use std::io;
 use std::io::{ErrorKind, Read, Write};
 use std::net::{Ipv4Addr, Shutdown, SocketAddr, TcpStream};
+use trial_rooms::{Fault, PRINT, PRINTED, Report, expect, expect_bytes, new_rooms, with_case};
 
 /// More passes than these visitors need. One lasts a quarter of a second at most, since somebody is
 /// always there.

@@ -8,12 +8,12 @@ use crate::loopback::{
 use room_peers::Served;
 use room_sockets::Hall;
 use room_store::OpenFault;
-use serve_trials::{Fault, PRINT, Report, expect, rooms_over};
 use sqlite::{Alter, Connection, Files};
 use sqlite_disk::Disk;
 use std::alloc::Global;
 use std::hash::RandomState;
 use std::io::Write;
+use trial_rooms::{Fault, PRINT, Report, expect, rooms_over};
 
 /// A request that is refused: who is told so is in the hall.
 const GREETS: &[u8] = b"GET / HTTP/1.1\r\nHost: localhost\r\n\r\n";

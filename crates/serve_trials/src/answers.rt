@@ -1,15 +1,13 @@
 //! Trials of the client of lines and grants against answers that rooms do not give: broken ones,
 //! failed ones, and too long ones.
 
-use crate::expecting::{expect, expect_bytes, expect_equal, with_case};
-use crate::fault::Fault;
-use crate::report::Report;
 use crate::sends::Ending;
 use room_client::{ClientFault, HexLines, Keeper, Peer, Worst, send_grants, send_lines};
 use room_input::Counted;
 use room_peers::MOST_LINE;
 use std::io;
 use std::io::{BufReader, Write};
+use trial_rooms::{Fault, Report, expect, expect_bytes, expect_equal, with_case};
 
 /// Runs each trial of this file, and tells how it ended.
 pub fn run_all<W: Write>(rt: &HostRuntime, report: &mut Report<'_, W>) {

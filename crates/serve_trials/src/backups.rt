@@ -1,10 +1,5 @@
 //! The trial of a backup of rooms in memory, which goes on slice by slice while they change.
 
-use crate::expecting::{expect, expect_bytes};
-use crate::fault::Fault;
-use crate::lines::PRINT;
-use crate::report::Report;
-use crate::rooms::{exchange, exchange_lines, new_rooms, rooms_in};
 use room_copy::{CopyMaker, copy_all};
 use room_peers::{Copies, Served, Side};
 use room_store::{Rounds, Store};
@@ -13,6 +8,9 @@ use sqlite::{Connection, MemStore};
 use std::alloc::Global;
 use std::cell::RefCell;
 use std::io::Write;
+use trial_rooms::{
+    Fault, PRINT, Report, exchange, exchange_lines, expect, expect_bytes, new_rooms, rooms_in,
+};
 
 const ROOMS: &[u8] = b"open abby\nopen alice\ndevice d1 on\nrate d1 2\n\
     grant abby 2026-09 7\ngrant alice 2026-09 100\ngrant alice 2026-10 50\n";

@@ -5,25 +5,17 @@
 mod answers;
 mod backups;
 mod cases;
-mod expecting;
-mod fault;
 mod lines;
 mod logs;
 mod owners;
-mod report;
 mod requests;
-mod rooms;
 mod sends;
 mod talk;
 mod turns;
 mod wired;
 
-pub use expecting::{expect, expect_bytes, expect_equal, with_case};
-pub use fault::Fault;
-pub use lines::{PRINT, PRINTED};
-pub use report::Report;
-pub use rooms::{new_rooms, rooms_over};
 use std::io::Write;
+use trial_rooms::Report;
 
 /// Runs each row of the file of what the doors are sent, `NAME.served`. Answers whether all hold;
 /// prints that they do, or what differs.

@@ -1,15 +1,13 @@
 //! Trials of the log: what is asked leaves its lines in a file, which may be moved away.
 
 use crate::cases::{QUEUE, REQUEST, SIZED, joined};
-use crate::expecting::{expect, expect_bytes};
-use crate::fault::Fault;
-use crate::lines::PRINT;
-use crate::report::Report;
-use crate::rooms::{exchange, exchange_lines, logged_rooms};
 use room_peers::{Served, Side};
 use sqlite::MemStore;
 use std::fs;
 use std::io::Write;
+use trial_rooms::{
+    Fault, PRINT, Report, exchange, exchange_lines, expect, expect_bytes, logged_rooms,
+};
 
 const FILE: &str = "events.log";
 

@@ -1,14 +1,13 @@
 //! A trial of what an owner asks of a queue, against rooms in memory.
 
-use crate::expecting::{expect_bytes, expect_equal};
-use crate::fault::Fault;
-use crate::report::Report;
-use crate::rooms::{exchange, exchange_lines, open_rooms};
 use room_client::ClientFault;
 use room_owner::{Asked, JobAct, NewJob, Queue, format_of, perform};
 use room_peers::{Served, Side};
 use sqlite::MemStore;
 use std::io::Write;
+use trial_rooms::{
+    Fault, Report, exchange, exchange_lines, expect_bytes, expect_equal, open_rooms,
+};
 
 const URI: &[u8] = b"ipp://127.0.0.1:8631/ipp/print/alice";
 

@@ -9,14 +9,12 @@
 //! A connection of HTTP is an exchange (`room_rows` says how). In one of lines, `> LINE` is sent, and
 //! `< LINE` is told.
 
-use crate::expecting::{expect_bytes, with_case};
-use crate::fault::Fault;
-use crate::rooms::{exchange, exchange_lines, open_rooms, show};
 use room_peers::{Served, Side};
 use room_rows::{Exchange, RowFault};
 use sqlite::MemStore;
 use std::alloc::AllocError;
 use std::fs;
+use trial_rooms::{Fault, exchange, exchange_lines, expect_bytes, open_rooms, show, with_case};
 
 /// Sends each row of the file to new rooms. Expects the answers that it says.
 pub fn expect_rows(rt: &HostRuntime, file: &str) -> Result<(), Fault> {

@@ -1,16 +1,12 @@
 //! Trials of the client of lines and grants against rooms in memory.
 
-use crate::expecting::{expect_bytes, expect_equal};
-use crate::fault::Fault;
-use crate::lines::PRINT;
-use crate::report::Report;
-use crate::rooms::{exchange, new_rooms};
 use crate::wired::Wired;
 use room_client::{ClientFault, HexLines, Outcome, Peer, Worst, send_grants, send_lines};
 use room_input::Counted;
 use room_peers::{Served, Side};
 use sqlite::MemStore;
 use std::io::{BufReader, Write};
+use trial_rooms::{Fault, PRINT, Report, exchange, expect_bytes, expect_equal, new_rooms};
 
 /// How a client should end, and what it should print.
 #[derive(Clone, Copy)]

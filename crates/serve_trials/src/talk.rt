@@ -1,13 +1,11 @@
 //! A peer of rooms that is given one turn after another, over a reader that makes it wait.
 
-use crate::expecting::{expect_bytes, expect_equal};
-use crate::fault::Fault;
-use crate::rooms::open_rooms;
 use room_peers::{HttpPeer, LinePeer, Next, Patience, Served, Side, Turn};
 use sqlite::MemStore;
 use std::hash::RandomState;
 use std::io;
 use std::io::{ErrorKind, Read};
+use trial_rooms::{Fault, expect_bytes, expect_equal, open_rooms};
 
 /// More turns than any peer here needs.
 const MANY: u32 = 100_000;

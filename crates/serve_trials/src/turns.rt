@@ -2,13 +2,11 @@
 //! it waits for.
 
 use crate::cases::{ANSWER, CONTINUED, QUEUE, REQUEST, SIZED, TAKEN, joined};
-use crate::expecting::{expect, expect_bytes, expect_equal};
-use crate::fault::Fault;
-use crate::report::Report;
 use crate::talk::Talk;
 use room_peers::{MOST_LINE, Next, Turn};
 use std::alloc::{AllocError, Global};
 use std::io::Write;
+use trial_rooms::{Fault, Report, expect, expect_bytes, expect_equal};
 
 const ROOM: Turn = Turn {
     ticks: 0,

@@ -2,7 +2,6 @@
 //! are their answers.
 ghost use Rattle.std.specs.Prelude.{◌≤◌, IfOk, length};
 
-use crate::rooms::MANY;
 use room_peers::{Front, LineConnection, Served, Side};
 use sqlite::MemStore;
 use std::alloc::Global;
@@ -10,6 +9,7 @@ use std::cell::RefCell;
 use std::collections::VecDeque;
 use std::io;
 use std::io::{Error, ErrorKind, Read, Write};
+use trial_rooms::MANY;
 
 /// Rooms with one connection to them, whose two ways go through a shared reference each.
 #[derive(Drop)]
