@@ -1,12 +1,11 @@
 //! The program `worked_rows`: holds what its words name against the print room.
 //!
 //! - A file is one of conversations, `NAME.rows`, of exchanges of `serve_one`, `NAME.exchanges`, of
-//!   requests to `serve`, `NAME.served`, of runs of the program, `NAME.runs`, of runs over storage
-//!   that stops, `NAME.stops`, of statements, `NAME.tables`, or a list of events, `NAME.events`. It
-//!   prints that the file holds, or of a row that does not what differs.
-//! - At the word `serving` it makes the trials of what is served, at `visiting` those of the hall over
-//!   sockets, at `ending` those of how a run of the program ends, and at `library` it runs the example
-//!   of README. It prints of each that it holds or what differs.
+//!   runs of the program, `NAME.runs`, of runs over storage that stops, `NAME.stops`, of statements,
+//!   `NAME.tables`, or a list of events, `NAME.events`. It prints that the file holds, or of a row
+//!   that does not what differs.
+//! - At the word `ending` it makes the trials of how a run of the program ends, and at `library` it
+//!   runs the example of README. It prints of each that it holds or what differs.
 #![tactic(auto)]
 
 use event_trials::list_holds;
@@ -62,27 +61,18 @@ where
     Ok(all)
 }
 
-/// Runs what a word names: a file of rows, a list of events, or the trials of `serving`, `visiting`,
-/// `ending` or `library`. Answers whether it holds. `files` has the databases that stand in files.
+/// Runs what a word names: a file of rows, a list of events, or the trials of `ending` or `library`.
+/// Answers whether it holds. `files` has the databases that stand in files.
 fn run_word<S, F>(rt: &HostRuntime, files: &F, word: &str) -> Result<bool, Fault>
 where
     S: Alter + Drop,
     F: FileTables<Kept = Connection<S>>,
 {
-    if word == "serving" {
-        return Ok(serve_trials::all_trials_hold(rt, &mut rt.stdout()));
-    }
-    if word == "visiting" {
-        return Ok(hall_trials::all_trials_hold(rt, &mut rt.stdout()));
-    }
     if word == "ending" {
         return row_trials::all_endings_hold(rt);
     }
     if word == "library" {
         return trials::example_holds(rt);
-    }
-    if word.ends_with(".served") {
-        return Ok(serve_trials::file_holds(rt, word, &mut rt.stdout()));
     }
     if word.ends_with(".tables") {
         return Ok(table_trials::file_holds(rt, word, files)?);
