@@ -12,6 +12,6 @@ mod program;
 mod room_file;
 mod rows;
 mod runs;
+mod words;
 
-pub use ends::all_endings_hold;
-pub use rows::file_holds;
+pub use words::words_hold;
