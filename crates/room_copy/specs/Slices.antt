@@ -1,5 +1,5 @@
 -- A copy that is made in slices, between which the source may change (all this project's own).
-use Rattle.std.specs.Prelude.{◌≡◌, ◌⊎◌, ℕ, Bool, true, List, [], ◌∷◌, Option, None, Some, IfSome, IsSome}
+use Rattle.std.specs.Prelude.{◌≡◌, ◌⊎◌, ℕ, ◌<◌, Bool, true, List, [], ◌∷◌, Option, None, Some, IfSome, IsSome}
 use Rattle.std.specs.Ordering.{is_lt}
 use Rattle.sqlite_rules.specs.Lists.{Has}
 use Rattle.sqlite.specs.Effect.{Database}
@@ -73,6 +73,27 @@ CopiesSlice (Anew name) (Some to) source before after =
 CopiesSlice (Within name next job) None source before after = ⊥
 CopiesSlice (Within name next job) (Some to) source before after =
     CopiesFurther name (Within name next job) to source before after
+
+-- ---- that each comes further
+
+-- the number of the job that is next: the first one, where none is copied yet
+abbrev pub next_job : Progress → ℕ
+next_job (UpTo last) = 1
+next_job (Anew name) = 1
+next_job (Within name next job) = job
+
+-- the account is done, or its jobs from this number on are copied up to a later one
+abbrev pub ComesFurther : (job : ℕ) (to : Progress) → Type 0
+ComesFurther job (UpTo None) = ⊥
+ComesFurther job (UpTo (Some name)) = Unit {0}
+ComesFurther job (Anew name) = ⊥
+ComesFurther job (Within name next further) = job < further
+
+-- the account is done
+abbrev pub IsDone : (to : Progress) → Type 0
+IsDone (UpTo last) = Unit {0}
+IsDone (Anew name) = ⊥
+IsDone (Within name next job) = ⊥
 
 -- ---- between two slices
 

@@ -1,8 +1,8 @@
 //! The account that is under way.
 
-ghost use Rattle.std.specs.Prelude.{◌≡◌, Err, IfOk};
+ghost use Rattle.std.specs.Prelude.{◌≡◌, Err, IfOk, None};
 ghost use Rattle.room_copy.specs.ProofSavepoints.{KeepsSavepoint};
-ghost use Rattle.room_copy.specs.Slices.{CopiesFurther};
+ghost use Rattle.room_copy.specs.Slices.{ComesFurther, CopiesFurther, IsDone};
 ghost use Rattle.room_copy.specs.Sources.{LeavesSource};
 ghost use Rattle.room_statements.specs.SoundRows.{AccountsRead};
 ghost use Rattle.room_tables.specs.Calls.{Changes, IfOurTables};
@@ -29,6 +29,8 @@ pub(crate) fn begin_account<S: Alter, T: Alter>(
     ensures copies { Changes T.Store savepoint.old.conn.now savepoint.new.conn.now result
         (λ before after. IfOurTables S.Store source.old source.new (λ db. IfOk result
         (λ to. CopiesFurther account (Progress.Anew account) to db before after))) }
+    ensures further { IfOk result (ComesFurther 1) }
+    ensures whole { most ≡ None → IfOk result IsDone }
     ensures inside { KeepsSavepoint savepoint.old savepoint.new result }
     ensures damaged { IfOurTables S.Store source.old source.new
         (λ db. result ≡ Err Damaged → AccountsRead db account → ⊥) }
@@ -55,6 +57,8 @@ pub(crate) fn go_on<S: Alter, T: Alter>(
     ensures copies { Changes T.Store savepoint.old.conn.now savepoint.new.conn.now result
         (λ before after. IfOurTables S.Store source.old source.new (λ db. IfOk result
         (λ to. CopiesFurther account (Progress.Within account next job) to db before after))) }
+    ensures further { IfOk result (ComesFurther job) }
+    ensures whole { most ≡ None → IfOk result IsDone }
     ensures inside { KeepsSavepoint savepoint.old savepoint.new result }
     ensures damaged { IfOurTables S.Store source.old source.new
         (λ db. result ≡ Err Damaged → AccountsRead db account → ⊥) }

@@ -1,6 +1,6 @@
 //! Jobs of an account are copied.
 
-ghost use Rattle.std.specs.Prelude.{◌≡◌, Err, IfOk};
+ghost use Rattle.std.specs.Prelude.{◌≡◌, ◌<◌, Err, IfOk, None, false};
 ghost use Rattle.room_copy.specs.Parts.{AddsJobs};
 ghost use Rattle.room_copy.specs.ProofParts.{CopiesMore, HasWholeJob};
 ghost use Rattle.room_copy.specs.ProofSavepoints.{KeepsSavepoint};
@@ -34,6 +34,8 @@ pub(crate) fn copy_jobs<S: Alter, T: Alter>(
     ensures copies { Changes T.Store savepoint.old.conn.now savepoint.new.conn.now result
         (λ before after. IfOurTables S.Store source.old source.new
         (λ db. IfOk result (λ further. AddsJobs account first further db before after))) }
+    ensures further { IfOk result (λ further. further < next → first < further) }
+    ensures whole { most ≡ None → IfOk result (λ further. further ≡ next) }
     ensures inside { KeepsSavepoint savepoint.old savepoint.new result }
     ensures damaged { IfOurTables S.Store source.old source.new
         (λ db. result ≡ Err Damaged → AccountsRead db account → ⊥) }
@@ -49,7 +51,9 @@ pub(crate) fn copy_jobs<S: Alter, T: Alter>(
 }
 
 /// Whether a slice ends behind so many jobs, the last of which has documents or has none.
-fn is_enough(most: Option<u32>, jobs: u32, has_documents: bool) -> bool {
+fn is_enough(most: Option<u32>, jobs: u32, has_documents: bool) -> bool
+    ensures { most ≡ None → result ≡ false }
+{
     match most {
         Some(most) => has_documents || jobs >= most,
         None => false,

@@ -1,9 +1,9 @@
 //! A copy is made in slices, between which the source may change.
 
-ghost use Rattle.std.specs.Prelude.{◌≡◌, Err, IfOk};
+ghost use Rattle.std.specs.Prelude.{◌≡◌, Err, IfOk, IfSome, None};
 ghost use Rattle.room_copy.specs.All.{AreAllSound};
 ghost use Rattle.room_copy.specs.ProofSavepoints.{KeepsSavepoint};
-ghost use Rattle.room_copy.specs.Slices.{ComesNext, CopiesSlice, IfNamed};
+ghost use Rattle.room_copy.specs.Slices.{ComesFurther, ComesNext, CopiesSlice, IfNamed, IsDone, next_job};
 ghost use Rattle.room_copy.specs.Sources.{LeavesSource};
 ghost use Rattle.room_statements.specs.SoundRows.{AreNamed};
 ghost use Rattle.room_tables.specs.Calls.{Changes, ChangesWhole, IfOurTables, ReadsStore};
@@ -49,6 +49,8 @@ pub fn copy_slice<S: Alter, T: Alter>(
     ensures copies { ChangesWhole T.Store copy.old copy.new result (λ before after.
         IfOurTables S.Store source.old source.new (λ db. IfNamed db
         (IfOk result (λ to. CopiesSlice progress.now to db before after)))) }
+    ensures further { IfOk result (λ to. IfSome to (ComesFurther (next_job progress.now))) }
+    ensures whole { most ≡ None → IfOk result (λ to. IfSome to IsDone) }
     ensures damaged { IfOurTables S.Store source.old source.new
         (λ db. result ≡ Err Damaged → AreAllSound db → ⊥) }
     ensures source { LeavesSource S.Store source.old source.new result }
@@ -70,6 +72,8 @@ fn copy_part<S: Alter, T: Alter>(
     ensures copies { Changes T.Store savepoint.old.conn.now savepoint.new.conn.now result
         (λ before after. IfOurTables S.Store source.old source.new (λ db. IfNamed db
         (IfOk result (λ to. CopiesSlice progress.now to db before after)))) }
+    ensures further { IfOk result (λ to. IfSome to (ComesFurther (next_job progress.now))) }
+    ensures whole { most ≡ None → IfOk result (λ to. IfSome to IsDone) }
     ensures inside { KeepsSavepoint savepoint.old savepoint.new result }
     ensures damaged { IfOurTables S.Store source.old source.new
         (λ db. result ≡ Err Damaged → AreAllSound db → ⊥) }
@@ -100,6 +104,8 @@ fn copy_next<S: Alter, T: Alter>(
     ensures copies { Changes T.Store savepoint.old.conn.now savepoint.new.conn.now result
         (λ before after. IfOurTables S.Store source.old source.new (λ db. IfNamed db
         (IfOk result (λ to. CopiesSlice (Progress.UpTo last) to db before after)))) }
+    ensures further { IfOk result (λ to. IfSome to (ComesFurther 1)) }
+    ensures whole { most ≡ None → IfOk result (λ to. IfSome to IsDone) }
     ensures inside { KeepsSavepoint savepoint.old savepoint.new result }
     ensures damaged { IfOurTables S.Store source.old source.new
         (λ db. result ≡ Err Damaged → AreAllSound db → ⊥) }

@@ -1,9 +1,9 @@
 -- A slice of a copy, by what the calls that make it say.
-use Rattle.std.proofs.Common.{◌≡◌, Bool, true, false, IsTrue, Option, None, Some, Result, Ok, Err, IfOk, refl, sym, subst, ◌∙◌, ◌⊎◌, inl, inr}
+use Rattle.std.proofs.Common.{◌≡◌, Bool, true, false, IsTrue, Option, None, Result, Ok, IfOk, IfSome, refl, sym, subst, ◌∙◌, ◌⊎◌, inl, inr}
 use Rattle.sqlite.specs.Held.{Held, state}
 use Rattle.sqlite.specs.State.{State}
 use Rattle.sqlite_trees.specs.declared.store.Store.{Ghosts}
-use Rattle.room_copy.specs.Slices.{CopiesSlice, IfNamed, StartsAgain}
+use Rattle.room_copy.specs.Slices.{ComesFurther, CopiesSlice, IfNamed, StartsAgain, next_job}
 use Rattle.room_copy.specs.Sources.{LeavesSource}
 use Rattle.room_copy.specs.declared.slices.Progress.{Progress}
 use Rattle.room_tables.specs.Calls.{Changes, ChangesWhole, IfOurTables, IsUnchanged, KeepsConnection, UnchangedOrUndone}
@@ -46,8 +46,8 @@ module _ {S T : Type 0} (store : Ghosts S) (copy_store : Ghosts T) where
 
   pub slices_by : (touched : Bool) (from again : Progress) (source looked : Held S) (result : Result (Option Progress) TableFault) (rows begun new : Held T) → Begins touched from again rows begun
       → ChangesWhole copy_store begun new result (λ before after. IfOurTables store source looked (λ db. IfNamed db (IfOk result (λ to. CopiesSlice again to db before after))))
-      → (to : Option Progress) → result ≡ Ok to → Slices store copy_store touched from to source looked rows new
-  slices_by touched from again source looked result rows begun new begins copies to is =
+      → IfOk result (λ to. IfSome to (ComesFurther (next_job again))) → (to : Option Progress) → result ≡ Ok to → Slices store copy_store touched from to source looked rows new
+  slices_by touched from again source looked result rows begun new begins copies further to is =
       let made = subst (λ (r : Result (Option Progress) TableFault). Changes copy_store begun new r (λ before after. IfOurTables store source looked (λ db. IfNamed db (IfOk r (λ to. CopiesSlice again to db before after))))) is copies.made in
       record {
         again = again;
@@ -55,6 +55,7 @@ module _ {S T : Type 0} (store : Ghosts S) (copy_store : Ghosts T) where
         restarts = begins.0;
         restarted = begins.1;
         slice = λ clean has. made clean has;
+        further = subst (λ (r : Result (Option Progress) TableFault). IfOk r (λ to. IfSome to (ComesFurther (next_job again)))) is further;
         copied = copies.whole.keeps;
       }
 

@@ -1,6 +1,7 @@
 //! Between the turns of peers what a backup's lines ask for is done.
-ghost use Rattle.std.specs.Prelude.{◌≡◌, ◌⊎◌, IsFalse, IsTrue, None, Some};
-ghost use Rattle.room_peers.specs.Copies.{CopiesOn, IsNewCopy, SlicesOn, under_way};
+ghost use Rattle.std.specs.Prelude.{◌≡◌, ◌⊎◌, ◌≤◌, IsFalse, IsTrue, None, Some};
+ghost use Rattle.room_peers.specs.Copies.{CopiesOn, IsNewCopy, SlicesOn};
+ghost use Rattle.room_peers.specs.Copies.{anew_left, begun_anew, under_way};
 
 use room_copy::{CopyMaker, Progress, copy_slice, start_again};
 use room_rules::Name;
@@ -119,11 +120,11 @@ impl<T: Alter, K: CopyMaker<Rows = Connection<T>>> Copies<T, K> {
             progress,
             anew,
         } = copied;
-        let anew = anew.saturating_add(u32::from(touched));
+        let anew = begun_anew(touched, anew);
         match slice_on(alloc, source, &mut rows, progress, touched, most_at(anew)) {
             Ok(Some(progress)) => {
                 let account = under_way(&progress);
-                let anew = if account.is_some() { anew } else { 0 };
+                let anew = anew_left(&progress, anew);
                 self.put(Copied {
                     rows,
                     progress,
@@ -152,8 +153,30 @@ impl<T: Alter, K: CopyMaker<Rows = Connection<T>>> Copies<T, K> {
     }
 }
 
+/// How often the account under way has begun anew: once more, where it was touched.
+fn begun_anew(touched: bool, anew: u32) -> u32
+    ensures { result ≡ begun_anew touched anew }
+{
+    if touched {
+        return anew.saturating_add(1);
+    }
+    anew
+}
+
+/// How often the account that is under way now has begun anew.
+fn anew_left(progress: &Progress, anew: u32) -> u32
+    ensures { result ≡ anew_left progress.now anew }
+{
+    match progress {
+        Progress::Within { .. } => anew,
+        _ => 0,
+    }
+}
+
 /// How many jobs a slice copies of an account that has begun anew so often; `None` for all of them.
-fn most_at(anew: u32) -> Option<u32> {
+fn most_at(anew: u32) -> Option<u32>
+    ensures { 3 ≤ anew → result ≡ None }
+{
     if anew < MOST_ANEW {
         return Some(MOST_JOBS);
     }
@@ -179,7 +202,7 @@ fn slice_on<S: Alter, T: Alter>(
     touched: bool,
     most: Option<u32>,
 ) -> Result<Option<Progress>, TableFault>
-    ensures { SlicesOn S.Store T.Store touched progress source.old source.new
+    ensures { SlicesOn S.Store T.Store touched progress most source.old source.new
         result rows.old rows.new }
 {
     if source.is_under_way() {

@@ -15,5 +15,6 @@ returns g c =
             (begun_anew g.S.Store g.T.Store c.args.touched c.args.progress w.in_ok-from.from c.args.rows.now w.start_again.new.copy w.start_again.result w.if-touched.true w.in_ok-from.was w.start_again.ensures.again, w.start_again.ensures.copy)
         | else-touched w ↦ begins_as g.S.Store g.T.Store c.args.touched c.args.progress c.args.progress c.if-touched.from c.args.rows.now c.args.rows.now c.if-touched.rows w.from-is w.rows-is
             (gone_on g.S.Store g.T.Store c.args.touched c.args.progress c.args.rows.now w.if-touched.false, (begins (state g.T.Store c.args.rows.now)).connection)
-      ]) c.copy_slice.ensures.copies;
+      ]) c.copy_slice.ensures.copies c.copy_slice.ensures.further;
+      whole = c.copy_slice.ensures.whole;
     }
