@@ -1,6 +1,8 @@
 //! What a run prints.
 ghost use Rattle.std.specs.Prelude.{OnOk};
 ghost use Rattle.std.specs.Io.KnownBytes.{Appends};
+ghost use Rattle.std.specs.List.{flat_map};
+ghost use Rattle.room_commands.specs.Outcomes.{outcome_lines};
 
 use room_input::GrantLine;
 use room_lines::print_answer;
@@ -24,7 +26,10 @@ pub fn print_explained<W: Write>(alloc: Global, output: &mut W, text: &[u8]) -> 
 }
 
 /// What each event came to.
-pub fn print_outcomes<W: Write>(output: &mut W, outcomes: &[Outcome]) -> io::Result<()> {
+pub fn print_outcomes<W: Write>(output: &mut W, outcomes: &[Outcome]) -> io::Result<()>
+    ensures { OnOk result (Appends (W.contents output.old) (W.contents output.new)
+        (flat_map outcome_lines outcomes.now)) }
+{
     for outcome in outcomes {
         print_answer(output, outcome.reply())?;
     }

@@ -4,6 +4,7 @@ ghost use Rattle.sqlite.specs.Held.{Held};
 ghost use Rattle.room_events.specs.Events.{plain_event, plain_timed};
 ghost use Rattle.room_events.specs.Fits.{fits};
 ghost use Rattle.room_serve.specs.Runs.{AreApplied};
+ghost use Rattle.room_commands.specs.Outcomes.{first_failure};
 
 use crate::command::MEMORY;
 use crate::fault::Fault;
@@ -56,11 +57,15 @@ pub fn outcomes_of<S: Alter + Drop, F: Opener<Kept = Connection<S>> + Drop>(
 }
 
 /// The first failed event's fault.
-pub fn first_failure(outcomes: &[Outcome]) -> Option<Fault> {
-    outcomes.iter().find_map(|outcome| match outcome {
-        Outcome::Answered(_) => None,
-        Outcome::Failed(fault) => Some(Fault::from(*fault)),
-    })
+pub fn first_failure(outcomes: &[Outcome]) -> Option<Fault>
+    ensures { result ≡ first_failure outcomes.now }
+{
+    for outcome in outcomes {
+        if let Outcome::Failed(fault) = outcome {
+            return Some(Fault::from(*fault));
+        }
+    }
+    None
 }
 
 /// The store that a command works on. The tables of `:memory:` are made whatever `how` says; after
