@@ -10,29 +10,10 @@
 use crate::ends::all_endings_hold;
 use crate::rows::file_holds;
 use event_trials::list_holds;
-use sqlite::{Alter, Connection, Error, File, FileStore};
+use sqlite::{Alter, Connection};
 use std::env;
-use table_trials::FileTables;
+use table_trials::{FileTables, OnDisk};
 use trials::Fault;
-
-/// The files of this machine.
-#[derive(Clone, Copy)]
-struct OnDisk<'a> {
-    rt: &'a HostRuntime,
-}
-
-impl FileTables for OnDisk<'_> {
-    type Kept = Connection<FileStore<File>>;
-
-    /// Opens the database in a file of the current folder.
-    fn open(&self, file: &str) -> Result<Connection<FileStore<File>>, Error> {
-        Connection::open(self.rt, file)
-    }
-
-    fn close(&self, kept: Connection<FileStore<File>>) -> Result<(), Error> {
-        kept.close()
-    }
-}
 
 /// Runs what each of the program's words names. Answers whether all of it holds.
 pub fn words_hold(rt: &HostRuntime) -> Result<bool, Fault> {

@@ -1,4 +1,5 @@
 //! Compares what a trial found with what is due.
+ghost use Rattle.std.specs.Prelude.{◌≡◌, true, IsOk, OnOk};
 
 use crate::fault::Fault;
 use std::fmt::Debug;
@@ -8,7 +9,9 @@ pub fn expect_equal<T: Copy + Debug + PartialEq>(
     rt: &HostRuntime,
     found: T,
     expected: T,
-) -> Result<(), Fault> {
+) -> Result<(), Fault>
+    ensures equal { OnOk result (T.eq found expected ≡ true) }
+{
     if found == expected {
         return Ok(());
     }
@@ -17,7 +20,9 @@ pub fn expect_equal<T: Copy + Debug + PartialEq>(
 }
 
 /// Answers `Fault::Differs`, with both texts, unless the bytes found are those expected.
-pub fn expect_bytes(rt: &HostRuntime, found: &[u8], expected: &[u8]) -> Result<(), Fault> {
+pub fn expect_bytes(rt: &HostRuntime, found: &[u8], expected: &[u8]) -> Result<(), Fault>
+    ensures same { OnOk result (found.now ≡ expected.now) }
+{
     if found == expected {
         return Ok(());
     }
@@ -30,7 +35,9 @@ pub fn expect_bytes(rt: &HostRuntime, found: &[u8], expected: &[u8]) -> Result<(
 }
 
 /// Answers `Fault::Differs`, with what was expected, unless it is so.
-pub fn expect(rt: &HostRuntime, is_so: bool, what: &str) -> Result<(), Fault> {
+pub fn expect(rt: &HostRuntime, is_so: bool, what: &str) -> Result<(), Fault>
+    ensures so { OnOk result (is_so ≡ true) }
+{
     if is_so {
         return Ok(());
     }
@@ -42,7 +49,9 @@ pub fn expect(rt: &HostRuntime, is_so: bool, what: &str) -> Result<(), Fault> {
 const FRONT: usize = 200;
 
 /// Adds the case to what differs in it; answers all else as it is.
-pub fn with_case(rt: &HostRuntime, case: &[u8], ended: Result<(), Fault>) -> Result<(), Fault> {
+pub fn with_case(rt: &HostRuntime, case: &[u8], ended: Result<(), Fault>) -> Result<(), Fault>
+    ensures held { OnOk result (IsOk ended) }
+{
     match ended {
         Err(Fault::Differs(differs)) => {
             let front = case.get(..FRONT).unwrap_or(case);
