@@ -1,5 +1,5 @@
 -- What is done for a backup is nothing that is applied.
-use Rattle.std.proofs.Common.{◌≡◌, Bool, false, List, [], ◌∷◌, Option, None, refl, sym, ap, subst}
+use Rattle.std.proofs.Common.{◌≡◌, [], ◌∷◌, Option, None, refl, sym, ap, subst}
 use Rattle.sqlite_trees.specs.declared.store.Store.{Ghosts}
 use Rattle.room_peers.proofs.Journaling.{backup_only}
 use Rattle.room_peers.specs.Applying.{DoesEach}

@@ -1,16 +1,15 @@
 -- A backup that is made slice by slice while the rooms are served.
-use Rattle.std.proofs.Common.{◌≡◌, ◌||◌, ℕ, Bool, true, false, IsTrue, List, [], ◌∷◌, ◌++◌, map, filter, if◌then◌else◌, Option, None, Some, option_map, Result, Ok, Err, refl, sym, ap, subst, ◌∙◌, inl, inr}
+use Rattle.std.proofs.Common.{◌≡◌, ℕ, Bool, true, false, IsTrue, List, [], ◌∷◌, ◌++◌, map, filter, Option, None, Some, option_map, Ok, Err, refl, sym, ap, subst, ◌∙◌, inl, inr}
 use Rattle.std.proofs.lemmas.List.{append_cancel_left}
 use Rattle.std.specs.FinMap.{empty, get-empty}
-use Rattle.std.specs.List.{list_any}
 use Rattle.sqlite.specs.Effect.{Database}
 use Rattle.sqlite.specs.Held.{Held, state}
 use Rattle.sqlite.specs.State.{HasCleanDisk}
 use Rattle.sqlite_rules.specs.Lists.{Has}
 use Rattle.sqlite_trees.specs.declared.store.Store.{Ghosts}
 use Rattle.room_copy.proofs.SoFar.{slices_copied}
-use Rattle.room_copy.specs.Copies.{AreCopies, HoldsNoDevice}
-use Rattle.room_copy.specs.Slices.{CopiesSlice, CopiesSlices, GoesOn, IfNamed, IsOfOne, StartsAgain, StaysUnderWay, last_of}
+use Rattle.room_copy.specs.Copies.{HoldsNoDevice}
+use Rattle.room_copy.specs.Slices.{CopiesSlices, GoesOn, IfNamed, StaysUnderWay}
 use Rattle.room_copy.specs.declared.slices.Progress.{Progress}
 use Rattle.room_copy.specs.declared.slices.Progress.TheVariants.{UpTo, Anew, Within}
 use Rattle.room_events.specs.Events.{Timed}
@@ -23,17 +22,16 @@ use Rattle.room_tables.specs.Calls.{KeepsConnection}
 use Rattle.room_tables.specs.Cells.{device_cells, rate_cells}
 use Rattle.room_tables.specs.Devices.{HoldsDevices}
 use Rattle.room_tables.specs.Keyed.{HasSchema}
-use Rattle.room_tables.specs.Making.{IsNew}
 use Rattle.room_peers.proofs.Running.{runs, was_clean}
 use Rattle.room_peers.proofs.Watched.{neither, untouched_both, untouched_parts}
-use Rattle.room_peers.specs.BackupLaws.{BackupsHold, GoesOnTo, HasNames, IsMadeBy, IsSlice, tables_of}
+use Rattle.room_peers.specs.BackupLaws.{BackupsHold, GoesOnTo, HasNames, IsMadeBy, tables_of}
 use Rattle.room_peers.specs.Copies.{Restarts, Slices, under_way}
 use Rattle.room_peers.specs.Entries.{event_of_entry}
 use Rattle.room_peers.specs.Journals.{Round, Told, events_of, kept_in, open_of, outcomes_of, rounds_of, store_of}
 use Rattle.room_peers.specs.Keeping.{watch_of}
 use Rattle.room_peers.specs.Rounds.{Follows}
 use Rattle.room_peers.specs.ServedRuns.{IsRunOf}
-use Rattle.room_peers.specs.Watching.{seen_by, since_by, told_in, touched_in, touches}
+use Rattle.room_peers.specs.Watching.{seen_by, since_by, told_in, touched_in}
 use Rattle.room_peers.specs.declared.served.Served.{Served}
 
 -- ---- an account that nothing touched

@@ -1,5 +1,5 @@
 -- What is served of the print room's page (all this project's own).
-use Rattle.std.specs.Prelude.{◌≡◌, Bool, true, false, List, [], ◌∷◌, ◌++◌, Option, None, Some}
+use Rattle.std.specs.Prelude.{◌≡◌, Bool, true, false, [], ◌∷◌, ◌++◌, Option, None, Some}
 use Rattle.sqlite_trees.specs.declared.store.Store.{Ghosts}
 use Rattle.room_overview.specs.declared.overview.Overview.{Overview}
 use Rattle.room_peers.specs.Gathering.{StepsOn, gathered_then}

@@ -1,5 +1,5 @@
 -- A form that another site may have sent does nothing.
-use Rattle.std.proofs.Common.{◌≡◌, ◌&&◌, ℕ, Bool, true, false, not, if◌then◌else◌, IsTrue, List, Option, None, Some, is_some, ◌||◌, Result, Ok, Err, refl, sym, ap, subst, ◌∙◌}
+use Rattle.std.proofs.Common.{◌≡◌, ◌&&◌, ℕ, Bool, true, false, not, if◌then◌else◌, List, Option, None, Some, Result, Err, refl, ap, subst, ◌∙◌}
 use Rattle.http.specs.Request.{head_of}
 use Rattle.http.specs.declared.request.Request.{Request}
 use Rattle.http_header.specs.FieldValue.{FieldValue}
@@ -9,11 +9,11 @@ use Rattle.sqlite_trees.specs.declared.store.Store.{Ghosts}
 use Rattle.std.specs.Prelude.{codes}
 use Rattle.room_peers.specs.Journals.{shares_of}
 use Rattle.room_peers.specs.declared.served.Served.{Served}
-use Rattle.room_web.specs.Answers.{Answers, AnswersIf, Gives}
+use Rattle.room_web.specs.Answers.{AnswersIf, Gives}
 use Rattle.room_web.specs.Laws.{ForeignFormsDoNothing, HasNoOrigin, WithoutOriginNothingIsApplied}
 use Rattle.room_requests.specs.Origins.{is_foreign, is_own, is_told_own, value_in}
 use Rattle.room_web.specs.Places.{place_of}
-use Rattle.room_web.specs.Requests.{asked, asked_if, body_refusal, foreign_or, judged, judged_if, other_method, takes, unless, wish}
+use Rattle.room_web.specs.Requests.{asked, asked_if, body_refusal, foreign_or, judged_if, other_method, takes, unless, wish}
 use Rattle.room_web.specs.declared.asked.Asked.{Asked}
 use Rattle.room_web.specs.declared.place.Place.{Place}
 use Rattle.room_pages.specs.declared.refusal.Refusal.{Refusal}

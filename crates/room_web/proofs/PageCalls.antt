@@ -1,6 +1,5 @@
 -- The calls of the pages' service, as calls over what is served.
-use Rattle.std.proofs.Common.{◌≡◌, ℕ, List, [], ◌∷◌, ap, ◌∙◌}
-use Rattle.http.specs.declared.request.Request.{Request}
+use Rattle.std.proofs.Common.{◌≡◌, List, [], ◌∷◌, ap, ◌∙◌}
 use Rattle.http_server.specs.Exchange.{Call, Calls, Chain}
 use Rattle.sqlite_trees.specs.declared.store.Store.{Ghosts}
 use Rattle.room_web.specs.Answers.{Answers, AnswersPages, rooms_of}

@@ -35,7 +35,7 @@ use Rattle.room_web.specs.declared.asked.Asked.{Asked}
 use Rattle.room_web.specs.declared.asked.Asked.TheVariants.{Style, Script, Room, Owner, Statement, Act, Print}
 use Rattle.room_web.specs.declared.pages.Pages.{Pages}
 use Rattle.room_pages.specs.declared.refusal.Refusal.{Refusal}
-use Rattle.room_pages.specs.declared.refusal.Refusal.TheVariants.{Busy, NoSpace, NotFound}
+use Rattle.room_pages.specs.declared.refusal.Refusal.TheVariants.{Busy, NoSpace}
 
 -- ---- what asks nothing of the rooms
 

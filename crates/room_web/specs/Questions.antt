@@ -1,5 +1,5 @@
 -- The question that a page of an account answers (all this project's own).
-use Rattle.std.specs.Prelude.{ℕ, Option, if◌then◌else◌, nat_lt, unwrap_or}
+use Rattle.std.specs.Prelude.{ℕ, if◌then◌else◌, nat_lt, unwrap_or}
 use Rattle.room_questions.specs.declared.question.About.TheVariants.{OwnerPage, StatementPage}
 use Rattle.room_questions.specs.declared.question.Question.{Question}
 use Rattle.room_questions.specs.declared.question.Question.TheVariants.{Account, Ping}

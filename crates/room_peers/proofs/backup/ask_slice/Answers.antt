@@ -1,4 +1,4 @@
-use Rattle.std.proofs.Common.{rules, ◌≡◌, ℕ, List, sym, ◌∙◌, inr}
+use Rattle.std.proofs.Common.{rules, ◌≡◌, sym, ◌∙◌, inr}
 use Rattle.room_peers.specs.Backups.{file_of}
 use Rattle.room_peers.proofs.backup.ask_slice.Goals as goal
 

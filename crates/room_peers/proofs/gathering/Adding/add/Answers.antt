@@ -1,4 +1,4 @@
-use Rattle.std.proofs.Common.{◌≡◌, ℕ, Err, ap, subst, ◌∙◌, inl, inr}
+use Rattle.std.proofs.Common.{ℕ, Err, ap, subst, ◌∙◌, inl, inr}
 use Rattle.room_peers.specs.Gathering.{IsDamaged}
 use Rattle.room_peers.proofs.gathering.Adding.add.Goals as goal
 

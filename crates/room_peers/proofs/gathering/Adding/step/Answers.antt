@@ -1,4 +1,4 @@
-use Rattle.std.proofs.Common.{◌≡◌, ℕ, List, Option, None, Some, slice_get, sym, ap, subst, ◌∙◌}
+use Rattle.std.proofs.Common.{◌≡◌, ℕ, List, Option, slice_get, sym, ap, subst, ◌∙◌}
 use Rattle.room_peers.specs.Gathering.{AddsBy, next_of}
 use Rattle.room_peers.proofs.GatheringSteps.{got}
 use Rattle.room_peers.proofs.gathering.Adding.step.Goals as goal

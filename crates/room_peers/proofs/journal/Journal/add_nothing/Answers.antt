@@ -1,4 +1,4 @@
-use Rattle.std.proofs.Common.{◌≡◌, Bool, true, false, [], ◌∷◌, ◌++◌, List, refl, subst, sym, ◌∙◌}
+use Rattle.std.proofs.Common.{◌≡◌, false, [], ◌++◌, List, refl, subst, sym, ◌∙◌}
 use Rattle.room_peers.specs.Tolds.{Told}
 use Rattle.room_peers.specs.Watching.{since_by, told_in, touched_in}
 use Rattle.room_peers.proofs.Telling.{told_nothing}

@@ -1,4 +1,4 @@
-use Rattle.std.proofs.Common.{◌≡◌, Bool, List, ap, sym, ◌∙◌}
+use Rattle.std.proofs.Common.{Bool, ap, sym, ◌∙◌}
 use Rattle.http_server.specs.declared.log.Log.{Log}
 use Rattle.room_events.specs.declared.event.Reply.{Reply}
 use Rattle.room_store.specs.declared.fault.StoreFault.{StoreFault}

@@ -1,4 +1,4 @@
-use Rattle.std.proofs.Common.{◌≡◌, ◌++◌, ℕ, List, take, ap, subst, sym, ◌∙◌, inr}
+use Rattle.std.proofs.Common.{◌++◌, ℕ, List, take, ap, subst, ◌∙◌, inr}
 use Rattle.room_lines.specs.Backups.{IsBackupOf}
 use Rattle.room_peers.proofs.LineEnds.{on_err, takes_backup, takes_bad}
 use Rattle.room_peers.specs.Lines.{input_of, output_of}

@@ -1,4 +1,4 @@
-use Rattle.std.proofs.Common.{◌≡◌, Bool, false, Option, None, refl, sym, ap, subst, ◌∙◌}
+use Rattle.std.proofs.Common.{Bool, false, Option, refl, sym, ap, subst, ◌∙◌}
 use Rattle.room_peers.proofs.BackupKept.{nothing}
 use Rattle.room_peers.proofs.GatheringKept.{a_step, gathered_only, taken_first}
 use Rattle.room_peers.specs.Overviews.{GathersBy, GathersOn}

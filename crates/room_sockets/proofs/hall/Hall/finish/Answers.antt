@@ -1,6 +1,6 @@
-use Rattle.std.proofs.Common.{refl, subst}
+use Rattle.std.proofs.Common.{subst}
 use Rattle.room_sockets.proofs.Drives.{follows}
-use Rattle.room_sockets.proofs.HallSteps.{same, then}
+use Rattle.room_sockets.proofs.HallSteps.{then}
 use Rattle.room_sockets.specs.Halls.{GoesOn, guests_of}
 use Rattle.room_sockets.proofs.hall.Hall.finish.Goals as goal
 

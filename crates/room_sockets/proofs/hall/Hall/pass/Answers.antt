@@ -1,4 +1,4 @@
-use Rattle.std.proofs.Common.{ap, refl, subst, sym}
+use Rattle.std.proofs.Common.{ap, refl, subst}
 use Rattle.mio.specs.Events.{items}
 use Rattle.room_peers.specs.declared.served.Served.{Served}
 use Rattle.room_sockets.proofs.Drives.{follows}

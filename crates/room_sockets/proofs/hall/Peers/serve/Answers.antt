@@ -1,4 +1,4 @@
-use Rattle.std.proofs.Common.{true, Option, IsSome, ap, refl, subst, sym, ◌∙◌}
+use Rattle.std.proofs.Common.{Option, IsSome, ap, refl, subst, sym, ◌∙◌}
 use Rattle.slab.proofs.SlabLemmas.{Updates-with_value}
 use Rattle.slab.specs.Slab.{Slab, get}
 use Rattle.room_peers.specs.Space.{spare_of}
