@@ -1,2 +1,4 @@
+pub mod Ended
 pub mod Options
 pub mod Placed
+pub mod Records

@@ -1,5 +1,5 @@
 -- The numbers that a command line may say (this project's own).
-use Rattle.std.specs.Prelude.{◌≡◌, ℕ, ◌==◌, Bool, true, not, ◌&&◌, nat_le, bytes_eq, ⊤, List, codes, length, Option, None, Some, drop, take, slice_get, option_map}
+use Rattle.std.specs.Prelude.{◌≡◌, ℕ, ◌==◌, Bool, true, not, ◌&&◌, nat_le, bytes_eq, ⊤, List, [], ◌∷◌, codes, length, Option, None, Some, drop, take, slice_get, option_map}
 use Rattle.std.specs.List.{list_all}
 use Rattle.room_rules.specs.Limits.{last_job, last_month, longest_job_name, most_copies, most_impressions, most_pages, most_rate}
 use Rattle.room_commands.specs.declared.backing_up.BackingUp.{BackingUp}
@@ -16,6 +16,7 @@ use Rattle.room_commands.specs.declared.owner_errand.OwnerTask.TheVariants as ow
 use Rattle.room_commands.specs.declared.owner_errand.Printing.{Printing}
 use Rattle.room_desk.specs.declared.task.Task.{Task}
 use Rattle.room_desk.specs.declared.task.Task.TheVariants as task
+use Rattle.room_lines.specs.Saying.{SaysNumber}
 use Rattle.room_commands.specs.Addresses.{IsAddressOf, has_port_from}
 use Rattle.room_commands.specs.Visitors.{AreDoors, log_behind}
 
@@ -101,7 +102,30 @@ pub record SaysServing (words : List (List ℕ)) (serving : Serving) : Type 0 wh
   pub doors : AreDoors (drop 2 words) serving.doors.items
   pub log : option_map (λ path. path.now) serving.log ≡ log_behind (drop 2 words)
 
+-- what the words of `listen` say by their places
+pub record SaysListening (words : List (List ℕ)) (listening : Listening) : Type 0 where
+  pub port : List ℕ
+  pub count : List ℕ
+  pub all : words ≡ codes "listen" ∷ listening.database.now ∷ port ∷ count ∷ []
+  pub says_port : SaysNumber port listening.port
+  pub says_count : SaysNumber count listening.connections
+
+-- the words say the command
 abbrev pub IsSaidBy : (words : List (List ℕ)) → Command → Type 0
+IsSaidBy words command.Explain = words ≡ codes "explain" ∷ []
+IsSaidBy words (command.Create database) = words ≡ codes "create" ∷ database.now ∷ []
+IsSaidBy words (command.Migrate database) = words ≡ codes "migrate" ∷ database.now ∷ []
+IsSaidBy words (command.Grants database) = words ≡ codes "grants" ∷ database.now ∷ []
+IsSaidBy words (command.Station database) = words ≡ codes "station" ∷ database.now ∷ []
+IsSaidBy words (command.Script database) = words ≡ codes "script" ∷ database.now ∷ []
+IsSaidBy words (command.Open database account) =
+    words ≡ codes "open" ∷ database.now ∷ account ∷ []
+IsSaidBy words (command.Device database name on) = (switch : List ℕ)
+    × (words ≡ codes "device" ∷ database.now ∷ name ∷ switch ∷ [])
+    × (on ≡ bytes_eq switch (codes "on"))
+IsSaidBy words (command.Rate database name units) = (number : List ℕ)
+    × (words ≡ codes "rate" ∷ database.now ∷ name ∷ number ∷ []) × SaysNumber number units
+IsSaidBy words (command.Listen listening) = SaysListening words listening
 IsSaidBy words (command.Copy copying) = SaysCopying words copying
 IsSaidBy words (command.Backup backing_up) = SaysBackingUp words backing_up
 IsSaidBy words (command.Serve serving) = SaysServing words serving

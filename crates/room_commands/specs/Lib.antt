@@ -3,6 +3,7 @@ pub mod Commands
 pub mod Faults
 pub mod Grants
 pub mod Outcomes
+pub mod Runs
 pub mod Statuses
 pub mod Visitors
 pub mod Words

@@ -1,8 +1,9 @@
 //! The command line: its commands, and what their words may be.
-ghost use Rattle.std.specs.Prelude.{◌≤◌, ℕ, List, IfOk, IfSome, IsTrue};
+ghost use Rattle.std.specs.Prelude.{◌≡◌, ◌≤◌, ℕ, List, IfOk, IfSome, IsTrue};
 ghost use Rattle.room_commands.specs.Addresses.{has_port_from};
 ghost use Rattle.room_commands.specs.Commands.{is_in_range, is_owner_task_in_range, is_task_in_range, IsSaidBy};
 ghost use Rattle.room_commands.specs.Words.{placed, texts};
+ghost use Rattle.room_lines.specs.Saying.{SaysNumber};
 
 use crate::address::{Address, LAST_PORT};
 use crate::backing_up::BackingUp;
@@ -17,10 +18,10 @@ use crate::served_door::{doors_of, log_behind};
 use crate::serving::Serving;
 use crate::unfit::Unfit;
 use crate::words::{
-    ACCOUNT, ADDRESS, BACKUP, CANCEL, COPIES, COPY, COUNT, CREATE, DATABASE, DAYS, DAYS_AGO,
-    DEVICE, DEVICES, DRY_RUN, END, EXPIRE, EXPLAIN, FILE, FOLDER, GRANTS, HOLD, JOB, JOB_NAME,
-    JOBS, LISTEN, MIGRATE, MONTH, NAME, ON, OPEN, PAGES, PIN, PING, PORT, PRINT, QUEUE, RATE,
-    REFUND, RELEASE, REPORT, SCRIPT, SEND, SERVE, STATION, SWITCH, UNITS, WAITING, placed_words,
+    ACCOUNT, ADDRESS, BACKUP, CANCEL, COPIES, COPY, CREATE, DAYS, DAYS_AGO, DEVICE, DRY_RUN, END,
+    EXPIRE, EXPLAIN, FILE, FOLDER, GRANTS, HOLD, JOB, JOB_NAME, JOBS, LISTEN, MIGRATE, MONTH, ON,
+    OPEN, PAGES, PIN, PING, PRINT, QUEUE, RATE, REFUND, RELEASE, REPORT, SCRIPT, SEND, SERVE,
+    STATION, UNITS, WAITING, placed_words,
 };
 use clap::ArgMatches;
 use room_desk::{MOST_DAYS, ReportMonth, Task};
@@ -157,7 +158,6 @@ fn of_matches<'a>(
         Some((BACKUP, _)) => backup_command(alloc, words),
         Some((SERVE, _)) => serve_command(alloc, words),
         Some((SEND, found)) => send_command(found),
-        Some((EXPLAIN, _)) => Ok(Command::Explain),
         Some((PING, found)) => errand(found, Task::Ping),
         Some((END, found)) => errand(found, Task::End),
         Some((REPORT, found)) => errand(found, report_task(found)?),
@@ -165,72 +165,48 @@ fn of_matches<'a>(
         Some((EXPIRE, found)) => errand(found, expire_task(found)?),
         Some((REFUND, found)) => errand(found, refund_task(found)?),
         Some((command, found)) if is_of_owner(command) => owner_command(command, found),
-        Some((command, found)) => on_database(command, found, word(found, DATABASE)?),
+        Some(_) => plain_command(alloc, words),
         None => Err(Unfit::Missing),
     }
 }
 
-fn on_database<'a>(
-    command: &str,
-    words: &ArgMatches<'a>,
-    database: &'a str,
-) -> Result<Command<'a>, Unfit>
+// A command with no flags, whose words are read by their places.
+fn plain_command<'a>(alloc: Global, words: &[&'a str]) -> Result<Command<'a>, Unfit>
     ensures range { IfOk result (λ command. IsTrue (is_in_range command)) }
-    ensures said { (given : List (List ℕ)) → IfOk result (IsSaidBy given) }
+    ensures said { IfOk result (IsSaidBy (placed (texts words.now))) }
 {
-    match command {
-        CREATE => Ok(Command::Create { database }),
-        OPEN => open_command(words, database),
-        MIGRATE => Ok(Command::Migrate { database }),
-        DEVICE => device_command(words, database),
-        RATE => rate_command(words, database),
-        GRANTS => Ok(Command::Grants { database }),
-        STATION => Ok(Command::Station { database }),
-        SCRIPT => Ok(Command::Script { database }),
-        LISTEN => listen_command(words, database),
+    let placed = placed_words(alloc, words)?;
+    let [command, words @ ..] = placed.as_slice() else {
+        return Err(Unfit::Missing);
+    };
+    match (*command, words) {
+        (EXPLAIN, []) => Ok(Command::Explain),
+        (CREATE, [database]) => Ok(Command::Create { database }),
+        (MIGRATE, [database]) => Ok(Command::Migrate { database }),
+        (GRANTS, [database]) => Ok(Command::Grants { database }),
+        (STATION, [database]) => Ok(Command::Station { database }),
+        (SCRIPT, [database]) => Ok(Command::Script { database }),
+        (OPEN, [database, account]) => Ok(Command::Open {
+            database,
+            account: name_in(account)?,
+        }),
+        (DEVICE, [database, name, switch]) => Ok(Command::Device {
+            database,
+            on: *switch == ON,
+            name: name_in(name)?,
+        }),
+        (RATE, [database, name, units]) => Ok(Command::Rate {
+            database,
+            units: number_in(units, 1, MOST_RATE, Unfit::Units)?,
+            name: name_in(name)?,
+        }),
+        (LISTEN, [database, port, count]) => Ok(Command::Listen(Listening {
+            database,
+            port: port_in(port)?,
+            connections: number_in(count, 0, MOST_CONNECTIONS, Unfit::Count)?,
+        })),
         _ => Err(Unfit::Missing),
     }
-}
-
-fn open_command<'a>(words: &ArgMatches<'a>, database: &'a str) -> Result<Command<'a>, Unfit>
-    ensures range { IfOk result (λ command. IsTrue (is_in_range command)) }
-    ensures said { (given : List (List ℕ)) → IfOk result (IsSaidBy given) }
-{
-    let account = name(words, ACCOUNT)?;
-    Ok(Command::Open { database, account })
-}
-
-fn device_command<'a>(words: &ArgMatches<'a>, database: &'a str) -> Result<Command<'a>, Unfit>
-    ensures range { IfOk result (λ command. IsTrue (is_in_range command)) }
-    ensures said { (given : List (List ℕ)) → IfOk result (IsSaidBy given) }
-{
-    let on = word(words, SWITCH)? == ON;
-    let name = name(words, NAME)?;
-    Ok(Command::Device { database, name, on })
-}
-
-fn rate_command<'a>(words: &ArgMatches<'a>, database: &'a str) -> Result<Command<'a>, Unfit>
-    ensures range { IfOk result (λ command. IsTrue (is_in_range command)) }
-    ensures said { (given : List (List ℕ)) → IfOk result (IsSaidBy given) }
-{
-    let units = number(words, UNITS, 1, MOST_RATE, Unfit::Units)?;
-    let name = name(words, NAME)?;
-    Ok(Command::Rate {
-        database,
-        name,
-        units,
-    })
-}
-
-fn listen_command<'a>(words: &ArgMatches<'a>, database: &'a str) -> Result<Command<'a>, Unfit>
-    ensures range { IfOk result (λ command. IsTrue (is_in_range command)) }
-    ensures said { (given : List (List ℕ)) → IfOk result (IsSaidBy given) }
-{
-    Ok(Command::Listen(Listening {
-        database,
-        port: port(words, 1, Unfit::Port)?,
-        connections: number(words, COUNT, 0, MOST_CONNECTIONS, Unfit::Count)?,
-    }))
 }
 
 // The words of `copy` are read by their places.
@@ -404,13 +380,20 @@ fn word<'a>(words: &ArgMatches<'a>, id: &str) -> Result<&'a str, Unfit> {
 }
 
 fn name(words: &ArgMatches<'_>, id: &str) -> Result<Name, Unfit> {
-    Name::read(word(words, id)?.as_bytes()).ok_or(Unfit::Name)
+    name_in(word(words, id)?)
 }
 
-fn port(words: &ArgMatches<'_>, least: u32, unfit: Unfit) -> Result<u16, Unfit>
-    ensures { IfOk result (λ port. least ≤ port) }
+fn name_in(word: &str) -> Result<Name, Unfit>
+    ensures { IfOk result (λ name. name ≡ word.now) }
 {
-    let port = number(words, PORT, least, LAST_PORT, unfit)?;
+    Name::read(word.as_bytes()).ok_or(Unfit::Name)
+}
+
+fn port_in(word: &str) -> Result<u16, Unfit>
+    ensures range { IfOk result (λ port. 1 ≤ port) }
+    ensures said { IfOk result (SaysNumber word.now) }
+{
+    let port = number_in(word, 1, LAST_PORT, Unfit::Port)?;
     Ok(port as u16)
 }
 
@@ -434,5 +417,12 @@ fn number(
 ) -> Result<u32, Unfit>
     ensures { IfOk result (λ number. (least ≤ number) × (number ≤ most)) }
 {
-    room_input::number(word(words, id)?.as_bytes(), least, most).ok_or(unfit)
+    number_in(word(words, id)?, least, most, unfit)
+}
+
+fn number_in(word: &str, least: u32, most: u32, unfit: Unfit) -> Result<u32, Unfit>
+    ensures range { IfOk result (λ number. (least ≤ number) × (number ≤ most)) }
+    ensures said { IfOk result (SaysNumber word.now) }
+{
+    room_input::number(word.as_bytes(), least, most).ok_or(unfit)
 }

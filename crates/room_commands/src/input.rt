@@ -1,9 +1,9 @@
 //! What standard input has for a command.
 ghost use Rattle.std.specs.Prelude.{◌≡◌, ◌≤◌, ◌<◌, ℕ, List, false, true, IfOk, IsErrOf, All, length};
-ghost use Rattle.room_input.specs.GrantFiles.{is_too_large, records_of};
-ghost use Rattle.room_input.specs.GrantLines.{IsInRange, grant_lines};
+ghost use Rattle.room_commands.specs.Runs.{AreGiven, AreRecords};
+ghost use Rattle.room_input.specs.GrantFiles.{is_too_large};
+ghost use Rattle.room_input.specs.GrantLines.{IsInRange};
 ghost use Rattle.room_input.specs.Streams.{MayBeLeft};
-ghost use Rattle.room_lines.specs.Saying.{AreLinesOf};
 
 use crate::fault::Fault;
 use room_input::{Counted, GrantLine, read_grants, read_whole};
@@ -20,8 +20,8 @@ pub fn read_lines<R: Read + Drop>(
     input: R,
     grammar: Grammar,
 ) -> Result<Vec<Line>, Fault>
-    ensures said { IfOk result (λ lines. (text : List ℕ)
-        × MayBeLeft (R.remaining input) false text × AreLinesOf grammar text lines.items) }
+    ensures said { IfOk result
+        (λ lines. AreGiven (MayBeLeft (R.remaining input) false) grammar lines.items) }
 {
     let text = read_text(alloc, input)?;
     Ok(grammar.read(alloc, text.as_slice())?)
@@ -39,9 +39,8 @@ pub fn read_text<R: Read + Drop>(alloc: Global, input: R) -> Result<Vec<u8>, Fau
 
 /// The records of a file of grants, good and bad.
 pub fn read_records<R: Read + Drop>(alloc: Global, input: R) -> Result<Vec<GrantLine>, Fault>
-    ensures lines { IfOk result (λ lines. (file : List ℕ)
-        × MayBeLeft (R.remaining input) false file × (is_too_large file ≡ false)
-        × (lines.items ≡ grant_lines (records_of file))) }
+    ensures said { IfOk result
+        (λ records. AreRecords (MayBeLeft (R.remaining input) false) records.items) }
     ensures ranges { IfOk result (λ lines. All IsInRange lines.items) }
     ensures many { IsErrOf result Fault.Input → (file : List ℕ)
         × MayBeLeft (R.remaining input) false file × (is_too_large file ≡ true) }

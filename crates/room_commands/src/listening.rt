@@ -1,6 +1,7 @@
 //! What the command `listen` asks for.
 ghost use Rattle.std.specs.Prelude.{◌≡◌, ◌≢◌, IfOk, IfSome, IsTrue, None, Ok, Some, codes};
-ghost use Rattle.room_commands.specs.Words.{first_word};
+ghost use Rattle.room_commands.specs.Commands.{SaysListening};
+ghost use Rattle.room_commands.specs.Words.{first_word, placed, texts};
 
 use crate::command::Command;
 use crate::fault::Fault;
@@ -27,6 +28,8 @@ impl<'a> Listening<'a> {
         ensures other { first_word words.now ≢ Some (codes "listen") → result ≡ Ok None }
         ensures range { IfOk result
             (λ found. IfSome found (λ asked. IsTrue (is_listening_in_range asked))) }
+        ensures said { IfOk result
+            (λ found. IfSome found (SaysListening (placed (texts words.now)))) }
     {
         if !is_command(words, LISTEN) {
             return Ok(None);

@@ -1,8 +1,8 @@
 //! What a run prints.
-ghost use Rattle.std.specs.Prelude.{OnOk};
+ghost use Rattle.std.specs.Prelude.{◌≡◌, IfOk, OnOk, drop};
 ghost use Rattle.std.specs.Io.KnownBytes.{Appends};
 ghost use Rattle.std.specs.List.{flat_map};
-ghost use Rattle.room_commands.specs.Outcomes.{outcome_lines};
+ghost use Rattle.room_commands.specs.Outcomes.{left_by, next_lines, outcome_lines, record_text, records_text};
 
 use room_input::GrantLine;
 use room_lines::print_answer;
@@ -40,19 +40,56 @@ pub fn print_outcomes<W: Write>(output: &mut W, outcomes: &[Outcome]) -> io::Res
 /// outcomes, in order.
 pub fn print_grants<W: Write>(
     output: &mut W,
-    lines: &[GrantLine],
+    records: &[GrantLine],
     outcomes: &[Outcome],
-) -> io::Result<()> {
-    let mut outcomes = outcomes.iter();
-    for (index, line) in lines.iter().enumerate() {
-        let number = index as u64 + 1;
-        write!(output, "{number} ")?;
-        match line {
-            GrantLine::Good { .. } => {
-                print_answer(output, outcomes.next().and_then(|outcome| outcome.reply()))?;
-            }
-            GrantLine::Bad(_) => output.write_all(b"bad\n")?,
-        }
+) -> io::Result<()>
+    ensures { OnOk result (Appends (W.contents output.old) (W.contents output.new)
+        (records_text 1 records.now outcomes.now)) }
+{
+    let mut left = outcomes;
+    for (index, record) in records.iter().enumerate() {
+        left = print_record(output, index + 1, record, left)?;
     }
     output.flush()
+}
+
+/// What one record came to, a good one the first of the outcomes. It answers those that are left.
+fn print_record<'a, W: Write>(
+    output: &mut W,
+    number: usize,
+    said: &GrantLine,
+    outcomes: &'a [Outcome],
+) -> io::Result<&'a [Outcome]>
+    ensures text { OnOk result (Appends (W.contents output.old) (W.contents output.new)
+        (record_text number said.now outcomes.now)) }
+    ensures left { IfOk result (λ left. left.now ≡ left_by said.now outcomes.now) }
+{
+    match said {
+        GrantLine::Good { .. } => {
+            write!(output, "{number} ")?;
+            print_next(output, outcomes)
+        }
+        GrantLine::Bad(_) => {
+            writeln!(output, "{number} bad")?;
+            Ok(outcomes)
+        }
+    }
+}
+
+/// The first of the outcomes. It answers those behind it.
+fn print_next<'a, W: Write>(output: &mut W, outcomes: &'a [Outcome]) -> io::Result<&'a [Outcome]>
+    ensures text { OnOk result (Appends (W.contents output.old) (W.contents output.new)
+        (next_lines outcomes.now)) }
+    ensures left { IfOk result (λ left. left.now ≡ drop 1 outcomes.now) }
+{
+    match outcomes {
+        [] => {
+            print_answer(output, None)?;
+            Ok(outcomes)
+        }
+        [outcome, rest @ ..] => {
+            print_answer(output, outcome.reply())?;
+            Ok(rest)
+        }
+    }
 }

@@ -1,6 +1,12 @@
 //! One run of the program, over any reader, any writers and any databases.
-ghost use Rattle.std.specs.Prelude.{◌≤◌, IsTrue};
+ghost use Rattle.std.specs.Prelude.{◌≡◌, ◌≤◌, false, IsOk, IsTrue, None, OnOk, codes, map};
+ghost use Rattle.std.specs.Io.KnownBytes.{Appends};
+ghost use Rattle.room_input.specs.Streams.{MayBeLeft};
 ghost use Rattle.room_lines.specs.Actions.{is_in_range};
+ghost use Rattle.room_commands.specs.Commands.{IsSaidBy};
+ghost use Rattle.room_commands.specs.Commands.{is_in_range as is_command_in_range};
+ghost use Rattle.room_commands.specs.Runs.{At, Runs, RunsAction, event_of_line, RunsGrants, RunsInput, RunsLines};
+ghost use Rattle.room_commands.specs.Words.{placed, texts};
 
 use crate::command::Command;
 use crate::fault::Fault;
@@ -40,7 +46,10 @@ where
     R: Read + Drop,
     W: Write,
     E: Write,
-    ensures { result ≤ 5 }
+    ensures status { result ≤ 5 }
+    ensures runs { result ≡ 0 → (command : Command) × IsSaidBy (placed (texts words.now)) command
+        × Runs S.Store (W.contents output.old) (W.contents output.new)
+        now (MayBeLeft (R.remaining input) false) command }
 {
     match perform(alloc, words, now, opener, input, output) {
         Ok(()) => 0,
@@ -65,18 +74,45 @@ where
     F: Opener<Kept = Connection<S>> + Drop,
     R: Read + Drop,
     W: Write,
+    ensures { OnOk result ((command : Command) × IsSaidBy (placed (texts words.now)) command
+        × Runs S.Store (W.contents output.old) (W.contents output.new)
+        now (MayBeLeft (R.remaining input) false) command) }
 {
-    match Command::read(alloc, words)? {
+    let command = Command::read(alloc, words)?;
+    run_command(alloc, &command, now, opener, input, output)
+}
+
+fn run_command<S, F, R, W>(
+    alloc: Global,
+    command: &Command<'_>,
+    now: Option<u64>,
+    opener: F,
+    input: R,
+    output: &mut W,
+) -> Result<(), Fault>
+where
+    S: Alter + Drop,
+    F: Opener<Kept = Connection<S>> + Drop,
+    R: Read + Drop,
+    W: Write,
+    requires { IsTrue (is_command_in_range command.now) }
+    ensures { OnOk result (Runs S.Store (W.contents output.old) (W.contents output.new)
+        now (MayBeLeft (R.remaining input) false) command.now) }
+{
+    match command {
         Command::Help { text } => Ok(print_text(output, text.as_str())?),
         Command::Explain => explain(alloc, input, output),
         Command::Create { database } => make(alloc, opener, database, Begin::Create, output),
         Command::Migrate { database } => make(alloc, opener, database, Begin::Migrate, output),
         Command::Open { database, account } => {
-            let action = Action::Open { account };
+            let action = Action::Open { account: *account };
             run_now(alloc, now, opener, database, action, output)
         }
         Command::Device { database, name, on } => {
-            let action = Action::Device { name, on };
+            let action = Action::Device {
+                name: *name,
+                on: *on,
+            };
             run_now(alloc, now, opener, database, action, output)
         }
         Command::Rate {
@@ -84,7 +120,10 @@ where
             name,
             units,
         } => {
-            let action = Action::Rate { name, units };
+            let action = Action::Rate {
+                name: *name,
+                units: *units,
+            };
             run_now(alloc, now, opener, database, action, output)
         }
         Command::Script { database } => {
@@ -119,6 +158,7 @@ where
     S: Alter + Drop,
     F: Opener<Kept = Connection<S>> + Drop,
     W: Write,
+    ensures { OnOk result (Appends (W.contents output.old) (W.contents output.new) (codes "ok\n")) }
 {
     prepare(alloc, opener, database, how)?;
     Ok(print_text(output, "ok\n")?)
@@ -138,6 +178,8 @@ where
     F: Opener<Kept = Connection<S>> + Drop,
     W: Write,
     requires { IsTrue (is_in_range action) }
+    ensures { OnOk result
+        (RunsAction S.Store (W.contents output.old) (W.contents output.new) now action) }
 {
     let moment = now.ok_or(Fault::Io)?;
     run_lines(alloc, opener, database, &[Line { moment, action }], output)
@@ -157,6 +199,8 @@ where
     F: Opener<Kept = Connection<S>> + Drop,
     R: Read + Drop,
     W: Write,
+    ensures { OnOk result (At now (λ moment. RunsInput S.Store (W.contents output.old)
+        (W.contents output.new) (MayBeLeft (R.remaining input) false) (Grammar.Station moment))) }
 {
     let moment = now.ok_or(Fault::Io)?;
     let grammar = Grammar::Station { moment };
@@ -177,6 +221,8 @@ where
     F: Opener<Kept = Connection<S>> + Drop,
     R: Read + Drop,
     W: Write,
+    ensures { OnOk result (RunsInput S.Store (W.contents output.old) (W.contents output.new)
+        (MayBeLeft (R.remaining input) false) grammar) }
 {
     let lines = read_lines(alloc, input, grammar)?;
     run_lines(alloc, opener, database, lines.as_slice(), output)
@@ -194,6 +240,8 @@ where
     S: Alter + Drop,
     F: Opener<Kept = Connection<S>> + Drop,
     W: Write,
+    ensures { OnOk result (RunsLines S.Store (W.contents output.old) (W.contents output.new)
+        (map event_of_line lines.now)) }
 {
     let events = events_of(alloc, lines)?;
     let outcomes = outcomes_of(alloc, opener, database, events.as_slice())?;
@@ -215,6 +263,8 @@ where
     F: Opener<Kept = Connection<S>> + Drop,
     R: Read + Drop,
     W: Write,
+    ensures { OnOk result (At now (RunsGrants S.Store (W.contents output.old)
+        (W.contents output.new) (MayBeLeft (R.remaining input) false))) }
 {
     let moment = now.ok_or(Fault::Io)?;
     let records = read_records(alloc, input)?;
@@ -225,7 +275,10 @@ where
 }
 
 // An event that failed comes before a line that could not be written.
-fn ended(failure: Option<Fault>, printed: io::Result<()>) -> Result<(), Fault> {
+fn ended(failure: Option<Fault>, printed: io::Result<()>) -> Result<(), Fault>
+    ensures answered { OnOk result (failure ≡ None) }
+    ensures printed { OnOk result (IsOk printed) }
+{
     match failure {
         Some(fault) => Err(fault),
         None => Ok(printed?),

@@ -1,10 +1,11 @@
 //! The tables of a run's database, and the events that come to them.
-ghost use Rattle.std.specs.Prelude.{◌≡◌, All, IfOk, IsTrue, length, map};
+ghost use Rattle.std.specs.Prelude.{◌≡◌, All, IfErr, IfOk, IsTrue, length, map};
 ghost use Rattle.sqlite.specs.Held.{Held};
 ghost use Rattle.room_events.specs.Events.{plain_event, plain_timed};
 ghost use Rattle.room_events.specs.Fits.{fits};
 ghost use Rattle.room_serve.specs.Runs.{AreApplied};
 ghost use Rattle.room_commands.specs.Outcomes.{first_failure};
+ghost use Rattle.room_commands.specs.Statuses.{exit_status_of};
 
 use crate::command::MEMORY;
 use crate::fault::Fault;
@@ -32,7 +33,9 @@ pub fn prepare<S: Alter + Drop, F: Opener<Kept = Connection<S>> + Drop>(
     mut opener: F,
     database: &str,
     how: Begin,
-) -> Result<(), Fault> {
+) -> Result<(), Fault>
+    ensures status { IfErr result (λ fault. exit_status_of fault ≡ 3) }
+{
     let store = store_of(alloc, &mut opener, database, how)?;
     opener.close(store.close());
     Ok(())
@@ -75,7 +78,9 @@ pub fn store_of<S: Alter + Drop, F: Opener<Kept = Connection<S>>>(
     opener: &mut F,
     database: &str,
     how: Begin,
-) -> Result<Store<S>, Fault> {
+) -> Result<Store<S>, Fault>
+    ensures status { IfErr result (λ fault. exit_status_of fault ≡ 3) }
+{
     let connection = opener.open(database)?;
     let store = match how {
         Begin::Create => Store::create(connection),

@@ -62,21 +62,21 @@ pub(crate) const ON: &str = "on";
 
 pub(crate) const SWITCHES: [&str; 2] = [ON, "off"];
 
-pub(crate) const DATABASE: &str = "DB";
+const DATABASE: &str = "DB";
 
 pub(crate) const FILE: &str = "FILE";
 
 pub(crate) const ACCOUNT: &str = "ACCOUNT";
 
-pub(crate) const NAME: &str = "NAME";
+const NAME: &str = "NAME";
 
-pub(crate) const SWITCH: &str = "SWITCH";
+const SWITCH: &str = "SWITCH";
 
 pub(crate) const UNITS: &str = "UNITS";
 
-pub(crate) const COUNT: &str = "COUNT";
+const COUNT: &str = "COUNT";
 
-pub(crate) const PORT: &str = "PORT";
+const PORT: &str = "PORT";
 
 pub(crate) const STATIONS: &str = "STATIONS";
 
@@ -98,7 +98,7 @@ pub(crate) const FOLDER: &str = "FOLDER";
 
 pub(crate) const MONTH: &str = "YYYY-MM";
 
-pub(crate) const DEVICES: &str = "devices";
+const DEVICES: &str = "devices";
 
 pub(crate) const DAYS: &str = "DAYS";
 
