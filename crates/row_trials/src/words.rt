@@ -12,27 +12,32 @@ use crate::rows::file_holds;
 use event_trials::list_holds;
 use sqlite::{Alter, Connection};
 use std::env;
-use table_trials::{FileTables, OnDisk};
+use table_trials::{FileTables, OverFiles, hold_on_disk};
 use trials::Fault;
+
+/// What the program's words name.
+struct Words;
 
 /// Runs what each of the program's words names. Answers whether all of it holds.
 pub fn words_hold(rt: &HostRuntime) -> Result<bool, Fault> {
-    all_hold(rt, &OnDisk { rt })
+    hold_on_disk(rt, &Words)
 }
 
-/// Runs what each of the program's words names. Answers whether all of it holds. `files` has the
-/// databases that stand in files.
-fn all_hold<S, F>(rt: &HostRuntime, files: &F) -> Result<bool, Fault>
-where
-    S: Alter + Drop,
-    F: FileTables<Kept = Connection<S>>,
-{
-    let mut all = true;
-    let words: Vec<String> = env::args(rt)?.skip(1).collect(rt.alloc())?;
-    for word in words.as_slice() {
-        all &= run_word(rt, files, word.as_str())?;
+impl OverFiles for Words {
+    type Fault = Fault;
+
+    fn all_hold<S, F>(&self, rt: &HostRuntime, files: &F) -> Result<bool, Fault>
+    where
+        S: Alter + Drop,
+        F: FileTables<Kept = Connection<S>>,
+    {
+        let mut all = true;
+        let words: Vec<String> = env::args(rt)?.skip(1).collect(rt.alloc())?;
+        for word in words.as_slice() {
+            all &= run_word(rt, files, word.as_str())?;
+        }
+        Ok(all)
     }
-    Ok(all)
 }
 
 /// Runs what a word names: a file of rows, a list of events, or the trials of `ending` or `library`.

@@ -1,6 +1,6 @@
 //! How rows get a database that stands in a file.
 
-use sqlite::{Connection, Error, File, FileStore};
+use sqlite::{Alter, Connection, Error, File, FileStore};
 
 /// Comes by the databases in files. `OnDisk` names the kind of file, and nothing else does: a call on
 /// a store of files takes long to prove, and one on any store does not.
@@ -15,10 +15,26 @@ pub trait FileTables {
     fn close(&self, kept: Self::Kept) -> Result<(), Error>;
 }
 
+/// Trials that take databases in files, of whatever kind these are.
+pub trait OverFiles {
+    type Fault: Drop;
+
+    /// Answers whether all of it holds.
+    fn all_hold<S, F>(&self, rt: &HostRuntime, files: &F) -> Result<bool, Self::Fault>
+    where
+        S: Alter + Drop,
+        F: FileTables<Kept = Connection<S>>;
+}
+
+/// Makes the trials over files of this machine. Answers whether all of it holds.
+pub fn hold_on_disk<T: OverFiles>(rt: &HostRuntime, trials: &T) -> Result<bool, T::Fault> {
+    trials.all_hold(rt, &OnDisk { rt })
+}
+
 /// The files of this machine.
 #[derive(Clone, Copy)]
-pub struct OnDisk<'a> {
-    pub rt: &'a HostRuntime,
+struct OnDisk<'a> {
+    rt: &'a HostRuntime,
 }
 
 impl FileTables for OnDisk<'_> {

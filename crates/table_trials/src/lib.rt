@@ -11,5 +11,5 @@ mod rows;
 mod script;
 
 pub use fault::{Fault, Wrong};
-pub use file_tables::{FileTables, OnDisk};
+pub use file_tables::{FileTables, OverFiles, hold_on_disk};
 pub use rows::file_holds;
