@@ -1,5 +1,5 @@
 -- What a line is answered that is asked for the sake of its answer (all this project's own).
-use Rattle.std.specs.Prelude.{All, ◌≡◌, ℕ, List, ◌++◌, length, Some}
+use Rattle.std.specs.Prelude.{All, ◌≡◌, ℕ, List, length, Some}
 use Rattle.std.specs.List.{flat_map}
 use Rattle.std.specs.Io.KnownBytes.{Consumes}
 use Rattle.room_client.specs.declared.answer.Answer.TheVariants as answer_is

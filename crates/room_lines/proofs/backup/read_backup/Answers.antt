@@ -1,4 +1,4 @@
-use Rattle.std.proofs.Common.{◌≡◌, ℕ, List, [], ◌∷◌, codes, arith, refl, ap, subst}
+use Rattle.std.proofs.Common.{◌≡◌, ℕ, List, [], ◌∷◌, codes, arith, refl, ap}
 use Rattle.std.proofs.lemmas.Slice.Eq.{text_from_reads}
 use Rattle.room_lines.proofs.Taken.{AreFields-taken}
 use Rattle.room_lines.proofs.backup.read_backup.Goals as goal

@@ -1,4 +1,4 @@
-use Rattle.std.proofs.Common.{◌≡◌, ◌∷◌, [], refl, subst, sym}
+use Rattle.std.proofs.Common.{◌∷◌, [], refl, subst, sym}
 use Rattle.room_lines.specs.Saying.{SaysNumber}
 use Rattle.room_lines.proofs.lines.owner_action.Goals as goal
 
