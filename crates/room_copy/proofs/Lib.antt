@@ -3,6 +3,7 @@ pub mod PartRows
 pub mod WholeAccounts
 pub mod PartlyCopied
 pub mod WholeDevices
+pub mod AtMost
 pub mod NextNames
 pub mod SoFar
 pub mod SavepointKept

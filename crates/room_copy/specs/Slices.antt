@@ -1,11 +1,13 @@
 -- A copy that is made in slices, between which the source may change (all this project's own).
-use Rattle.std.specs.Prelude.{◌≡◌, ◌⊎◌, ℕ, ◌<◌, Bool, true, List, [], ◌∷◌, Option, None, Some, IfSome, IsSome}
+use Rattle.std.specs.Prelude.{◌≡◌, ◌⊎◌, ℕ, ◌+◌, ◌<◌, ◌≤◌, Bool, true, List, [], ◌∷◌, Option, None, Some, IfSome, IsSome}
 use Rattle.std.specs.Ordering.{is_lt}
 use Rattle.sqlite_rules.specs.Lists.{Has}
 use Rattle.sqlite.specs.Effect.{Database}
 use Rattle.room_reads.specs.Names.{AreNames}
 use Rattle.room_rules.specs.Devices.{name_cmp}
+use Rattle.room_rules.specs.declared.account.Account.{Account}
 use Rattle.room_tables.specs.Accounts.{account_at, AgreeOnRows, HoldsNothing}
+use Rattle.room_tables.specs.Cells.{account_cells}
 use Rattle.room_statements.specs.Alone.{OnlyAccount}
 use Rattle.room_statements.specs.SoundRows.{AreNamed}
 use Rattle.room_copy.specs.Copies.{AreCopies, CopiesDevices, HoldsNoDevice, IsCopyOf}
@@ -94,6 +96,35 @@ abbrev pub IsDone : (to : Progress) → Type 0
 IsDone (UpTo last) = Unit {0}
 IsDone (Anew name) = ⊥
 IsDone (Within name next job) = ⊥
+
+-- ---- that none goes too far
+
+-- from one number up to another there are so many at most, or one
+abbrev pub AreAtMost : (most : Option ℕ) (first end : ℕ) → Type 0
+AreAtMost None first end = Unit {0}
+AreAtMost (Some most) first end = (end ≤ first + most) ⊎ (end ≤ first + 1)
+
+-- the number up to which the jobs are copied, of an account whose own next job is `next`
+abbrev pub end_of : (next : ℕ) (to : Progress) → ℕ
+end_of next (UpTo last) = next
+end_of next (Anew name) = 1
+end_of next (Within name same job) = job
+
+-- the account's own row in the source tells its next job
+abbrev pub HasNext : (source : Database) (name : List ℕ) (next : ℕ) → Type 0
+HasNext source name next = (it : Account)
+    × (account_at source name ≡ Some (account_cells name it)) × (it.next_job ≡ next)
+
+-- of an account that was begun
+abbrev pub BeginsAtMost : (most : Option ℕ) (to : Progress) (source : Database) → Type 0
+BeginsAtMost most to source = IfSome (reached to) (λ name. (next : ℕ)
+    → HasNext source name next → AreAtMost most 1 (end_of next to))
+
+-- a slice from one to the other copies so many jobs at most, or one
+abbrev pub CopiesAtMost : (most : Option ℕ) (from to : Progress) (source : Database) → Type 0
+CopiesAtMost most (UpTo last) to source = BeginsAtMost most to source
+CopiesAtMost most (Anew name) to source = BeginsAtMost most to source
+CopiesAtMost most (Within name next job) to source = AreAtMost most job (end_of next to)
 
 -- ---- between two slices
 

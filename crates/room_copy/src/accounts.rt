@@ -1,8 +1,8 @@
 //! The account that is under way.
 
-ghost use Rattle.std.specs.Prelude.{◌≡◌, Err, IfOk, None};
+ghost use Rattle.std.specs.Prelude.{◌≡◌, Err, IfOk, None, Some};
 ghost use Rattle.room_copy.specs.ProofSavepoints.{KeepsSavepoint};
-ghost use Rattle.room_copy.specs.Slices.{ComesFurther, CopiesFurther, IsDone};
+ghost use Rattle.room_copy.specs.Slices.{AreAtMost, BeginsAtMost, ComesFurther, CopiesFurther, IsDone, end_of, reached};
 ghost use Rattle.room_copy.specs.Sources.{LeavesSource};
 ghost use Rattle.room_statements.specs.SoundRows.{AccountsRead};
 ghost use Rattle.room_tables.specs.Calls.{Changes, IfOurTables};
@@ -31,6 +31,8 @@ pub(crate) fn begin_account<S: Alter, T: Alter>(
         (λ to. CopiesFurther account (Progress.Anew account) to db before after))) }
     ensures further { IfOk result (ComesFurther 1) }
     ensures whole { most ≡ None → IfOk result IsDone }
+    ensures at_most { IfOurTables S.Store source.old source.new
+        (λ db. IfOk result (λ to. BeginsAtMost most to db)) }
     ensures inside { KeepsSavepoint savepoint.old savepoint.new result }
     ensures damaged { IfOurTables S.Store source.old source.new
         (λ db. result ≡ Err Damaged → AccountsRead db account → ⊥) }
@@ -59,6 +61,8 @@ pub(crate) fn go_on<S: Alter, T: Alter>(
         (λ to. CopiesFurther account (Progress.Within account next job) to db before after))) }
     ensures further { IfOk result (ComesFurther job) }
     ensures whole { most ≡ None → IfOk result IsDone }
+    ensures at_most { IfOk result (λ to. AreAtMost most job (end_of next to)) }
+    ensures account { IfOk result (λ to. reached to ≡ Some account) }
     ensures inside { KeepsSavepoint savepoint.old savepoint.new result }
     ensures damaged { IfOurTables S.Store source.old source.new
         (λ db. result ≡ Err Damaged → AccountsRead db account → ⊥) }

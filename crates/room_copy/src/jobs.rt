@@ -1,9 +1,10 @@
 //! Jobs of an account are copied.
 
-ghost use Rattle.std.specs.Prelude.{◌≡◌, ◌<◌, Err, IfOk, None, false};
+ghost use Rattle.std.specs.Prelude.{◌≡◌, ◌<◌, Err, IfOk, IfSome, None, false};
 ghost use Rattle.room_copy.specs.Parts.{AddsJobs};
 ghost use Rattle.room_copy.specs.ProofParts.{CopiesMore, HasWholeJob};
 ghost use Rattle.room_copy.specs.ProofSavepoints.{KeepsSavepoint};
+ghost use Rattle.room_copy.specs.Slices.{AreAtMost};
 ghost use Rattle.room_copy.specs.Sources.{LeavesSource};
 ghost use Rattle.room_rules.specs.Standings.{IsStanding};
 ghost use Rattle.room_statements.specs.SoundRows.{AccountsRead};
@@ -36,6 +37,7 @@ pub(crate) fn copy_jobs<S: Alter, T: Alter>(
         (λ db. IfOk result (λ further. AddsJobs account first further db before after))) }
     ensures further { IfOk result (λ further. further < next → first < further) }
     ensures whole { most ≡ None → IfOk result (λ further. further ≡ next) }
+    ensures at_most { IfOk result (AreAtMost most first) }
     ensures inside { KeepsSavepoint savepoint.old savepoint.new result }
     ensures damaged { IfOurTables S.Store source.old source.new
         (λ db. result ≡ Err Damaged → AccountsRead db account → ⊥) }
@@ -52,7 +54,8 @@ pub(crate) fn copy_jobs<S: Alter, T: Alter>(
 
 /// Whether a slice ends behind so many jobs, the last of which has documents or has none.
 fn is_enough(most: Option<u32>, jobs: u32, has_documents: bool) -> bool
-    ensures { most ≡ None → result ≡ false }
+    ensures whole { most ≡ None → result ≡ false }
+    ensures enough { result ≡ false → IfSome most (λ most. jobs < most) }
 {
     match most {
         Some(most) => has_documents || jobs >= most,

@@ -3,7 +3,7 @@
 ghost use Rattle.std.specs.Prelude.{◌≡◌, Err, IfOk, IfSome, None};
 ghost use Rattle.room_copy.specs.All.{AreAllSound};
 ghost use Rattle.room_copy.specs.ProofSavepoints.{KeepsSavepoint};
-ghost use Rattle.room_copy.specs.Slices.{ComesFurther, ComesNext, CopiesSlice, IfNamed, IsDone, next_job};
+ghost use Rattle.room_copy.specs.Slices.{BeginsAtMost, ComesFurther, ComesNext, CopiesAtMost, CopiesSlice, IfNamed, IsDone, next_job};
 ghost use Rattle.room_copy.specs.Sources.{LeavesSource};
 ghost use Rattle.room_statements.specs.SoundRows.{AreNamed};
 ghost use Rattle.room_tables.specs.Calls.{Changes, ChangesWhole, IfOurTables, ReadsStore};
@@ -51,6 +51,8 @@ pub fn copy_slice<S: Alter, T: Alter>(
         (IfOk result (λ to. CopiesSlice progress.now to db before after)))) }
     ensures further { IfOk result (λ to. IfSome to (ComesFurther (next_job progress.now))) }
     ensures whole { most ≡ None → IfOk result (λ to. IfSome to IsDone) }
+    ensures at_most { IfOurTables S.Store source.old source.new (λ db.
+        IfOk result (λ to. IfSome to (λ to. CopiesAtMost most progress.now to db))) }
     ensures damaged { IfOurTables S.Store source.old source.new
         (λ db. result ≡ Err Damaged → AreAllSound db → ⊥) }
     ensures source { LeavesSource S.Store source.old source.new result }
@@ -74,6 +76,8 @@ fn copy_part<S: Alter, T: Alter>(
         (IfOk result (λ to. CopiesSlice progress.now to db before after)))) }
     ensures further { IfOk result (λ to. IfSome to (ComesFurther (next_job progress.now))) }
     ensures whole { most ≡ None → IfOk result (λ to. IfSome to IsDone) }
+    ensures at_most { IfOurTables S.Store source.old source.new (λ db.
+        IfOk result (λ to. IfSome to (λ to. CopiesAtMost most progress.now to db))) }
     ensures inside { KeepsSavepoint savepoint.old savepoint.new result }
     ensures damaged { IfOurTables S.Store source.old source.new
         (λ db. result ≡ Err Damaged → AreAllSound db → ⊥) }
@@ -106,6 +110,8 @@ fn copy_next<S: Alter, T: Alter>(
         (IfOk result (λ to. CopiesSlice (Progress.UpTo last) to db before after)))) }
     ensures further { IfOk result (λ to. IfSome to (ComesFurther 1)) }
     ensures whole { most ≡ None → IfOk result (λ to. IfSome to IsDone) }
+    ensures at_most { IfOurTables S.Store source.old source.new
+        (λ db. IfOk result (λ to. IfSome to (λ to. BeginsAtMost most to db))) }
     ensures inside { KeepsSavepoint savepoint.old savepoint.new result }
     ensures damaged { IfOurTables S.Store source.old source.new
         (λ db. result ≡ Err Damaged → AreAllSound db → ⊥) }

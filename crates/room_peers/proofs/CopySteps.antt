@@ -1,15 +1,15 @@
 -- A slice of a copy, by what the calls that make it say.
-use Rattle.std.proofs.Common.{◌≡◌, Bool, true, false, IsTrue, Option, None, Result, Ok, IfOk, IfSome, refl, sym, subst, ◌∙◌, ◌⊎◌, inl, inr}
+use Rattle.std.proofs.Common.{◌≡◌, ℕ, Bool, true, false, IsTrue, Option, None, Result, Ok, IfOk, IfSome, refl, sym, subst, ◌∙◌, ◌⊎◌, inl, inr}
 use Rattle.sqlite.specs.Held.{Held, state}
 use Rattle.sqlite.specs.State.{State}
 use Rattle.sqlite_trees.specs.declared.store.Store.{Ghosts}
-use Rattle.room_copy.specs.Slices.{ComesFurther, CopiesSlice, IfNamed, StartsAgain, next_job}
+use Rattle.room_copy.specs.Slices.{ComesFurther, CopiesAtMost, CopiesSlice, IfNamed, IsDone, StartsAgain, next_job}
 use Rattle.room_copy.specs.Sources.{LeavesSource}
 use Rattle.room_copy.specs.declared.slices.Progress.{Progress}
 use Rattle.room_tables.specs.Calls.{Changes, ChangesWhole, IfOurTables, IsUnchanged, KeepsConnection, UnchangedOrUndone}
 use Rattle.room_tables.specs.declared.fault.TableFault.{TableFault}
 use Rattle.room_peers.specs.Applying.{OnlyLooks}
-use Rattle.room_peers.specs.Copies.{CopiesPart, Restarts, Slices}
+use Rattle.room_peers.specs.Copies.{Advances, CopiesPart, Restarts}
 use Rattle.room_peers.specs.declared.copies.Copied.{Copied}
 use Rattle.room_peers.specs.declared.copies.Done.{Done}
 use Rattle.room_peers.specs.declared.copies.Done.TheVariants.{Failed, Whole}
@@ -27,9 +27,9 @@ module _ {S : Type 0} (store : Ghosts S) where
   }
 
 module _ {S T : Type 0} (store : Ghosts S) (copy_store : Ghosts T) where
-  pub begun_anew : {E : Type 0} (touched : Bool) (from to : Progress) (rows begun : Held T) (result : Result Progress E) → touched ≡ true → result ≡ Ok to → Changes copy_store rows begun result (λ before after. IfOk result (λ to. StartsAgain from to before after))
+  pub begins_anew : {E : Type 0} (touched : Bool) (from to : Progress) (rows begun : Held T) (result : Result Progress E) → touched ≡ true → result ≡ Ok to → Changes copy_store rows begun result (λ before after. IfOk result (λ to. StartsAgain from to before after))
       → Restarts store copy_store touched from to rows begun
-  begun_anew {E} touched from to rows begun result is ok changes =
+  begins_anew {E} touched from to rows begun result is ok changes =
       let done = subst (λ (r : Result Progress E). Changes copy_store rows begun r (λ before after. IfOk r (λ to. StartsAgain from to before after))) ok changes in
       subst (λ b. Restarts store copy_store b from to rows begun) (sym is) (λ clean has. done clean has)
 
@@ -44,19 +44,24 @@ module _ {S T : Type 0} (store : Ghosts S) (copy_store : Ghosts T) where
   begins_as touched from again its rows begun there same_progress same_rows begins =
       subst (λ (held : Held T). Begins touched from its rows held) (sym same_rows) (subst (λ (progress : Progress). Begins touched from progress rows begun) (sym same_progress) begins)
 
-  pub slices_by : (touched : Bool) (from again : Progress) (source looked : Held S) (result : Result (Option Progress) TableFault) (rows begun new : Held T) → Begins touched from again rows begun
+  pub advances_by : (touched : Bool) (most : Option ℕ) (from again : Progress) (source looked : Held S) (result : Result (Option Progress) TableFault) (rows begun new : Held T) → Begins touched from again rows begun
       → ChangesWhole copy_store begun new result (λ before after. IfOurTables store source looked (λ db. IfNamed db (IfOk result (λ to. CopiesSlice again to db before after))))
-      → IfOk result (λ to. IfSome to (ComesFurther (next_job again))) → (to : Option Progress) → result ≡ Ok to → Slices store copy_store touched from to source looked rows new
-  slices_by touched from again source looked result rows begun new begins copies further to is =
+      → IfOk result (λ to. IfSome to (ComesFurther (next_job again))) → (most ≡ None → IfOk result (λ to. IfSome to IsDone)) → IfOurTables store source looked (λ db. IfOk result (λ to. IfSome to (λ to. CopiesAtMost most again to db)))
+      → (to : Option Progress) → result ≡ Ok to → Advances store copy_store touched most from to source looked rows new
+  advances_by touched most from again source looked result rows begun new begins copies further whole at_most to is =
       let made = subst (λ (r : Result (Option Progress) TableFault). Changes copy_store begun new r (λ before after. IfOurTables store source looked (λ db. IfNamed db (IfOk r (λ to. CopiesSlice again to db before after))))) is copies.made in
       record {
-        again = again;
-        begun = begun;
-        restarts = begins.0;
-        restarted = begins.1;
-        slice = λ clean has. made clean has;
+        slices = record {
+          again = again;
+          begun = begun;
+          restarts = begins.0;
+          restarted = begins.1;
+          slice = λ clean has. made clean has;
+          copied = copies.whole.keeps;
+        };
         further = subst (λ (r : Result (Option Progress) TableFault). IfOk r (λ to. IfSome to (ComesFurther (next_job again)))) is further;
-        copied = copies.whole.keeps;
+        whole = λ none. subst (λ (r : Result (Option Progress) TableFault). IfOk r (λ to. IfSome to IsDone)) is (whole none);
+        at_most = λ clean has. subst (λ (r : Result (Option Progress) TableFault). IfOk r (λ to. IfSome to (λ to. CopiesAtMost most again to (state store source).now))) is (at_most clean has);
       }
 
   -- all is copied, and its file is closed, or it could not be

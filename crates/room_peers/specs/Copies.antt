@@ -1,9 +1,9 @@
 -- What a backup's slices copy of the tables that are served (all this project's own).
-use Rattle.std.specs.Prelude.{◌≡◌, ℕ, ◌+◌, ◌≤◌, min, Bool, false, true, List, Option, None, Some, IfSome, Result, Ok, IfOk}
+use Rattle.std.specs.Prelude.{◌≡◌, ℕ, ◌+◌, min, Bool, false, true, if◌then◌else◌, nat_lt, List, Option, None, Some, IfSome, Result, Ok}
 use Rattle.sqlite.specs.Held.{Held, state}
 use Rattle.sqlite.specs.State.{HasCleanDisk}
 use Rattle.sqlite_trees.specs.declared.store.Store.{Ghosts}
-use Rattle.room_copy.specs.Slices.{ComesFurther, CopiesSlice, IfNamed, IsDone, StartsAgain, next_job}
+use Rattle.room_copy.specs.Slices.{ComesFurther, CopiesAtMost, CopiesSlice, IfNamed, IsDone, StartsAgain, next_job}
 use Rattle.room_copy.specs.declared.slices.Progress.{Progress}
 use Rattle.room_copy.specs.declared.slices.Progress.TheVariants.{UpTo, Anew, Within}
 use Rattle.room_tables.specs.Calls.{IfOurTables, KeepsConnection}
@@ -37,11 +37,10 @@ anew_left (UpTo last) anew = 0
 anew_left (Anew name) anew = 0
 anew_left (Within name next job) anew = anew
 
--- an account that has begun anew three times is copied at once, so that a backup ends whoever goes on
--- to print
-pub record CountsAnew {T : Type 0} (touched : Bool) (copy further : Copied T) : Type 0 where
-  pub anew : further.anew ≡ anew_left further.progress (begun_anew touched copy.anew)
-  pub at_once : 3 ≤ begun_anew touched copy.anew → IsDone further.progress
+-- how many jobs a slice copies at most; all, of an account that has begun anew three times, so that a
+-- backup ends whoever goes on to print
+abbrev pub most_at : (anew : ℕ) → Option ℕ
+most_at anew = if nat_lt anew 3 then Some 32 else None
 
 -- a copy that is new: its tables have no row, where the disk was honest
 abbrev pub IsNewCopy : {T : Type 0} (copy_store : Ghosts T) → Option (Copied T) → Type 0
@@ -67,16 +66,23 @@ module _ {S T : Type 0} (store : Ghosts S) (copy_store : Ghosts T) where
     pub slice : IfOurTables copy_store begun new (λ before. HasSchema (state copy_store new).now
         × IfOurTables store source looked (λ db. IfNamed db
         (CopiesSlice again to db before (state copy_store new).now)))
-    pub further : IfSome to (ComesFurther (next_job again))
     pub copied : KeepsConnection (state copy_store begun) (state copy_store new)
 
-  -- a slice of a copy: what it has come to, or it fails; with no `most` it is a whole account
+  -- it comes further, by so many jobs at most; with no `most` it ends the account
+  pub record Advances (touched : Bool) (most : Option ℕ) (from : Progress) (to : Option Progress)
+      (source looked : Held S) (rows new : Held T) : Type 0 where
+    pub slices : Slices touched from to source looked rows new
+    pub further : IfSome to (ComesFurther (next_job slices.again))
+    pub whole : most ≡ None → IfSome to IsDone
+    pub at_most : IfOurTables store source looked
+        (λ db. IfSome to (λ to. CopiesAtMost most slices.again to db))
+
+  -- a slice of a copy: what it has come to, or it fails
   pub record SlicesOn (touched : Bool) (from : Progress) (most : Option ℕ) (source looked : Held S)
       (result : Result (Option Progress) TableFault) (rows new : Held T) : Type 0 where
     pub looks : OnlyLooks store source looked
-    pub slices : (to : Option Progress) → result ≡ Ok to
-        → Slices touched from to source looked rows new
-    pub whole : most ≡ None → IfOk result (λ to. IfSome to IsDone)
+    pub advances : (to : Option Progress) → result ≡ Ok to
+        → Advances touched most from to source looked rows new
 
   -- A part of the copy, or all of it, is done, or it failed, or there is none. Where all of it is done its
   -- file is closed, and has these rows.
@@ -84,8 +90,9 @@ module _ {S T : Type 0} (store : Ghosts S) (copy_store : Ghosts T) where
       (was now : Option (Copied T)) → Type 0
   CopiesPart touched source looked (Part account) was now = (copy : Copied T) × (further : Copied T)
       × (was ≡ Some copy) × (now ≡ Some further) × (account ≡ under_way further.progress)
-      × Slices touched copy.progress (Some further.progress) source looked copy.rows further.rows
-      × CountsAnew touched copy further
+      × Advances touched (most_at (begun_anew touched copy.anew)) copy.progress
+      (Some further.progress) source looked copy.rows further.rows
+      × (further.anew ≡ anew_left further.progress (begun_anew touched copy.anew))
   CopiesPart touched source looked Whole was now = (copy : Copied T) × (rows : Held T)
       × (was ≡ Some copy) × (now ≡ None)
       × Slices touched copy.progress None source looked copy.rows rows

@@ -1,7 +1,7 @@
 //! Between the turns of peers what a backup's lines ask for is done.
-ghost use Rattle.std.specs.Prelude.{◌≡◌, ◌⊎◌, ◌≤◌, IsFalse, IsTrue, None, Some};
+ghost use Rattle.std.specs.Prelude.{◌≡◌, ◌⊎◌, IsFalse, IsTrue, None, Some};
 ghost use Rattle.room_peers.specs.Copies.{CopiesOn, IsNewCopy, SlicesOn};
-ghost use Rattle.room_peers.specs.Copies.{anew_left, begun_anew, under_way};
+ghost use Rattle.room_peers.specs.Copies.{anew_left, begun_anew, most_at, under_way};
 
 use room_copy::{CopyMaker, Progress, copy_slice, start_again};
 use room_rules::Name;
@@ -175,7 +175,7 @@ fn anew_left(progress: &Progress, anew: u32) -> u32
 
 /// How many jobs a slice copies of an account that has begun anew so often; `None` for all of them.
 fn most_at(anew: u32) -> Option<u32>
-    ensures { 3 ≤ anew → result ≡ None }
+    ensures { result ≡ most_at anew }
 {
     if anew < MOST_ANEW {
         return Some(MOST_JOBS);

@@ -11,6 +11,7 @@ use Rattle.room_tables.proofs.KeyedRows.{same_fault}
 use Rattle.room_statements.specs.SoundRows.{AccountsRead}
 use Rattle.room_copy.specs.Slices.{CopiesFurther}
 use Rattle.room_copy.specs.declared.slices.Progress.TheVariants.{Within}
+use Rattle.room_copy.proofs.AtMost.{begun_at_most, if_ok_both, none_begun}
 use Rattle.room_copy.proofs.PartlyCopied.{begun_further, nobody_begun}
 use Rattle.room_copy.proofs.ReadsKept.{if_ok_with, leaves_then, of_read, on_ok_with}
 use Rattle.room_copy.proofs.SavepointKept.{kept_by_write, kept_then}
@@ -41,6 +42,17 @@ returns-clause-copies g c clean =
           if_ok_with c.go_on.result (λ to rest. begun_further name source before mid.now it there set.1 to after (subst (λ (db : Database). CopiesFurther name (Within name it.next_job 1) to db mid.now after) same rest)) (more.1 source_clean (subst HasSchema (sym same) source_has)),
     ))
     (c.go_on.ensures.copies clean)
+
+pub returns-in_default-clause-at_most : goal.returns-in_default-clause-at_most
+returns-in_default-clause-at_most g c clean has =
+    none_begun c.args.account (state g.S.Store c.args.source.now).now c.args.most (c.in_ok-row.ensures.found clean has ∙ ap (option_map (account_cells c.args.account)) c.in_default.is)
+
+pub returns-clause-at_most : goal.returns-clause-at_most
+returns-clause-at_most g c clean has =
+    let name = c.args.account in
+    let found_clean : HasCleanDisk (state g.S.Store c.find_account.new.connection) = omega (arith, c.go_on.ensures.source.keeps.clean, clean) in
+    let there = c.in_ok-row.ensures.found found_clean has ∙ ap (option_map (account_cells name)) c.in-Some.is in
+    if_ok_both c.go_on.result (begun_at_most name (state g.S.Store c.args.source.now).now c.args.most c.in-Some.row there) c.go_on.ensures.account c.go_on.ensures.at_most
 
 pub returns-clause-inside : goal.returns-clause-inside
 returns-clause-inside g c = kept_then c.args.savepoint.now c.set_account.new.savepoint c.go_on.new.savepoint _ c.go_on.result (kept_by_write _ _ _ c.in_ok-set_account.ensures.inside) c.go_on.ensures.inside

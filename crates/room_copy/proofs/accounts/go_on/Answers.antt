@@ -5,6 +5,7 @@ use Rattle.sqlite.specs.Held.{state}
 use Rattle.sqlite.specs.State.{HasCleanDisk}
 use Rattle.room_tables.specs.Keyed.{HasSchema}
 use Rattle.room_copy.specs.ProofParts.{CopiesMore, HasGrants}
+use Rattle.room_copy.proofs.AtMost.{fewer_still}
 use Rattle.room_copy.proofs.PartlyCopied.{goes_further, is_ended}
 use Rattle.room_copy.proofs.SavepointKept.{kept_answered_as, kept_refused_as, kept_then}
 use Rattle.room_copy.proofs.accounts.go_on.Goals as goal
@@ -32,6 +33,9 @@ returns-clause-copies g c clean has =
           let two : CopiesMore name HasGrants source mid.now after = subst (λ (db : Database). CopiesMore name HasGrants db mid.now after) same (more.1 source_clean (subst HasSchema (sym same) source_has)) in
           is_ended name source c.args.next c.args.job c.in_ok-further.further before mid.now (made.1 found_clean source_has) after enough two,
     )
+
+pub returns-clause-at_most : goal.returns-clause-at_most
+returns-clause-at_most g c = fewer_still c.args.most c.args.job c.in_ok-further.further c.args.next (omega (arith, c.if-further-next.false)) c.in_ok-further.ensures.at_most
 
 pub returns-clause-inside : goal.returns-clause-inside
 returns-clause-inside g c = kept_answered_as _ _ tt _ (kept_then c.args.savepoint.now c.copy_jobs.new.savepoint c.copy_grants.new.savepoint _ _ c.in_ok-further.ensures.inside c.in_ok-copy_grants.ensures.inside)

@@ -1,10 +1,11 @@
-use Rattle.std.proofs.Common.{◌≤◌, sym, subst, arith, ◌≡◌, ◌∙◌, Err, ap}
+use Rattle.std.proofs.Common.{◌+◌, ◌-◌, ◌≤◌, sym, subst, arith, ◌≡◌, ◌∙◌, Err, ap, rules}
 use Rattle.std.proofs.lemmas.Result.{err_from_is_err_and}
 use Rattle.sqlite.specs.Effect.{Database}
 use Rattle.sqlite.specs.Held.{state}
 use Rattle.sqlite.specs.State.{HasCleanDisk}
 use Rattle.room_tables.specs.Keyed.{HasSchema}
 use Rattle.room_copy.specs.ProofParts.{CopiesMore, HasWholeJob}
+use Rattle.room_copy.proofs.AtMost.{fewer_still, one_more, space_at_first, still_space}
 use Rattle.room_copy.proofs.PartlyCopied.{adds_none, adds_one, adds_fewer}
 use Rattle.room_copy.proofs.ReadsKept.{leaves_answered, leaves_itself, leaves_then, of_read}
 use Rattle.room_copy.proofs.SavepointKept.{kept_answered_as, kept_itself, kept_refused_as, kept_then}
@@ -18,6 +19,7 @@ loop-number-init g c = (
   leaves_itself g.S.Store c.args.source.now tt,
   kept_itself tt c.args.savepoint.now,
   λ clean has. (has, λ source_clean source_has. adds_none c.args.account _ c.args.first _),
+  space_at_first c.args.most c.args.first,
 )
 
 pub returns-in_err-has_documents-clause-inside : goal.returns-in_err-has_documents-clause-inside
@@ -46,7 +48,14 @@ loop-number-preserved g c =
                 let two : CopiesMore name (HasWholeJob k) source mid.now after = subst (λ (db : Database). CopiesMore name (HasWholeJob k) db mid.now after) same (more.1 source_clean (subst HasSchema (sym same) source_has)) in
                 adds_one name source c.args.first k before mid.now after (so_far.1 found_clean source_has) two,
           ),
+      still_space c.args.most c.args.first (k + 1) (k + 1 - c.args.first) (search rules) (c.is_enough.ensures.enough c.if-is_enough.false),
     )
+
+pub returns-then-is_enough-clause-at_most : goal.returns-then-is_enough-clause-at_most
+returns-then-is_enough-clause-at_most g c = one_more c.args.most c.args.first c.loop-number.number c.loop-number.invariant.3
+
+pub returns-clause-at_most : goal.returns-clause-at_most
+returns-clause-at_most g c = fewer_still c.args.most c.args.first (c.loop-number.number + 1) c.args.next (omega (arith, c.loop-number-test.false)) (one_more c.args.most c.args.first c.loop-number.number c.loop-number.invariant.3)
 
 pub returns-then-is_enough-clause-copies : goal.returns-then-is_enough-clause-copies
 returns-then-is_enough-clause-copies g c clean has =

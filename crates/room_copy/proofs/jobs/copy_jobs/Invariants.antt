@@ -6,6 +6,7 @@ use Rattle.room_tables.specs.Keyed.{HasSchema}
 use Rattle.room_copy.specs.Parts.{AddsJobs}
 use Rattle.room_copy.specs.ProofSavepoints.{KeepsSavepoint}
 use Rattle.room_copy.specs.Sources.{LeavesSource}
+use Rattle.room_copy.proofs.AtMost.{HasSpace}
 use Rattle.room_copy.proofs.jobs.copy_jobs.Given as goal
 
 abbrev pub invariant-loop-number : goal.invariant-loop-number
@@ -17,3 +18,4 @@ invariant-loop-number g l =
     × KeepsSavepoint {T = Unit {0}} {E = TableFault} {store = g.T.Store} l.fn.savepoint l.savepoint (Ok tt)
     × (HasCleanDisk after → HasSchema before.now → HasSchema after.now
     × (HasCleanDisk (state g.S.Store l.source) → HasSchema source.now → AddsJobs l.account l.first l.number source.now before.now after.now))
+    × HasSpace l.most l.first l.number

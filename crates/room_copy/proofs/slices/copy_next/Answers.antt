@@ -8,6 +8,7 @@ use Rattle.room_tables.specs.declared.fault.TableFault.TheVariants.{Damaged}
 use Rattle.room_tables.proofs.KeyedRows.{same_fault}
 use Rattle.room_statements.specs.SoundRows.{AccountsRead, CanBeListed}
 use Rattle.room_statements.proofs.SoundReads.{sound_rows_are_read}
+use Rattle.room_copy.specs.Slices.{BeginsAtMost}
 use Rattle.room_copy.proofs.slices.copy_next.Goals as goal
 
 pub returns-in_err-copy_devices-clause-damaged : goal.returns-in_err-copy_devices-clause-damaged
@@ -26,3 +27,9 @@ returns-in_err-further-clause-damaged g c clean has is_damaged sound =
     let before : HasCleanDisk (state g.S.Store c.next_account.new.source) = omega (arith, c.in_err-further.ensures.source.keeps.clean, clean) in
     let same = (c.in_ok-account.ensures.reads.same before has).now in
     c.in_err-further.ensures.damaged clean (subst HasSchema (sym same) has) (ap Err fault) (subst (λ (db : Database). AccountsRead db name) (sym same) (sound_rows_are_read.accounts _ name has (sound.accounts name)))
+
+pub returns-clause-at_most : goal.returns-clause-at_most
+returns-clause-at_most g c clean has =
+    let before : HasCleanDisk (state g.S.Store c.next_account.new.source) = omega (arith, c.in_ok-further.ensures.source.keeps.clean, clean) in
+    let same = (c.in_ok-account.ensures.reads.same before has).now in
+    subst (λ (db : Database). BeginsAtMost c.args.most c.in_ok-further.further db) same (c.in_ok-further.ensures.at_most clean (subst HasSchema (sym same) has))
