@@ -1,6 +1,6 @@
 -- The numbers that a command line may say (this project's own).
-use Rattle.std.specs.Prelude.{◌≡◌, ℕ, ◌==◌, Bool, true, not, ◌&&◌, nat_le, bytes_eq, ⊤, List, [], ◌∷◌, codes, length, Option, None, Some, drop, take, slice_get, option_map}
-use Rattle.std.specs.List.{list_all}
+use Rattle.std.specs.Prelude.{◌≡◌, ℕ, ◌==◌, Bool, true, not, ◌&&◌, ◌||◌, IsTrue, nat_le, bytes_eq, ⊤, List, [], ◌∷◌, codes, length, Option, None, Some, drop, take, slice_get, option_map}
+use Rattle.std.specs.List.{list_all, list_any}
 use Rattle.room_rules.specs.Limits.{last_job, last_month, longest_job_name, most_copies, most_impressions, most_pages, most_rate}
 use Rattle.room_commands.specs.declared.backing_up.BackingUp.{BackingUp}
 use Rattle.room_commands.specs.declared.command.Command.{Command}
@@ -110,8 +110,15 @@ pub record SaysListening (words : List (List ℕ)) (listening : Listening) : Typ
   pub says_port : SaysNumber port listening.port
   pub says_count : SaysNumber count listening.connections
 
+-- the word asks for help, or for the version
+abbrev pub asks_for_help : (word : List ℕ) → Bool
+asks_for_help word = bytes_eq word (codes "help") || bytes_eq word (codes "--help")
+    || bytes_eq word (codes "--version") || bytes_eq (take 2 word) (codes "-h")
+    || bytes_eq (take 2 word) (codes "-V")
+
 -- the words say the command
 abbrev pub IsSaidBy : (words : List (List ℕ)) → Command → Type 0
+IsSaidBy words (command.Help text) = IsTrue (list_any asks_for_help words)
 IsSaidBy words command.Explain = words ≡ codes "explain" ∷ []
 IsSaidBy words (command.Create database) = words ≡ codes "create" ∷ database.now ∷ []
 IsSaidBy words (command.Migrate database) = words ≡ codes "migrate" ∷ database.now ∷ []

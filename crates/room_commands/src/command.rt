@@ -1,7 +1,8 @@
 //! The command line: its commands, and what their words may be.
 ghost use Rattle.std.specs.Prelude.{◌≡◌, ◌≤◌, ℕ, List, IfOk, IfSome, IsTrue};
+ghost use Rattle.std.specs.List.{list_any};
 ghost use Rattle.room_commands.specs.Addresses.{has_port_from};
-ghost use Rattle.room_commands.specs.Commands.{is_in_range, is_owner_task_in_range, is_task_in_range, IsSaidBy};
+ghost use Rattle.room_commands.specs.Commands.{asks_for_help, is_in_range, is_owner_task_in_range, is_task_in_range, IsSaidBy};
 ghost use Rattle.room_commands.specs.Words.{placed, texts};
 ghost use Rattle.room_lines.specs.Saying.{SaysNumber};
 
@@ -129,20 +130,41 @@ fn read_by<'a>(
 {
     match program.try_get_matches_from_mut(words) {
         Ok(matches) => of_matches(alloc, &matches, words).map_err(|unfit| unfit.fault(program)),
-        Err(error) => help_of(alloc, error),
+        Err(error) => help_of(alloc, error, words),
     }
 }
 
 // What the parser tells in place of a command line, where that is what the words ask for.
-fn help_of<'a>(alloc: Global, told: clap::Error) -> Result<Command<'a>, Fault>
+fn help_of<'a>(alloc: Global, told: clap::Error, words: &[&str]) -> Result<Command<'a>, Fault>
     ensures range { IfOk result (λ command. IsTrue (is_in_range command)) }
-    ensures said { (given : List (List ℕ)) → IfOk result (IsSaidBy given) }
+    ensures said { IfOk result (IsSaidBy (placed (texts words.now))) }
 {
-    if told.use_stderr() {
+    let placed = placed_words(alloc, words)?;
+    if told.use_stderr() || !ask_for_help(placed.as_slice()) {
         return Err(Fault::from(told));
     }
     let text = format!(in alloc; "{told}")?;
     Ok(Command::Help { text })
+}
+
+// Whether a word asks for help, or for the version.
+fn ask_for_help(words: &[&str]) -> bool
+    ensures { result ≡ list_any asks_for_help (texts words.now) }
+{
+    match words {
+        [] => false,
+        [word, rest @ ..] => asks_for_help(word) || ask_for_help(rest),
+    }
+}
+
+fn asks_for_help(word: &str) -> bool
+    ensures { result ≡ asks_for_help word.now }
+{
+    word == "help"
+        || word == "--help"
+        || word == "--version"
+        || word.starts_with("-h")
+        || word.starts_with("-V")
 }
 
 fn of_matches<'a>(
