@@ -18,6 +18,8 @@ PACKAGE = f'{TOP}/packaging/cups'
 STOCK = '/usr/lib/cups'
 QUEUE = 'release'
 PASSWORD = 'secret'
+# This machine's address for whoever is at another: cupsd takes what comes over the loopback for its own machine.
+OUTSIDE = '192.0.2.1'
 FIRST_USER_ID = 20000
 MOST_WAIT = 60
 FILES = """
@@ -60,6 +62,7 @@ def bring_up_loopback():
     with socket.socket() as asked:
         flags, = struct.unpack_from('H', fcntl.ioctl(asked, get_flags, struct.pack('16sH14x', b'lo', 0)), 16)
         fcntl.ioctl(asked, set_flags, struct.pack('16sH14x', b'lo', flags | up))
+    subprocess.run(['ip', 'address', 'replace', f'{OUTSIDE}/32', 'dev', 'lo'], check=True)
 
 
 def add_users(folder, names):
