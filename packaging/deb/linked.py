@@ -7,44 +7,45 @@ import os
 import re
 import shutil
 import subprocess
+import sys
 import uuid
 
 # `rt` stands in the kit's folder bin.
 KIT = os.path.dirname(os.path.dirname(os.path.realpath(shutil.which('rt') or 'rt')))
 # The Rust crate that a page of the kit says a crate comes from, as "`arrayvec` 0.7.8".
 ORIGIN = re.compile(r'`?\b(?!section\b)([a-z][\w-]*)`? (\d+\.\d+\.\d+)\b')
-MIT = 'Permission is hereby granted, free of charge'
 FORMAT = 'https://www.debian.org/doc/packaging-manuals/copyright-format/1.0/'
-NO_LICENCE = 'unstated\n The repository has no licence text: ask its owner.'
-
-
-class Licence:
-    """A text of the kit: whether it is the MIT licence, and the lines that say whose the code is."""
-
-    def __init__(self, path):
-        with open(path, encoding='utf-8') as file:
-            self.text = file.read()
-        self.is_mit = MIT in ' '.join(self.text.split())
-        self.name = 'Expat' if self.is_mit else os.path.basename(path)
-        self.owners = [line.strip() for line in self.text.split('\n') if re.match(r'\s*Copyright\s', line)]
+OWN, DUAL = '2026 the authors of Farojuniper', 'MIT OR Apache-2.0'
+NO_TEXT = 'the kit ships no licence text for this crate'
+PERMISSION = 'Permission is hereby granted, free of charge,'
+# Every crate stands on this one, though none names it. What it has of others, as comments of its sources say: where that is, what
+# it is, its licence by Debian's name, and its owner.
+CORE = 'core'
+TAKEN = [('src/char/*', {'type': 'data', 'name': 'Unicode Character Database', 'version': '18.0.0'}, 'Unicode-3.0', 'Unicode, Inc.'),
+         ('src/dec2flt/*', {'type': 'library', 'name': 'fast-float2', 'version': '0.2.4', 'purl': 'pkg:cargo/fast-float2@0.2.4'},
+          'Expat', 'the authors of fast-float2'),
+         ('src/str/two_way.rt', {'type': 'library', 'name': 'memchr', 'version': '2.8.3', 'purl': 'pkg:cargo/memchr@2.8.3'},
+          'Expat', '(c) 2015 Andrew Gallant')]
+# CycloneDX 1.5 has no id for Unicode's.
+IN_BILL = {'Expat': {'id': 'MIT'}, 'Unicode-3.0': {'name': 'Unicode License v3'}}
 
 
 class Linked:
-    """The crates that room_cli stands on, its own and the kit's, with what each needs."""
+    """The crates that room_cli stands on, its own and the kit's, with what each needs, and whose those of the kit are."""
 
     def __init__(self, top):
-        self.top = top
         self.kit = subprocess.run(['rt', 'version'], check=True, stdout=subprocess.PIPE, text=True).stdout.split()[0]
+        self.mit = permission_of(read(f'{top}/LICENSE-MIT'))
         self.needs = {}
-        with open(f'{top}/crates.txt', encoding='utf-8') as file:
-            for line in file:
-                if line[0].isalpha():
-                    name, _, needs = line.partition(':')
-                    self.needs[name.split()[0]] = needs.split()
+        for line in read(f'{top}/crates.txt').splitlines():
+            if line[:1].isalpha():
+                name, _, needs = line.partition(':')
+                self.needs[name.split()[0]] = needs.split()
         self.own, taken = set(self.needs), set()
         self.take('room_cli', taken)
+        self.take(CORE, taken)
         self.needs = {name: self.needs[name] for name in sorted(taken)}
-        self.licences = {name: licences_of(f'{KIT}/rattle/{name}') for name in self.needs if name not in self.own}
+        self.owners = {name: self.owners_of(name) for name in self.needs if name not in self.own}
 
     def take(self, name, taken):
         if name in taken:
@@ -56,28 +57,41 @@ class Linked:
         for need in self.needs[name]:
             self.take(need, taken)
 
-    def own_licence(self):
-        path = f'{self.top}/LICENSE'
-        if not os.path.exists(path):
-            return NO_LICENCE
-        licence = Licence(path)
-        return f'{licence.name}\n{indented(licence.text)}'
+    def owners_of(self, name):
+        """Whose a crate of the kit is, by its text of the MIT licence; nobody's where it has no text."""
+        folder = f'{KIT}/rattle/{name}'
+        texts = [read(f'{folder}/{file}') for file in sorted(os.listdir(folder)) if file.startswith('LICENSE')]
+        for text in texts:
+            if permission_of(text).split() == self.mit.split():
+                return tuple(re.findall(r'^ *Copyright (.+)', text, re.MULTILINE)) or (f'the authors of {name}',)
+        if texts:
+            sys.exit(f'packaging/deb/linked.py: {folder} has a licence that is not MIT, of which nothing is told here')
+        return ()
 
     def own_copyright(self):
-        return (f'Format: {FORMAT}\nUpstream-Name: Farojuniper\nSource: the repository Farojuniper\n\n'
-                f'Files: *\nCopyright: 2026 the authors of Farojuniper\nLicense: {self.own_licence()}\n')
+        return f'{self.own_stanza()}\n{self.own_licences()}'
 
     def copyright(self):
-        """What the licences of the kit's crates ask to be told, each text once."""
-        texts = {}
-        for name, licences in self.licences.items():
-            for licence in licences:
-                texts.setdefault(licence.text, (licence, []))[1].append(name)
-        stanzas = [stanza(names, licence.owners or [f'the authors of {name}' for name in names], licence.name, licence.text)
-                   for licence, names in texts.values()]
-        bare = [name for name, licences in self.licences.items() if not licences]
-        stanzas.append(stanza(bare, [f'the authors of {self.kit}'], 'unstated-kit', 'The kit has no licence text for these crates, its own.'))
-        return f'{self.own_copyright()}Comment: kit/ stands for the crates of {self.kit} that are linked in.\n\n' + '\n'.join(stanzas)
+        """What the licences of the kit's crates ask to be told too, each text once."""
+        files = {}
+        for name, owners in self.owners.items():
+            files.setdefault(owners, []).append(f'kit/{name}/*')
+        bare = files.pop(())
+        stanzas = [f'{self.own_stanza()}Comment: kit/ stands for the crates of {self.kit} that are linked in.\n',
+                   stanza(bare, [f'the authors of {self.kit}'], 'unstated\n The kit ships no licence text for these crates.'),
+                   *(stanza(paths, owners, 'Expat') for owners, paths in files.items()),
+                   *(stanza([f'kit/{CORE}/{path}'], [owner], licence) for path, _, licence, owner in TAKEN),
+                   self.own_licences(),
+                   f'License: Unicode-3.0\n{indented(read(f"{KIT}/rattle/unicode/LICENSE-UNICODE"))}\n']
+        return '\n'.join(stanzas)
+
+    def own_stanza(self):
+        return (f'Format: {FORMAT}\nUpstream-Name: Farojuniper\nSource: the repository Farojuniper\n\n'
+                + stanza(['*'], [OWN], 'Expat or Apache-2.0'))
+
+    def own_licences(self):
+        return (f'License: Expat\n{indented(self.mit)}\n\nLicense: Apache-2.0\n'
+                ' The Apache License, Version 2.0, whose text Debian has as /usr/share/common-licenses/Apache-2.0.\n')
 
     def bill(self, version, digest, origin, moment):
         """The bill of materials of a program with this sum."""
@@ -86,41 +100,47 @@ class Linked:
                 'serialNumber': f'urn:uuid:{uuid.uuid5(uuid.NAMESPACE_URL, f"ipp-room {version} {origin}")}',
                 'metadata': {'timestamp': datetime.datetime.fromtimestamp(moment, datetime.timezone.utc).strftime('%Y-%m-%dT%H:%M:%SZ'),
                              'component': {'type': 'application', 'bom-ref': 'ipp-room', 'name': 'ipp-room', 'version': version,
-                                           'description': origin, 'hashes': [{'alg': 'SHA-256', 'content': digest}]}},
+                                           'description': origin, 'hashes': [{'alg': 'SHA-256', 'content': digest}],
+                                           'licenses': [{'expression': DUAL}]}},
                 'components': components,
-                'dependencies': [{'ref': 'ipp-room', 'dependsOn': ['room_cli']},
+                'dependencies': [{'ref': 'ipp-room', 'dependsOn': ['room_cli', CORE]},
                                  *({'ref': name, 'dependsOn': needs} for name, needs in self.needs.items())]}
         return json.dumps(bill, indent=1, ensure_ascii=False) + '\n'
 
     def component(self, name, version):
         if name in self.own:
-            return {'type': 'library', 'bom-ref': name, 'group': 'farojuniper', 'name': name, 'version': version}
+            return {'type': 'library', 'bom-ref': name, 'group': 'farojuniper', 'name': name, 'version': version,
+                    'licenses': [{'expression': DUAL}]}
         told = {'type': 'library', 'bom-ref': name, 'group': 'rattle-kit', 'name': name, 'version': self.kit.removeprefix('rattle-kit-')}
-        licences = self.licences[name]
-        if licences:
-            told['licenses'] = [{'license': {'id': 'MIT'} if licence.is_mit else {'name': licence.name}} for licence in licences]
-            told['pedigree'] = {'ancestors': [{'type': 'library', 'name': ancestor, 'version': number, 'purl': f'pkg:cargo/{ancestor}@{number}'}
-                                              for ancestor, number in origins_of(f'{KIT}/rattle/{name}')]}
+        if self.owners[name]:
+            told['licenses'] = [{'license': IN_BILL['Expat']}]
+            told['pedigree'] = {'ancestors': origins_of(f'{KIT}/rattle/{name}')}
+        else:
+            told['properties'] = [{'name': 'farojuniper:no-licence', 'value': NO_TEXT}]
+        if name == CORE:
+            told['pedigree'] = {'ancestors': [{**part, 'licenses': [{'license': IN_BILL[licence]}]} for _, part, licence, _ in TAKEN]}
         return told
 
 
-def stanza(names, owners, licence, text):
-    files, copyright_lines = ' '.join(f'kit/{name}/*' for name in names), '\n '.join(owners)
-    return f'Files: {files}\nCopyright: {copyright_lines}\nLicense: {licence}\n{indented(text)}\n'
+def read(path):
+    with open(path, encoding='utf-8') as file:
+        return file.read()
 
 
-def licences_of(folder):
-    """The texts under which a crate of the kit may be used; where MIT is offered, that one. Its notices always."""
-    names = sorted(name for name in os.listdir(folder) if name.startswith(('LICENSE', 'NOTICE', 'COPYING')))
-    licences = [Licence(f'{folder}/{name}') for name in names]
-    chosen = [licence for licence in licences if licence.is_mit] or licences
-    return [licence for name, licence in zip(names, licences) if licence in chosen or name.startswith('NOTICE')]
+def permission_of(text):
+    """The MIT licence, without the lines that say whose something is; nothing of another text."""
+    return text[text.index(PERMISSION):] if PERMISSION in text else ''
+
+
+def stanza(files, owners, licence):
+    owned, licensed = '\n '.join(owners), '\n '.join(files)
+    return f'Files: {licensed}\nCopyright: {owned}\nLicense: {licence}\n'
 
 
 def origins_of(folder):
-    """Name and version of the Rust crates that a page of the kit names."""
-    with open(f'{folder}/README.md', encoding='utf-8') as file:
-        return sorted({(name, number) for name, number in ORIGIN.findall(file.read())})
+    """The Rust crates that a page of the kit names, with their versions."""
+    return [{'type': 'library', 'name': name, 'version': number, 'purl': f'pkg:cargo/{name}@{number}'}
+            for name, number in sorted(set(ORIGIN.findall(read(f'{folder}/README.md'))))]
 
 
 def indented(text):
