@@ -2,9 +2,12 @@
 
 use std::alloc::Global;
 use std::fs::{File, Files, OpenOptions};
-use std::io::Write;
+use std::io::{ErrorKind, Write};
 use std::os::unix::fs::{MetadataExt, OpenOptionsExt};
 use std::{fs, io};
+
+/// Its owner alone reads and writes.
+const OWNER_ALONE: u32 = 0o600;
 
 /// The file at a path, to whose end lines go.
 #[derive(Drop)]
@@ -16,7 +19,7 @@ pub struct LogFile {
 }
 
 impl LogFile {
-    /// Opens the file, or makes it, for its owner and its group alone. The error is the system's, or
+    /// Opens the file, or makes it, for its owner alone. The error is the system's, or
     /// tells that memory was refused.
     pub fn open<R: Files<File = File> + Alloc<A = Global>>(
         files: &R,
@@ -77,10 +80,18 @@ impl Write for LogFile {
     }
 }
 
+/// Opens the file for what is appended. Where none is there it is made, for its owner alone, and not
+/// where a link leads.
 fn open_end<R: Files<File = File>>(files: &R, path: &str) -> io::Result<File> {
-    OpenOptions::new()
+    let made = OpenOptions::new()
         .append(true)
-        .create(true)
-        .mode(0o640)
-        .open(files, path)
+        .create_new(true)
+        .mode(OWNER_ALONE)
+        .open(files, path);
+    match made {
+        Err(error) if error.kind() == ErrorKind::AlreadyExists => {
+            OpenOptions::new().append(true).open(files, path)
+        }
+        made => made,
+    }
 }
