@@ -10,6 +10,7 @@ pub mod Lines
 pub mod Names
 pub mod Refunds
 pub mod Reports
+pub mod Shown
 pub mod Statements
 pub mod Tables
 pub mod Talks

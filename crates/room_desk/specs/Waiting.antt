@@ -5,6 +5,7 @@ use Rattle.room_desk.specs.Ages.{is_as_old}
 use Rattle.room_desk.specs.Asked.{account_asked}
 use Rattle.room_desk.specs.Csv.{record_text}
 use Rattle.room_desk.specs.Jobs.{Tells, waits}
+use Rattle.room_desk.specs.Shown.{shown_text}
 use Rattle.room_desk.specs.Talks.{At, AsksList, InTurn, Prints}
 use Rattle.room_desk.specs.declared.job.TellsJob.{TellsJob}
 use Rattle.room_desk.specs.declared.waiting.Age.{Age}
@@ -30,7 +31,7 @@ waiting_head = codes "account" ∷ codes "job" ∷ codes "state" ∷ codes "devi
 abbrev pub job_fields : (account : List ℕ) (job : TellsJob) → List (List ℕ)
 job_fields account job = account ∷ job.job.now ∷ job.state.now ∷ or_empty job.device.now
     ∷ job.made.now ∷ or_empty job.password.now ∷ job.copies.now ∷ job.impressions.now
-    ∷ job.documents.now ∷ job.name.now ∷ []
+    ∷ job.documents.now ∷ shown_text job.name.now ∷ []
 
 -- behind the records that are there comes that of the job a line tells of, where it is chosen
 pub record ListsJob (age : Age) (account line before after : List ℕ) : Type 0 where

@@ -13,6 +13,7 @@ use crate::csv::put_record;
 use crate::job::TellsJob;
 use crate::names::all_names;
 use crate::printed::print_record;
+use crate::shown::shown_text;
 use room_client::{ClientFault, Peer, ask_list};
 use room_rules::Name;
 use std::alloc::Global;
@@ -149,6 +150,7 @@ fn put_job(records: &mut Vec<u8>, account: &Name, job: &TellsJob<'_>) -> Result<
     ensures { OnOk result (records.new.items
         ≡ records.old.items ++ record_text (job_fields account.now job.now)) }
 {
+    let name = shown_text(*records.allocator(), job.name)?;
     let fields = [
         account.bytes(),
         job.job,
@@ -159,7 +161,7 @@ fn put_job(records: &mut Vec<u8>, account: &Name, job: &TellsJob<'_>) -> Result<
         job.copies,
         job.impressions,
         job.documents,
-        job.name,
+        name.as_slice(),
     ];
     Ok(put_record(records, &fields)?)
 }

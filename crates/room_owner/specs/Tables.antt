@@ -4,6 +4,7 @@ use Rattle.std.specs.Prelude.{◌≡◌, ℕ, ◌-◌, ◌==◌, if◌then◌els
 use Rattle.ipp_coding.specs.Plain.{PlainAttribute, PlainGroup}
 use Rattle.ipp_coding.specs.Reading.{◌>>=◌}
 use Rattle.room_desk.specs.Csv.{record_text}
+use Rattle.room_desk.specs.Shown.{shown_text}
 use Rattle.room_owner.specs.Answers.{number_named, text_named}
 use Rattle.room_owner.specs.declared.jobs.JobRow.{JobRow}
 
@@ -73,7 +74,7 @@ number_field (Some number) = decimal number
 
 abbrev pub row_fields : PlainRow → List (List ℕ)
 row_fields row = decimal row.number ∷ row.state ∷ decimal row.made ∷ decimal row.copies
-    ∷ number_field row.impressions ∷ decimal row.documents ∷ row.name ∷ []
+    ∷ number_field row.impressions ∷ decimal row.documents ∷ shown_text row.name ∷ []
 
 -- a group of job attributes has the record of its job, another has none
 abbrev pub record_told : (now : ℕ) → PlainGroup → Option (List ℕ)

@@ -10,7 +10,7 @@ use ipp_coding::tags::JOB_ATTRIBUTES;
 use ipp_coding::{Attribute, Group};
 use itoa::Buffer;
 use room_client::ClientFault;
-use room_desk::put_record;
+use room_desk::{put_record, shown_text};
 use std::alloc::Global;
 
 /// A job, as its group tells it.
@@ -135,6 +135,7 @@ fn put_row(text: &mut Vec<u8>, row: &JobRow<'_>) -> Result<(), ClientFault>
     let mut copies = Buffer::new();
     let mut impressions = Buffer::new();
     let mut documents = Buffer::new();
+    let name = shown_text(*text.allocator(), row.name)?;
     let fields = [
         number.format(row.number).as_bytes(),
         row.state,
@@ -142,7 +143,7 @@ fn put_row(text: &mut Vec<u8>, row: &JobRow<'_>) -> Result<(), ClientFault>
         copies.format(row.copies).as_bytes(),
         number_field(&mut impressions, row.impressions),
         documents.format(row.documents).as_bytes(),
-        row.name,
+        name.as_slice(),
     ];
     Ok(put_record(text, &fields)?)
 }

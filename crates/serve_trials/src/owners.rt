@@ -85,6 +85,7 @@ fn commands_of_an_owner(rt: &HostRuntime) -> Result<(), Fault> {
         ipp-room release ipp://127.0.0.1:8631/ipp/print/alice 1\n";
     expect_asked(rt, &mut rooms, &Asked::Print(job), true, told)?;
     let secret = NewJob {
+        name: b"=a,\x1b\xe2\x80\xae",
         impressions: None,
         password: Some(b"1234".as_slice()),
         ..job
@@ -93,7 +94,8 @@ fn commands_of_an_owner(rt: &HostRuntime) -> Result<(), Fault> {
         b"job 2\nRelease it at a station, with its PIN, and tell there how many pages it has.\n";
     expect_asked(rt, &mut rooms, &Asked::Print(secret), true, told)?;
     let table = b"job,state,made,copies,impressions,documents,name\r\n\
-        1,held,1788220800,2,3,1,\"a,b\"\r\n2,held,1788220800,2,,1,\"a,b\"\r\n";
+        1,held,1788220800,2,3,1,\"a,b\"\r\n\
+        2,held,1788220800,2,,1,\"'=a,\xef\xbf\xbd\xef\xbf\xbd\"\r\n";
     expect_asked(rt, &mut rooms, &Asked::Jobs, true, table)?;
     expect_acts(rt, &mut rooms)
 }
