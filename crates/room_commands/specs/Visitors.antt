@@ -1,9 +1,7 @@
 -- Who comes in by the doors of `serve`, and by which address (this project's own).
-use Rattle.std.specs.Prelude.{◌≡◌, ◌⊎◌, ⊤, ℕ, Bool, true, false, if◌then◌else◌, List, [], ◌∷◌, codes, Option, Some, None}
+use Rattle.std.specs.Prelude.{◌≡◌, ◌⊎◌, ℕ, if◌then◌else◌, IsTrue, List, [], ◌∷◌, codes, Option, Some, None}
 use Rattle.std.specs.Str.{bytes_eq}
-use Rattle.room_commands.specs.Addresses.{IsAddressOf}
-use Rattle.room_commands.specs.declared.address.Address.{Address}
-use Rattle.room_commands.specs.declared.address.Address.TheVariants.{Path, Port}
+use Rattle.room_commands.specs.Addresses.{IsAddressOf, has_digits_alone}
 use Rattle.room_commands.specs.declared.served_door.ServedDoor.{ServedDoor}
 use Rattle.room_commands.specs.declared.visitors.Visitors.{Visitors}
 use Rattle.room_commands.specs.declared.visitors.Visitors.TheVariants.{Clients, Operators, Pages, Stations}
@@ -21,22 +19,10 @@ option_of Pages = codes "--pages"
 option_of Stations = codes "--stations"
 option_of Operators = codes "--operators"
 
--- who comes by a port alone
-abbrev pub needs_port : Visitors → Bool
-needs_port Clients = true
-needs_port Pages = false
-needs_port Stations = false
-needs_port Operators = false
-
-abbrev pub CanComeBy : Visitors → Address → Type 0
-CanComeBy visitors (Path path) = needs_port visitors ≡ false
-CanComeBy visitors (Port port) = ⊤
-
 -- the door is theirs, at the address of the word
 pub record IsDoorOf (whose : Visitors) (word : List ℕ) (door : ServedDoor) : Type 0 where
   pub visitors : door.visitors ≡ whose
   pub address : IsAddressOf word 0 door.address
-  pub can : CanComeBy whose door.address
 
 -- the word behind which the file of the log stands
 abbrev pub log_option : List ℕ
@@ -63,9 +49,10 @@ abbrev pub log_behind : (words : List (List ℕ)) → Option (List ℕ)
 log_behind (port ∷ stations ∷ operators ∷ options) = log_among options
 log_behind _ = None
 
--- the addresses of clients, stations and operators, and behind them options
+-- the port of clients, the addresses of stations and operators, and behind them options
 abbrev pub AreDoors : (words : List (List ℕ)) (doors : List ServedDoor) → Type 0
 AreDoors (port ∷ stations ∷ operators ∷ options) (first ∷ second ∷ third ∷ further) =
-    IsDoorOf Clients port first × IsDoorOf Stations stations second
-    × IsDoorOf Operators operators third × AreOptions options further
+    IsTrue (has_digits_alone port) × IsDoorOf Clients port first
+    × IsDoorOf Stations stations second × IsDoorOf Operators operators third
+    × AreOptions options further
 AreDoors _ _ = ⊥

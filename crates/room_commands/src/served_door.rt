@@ -1,8 +1,10 @@
 //! A door that `serve` opens, and the words that say it.
-ghost use Rattle.std.specs.Prelude.{◌≡◌, ◌++◌, IfOk, List, OnOk, option_map};
+ghost use Rattle.std.specs.Prelude.{◌≡◌, ◌++◌, IfOk, IsTrue, List, OnOk, option_map};
+ghost use Rattle.room_commands.specs.Addresses.{has_digits_alone};
 ghost use Rattle.room_commands.specs.Visitors.{AreDoors, AreOptions, IsDoorOf, log_among, log_behind};
 ghost use Rattle.room_commands.specs.Words.{texts};
 ghost use Rattle.room_commands.specs.declared.served_door.ServedDoor.{ServedDoor as PlainDoor};
+ghost use Rattle.room_commands.specs.declared.visitors.Visitors.TheVariants.{Clients};
 
 use crate::address::Address;
 use crate::unfit::Unfit;
@@ -25,9 +27,22 @@ impl<'a> ServedDoor<'a> {
         ensures { IfOk result (IsDoorOf visitors word.now) }
     {
         match Address::read(word, 0) {
-            Some(Address::Path(_)) | None if visitors.needs_port() => Err(Unfit::ServedPort),
             Some(address) => Ok(ServedDoor { visitors, address }),
             None => Err(Unfit::ServedAddress),
+        }
+    }
+
+    /// The door of clients at the port that a word is.
+    fn at_port(word: &'a str) -> Result<ServedDoor<'a>, Unfit>
+        ensures door { IfOk result (IsDoorOf Clients word.now) }
+        ensures port { IfOk result (λ _. IsTrue (has_digits_alone word.now)) }
+    {
+        match Address::read(word, 0) {
+            Some(address @ Address::Port(_)) => {
+                let visitors = Visitors::Clients;
+                Ok(ServedDoor { visitors, address })
+            }
+            Some(Address::Path(_)) | None => Err(Unfit::ServedPort),
         }
     }
 }
@@ -41,7 +56,7 @@ pub(crate) fn doors_of<'a>(alloc: Global, words: &[&'a str]) -> Result<Vec<Serve
         return Err(Unfit::Missing);
     };
     let mut doors = Vec::new(alloc);
-    doors.push(ServedDoor::read(Visitors::Clients, port)?)?;
+    doors.push(ServedDoor::at_port(port)?)?;
     doors.push(ServedDoor::read(Visitors::Stations, stations)?)?;
     doors.push(ServedDoor::read(Visitors::Operators, operators)?)?;
     put_options(options, &mut doors)?;

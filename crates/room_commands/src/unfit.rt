@@ -40,7 +40,7 @@ impl Unfit {
             Unfit::Count => Some("COUNT is a number from 0 to 1000000"),
             Unfit::ServedPort => Some("PORT is a number from 0 to 65535"),
             Unfit::ServedAddress => {
-                Some("STATIONS and OPERATORS are ports from 0 to 65535, or paths")
+                Some("STATIONS, OPERATORS and ADDRESS are ports from 0 to 65535, or paths")
             }
             Unfit::Option => Some("options stand behind the words, each with its value"),
             Unfit::Address => Some("ADDRESS is a port from 1 to 65535, or a path"),

@@ -1,6 +1,6 @@
 //! Who comes in by the doors of `serve`, and what the command line calls them.
 ghost use Rattle.std.specs.Prelude.{◌≡◌, IfSome};
-ghost use Rattle.room_commands.specs.Visitors.{name_of, needs_port, option_of};
+ghost use Rattle.room_commands.specs.Visitors.{name_of, option_of};
 
 /// Who comes in by a door.
 #[derive(Clone, Copy, PartialEq, Eq)]
@@ -25,16 +25,6 @@ impl Visitors {
             Visitors::Pages => "pages",
             Visitors::Stations => "stations",
             Visitors::Operators => "operators",
-        }
-    }
-
-    /// Whether they come by a port alone.
-    pub(crate) fn needs_port(self) -> bool
-        ensures { result ≡ needs_port self }
-    {
-        match self {
-            Visitors::Clients => true,
-            Visitors::Pages | Visitors::Stations | Visitors::Operators => false,
         }
     }
 

@@ -228,8 +228,8 @@ const FOR_OPERATORS: Argument = Argument {
 
 const MORE_CLIENTS: Argument = Argument {
     name: CLIENTS_TOO,
-    help: Some("A further port of clients"),
-    kind: Kind::Named(PORT),
+    help: Some("A further address of clients"),
+    kind: Kind::Named(ADDRESS),
 };
 
 const FOR_PAGES: Argument = Argument {

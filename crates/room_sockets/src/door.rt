@@ -11,11 +11,10 @@ use std::os::unix::fs::{FileTypeExt, PermissionsExt};
 use std::rt::Files;
 use std::{fs, io};
 
-/// Its owner alone reads and writes.
-const OWNERS_ALONE: u32 = 0o600;
+/// Its owner and its group read and write.
+const OWNER_AND_GROUP: u32 = 0o660;
 
-/// How many peers at most are sent away that came before the file of a socket was its owner's
-/// alone.
+/// How many peers at most are sent away that came before the file of a socket had its mode.
 const MOST_EARLY: u32 = 100_000;
 
 /// A socket that listens.
@@ -32,9 +31,9 @@ impl Door {
         Ok(Door::Tcp(TcpListener::bind(net, addr)?))
     }
 
-    /// Listens on a socket at the path, which nobody but its owner can reach. A socket that a run
-    /// left which was killed is replaced, but no other file, and none on which somebody listens:
-    /// `AddrInUse`.
+    /// Listens on a socket at the path, which nobody but its owner and its group can reach. A socket
+    /// that a run left which was killed is replaced, but no other file, and none on which somebody
+    /// listens: `AddrInUse`.
     pub fn at_path<R: Files + Net>(rt: &R, path: &str) -> io::Result<Door> {
         let listener = match UnixListener::bind(rt, path) {
             Err(error) if error.kind() == ErrorKind::AddrInUse => {
@@ -43,7 +42,7 @@ impl Door {
             }
             listener => listener?,
         };
-        fs::set_permissions(rt, path, Permissions::from_mode(OWNERS_ALONE))?;
+        fs::set_permissions(rt, path, Permissions::from_mode(OWNER_AND_GROUP))?;
         send_away(&listener);
         Ok(Door::Unix(listener))
     }
@@ -83,7 +82,7 @@ fn remove_left<R: Files + Net>(rt: &R, path: &str) -> io::Result<()> {
     }
 }
 
-/// Sends away who came before the file was its owner's alone.
+/// Sends away who came before the file had its mode.
 fn send_away(listener: &UnixListener) {
     for _ in 0..MOST_EARLY {
         if listener.accept().is_err() {
