@@ -6,9 +6,11 @@ use room_commands::MEMORY;
 use room_store::OpenFault;
 use sqlite::{Connection, File, FileStore, Options, Unknown};
 use sqlite_std_file::OpenError;
-use std::fs;
+use std::fs::OpenOptions;
 use std::hash::{BuildHasher, RandomState};
 use std::io::ErrorKind;
+use std::os::unix::fs::OpenOptionsExt;
+use std::{fs, io};
 
 /// The most pages that a connection keeps in memory of those that it has read. A page has 4096
 /// bytes, so they take 160 MiB.
@@ -24,8 +26,12 @@ const PAGE_BYTES: u64 = 4_096;
 /// less of a full disk: what changes, and the log of it, fit into the space that `serve` keeps.
 const CHECKPOINT_FRAMES: usize = 250;
 
-/// A connection to the file, which is made where it is not there. `Storage` where the path is a URI
-/// or `:memory:`, which name no file, or the file can't be opened; `Memory` where memory ran out.
+/// Its owner alone reads and writes.
+const OWNER_ALONE: u32 = 0o600;
+
+/// A connection to the file, which is made where it is not there, for its owner alone. `Storage` where
+/// the path is a URI or `:memory:`, which name no file, or the file can't be opened; `Memory` where
+/// memory ran out.
 pub(crate) fn connect(
     rt: &HostRuntime,
     path: &str,
@@ -34,6 +40,9 @@ pub(crate) fn connect(
         return Err(OpenFault::Storage);
     }
     let options = options_for(rt, path)?;
+    if let Err(error) = make_missing(rt, path) {
+        return Err(fault_of(OpenError::Io(error)));
+    }
     let files = match sqlite_std_file::open(rt, path, Unknown) {
         Ok(files) => files,
         Err(error) => return Err(fault_of(error)),
@@ -41,6 +50,20 @@ pub(crate) fn connect(
     match Connection::open_files(rt.alloc(), files, options) {
         Ok(connection) => Ok(connection),
         Err((error, _)) => Err(OpenFault::from(error)),
+    }
+}
+
+/// Makes an empty file where none is there, which is an empty database. Its log gets its mode from the
+/// library.
+fn make_missing(rt: &HostRuntime, path: &str) -> io::Result<()> {
+    let made = OpenOptions::new()
+        .write(true)
+        .create_new(true)
+        .mode(OWNER_ALONE)
+        .open(rt, path);
+    match made {
+        Err(error) if error.kind() != ErrorKind::AlreadyExists => Err(error),
+        _ => Ok(()),
     }
 }
 
