@@ -35,6 +35,7 @@ pub use fault::Fault;
 pub use listening::Listening;
 pub use opener::Opener;
 pub use owner_errand::{OwnerErrand, OwnerTask, Printing};
+pub use parser::VERSION;
 pub use printing::print_text;
 pub use program::run;
 pub use sending::Sending;

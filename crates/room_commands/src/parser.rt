@@ -7,7 +7,8 @@ use std::alloc::{AllocError, Global};
 
 const PROGRAM: &str = "ipp-room";
 
-const VERSION: &str = "1.0.0";
+/// The version of the program.
+pub const VERSION: &str = "1.1.0";
 
 /// The program, with all its commands.
 pub(crate) fn program<'a>(alloc: Global) -> Result<Command<'a>, AllocError> {

@@ -13,6 +13,7 @@ mod owner;
 mod program;
 mod sending;
 mod serving;
+mod version;
 
 pub use listening::listen;
 pub use program::start;

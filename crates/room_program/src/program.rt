@@ -7,17 +7,19 @@ use crate::listening::listen;
 use crate::owner::run_owner_errand;
 use crate::sending::send;
 use crate::serving::serve;
+use crate::version::{asks_for_version, print_version};
 use room_commands::{BackingUp, Errand, Fault, Listening, OwnerErrand, Sending, Serving, words_of};
 use room_databases::run_on;
 use room_sockets::moment;
 use std::io::{BufWriter, Write};
 
 /// Does what the words after the program's name ask for, over the standard streams, and answers the
-/// exit status. Where that is not 0, standard error has why.
-pub fn start(rt: &HostRuntime) -> u8
+/// exit status. Where that is not 0, standard error has why. `commit` is what the version tells of the
+/// sources that the program is built of.
+pub fn start(rt: &HostRuntime, commit: &str) -> u8
     ensures { result ≤ 5 }
 {
-    match begin(rt) {
+    match begin(rt, commit) {
         Ok(status) => status,
         Err(fault) => {
             // The status tells of the fault even where its text can't be written.
@@ -28,13 +30,17 @@ pub fn start(rt: &HostRuntime) -> u8
 }
 
 // The exit status of a run, or why it could not begin.
-fn begin(rt: &HostRuntime) -> Result<u8, Fault>
+fn begin(rt: &HostRuntime, commit: &str) -> Result<u8, Fault>
     ensures { IfOk result (λ status. status ≤ 5) }
 {
     let alloc = rt.alloc();
     let given = words_of(rt)?;
     let words: Vec<&str> = given.iter().map(|word| word.as_str()).collect(alloc)?;
     let mut output = BufWriter::new(alloc, rt.stdout())?;
+    if asks_for_version(words.as_slice()) {
+        print_version(&mut output, commit)?;
+        return Ok(0);
+    }
     run(rt, words.as_slice(), &mut output)
 }
 
