@@ -4,6 +4,7 @@ CUPS begins a job anew where it was killed in the midst of it. So for each docum
 which the backend `once` removes before it sends the first byte. Where the station could remove it instead, the document
 was not printed, and will never be; where it is gone, it is not to be printed again.
 """
+import contextlib
 import os
 import time
 
@@ -48,10 +49,11 @@ class Spooler:
         return True
 
     def withdraw_others(self, names):
-        """Removes what an earlier run of the station allowed, and did not come to hand over."""
+        """Removes what an earlier run of the station allowed, and did not come to hand over. A folder there allows nothing."""
         for name in os.listdir(self.folder):
             if name not in names:
-                self.withdraw(name)
+                with contextlib.suppress(IsADirectoryError):
+                    self.withdraw(name)
 
     def sync(self):
         folder = os.open(self.folder, os.O_RDONLY)

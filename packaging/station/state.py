@@ -1,4 +1,5 @@
 """What a station keeps on its disk: the job that it prints, what CUPS has still to remove, and who guessed PINs."""
+import contextlib
 import fcntl
 import json
 import os
@@ -6,6 +7,11 @@ import os
 
 class Damaged(Exception):
     """The file is not one that a station wrote."""
+
+
+def open_own(path, flags):
+    """Opens a file that the station alone reads, whatever its umask, and follows no link."""
+    return os.open(path, flags | os.O_NOFOLLOW, 0o600)
 
 
 class State:
@@ -21,7 +27,7 @@ class State:
 
     def read(self):
         try:
-            with open(self.path, encoding='utf-8') as file:
+            with open(self.path, encoding='utf-8', opener=open_own) as file:
                 kept = json.load(file)
             self.job, self.leftovers, self.guesses = kept['job'], kept['leftovers'], kept['guesses']
         except FileNotFoundError:
@@ -32,7 +38,10 @@ class State:
     def save(self):
         """Returns once it is on the disk."""
         text = json.dumps({'job': self.job, 'leftovers': self.leftovers, 'guesses': self.guesses}, indent=1)
-        with open(f'{self.path}.new', 'w', encoding='utf-8') as file:
+        with contextlib.suppress(FileNotFoundError):
+            # Of a run that was ended in the midst of it.
+            os.remove(f'{self.path}.new')
+        with open(f'{self.path}.new', 'x', encoding='utf-8', opener=open_own) as file:
             file.write(text)
             file.flush()
             os.fsync(file.fileno())
