@@ -119,7 +119,7 @@ class Printing:
 
     def wait_for_server(self):
         self.screen.say('The print server does not answer. It is asked again.')
-        self.screen.pause(AGAIN)
+        self.screen.wait(AGAIN)
 
     def row(self, job):
         """What the server tells of a job, or None where it has ended or another device has it."""
@@ -166,7 +166,7 @@ class Printing:
         for attempt in range(TRIES):
             if attempt:
                 self.screen.say(f'{told}. It is handed over again.')
-                self.screen.pause(AGAIN)
+                self.screen.wait(AGAIN)
             try:
                 handed = self.permit(job, number)
             except OSError as error:
