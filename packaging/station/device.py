@@ -1,6 +1,9 @@
 """The device at the station: what it has, and what it counts. It alone knows what came out."""
 import collections
+import functools
+import re
 import subprocess
+import sys
 
 import ipp
 import ticket
@@ -17,8 +20,8 @@ Printed = collections.namedtuple('Printed', 'number state count')
 class Device:
     """A device's own printer of IPP. `agent` is where it answers SNMP, as HOST or HOST:PORT, if it does."""
 
-    def __init__(self, uri, agent=None, community='public'):
-        self.printer = ipp.Printer(uri, timeout=10)
+    def __init__(self, uri, trust=None, agent=None, community='public'):
+        self.printer = ipp.Printer(uri, timeout=10, trust=trust)
         self.agent, self.community = agent, community
 
     def supported(self):
@@ -28,10 +31,10 @@ class Device:
         """Why it can't print now, or None."""
         try:
             told = self.printer.attributes(['printer-state', 'printer-state-reasons', 'printer-is-accepting-jobs'])
-        except (OSError, ipp.Refused):
-            return 'The printer does not answer. Is it turned on?'
+        except (OSError, ipp.Refused) as error:
+            return silence(error, ' Is it turned on?')
         if told.get('printer-state') == [ipp.PRINTER_STOPPED]:
-            return f"The printer has stopped: {', '.join(told.get('printer-state-reasons', []))}."
+            return f"The printer has stopped: {', '.join(ipp.texts_of(told, 'printer-state-reasons'))}."
         if told.get('printer-is-accepting-jobs') == [False]:
             return 'The printer takes no jobs now.'
         return None
@@ -40,9 +43,9 @@ class Device:
         """What the device tells of the job of this name, or None where it knows none."""
         names = ['job-id', 'job-name', 'job-state', 'job-impressions-completed']
         for job in self.printer.jobs(names):
-            if job.get('job-name') == [name] and 'job-id' in job and 'job-state' in job:
-                count = job.get('job-impressions-completed', [None])[0]
-                return Printed(job['job-id'][0], job['job-state'][0], count if isinstance(count, int) else 0)
+            number, state = ipp.number_of(job, 'job-id'), ipp.number_of(job, 'job-state')
+            if job.get('job-name') == [name] and number is not None and state is not None:
+                return Printed(number, state, ipp.number_of(job, 'job-impressions-completed') or 0)
         return None
 
     def is_idle(self):
@@ -64,7 +67,21 @@ class Device:
     def asked(self, number):
         words = ['snmpget', '-v1', '-c', self.community, '-t', '2', '-r', '2', '-Oqve', self.agent, number]
         told = subprocess.run(words, stdout=subprocess.PIPE, stderr=subprocess.DEVNULL, check=False).stdout.strip()
-        return int(told) if told.isdigit() else None
+        return int(told) if re.fullmatch(b'[0-9]{1,10}', told) else None
+
+
+def silence(error, more=''):
+    """What is said of a device that gave no answer."""
+    if isinstance(error, ipp.Stranger):
+        log(str(error))
+        return 'What answers there is not known to be this printer: its certificate is another. Tell the print room.'
+    return f'The printer does not answer.{more}'
+
+
+@functools.cache
+def log(text):
+    """Tells it once, where the operator reads it."""
+    print(f'ipp-room-station: {text}', file=sys.stderr, flush=True)
 
 
 def came_out(before, after):

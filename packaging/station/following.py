@@ -32,8 +32,8 @@ class Following:
         queue = self.state_in_queue()
         try:
             printed = self.device.find(self.name)
-        except (OSError, ipp.Refused):
-            self.tell('The printer does not answer.')
+        except (OSError, ipp.Refused) as error:
+            self.tell(device.silence(error))
             self.missing = None
             self.without_device(now, queue)
             return

@@ -1,11 +1,15 @@
 """Requests of IPP over HTTP (RFC 8010, RFC 8011) to a printer: a device, or a queue of the local CUPS."""
 import http.client
+import io
 import os
 import pwd
+import re
 import socket
 import ssl
 import struct
 from urllib.parse import urlsplit
+
+from reading import Bounded
 
 PRINT_JOB, CANCEL_JOB, GET_JOB, GET_JOBS, GET_PRINTER = 0x02, 0x08, 0x09, 0x0A, 0x0B
 INTEGER, BOOLEAN, ENUM, RANGE = 0x21, 0x22, 0x23, 0x33
@@ -14,6 +18,9 @@ OPERATION_GROUP, JOB_GROUP, END = 0x01, 0x02, 0x03
 PENDING, HELD, PROCESSING, CANCELED, COMPLETED = 3, 4, 5, 7, 9
 PRINTER_IDLE, PRINTER_STOPPED = 3, 5
 NOT_FOUND = 0x0406
+# Of an answer: bytes, all of HTTP included, and groups.
+MOST_ANSWER, MOST_GROUPS = 4 << 20, 10000
+PEM = re.compile('-----BEGIN CERTIFICATE-----.+?-----END CERTIFICATE-----', re.DOTALL)
 
 
 class Refused(Exception):
@@ -24,7 +31,25 @@ class Refused(Exception):
         self.status = status
 
 
-class OverSocket(http.client.HTTPConnection):
+class Stranger(OSError):
+    """The printer's certificate is not the one that it has to have."""
+
+
+class Answer(http.client.HTTPResponse):
+    """An answer of HTTP that comes within bounds. Its time begins once the request has gone."""
+
+    def __init__(self, stream, *words, **named):
+        seconds = stream.gettimeout()
+        super().__init__(stream, *words, **named)
+        self.fp.close()
+        self.fp = io.BufferedReader(Bounded(stream, MOST_ANSWER, seconds))
+
+
+class Plain(http.client.HTTPConnection):
+    response_class = Answer
+
+
+class OverSocket(Plain):
     """HTTP over the socket at a path."""
 
     def __init__(self, path, timeout):
@@ -37,10 +62,53 @@ class OverSocket(http.client.HTTPConnection):
         self.sock.connect(self.path)
 
 
-class Printer:
-    """A printer at a URI, `ipp://` or `ipps://`; with `door` it is reached by the socket at that path instead."""
+class Secret(http.client.HTTPSConnection):
+    """HTTP over TLS with a printer that `trust` knows."""
 
-    def __init__(self, uri, door=None, timeout=20):
+    response_class = Answer
+
+    def __init__(self, host, port, timeout, trust):
+        super().__init__(host, port, timeout=timeout, context=trust.context)
+        self.trust = trust
+
+    def connect(self):
+        try:
+            super().connect()
+        except ssl.SSLCertVerificationError as error:
+            raise Stranger(f'the certificate of {self.host}: {error.verify_message}') from error
+        if self.trust.own and self.sock.getpeercert(binary_form=True) not in self.trust.own:
+            raise Stranger(f'{self.host} shows another certificate than the one of its file')
+
+
+class Trust:
+    """Which certificate a printer may show: one of the file `own`, or one for its host that an authority of the file `authority`
+    has signed."""
+
+    def __init__(self, own=None, authority=None):
+        self.own = certificates(own) if own else []
+        self.context = ssl.create_default_context(cadata=b''.join(certificates(authority)) if authority else None)
+        if self.own:
+            # Printers sign their own, for any name and time.
+            self.context.check_hostname, self.context.verify_mode = False, ssl.CERT_NONE
+
+
+def certificates(path):
+    """Those of a file of PEM."""
+    with open(path, encoding='ascii', errors='replace') as file:
+        texts = PEM.findall(file.read())
+    try:
+        found = [ssl.PEM_cert_to_DER_cert(text) for text in texts]
+    except ValueError as error:
+        raise ValueError(f'{path}: {error}') from error
+    if not found:
+        raise ValueError(f'{path} has no certificate in PEM')
+    return found
+
+
+class Printer:
+    """A printer at a URI, `ipp://` or, with `trust`, `ipps://`; with `door` it is reached by the socket at that path instead."""
+
+    def __init__(self, uri, door=None, timeout=20, trust=None):
         parts = urlsplit(uri)
         try:
             self.host, self.port, self.path = parts.hostname, parts.port or 631, parts.path or '/'
@@ -49,19 +117,19 @@ class Printer:
             self.host = None
         if parts.scheme not in ('ipp', 'ipps') or not self.host:
             raise ValueError(f'{uri} is no URI of a printer, as ipp://HOST/ipp/print')
-        self.uri, self.door, self.timeout = uri, door, timeout
+        self.uri, self.door, self.timeout, self.trust = uri, door, timeout, trust
         self.is_secret = parts.scheme == 'ipps'
+        if self.is_secret and not door and trust is None:
+            raise ValueError(f'{uri} wants --certificate FILE, so that nothing else answers as the printer. `openssl s_client -connect '
+                             f'{self.host}:{self.port} </dev/null | openssl x509 >FILE` gets it there. Or --authority FILE: who signed it')
         self.user = user_name()
 
     def connect(self):
         if self.door:
             return OverSocket(self.door, self.timeout)
         if self.is_secret:
-            # The certificates of printers are signed by themselves.
-            anybody = ssl.create_default_context()
-            anybody.check_hostname, anybody.verify_mode = False, ssl.CERT_NONE
-            return http.client.HTTPSConnection(self.host, self.port, timeout=self.timeout, context=anybody)
-        return http.client.HTTPConnection(self.host, self.port, timeout=self.timeout)
+            return Secret(self.host, self.port, self.timeout, self.trust)
+        return Plain(self.host, self.port, timeout=self.timeout)
 
     def ask(self, operation, asked=(), of_job=(), data=b''):
         """The groups of the answer, each its tag and its attributes. `asked` and `of_job` have tag, name and values."""
@@ -81,8 +149,8 @@ class Printer:
         try:
             connection.request('POST', self.path, body, fields)
             answer = connection.getresponse()
-            got = answer.read()
-        except http.client.HTTPException as error:
+            got = answer.read(MOST_ANSWER)
+        except (http.client.HTTPException, ValueError) as error:
             raise OSError(f'no answer of HTTP: {error!r}') from error
         finally:
             connection.close()
@@ -102,6 +170,17 @@ class Printer:
             asked = [(INTEGER, 'limit', [limit]), (KEYWORD, 'which-jobs', [which]), (KEYWORD, 'requested-attributes', names)]
             found += [attributes for tag, attributes in self.ask(GET_JOBS, asked) if tag == JOB_GROUP]
         return found
+
+
+def number_of(attributes, name):
+    """An attribute's number, or None where it has none."""
+    value = attributes.get(name, [None])[0]
+    return value if type(value) is int else None
+
+
+def texts_of(attributes, name):
+    """An attribute's texts."""
+    return [value for value in attributes.get(name, []) if isinstance(value, str)]
 
 
 def user_name():
@@ -146,6 +225,8 @@ def read(message):
             tag = message[at]
             if tag < 0x10:
                 groups.append((tag, {}))
+                if len(groups) > MOST_GROUPS:
+                    raise OSError('an answer that is too long')
                 at += 1
                 continue
             length, = struct.unpack_from('>H', message, at + 1)

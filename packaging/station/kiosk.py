@@ -138,7 +138,5 @@ def told(row):
 
 def explained(word):
     """The server's word of a refusal, as people say it."""
-    if word.startswith('quota '):
-        _, need, left = word.split(' ')
-        return f'It needs {need} units, and {left} are left.'
-    return REFUSALS.get(word, word)
+    quota = re.fullmatch('quota ([0-9]+) (-?[0-9]+)', word)
+    return f'It needs {quota[1]} units, and {quota[2]} are left.' if quota else REFUSALS.get(word, word)

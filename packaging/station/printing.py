@@ -6,7 +6,7 @@ import secrets
 import ipp
 import ticket
 from following import Following, pages
-from server import Lost, Refused
+from server import MOST, Lost, Refused
 
 # How often a document is handed over, and the seconds between two tries and between two looks at the device.
 TRIES, AGAIN, LOOK = 4, 5, 0.5
@@ -220,20 +220,19 @@ class Printing:
 
     def settle(self, job):
         """Tells the server what the device has counted, until that is answered."""
-        count = sum(document['count'] for document in job['documents'])
+        count = min(MOST, sum(document['count'] for document in job['documents']))
         line = f"settle {self.name} {job['account']} {job['job']} {count} {job['end']}"
+        how = 'Printed' if job['end'] == 'done' else 'It has failed, or was stopped'
         while True:
             try:
-                word = self.server.ask(line)
+                charged, left = self.server.settle(line)
+                self.screen.say(f'{how}: {pages(count)}. Units charged: {charged}, left: {left}.')
+                return
             except Lost:
-                word = 'failed'
-            if word != 'failed':
-                break
+                pass
+            except Refused as refused:
+                if refused.word != 'failed':
+                    # It was settled before, by this station or by hand.
+                    self.screen.say(f'{how}: {pages(count)} ({refused.word}).')
+                    return
             self.wait_for_server()
-        how = 'Printed' if job['end'] == 'done' else 'It has failed, or was stopped'
-        charged = word.split(' ')
-        if charged[0] == 'ok':
-            self.screen.say(f'{how}: {pages(count)}. Units charged: {charged[2]}, left: {charged[4]}.')
-        else:
-            # It was settled before, by this station or by hand.
-            self.screen.say(f'{how}: {pages(count)} ({word}).')

@@ -1,12 +1,23 @@
 """The lines by which a station speaks with `ipp-room serve` (docs/PROTOCOL.md)."""
 import collections
+import io
+import re
 import socket
 from urllib.parse import unquote_to_bytes
 
 import ticket
+from harmless import harmless
+from reading import Bounded
 
-SECONDS = 30
-MOST_LINE = 65536
+# Seconds, and the bytes for which an answer gets a second more: those that `serve` gives.
+SECONDS, PACE = 30, 16384
+# What an answer has at most: bytes of a line, jobs, documents, bytes of a document and of all of it.
+MOST_LINE, MOST_JOBS, MOST_DOCUMENTS, MOST_BYTES = 65536, 1000, 8, 16 << 20
+MOST_ANSWER = MOST_DOCUMENTS * (MOST_BYTES + MOST_LINE)
+# The last moment, in seconds, and the largest of other numbers.
+LAST, MOST = 4102444799, (1 << 31) - 1
+# Letters of a name: those that are read, and those that are shown.
+MOST_NAME, MOST_SHOWN = 1024, 60
 
 Row = collections.namedtuple('Row', 'job state device created has_password copies impressions name ticket')
 Document = collections.namedtuple('Document', 'copies format data')
@@ -41,9 +52,10 @@ class Server:
     def answer(self, line, read):
         """Sends a line, and answers what `read` makes of the first line of the answer and of what follows it."""
         try:
-            with self.connect() as stream, stream.makefile('rb') as answers:
+            with self.connect() as stream:
                 stream.sendall(line.encode() + b'\n')
-                return read(read_line(answers), answers)
+                with io.BufferedReader(Bounded(stream, MOST_ANSWER, SECONDS, PACE)) as answers:
+                    return read(read_first(answers), answers)
         except (OSError, ValueError, IndexError) as error:
             raise Lost(str(error)) from error
 
@@ -59,6 +71,10 @@ class Server:
         """The documents that a line `start` or `again` is answered with."""
         return self.answer(line, read_documents)
 
+    def settle(self, line):
+        """The units that were charged, and those that are left."""
+        return self.answer(line, read_charge)
+
 
 def read_line(answers):
     line = answers.readline(MOST_LINE)
@@ -67,35 +83,54 @@ def read_line(answers):
     return line[:-1].decode('ascii', 'replace')
 
 
+def read_first(answers):
+    """The first line, which is a word and perhaps what belongs to it."""
+    line = read_line(answers)
+    if not re.fullmatch('[a-z-]+( [a-z0-9-]+)*', line):
+        raise ValueError('an answer that is no word')
+    return line
+
+
 def read_jobs(first, answers):
     words = first.split(' ')
     if words[0] != 'jobs':
         raise Refused(first)
-    return [row(read_line(answers)) for _ in range(int(words[1]))]
+    return [row(read_line(answers)) for _ in range(number(words[1], MOST_JOBS))]
 
 
 def row(line):
     (_, job, state, device, created, _, _, password, copies, impressions, _, _, _, name) = line.split(' ')
-    title, chosen = ticket.split(shown(name))
-    return Row(int(job), state, device, int(created), password != '-', int(copies), int(impressions) or None, title, chosen)
+    title, chosen = ticket.split(unquote_to_bytes(name).decode('utf-8', 'replace')[:MOST_NAME])
+    return Row(number(job), state, device, number(created, LAST), password != '-', number(copies), number(impressions) or None,
+               harmless(title, MOST_SHOWN), chosen)
 
 
-def shown(name):
-    """A job's name as it may stand on a terminal."""
-    text = unquote_to_bytes(name).decode('utf-8', 'replace')
-    return ''.join(letter if letter.isprintable() else '?' for letter in text)
+def number(word, most=MOST):
+    if not re.fullmatch('[0-9]{1,10}', word) or int(word) > most:
+        raise ValueError(f'{word[:20]} is no number up to {most}')
+    return int(word)
+
+
+def read_charge(first, _):
+    if first.split(' ')[0] != 'ok':
+        raise Refused(first)
+    charged = re.fullmatch('ok charged ([0-9]{1,20}) left (-?[0-9]{1,20})', first)
+    if not charged:
+        raise ValueError('a settling that tells no charge')
+    return charged.groups()
 
 
 def read_documents(first, answers):
     words = first.split(' ')
     if words[0] != 'documents':
         raise Refused(first)
-    return [read_document(answers) for _ in range(int(words[1]))]
+    return [read_document(answers) for _ in range(number(words[1], MOST_DOCUMENTS))]
 
 
 def read_document(answers):
     _, _, copies, kind, length = read_line(answers).split(' ')
-    data = answers.read(int(length))
-    if len(data) != int(length) or answers.read(1) != b'\n':
+    length = number(length, MOST_BYTES)
+    data = answers.read(length)
+    if len(data) != length or answers.read(1) != b'\n':
         raise OSError('the connection ended before a document was whole')
-    return Document(int(copies), kind, data)
+    return Document(number(copies), kind, data)

@@ -65,14 +65,15 @@ class Spooler:
         asked = [(ipp.NAME, 'job-name', [name]), (ipp.FORMAT, 'document-format', [document.format])]
         of_job = [(ipp.INTEGER, 'copies', [document.copies]), *ticket.attributes(chosen)]
         groups = self.queue.ask(ipp.PRINT_JOB, asked, of_job, document.data)
-        return next((job['job-id'][0] for tag, job in groups if tag == ipp.JOB_GROUP and 'job-id' in job), None)
+        return next((ipp.number_of(job, 'job-id') for tag, job in groups if tag == ipp.JOB_GROUP), None)
 
     def find(self, name):
         """Number and state of the job of this name, or None where CUPS has none."""
         # CUPS tells the names of those that have ended only beside what it has to read from its disk.
         for job in self.queue.jobs(['job-id', 'job-name', 'job-state', 'job-uuid']):
-            if job.get('job-name') == [name]:
-                return job['job-id'][0], job['job-state'][0]
+            number, state = ipp.number_of(job, 'job-id'), ipp.number_of(job, 'job-state')
+            if job.get('job-name') == [name] and number is not None and state is not None:
+                return number, state
         return None
 
     def cancel(self, name):

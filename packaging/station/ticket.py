@@ -60,7 +60,7 @@ def choices(words):
 
 def split(name):
     """A job's title, and the choices that its name tells behind it. Other names are titles."""
-    found = re.fullmatch(r'(.*) #[0-9a-f]{8}((?: \S+=\S+)*)', name)
+    found = re.fullmatch(r'(.*) #[0-9a-f]{8}((?: \S+=\S+)*)', name, re.DOTALL)
     try:
         return (found[1], choices(found[2].split())) if found else (name, [])
     except Bad:
@@ -81,6 +81,6 @@ def attributes(ticket):
 def offer(supported):
     """What a device has, as people say it."""
     media = [SHORT[name] for name in supported.get('media-supported', []) if name in SHORT]
-    sides = any(side.startswith('two-sided') for side in supported.get('sides-supported', []))
+    sides = any(side.startswith('two-sided') for side in ipp.texts_of(supported, 'sides-supported'))
     colour = 'color' in supported.get('print-color-mode-supported', [])
     return f"{', '.join(media)}; {'one- and two-sided' if sides else 'one-sided'}; {'colour' if colour else 'black and white'}"
