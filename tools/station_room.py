@@ -88,6 +88,7 @@ SystemGroup root
 User lp
 Group lp
 SetEnv ROOM_MAY_PRINT {folder}/station/may-print
+SetEnv ROOM_PRINTERS {folder}/printers
 '''
 CUPSD_CONF = '''LogLevel info
 # Else a cupsd that was killed gives the numbers of jobs twice.
@@ -129,7 +130,8 @@ class Cups:
         for name in ('daemon', 'filter', 'notifier', 'cgi-bin', 'monitor', 'driver'):
             os.symlink(f'/usr/lib/cups/{name}', f'{folder}/cups/bin/{name}')
         os.rename(f'{folder}/cups/backend', f'{folder}/cups/bin/backend')
-        shutil.copy('/usr/lib/cups/backend/ipp', f'{folder}/cups/bin/backend/ipp')
+        for name in ('ipp', 'ipps'):
+            shutil.copy('/usr/lib/cups/backend/ipp', f'{folder}/cups/bin/backend/{name}')
         shutil.copy(f'{STATION}/once', f'{folder}/cups/bin/backend/once')
         write(f'{folder}/cups/cups-files.conf', FILES_CONF.format(here=f'{folder}/cups', folder=folder))
         write(f'{folder}/cups/cupsd.conf', CUPSD_CONF.format(port=self.port, door=self.door))
@@ -160,6 +162,17 @@ class Cups:
     def admin(self, *words):
         environment = {**os.environ, 'CUPS_SERVER': self.door, 'CUPS_SERVERROOT': f'{self.folder}/cups'}
         subprocess.run(words, check=True, env=environment, stdout=subprocess.DEVNULL, stderr=subprocess.DEVNULL)
+
+    def waiting(self):
+        """What it has still to print."""
+        return self.told('lpstat', '-o')
+
+    def is_stopped(self):
+        return ' disabled ' in self.told('lpstat', '-p', 'device')
+
+    def told(self, *words):
+        environment = {**os.environ, 'CUPS_SERVER': self.door, 'CUPS_SERVERROOT': f'{self.folder}/cups'}
+        return subprocess.run(words, check=True, env=environment, stdout=subprocess.PIPE, text=True).stdout
 
     def documents(self):
         """What of documents lies in its spool."""
@@ -279,18 +292,22 @@ class Told(Exception):
 
 
 class Kiosk:
-    """A station at a terminal, run as `nobody`."""
+    """A station at a terminal, run as `nobody`. It may take so many bytes of memory."""
 
-    def __init__(self, words):
-        self.words, self.seen = words, ''
+    def __init__(self, words, umask=0o22, memory=1 << 30):
+        self.words, self.umask, self.memory, self.seen = words, umask, memory, ''
         self.start()
 
     def start(self):
+        def limit():
+            resource.setrlimit(resource.RLIMIT_AS, (self.memory, self.memory))
         master, terminal = pty.openpty()
+        self.path = os.ttyname(terminal)
         nobody = pwd.getpwnam('nobody')
         environment = {'PATH': '/usr/bin:/bin', 'TERM': 'linux', 'LANG': 'C.UTF-8', 'PYTHONDONTWRITEBYTECODE': '1'}
         self.process = subprocess.Popen(self.words, stdin=terminal, stdout=terminal, stderr=terminal, user=nobody.pw_uid,
-                                        group=nobody.pw_gid, extra_groups=[], start_new_session=True, env=environment)
+                                        group=nobody.pw_gid, extra_groups=[], start_new_session=True, env=environment,
+                                        umask=self.umask, preexec_fn=limit)
         os.close(terminal)
         self.terminal, self.unread = master, ''
 
@@ -319,7 +336,10 @@ class Kiosk:
         return said + found
 
     def type(self, text):
-        os.write(self.terminal, text.encode() + b'\n')
+        self.press(text + '\n')
+
+    def press(self, keys):
+        os.write(self.terminal, keys.encode(errors='surrogateescape'))
 
     def choose(self, account, jobs, pin=''):
         """Signs in and chooses, up to the moment at which the release begins. Answers what was shown."""
@@ -372,15 +392,24 @@ class Room:
         ends.callback(self.device.end)
         self.cups = Cups(self.folder, self.device.port)
         ends.callback(self.cups.end)
-        life = []
+        self.life = []
         if self.has_life_count:
             agent = Agent(self.folder)
             ends.callback(agent.end)
-            life = ['--life-count', f'127.0.0.1:{agent.port}']
-        self.kiosk = Kiosk([f'{STATION}/ipp-room-station', self.stations, 'hall', 'device',
-                            f'ipp://localhost:{self.device.port}/ipp/print', '--folder', f'{self.folder}/station',
-                            '--cups', self.cups.door, *life])
-        ends.callback(self.kiosk.end)
+            self.life = ['--life-count', f'127.0.0.1:{agent.port}']
+        self.kiosk = Kiosk(self.words())
+        ends.callback(lambda: self.kiosk.end())
+
+    def words(self, server=None, uri=None, more=()):
+        """Those of the station, with another server, or another device."""
+        return [f'{STATION}/ipp-room-station', server or self.stations, 'hall', 'device',
+                uri or f'ipp://localhost:{self.device.port}/ipp/print', '--folder', f'{self.folder}/station',
+                '--cups', self.cups.door, *self.life, *more]
+
+    def begin_kiosk(self, umask=0o22, **words):
+        """Another station takes the place of the one that runs."""
+        self.kiosk.end()
+        self.kiosk = Kiosk(self.words(**words), umask)
 
     def start(self):
         """Begins `serve`, or begins it anew where it was killed."""
