@@ -91,7 +91,8 @@ class Tls:
 
     def show(self, name):
         self.end()
-        door = f'OPENSSL-LISTEN:{self.port},bind=127.0.0.1,reuseaddr,fork,verify=0,cert={self.folder}/{name}.pem,key={self.folder}/{name}.key'
+        pair = f'cert={self.folder}/{name}.pem,key={self.folder}/{name}.key'
+        door = f'OPENSSL-LISTEN:{self.port},bind=127.0.0.1,reuseaddr,fork,verify=0,{pair}'
         self.process = subprocess.Popen(['socat', door, f'TCP:localhost:{self.real}'], stderr=subprocess.DEVNULL, start_new_session=True)
         wait_until(lambda: listens(self.port), 20, 'the front')
 
@@ -191,7 +192,8 @@ DEVICE_LIES = {
     'texts for numbers': message(b'\4' + attribute(0x41, b'printer-state', b'five'), b'\2' + attribute(0x41, b'job-id', b'one')),
     'a reason with controls': message(b'\4' + attribute(0x23, b'printer-state', FIVE) + attribute(
         0x44, b'printer-state-reasons', '\x1b[2J\x1b[12;0;1mPIN: \x9b31m\u202e\u200b\x07'.encode())),
-    'a reason of 60000 letters': message(b'\4' + attribute(0x23, b'printer-state', FIVE) + attribute(0x44, b'printer-state-reasons', b'x' * 60000)),
+    'a reason of 60000 letters': message(b'\4' + attribute(0x23, b'printer-state', FIVE) + attribute(
+        0x44, b'printer-state-reasons', b'x' * 60000)),
     'a collection 20000 deep': message(b'\4' + attribute(0x34, b'media-col-database', b'') + DEEP),
     'a value without a group': say(HEAD + b'Content-Length: 20\r\n\r\n' + b'\1\1\0\0\0\0\0\1' + attribute(0x21, b'a', FIVE) + b'\3\3'),
     'four million groups': message(b'\4' * 4000000),
