@@ -15,6 +15,7 @@ REFUSALS = {'password': 'The PIN is wrong.', 'incomplete': 'Its documents have n
             'impressions-unknown': 'Nobody has told how many pages it has.', 'no-job': 'It is not there any more.',
             'device-off': 'The print room has turned this printer off.',
             'no-device': 'The print room does not know this printer.',
+            'not-your-device': 'The print server does not let this station use this printer.',
             'failed': 'The print server could not do it. Try again.'}
 
 

@@ -10,6 +10,8 @@ from server import MOST, Lost, Refused
 
 # How often a document is handed over, and the seconds between two tries and between two looks at the device.
 TRIES, AGAIN, LOOK = 4, 5, 0.5
+# Refusals that say nothing of the job: a disk that is full, a door that the operator has set for another device.
+LATER = ('failed', 'not-your-device')
 
 
 class Printing:
@@ -102,7 +104,7 @@ class Printing:
             except Lost:
                 pass
             except Refused as refused:
-                if refused.word != 'failed':
+                if refused.word not in LATER:
                     raise
             self.wait_for_server()
 
@@ -231,7 +233,7 @@ class Printing:
             except Lost:
                 pass
             except Refused as refused:
-                if refused.word != 'failed':
+                if refused.word not in LATER:
                     # It was settled before, by this station or by hand.
                     self.screen.say(f'{how}: {pages(count)} ({refused.word}).')
                     return
