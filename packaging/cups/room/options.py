@@ -22,9 +22,13 @@ def hide_password():
             memory.seek(first)
             words = memory.read(end - first)
             memory.seek(first)
-            memory.write(SECRET.sub(lambda found: found[1] + b'*' * len(found[2]), words))
+            memory.write(without_password(words))
     except OSError:
         pass
+
+
+def without_password(words):
+    return SECRET.sub(lambda found: found[1] + b'*' * len(found[2]), words)
 
 
 def count_documents(job):
