@@ -33,7 +33,12 @@ def without_password(words):
 
 def count_documents(job):
     """How many documents cupsd keeps of the job. Each comes through the filters by itself, to one run of the backend."""
-    folder, count = os.environ.get('CUPS_REQUESTROOT', '/var/spool/cups'), 0
-    while os.path.exists(f'{folder}/d{int(job):05}-{count + 1:03}'):
+    count = 0
+    while os.path.exists(path_of(job, count + 1)):
         count += 1
     return count
+
+
+def path_of(job, place):
+    """Where cupsd keeps a document of the job."""
+    return f'{os.environ.get("CUPS_REQUESTROOT", "/var/spool/cups")}/d{int(job):05}-{int(place):03}'
