@@ -146,16 +146,19 @@ class Cupsd:
 
 
 class Front(Cupsd):
-    """The front, as it is installed: packaging/cups, at port 631, but with so many seconds between two tries."""
+    """The front, as it is installed: packaging/cups, at port 631, but with so many seconds between two tries.
 
-    def __init__(self, folder, port, realms=(), seconds=1):
+    The server is at this place, a port or the path of a socket.
+    """
+
+    def __init__(self, folder, place, realms=(), seconds=1, needs_pin=False):
         with open(f'{PACKAGE}/cupsd.conf') as file:
             conf = file.read().replace('/run/cups/cups.sock', f'{folder}/cups.sock')
         super().__init__(folder, conf.replace('JobRetryInterval 30', f'JobRetryInterval {seconds}'))
         for name in ('backend', 'filter', 'room'):
             shutil.copytree(f'{PACKAGE}/{name}', f'{folder}/bin/{name}', dirs_exist_ok=True)
-        query = '&'.join(f'realm={realm}' for realm in realms)
-        self.device = f'room://127.0.0.1:{port}' + (f'/?{query}' if query else '')
+        query = '&'.join([f'realm={realm}' for realm in realms] + ['pin=required'] * needs_pin)
+        self.device = (f'room://{place}' if '/' in str(place) else f'room://127.0.0.1:{place}/') + (query and f'?{query}')
 
     def set_up(self):
         self.runs('lpadmin', '-p', QUEUE, '-E', '-v', self.device, '-P', f'{PACKAGE}/release.ppd', '-o', 'printer-is-shared=true')

@@ -1,6 +1,7 @@
 """The release server, as `ipp-room serve` answers clients: messages of IPP/1.1 over HTTP (RFC 8010, RFC 8011)."""
 import http.client
 import re
+import socket
 
 CREATE_JOB, SEND_DOCUMENT, CANCEL_JOB, GET_JOBS = 5, 6, 8, 10
 OPERATION, JOB, END = 1, 2, 3
@@ -24,11 +25,24 @@ class Refused(Exception):
         self.status, self.word = status, word
 
 
-class Server:
-    """The queue of one account."""
+class SocketConnection(http.client.HTTPConnection):
+    """A connection by a socket's path."""
 
-    def __init__(self, host, port, account):
-        self.host, self.port, self.path = host, port, f'/ipp/print/{account}'
+    def __init__(self, path):
+        super().__init__('localhost', timeout=SECONDS)
+        self.socket_path = path
+
+    def connect(self):
+        self.sock = socket.socket(socket.AF_UNIX)
+        self.sock.settimeout(self.timeout)
+        self.sock.connect(self.socket_path)
+
+
+class Server:
+    """The queue of one account, at the path of a socket or at a host and a port."""
+
+    def __init__(self, address, account):
+        self.address, self.path = address, f'/ipp/print/{account}'
 
     def create_job(self, name, copies, impressions, password):
         """A job that waits for its documents; its number."""
@@ -87,7 +101,7 @@ class Server:
 
     def exchange(self, body):
         """The body of the answer of HTTP."""
-        connection = http.client.HTTPConnection(self.host, self.port, timeout=SECONDS)
+        connection = SocketConnection(self.address) if isinstance(self.address, str) else http.client.HTTPConnection(*self.address, timeout=SECONDS)
         try:
             try:
                 connection.request('POST', self.path, body, {'Content-Type': 'application/ipp', 'Connection': 'close'})
