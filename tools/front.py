@@ -4,6 +4,7 @@
 """
 import fcntl
 import os
+import re
 import shutil
 import signal
 import socket
@@ -155,6 +156,9 @@ class Front(Cupsd):
         with open(f'{PACKAGE}/cupsd.conf') as file:
             conf = file.read().replace('/run/cups/cups.sock', f'{folder}/cups.sock')
         super().__init__(folder, conf.replace('JobRetryInterval 30', f'JobRetryInterval {seconds}'))
+        with open(f'{PACKAGE}/ipp-room-cups.conf') as file:
+            for path in re.findall(r'^InaccessiblePaths=-(\S+)$', file.read(), re.M):
+                os.remove(path.replace(STOCK, f'{folder}/bin'))
         for name in ('backend', 'filter', 'room'):
             shutil.copytree(f'{PACKAGE}/{name}', f'{folder}/bin/{name}', dirs_exist_ok=True)
         query = '&'.join([f'realm={realm}' for realm in realms] + ['pin=required'] * needs_pin)
