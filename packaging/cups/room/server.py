@@ -99,9 +99,14 @@ class Server:
             raise Refused(200, dict(groups)[OPERATION].get('status-message', b'').decode())
         return groups
 
+    def connection(self):
+        if isinstance(self.address, str):
+            return SocketConnection(self.address)
+        return http.client.HTTPConnection(*self.address, timeout=SECONDS)
+
     def exchange(self, body):
         """The body of the answer of HTTP."""
-        connection = SocketConnection(self.address) if isinstance(self.address, str) else http.client.HTTPConnection(*self.address, timeout=SECONDS)
+        connection = self.connection()
         try:
             try:
                 connection.request('POST', self.path, body, {'Content-Type': 'application/ipp', 'Connection': 'close'})
