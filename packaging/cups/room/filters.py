@@ -48,8 +48,9 @@ def processes():
     """The number of each process of the machine, its parent's, its group's, and its words without the PIN."""
     for pid in filter(str.isdigit, os.listdir('/proc')):
         try:
-            with open(f'/proc/{pid}/stat') as file:
-                parent, group = file.read().rsplit(')', 1)[1].split()[1:3]
+            # A program's name may be any bytes.
+            with open(f'/proc/{pid}/stat', 'rb') as file:
+                parent, group = file.read().rsplit(b')', 1)[1].split()[1:3]
             with open(f'/proc/{pid}/cmdline', 'rb') as file:
                 yield int(pid), int(parent), int(group), without_password(file.read())
         except OSError:
