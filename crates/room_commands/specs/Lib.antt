@@ -5,5 +5,6 @@ pub mod Grants
 pub mod Outcomes
 pub mod Runs
 pub mod Statuses
+pub mod ServedWords
 pub mod Visitors
 pub mod Words

@@ -1,15 +1,17 @@
 -- Who comes in by the doors of `serve`, and by which address (this project's own).
-use Rattle.std.specs.Prelude.{◌≡◌, ◌⊎◌, ℕ, if◌then◌else◌, IsTrue, List, [], ◌∷◌, codes, Option, Some, None}
+use Rattle.std.specs.Prelude.{◌≡◌, ◌⊎◌, ℕ, Bool, true, false, if◌then◌else◌, IsTrue, List, [], ◌∷◌, codes, Option, Some, None}
 use Rattle.std.specs.Str.{bytes_eq}
 use Rattle.room_commands.specs.Addresses.{IsAddressOf, has_digits_alone}
+use Rattle.room_commands.specs.ServedWords.{SaysPlace}
 use Rattle.room_commands.specs.declared.served_door.ServedDoor.{ServedDoor}
 use Rattle.room_commands.specs.declared.visitors.Visitors.{Visitors}
-use Rattle.room_commands.specs.declared.visitors.Visitors.TheVariants.{Clients, Operators, Pages, Stations}
+use Rattle.room_commands.specs.declared.visitors.Visitors.TheVariants.{Clients, Operators, Pages, Station, Stations}
 
 abbrev pub name_of : Visitors → List ℕ
 name_of Clients = codes "clients"
 name_of Pages = codes "pages"
 name_of Stations = codes "stations"
+name_of Station = codes "station"
 name_of Operators = codes "operators"
 
 -- the word behind which an address of theirs stands
@@ -17,12 +19,23 @@ abbrev pub option_of : Visitors → List ℕ
 option_of Clients = codes "--clients"
 option_of Pages = codes "--pages"
 option_of Stations = codes "--stations"
+option_of Station = codes "--station"
 option_of Operators = codes "--operators"
 
--- the door is theirs, at the address of the word
+-- who comes for some devices alone
+abbrev pub names_devices : Visitors → Bool
+names_devices Clients = false
+names_devices Pages = false
+names_devices Stations = false
+names_devices Station = true
+names_devices Operators = false
+
+-- the door is theirs, at the address in the word, and for the devices that it names there
 pub record IsDoorOf (whose : Visitors) (word : List ℕ) (door : ServedDoor) : Type 0 where
   pub visitors : door.visitors ≡ whose
-  pub address : IsAddressOf word 0 door.address
+  pub place : List ℕ
+  pub says : SaysPlace (names_devices whose) word door.devices.now place
+  pub address : IsAddressOf place 0 door.address
 
 -- the word behind which the file of the log stands
 abbrev pub log_option : List ℕ

@@ -19,6 +19,7 @@ mod printing;
 mod program;
 mod sending;
 mod served_door;
+mod served_word;
 mod serving;
 mod tables;
 mod unfit;

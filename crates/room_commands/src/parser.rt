@@ -64,6 +64,12 @@ fn argument_of<'a>(alloc: Global, argument: &Argument) -> Result<Arg<'a>, AllocE
             .conflicts_with(other),
         Kind::After(flag) => Ok(named.long(flag)),
         Kind::Named(word) => Ok(named.long(argument.name).value_name(word)),
+        Kind::Each(word) => Ok(
+            named
+                .long(argument.name)
+                .value_name(word)
+                .action(ArgAction::Append),
+        ),
     }
 }
 

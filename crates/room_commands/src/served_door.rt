@@ -7,6 +7,7 @@ ghost use Rattle.room_commands.specs.declared.served_door.ServedDoor.{ServedDoor
 ghost use Rattle.room_commands.specs.declared.visitors.Visitors.TheVariants.{Clients};
 
 use crate::address::Address;
+use crate::served_word::ServedWord;
 use crate::unfit::Unfit;
 use crate::visitors::Visitors;
 use std::alloc::Global;
@@ -18,16 +19,23 @@ const LOG: &str = "--log";
 #[derive(Clone, Copy)]
 pub struct ServedDoor<'a> {
     pub visitors: Visitors,
+    /// The names of the devices that a station's own door is for, parted by commas.
+    pub devices: &'a str,
     pub address: Address<'a>,
 }
 
 impl<'a> ServedDoor<'a> {
-    /// The door at the address that a word is.
+    /// The door at the address that a word is, or has behind the names of devices.
     fn read(visitors: Visitors, word: &'a str) -> Result<ServedDoor<'a>, Unfit>
         ensures { IfOk result (IsDoorOf visitors word.now) }
     {
-        match Address::read(word, 0) {
-            Some(address) => Ok(ServedDoor { visitors, address }),
+        let read = ServedWord::read(visitors, word)?;
+        match Address::read(read.address, 0) {
+            Some(address) => Ok(ServedDoor {
+                visitors,
+                devices: read.devices,
+                address,
+            }),
             None => Err(Unfit::ServedAddress),
         }
     }
@@ -40,7 +48,11 @@ impl<'a> ServedDoor<'a> {
         match Address::read(word, 0) {
             Some(address @ Address::Port(_)) => {
                 let visitors = Visitors::Clients;
-                Ok(ServedDoor { visitors, address })
+                Ok(ServedDoor {
+                    visitors,
+                    devices: "",
+                    address,
+                })
             }
             Some(Address::Path(_)) | None => Err(Unfit::ServedPort),
         }

@@ -14,6 +14,7 @@ pub(crate) enum Unfit {
     Count,
     ServedPort,
     ServedAddress,
+    Devices,
     Option,
     Address,
     File,
@@ -41,6 +42,11 @@ impl Unfit {
             Unfit::ServedPort => Some("PORT is a number from 0 to 65535"),
             Unfit::ServedAddress => {
                 Some("STATIONS, OPERATORS and ADDRESS are ports from 0 to 65535, or paths")
+            }
+            Unfit::Devices => {
+                Some(
+                    "the value of --station is NAME=ADDRESS, or names parted by commas and =ADDRESS",
+                )
             }
             Unfit::Option => Some("options stand behind the words, each with its value"),
             Unfit::Address => Some("ADDRESS is a port from 1 to 65535, or a path"),

@@ -1,6 +1,6 @@
 //! Who comes in by the doors of `serve`, and what the command line calls them.
 ghost use Rattle.std.specs.Prelude.{◌≡◌, IfSome};
-ghost use Rattle.room_commands.specs.Visitors.{name_of, option_of};
+ghost use Rattle.room_commands.specs.Visitors.{name_of, names_devices, option_of};
 
 /// Who comes in by a door.
 #[derive(Clone, Copy, PartialEq, Eq)]
@@ -11,6 +11,8 @@ pub enum Visitors {
     Pages,
     /// By lines.
     Stations,
+    /// By lines, for some devices alone.
+    Station,
     /// By lines.
     Operators,
 }
@@ -24,7 +26,18 @@ impl Visitors {
             Visitors::Clients => "clients",
             Visitors::Pages => "pages",
             Visitors::Stations => "stations",
+            Visitors::Station => "station",
             Visitors::Operators => "operators",
+        }
+    }
+
+    /// Whether they come for some devices alone, whose names stand before the address.
+    pub(crate) fn names_devices(self) -> bool
+        ensures { result ≡ names_devices self }
+    {
+        match self {
+            Visitors::Station => true,
+            Visitors::Clients | Visitors::Pages | Visitors::Stations | Visitors::Operators => false,
         }
     }
 
@@ -36,6 +49,7 @@ impl Visitors {
             "--clients" => Some(Visitors::Clients),
             "--pages" => Some(Visitors::Pages),
             "--stations" => Some(Visitors::Stations),
+            "--station" => Some(Visitors::Station),
             "--operators" => Some(Visitors::Operators),
             _ => None,
         }

@@ -88,6 +88,9 @@ const PAGES_TOO: &str = "pages";
 
 const STATIONS_TOO: &str = "stations";
 
+/// The value of a station's own door, as the help shows it.
+const DEVICES_AT: &str = "NAME[,NAME..]=ADDRESS";
+
 const OPERATORS_TOO: &str = "operators";
 
 const LOG: &str = "log";
@@ -152,6 +155,8 @@ pub(crate) enum Kind {
     After(&'static str),
     /// A word that follows the flag of the argument's own name. The help calls it so.
     Named(&'static str),
+    /// The same, any number of times.
+    Each(&'static str),
 }
 
 const ON_DATABASE: Argument = Argument {
@@ -248,6 +253,12 @@ const MORE_OPERATORS: Argument = Argument {
     name: OPERATORS_TOO,
     help: Some("A further address of operators"),
     kind: Kind::Named(OPERATORS),
+};
+
+const ONE_STATION: Argument = Argument {
+    name: STATION,
+    help: Some("An address of stations, for these devices alone"),
+    kind: Kind::Each(DEVICES_AT),
 };
 
 const TO_LOG: Argument = Argument {
@@ -415,6 +426,7 @@ pub(crate) const COMMANDS: [CommandWords; 25] = [
             MORE_CLIENTS,
             FOR_PAGES,
             MORE_STATIONS,
+            ONE_STATION,
             MORE_OPERATORS,
             TO_LOG,
         ],

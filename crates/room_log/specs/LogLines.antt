@@ -9,6 +9,8 @@ use Rattle.room_log.specs.Abouts.{about}
 use Rattle.room_log.specs.IppWords.{code_of, code_text, job_field, operation_field, status_word}
 use Rattle.room_log.specs.declared.door.Door.{Door}
 use Rattle.room_log.specs.declared.door.Door.TheVariants as door_is
+use Rattle.room_log.specs.declared.refusal.LineRefusal.{LineRefusal}
+use Rattle.room_log.specs.declared.refusal.LineRefusal.TheVariants.{BadLine, NotYourDevice}
 
 -- ---- the door
 
@@ -107,10 +109,16 @@ line_text moment door event told =
 
 -- ---- what a door refused
 
--- of a line nothing is told
-abbrev pub refused_line_text : (moment : ℕ) → Door → List ℕ
-refused_line_text moment door =
-    decimal moment ++ codes " " ++ door_word door ++ codes " refused bad-line" ++ codes "\n"
+-- what the line is told too
+abbrev pub line_refusal_word : LineRefusal → List ℕ
+line_refusal_word BadLine = codes "bad-line"
+line_refusal_word NotYourDevice = codes "not-your-device"
+
+-- of a line nothing is told but why
+abbrev pub refused_line_text : (moment : ℕ) → Door → LineRefusal → List ℕ
+refused_line_text moment door why =
+    decimal moment ++ codes " " ++ door_word door ++ codes " refused "
+    ++ line_refusal_word why ++ codes "\n"
 
 -- the first 256 bytes of a path
 abbrev pub shown_path : List ℕ → List ℕ

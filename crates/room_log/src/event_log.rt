@@ -7,7 +7,7 @@ ghost use Rattle.room_log.specs.LogLines.{line_text};
 use crate::door::Door;
 use crate::file::LogFile;
 use crate::line::put_line;
-use crate::refusal::{put_refused_line, put_refused_request};
+use crate::refusal::{LineRefusal, put_refused_line, put_refused_request};
 use crate::waiting::Waiting;
 use room_events::{Event, Reply};
 use std::alloc::{AllocError, Global};
@@ -111,11 +111,11 @@ impl EventLog {
     }
 
     /// Tells that a door refused a line. It is left out where memory is refused, or lines wait.
-    pub fn refuse_line(&mut self, moment: u64, door: Door)
+    pub fn refuse_line(&mut self, moment: u64, door: Door, why: LineRefusal)
         ensures { self.new ≡ self.old }
     {
         let mut line = Vec::new(self.alloc);
-        if put_refused_line(&mut line, moment, door).is_ok() {
+        if put_refused_line(&mut line, moment, door, why).is_ok() {
             self.append(line.as_slice());
         }
     }

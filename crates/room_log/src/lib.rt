@@ -18,4 +18,5 @@ pub use event_log::EventLog;
 pub use file::LogFile;
 pub use laws::passwords_do_not_show;
 pub use line::put_line;
+pub use refusal::LineRefusal;
 pub use waiting::{MOST_WAITING, Waiting};

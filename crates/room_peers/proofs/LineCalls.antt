@@ -171,7 +171,7 @@ module _ {S : Type 0} (store : Ghosts S) where
       carry = no_bytes ends;
       input = append-nil (input_of before) ∙ sym (append-nil (input_of before)) ∙ sym (append-nil (input_of before ++ [])) ∙ ap (λ x. (input_of before ++ []) ++ x) (sym is.input);
       output = ap (λ x. output_of before ++ x) (append-nil (codes "bad-line\n"));
-      chain = (old, inr (inr (inr (refl, refl))), refl);
+      chain = (old, inr (inr (inr (inl refl, refl))), refl);
       side = is.side;
       received = none_more _ _ is.quiet.0;
       sent = none_more _ _ is.quiet.1;

@@ -1,5 +1,5 @@
 -- A line and its line feed, as they came.
-use Rattle.std.proofs.Common.{◌≡◌, ◌==◌, ℕ, Bool, IsTrue, ◌+◌, List, [], ◌∷◌, ◌++◌, take, drop, get_or, Some, Result, Ok, Err, OnErr, ap, refl, sym, inl, inr, ◌∙◌}
+use Rattle.std.proofs.Common.{◌≡◌, ◌==◌, ℕ, Bool, true, false, IsTrue, ◌+◌, List, [], ◌∷◌, ◌++◌, take, drop, get_or, Some, Result, Ok, Err, OnErr, ap, refl, sym, inl, inr, ◌∙◌}
 use Rattle.std.proofs.lemmas.Bool.{eqb-true, true≢false}
 use Rattle.std.proofs.lemmas.List.{take_more}
 use Rattle.std.proofs.lemmas.List.Quantifiers.{position-Some}
@@ -10,14 +10,18 @@ use Rattle.room_questions.specs.declared.question.Question.{Question}
 use Rattle.room_questions.specs.declared.question.Question.TheVariants.{Ping, End, Devices, Accounts, Check, Account}
 use Rattle.room_peers.specs.Journals.{log_lags_of, moment_of}
 use Rattle.room_peers.specs.Turns.{AnswersNext, AppliesNext}
-use Rattle.room_peers.specs.Lines.{IsEntryOf, MayAsk, TakesLine, grammar_of, input_of, line_end, side_of}
-use Rattle.room_peers.specs.LineTexts.{answer_text, bad_line_text, has_to_warn, line_text}
+use Rattle.room_peers.specs.Lines.{IsEntryOf, IsRefusal, MayAsk, TakesLine, grammar_of, input_of, line_end, side_of}
+use Rattle.room_log.specs.declared.refusal.LineRefusal.{LineRefusal}
+use Rattle.room_log.specs.declared.refusal.LineRefusal.TheVariants.{BadLine, NotYourDevice}
+use Rattle.room_peers.specs.LineTexts.{answer_text, bad_line_text, has_to_warn, line_text, refused_line}
+use Rattle.room_peers.specs.OwnDevices.{is_own}
 use Rattle.room_lines.specs.Asking.{IsQuestionOf}
 use Rattle.room_lines.specs.Backups.{IsBackupOf}
 use Rattle.room_lines.specs.declared.backup.BackupLine.{BackupLine}
 use Rattle.room_peers.specs.Backups.{backup_text}
 use Rattle.room_peers.specs.Keeping.{AsksNext}
 use Rattle.room_peers.specs.declared.backup.BackupTold.{BackupTold}
+use Rattle.room_peers.specs.declared.line_connection.Side.{Side}
 use Rattle.room_peers.specs.declared.line_connection.Side.TheVariants.{Operator}
 use Rattle.room_peers.specs.declared.entry.Entry.{Entry}
 use Rattle.room_peers.specs.declared.line_connection.LineConnection.{LineConnection}
@@ -32,15 +36,16 @@ ends_with_feed input end is =
 module _ {S : Type 0} (store : Ghosts S) where
   -- a line of its side's was applied
   pub takes_entry : (before after : LineConnection) (old new : Served S) (end : ℕ) (entry : Entry) (told : Result Reply StoreFault) → line_end (input_of before) ≡ Some end → input_of after ≡ drop (end + 1) (input_of before)
-      → IsEntryOf (grammar_of (side_of before) (moment_of old)) (take end (input_of before)) entry → AppliesNext store entry told old new
+      → is_own (side_of before) (take end (input_of before)) ≡ true → IsEntryOf (grammar_of (side_of before) (moment_of old)) (take end (input_of before)) entry → AppliesNext store entry told old new
       → TakesLine store before after old (line_text told) new
-  takes_entry before after old new end entry told first rest said next = record {
+  takes_entry before after old new end entry told first rest own said next = record {
     end = end;
     first = first;
     rest = rest;
     gives = inl (record {
       line = take end (input_of before);
       ended = ends_with_feed (input_of before) end first;
+      own = own;
       entry = entry;
       said = said;
       told = told;
@@ -51,15 +56,16 @@ module _ {S : Type 0} (store : Ghosts S) where
 
   -- a question was answered
   pub takes_question : (before after : LineConnection) (old new : Served S) (end : ℕ) (question : Question) (warns : Bool) (told : Result Reply StoreFault) → line_end (input_of before) ≡ Some end → input_of after ≡ drop (end + 1) (input_of before)
-      → MayAsk (side_of before) question → IsQuestionOf (take end (input_of before)) question → AnswersNext store question told old new → warns ≡ has_to_warn question (log_lags_of old)
+      → is_own (side_of before) (take end (input_of before)) ≡ true → MayAsk (side_of before) question → IsQuestionOf (take end (input_of before)) question → AnswersNext store question told old new → warns ≡ has_to_warn question (log_lags_of old)
       → TakesLine store before after old (answer_text warns told) new
-  takes_question before after old new end question warns told first rest asks said next is = record {
+  takes_question before after old new end question warns told first rest own asks said next is = record {
     end = end;
     first = first;
     rest = rest;
     gives = inr (inl (record {
       line = take end (input_of before);
       ended = ends_with_feed (input_of before) end first;
+      own = own;
       question = question;
       asks = asks;
       said = said;
@@ -94,7 +100,21 @@ module _ {S : Type 0} (store : Ghosts S) where
     end = end;
     first = first;
     rest = rest;
-    gives = inr (inr (inr (refl, same)));
+    gives = inr (inr (inr (inl refl, same)));
+  }
+
+  refuses : (side : Side) (line came : List ℕ) (why : LineRefusal) → came ≡ line ++ 10 ∷ [] → is_own side line ≡ false → IsRefusal side came (refused_line why)
+  refuses side line came BadLine ended other = inl refl
+  refuses side line came NotYourDevice ended other = inr (record { line = line; ended = ended; other = other; says = refl })
+
+  -- a line that names no device of its door
+  pub takes_refused : (before after : LineConnection) (old new : Served S) (end : ℕ) (why : LineRefusal) → line_end (input_of before) ≡ Some end → input_of after ≡ drop (end + 1) (input_of before)
+      → is_own (side_of before) (take end (input_of before)) ≡ false → new ≡ old → TakesLine store before after old (refused_line why) new
+  takes_refused before after old new end why first rest other same = record {
+    end = end;
+    first = first;
+    rest = rest;
+    gives = inr (inr (inr (refuses (side_of before) (take end (input_of before)) (take (end + 1) (input_of before)) why (ends_with_feed (input_of before) end first) other, same)));
   }
 
 -- what holds anyway holds after an error

@@ -23,6 +23,7 @@ pub mod Answers
 pub mod LineTexts
 pub mod LastTexts
 pub mod LastPeers
+pub mod OwnDevices
 pub mod Lines
 pub mod Overviews
 pub mod Patience

@@ -34,7 +34,7 @@ bytes_told calls = flat_map (λ (call : LineCall). call.1) calls
 
 module _ {S : Type 0} (store : Ghosts S) (side : Side) where
   -- what each line says is applied, once, and told, or it asks a question, which is answered, or it is
-  -- a bad one, which changes nothing, and is told of
+  -- refused, which changes nothing, and is told of
   abbrev pub Chain : Served S → List LineCall → Served S → Type 0
   Chain old [] new = new ≡ old
   Chain old (call ∷ calls) new = (next : Served S)

@@ -4,6 +4,8 @@ use Rattle.std.specs.List.{flat_map}
 use Rattle.room_replies.specs.declared.part.Part.{Part}
 use Rattle.room_events.specs.declared.event.Reply.{Reply}
 use Rattle.room_events.specs.declared.event.Reply.TheVariants as reply_is
+use Rattle.room_log.specs.declared.refusal.LineRefusal.{LineRefusal}
+use Rattle.room_log.specs.declared.refusal.LineRefusal.TheVariants.{BadLine, NotYourDevice}
 use Rattle.room_questions.specs.declared.question.Question.{Question}
 use Rattle.room_questions.specs.declared.question.Question.TheVariants.{Ping}
 use Rattle.room_store.specs.declared.fault.StoreFault.{StoreFault}
@@ -11,6 +13,14 @@ use Rattle.room_store.specs.declared.fault.StoreFault.{StoreFault}
 -- for a line that is none of its side's
 abbrev pub bad_line_text : List ℕ
 bad_line_text = codes "bad-line\n"
+
+-- for a line of a device for which its door takes none
+abbrev pub not_your_device_text : List ℕ
+not_your_device_text = codes "not-your-device\n"
+
+abbrev pub refused_line : LineRefusal → List ℕ
+refused_line BadLine = bad_line_text
+refused_line NotYourDevice = not_your_device_text
 
 -- a document: its line, its bytes as they are, and a line feed
 abbrev pub part_text : Part → List ℕ

@@ -19,13 +19,14 @@ use Rattle.room_peers.specs.declared.entry.Entry.{Entry}
 use Rattle.room_peers.specs.declared.entry.Entry.TheVariants as entry_is
 use Rattle.room_peers.specs.declared.line_connection.LineConnection.{LineConnection}
 use Rattle.room_peers.specs.declared.line_connection.Side.{Side}
-use Rattle.room_peers.specs.declared.line_connection.Side.TheVariants.{Station, Operator}
+use Rattle.room_peers.specs.declared.line_connection.Side.TheVariants.{Bound, Operator, Station}
 use Rattle.room_peers.specs.declared.served.Served.{Served}
 use Rattle.room_peers.specs.Backups.{backup_text}
 use Rattle.room_peers.specs.Keeping.{AsksNext}
 use Rattle.room_peers.specs.Journals.{log_lags_of, moment_of, shares_of}
 use Rattle.room_peers.specs.Turns.{AnswersNext, AppliesNext}
-use Rattle.room_peers.specs.LineTexts.{answer_text, bad_line_text, has_to_warn, line_text}
+use Rattle.room_peers.specs.LineTexts.{answer_text, bad_line_text, has_to_warn, line_text, not_your_device_text}
+use Rattle.room_peers.specs.OwnDevices.{is_own}
 
 -- ---- a connection
 
@@ -63,6 +64,7 @@ IsQuiet before after =
 
 abbrev pub grammar_of : (side : Side) (moment : ℕ) → Grammar
 grammar_of Station moment = grammar_is.Station moment
+grammar_of (Bound names) moment = grammar_is.Station moment
 grammar_of Operator moment = grammar_is.Operator moment
 
 -- bytes that a line may have, without the line feed that ends it
@@ -76,6 +78,7 @@ line_end input = position (λ b. b == 10) input
 -- who may ask what
 abbrev pub MayAsk : (side : Side) (question : Question) → Type 0
 MayAsk Station question = is_of_station question ≡ true
+MayAsk (Bound names) question = is_of_station question ≡ true
 MayAsk Operator question = is_of_station question ≡ false
 
 abbrev pub begins_with : (input word : List ℕ) → Bool
@@ -103,14 +106,26 @@ abbrev pub IsEntryOf : (grammar : Grammar) (text : List ℕ) (entry : Entry) →
 IsEntryOf grammar text entry = (line : Line) × (entry ≡ entry_is.Line line)
     × IsAllowed grammar line × IsLineOf grammar text line
 
+-- a line that came by a bound door, and names none of its devices
+pub record IsOfOther (side : Side) (came text : List ℕ) : Type 0 where
+  pub line : List ℕ
+  pub ended : came ≡ line ++ 10 ∷ []
+  pub other : is_own side line ≡ false
+  pub says : text ≡ not_your_device_text
+
+-- a line is told that it is none of its side's, or names none of its door's devices
+abbrev pub IsRefusal : (side : Side) (came text : List ℕ) → Type 0
+IsRefusal side came text = (text ≡ bad_line_text) ⊎ IsOfOther side came text
+
 module _ {S : Type 0} (store : Ghosts S) where
   -- what a line that came asks for is applied, once, at the moment, and stands in the journal; what
-  -- it came to is told
+  -- it came to is told. By a bound door it comes for one of its devices.
   pub record Asks (side : Side) (came : List ℕ) (old : Served S) (text : List ℕ) (new : Served S)
       : Type 0 where
     pub line : List ℕ
     pub ended : came ≡ line ++ 10 ∷ []
     pub entry : Entry
+    pub own : is_own side line ≡ true
     pub said : IsEntryOf (grammar_of side (moment_of old)) line entry
     pub told : Result Reply StoreFault
     pub next : AppliesNext store entry told old new
@@ -122,6 +137,7 @@ module _ {S : Type 0} (store : Ghosts S) where
       (new : Served S) : Type 0 where
     pub line : List ℕ
     pub ended : came ≡ line ++ 10 ∷ []
+    pub own : is_own side line ≡ true
     pub question : Question
     pub asks : MayAsk side question
     pub said : IsQuestionOf line question
@@ -141,15 +157,17 @@ module _ {S : Type 0} (store : Ghosts S) where
     pub next : AsksNext asked told old new
     pub says : text ≡ backup_text told
 
-  -- a line that is none of its side's
-  abbrev pub IsBad : Served S → List ℕ → Served S → Type 0
-  IsBad old text new = (text ≡ bad_line_text) × (new ≡ old)
+  -- a line that is refused, which changes nothing
+  abbrev pub IsRefused : (side : Side) (came : List ℕ) (old : Served S) (text : List ℕ)
+      (new : Served S) → Type 0
+  IsRefused side came old text new = IsRefusal side came text × (new ≡ old)
 
-  -- a line asks for something, or asks a question, or is one of a backup, or is a bad one
+  -- a line asks for something, or asks a question, or is one of a backup, or is refused
   abbrev pub IsTold : (side : Side) (came : List ℕ) (old : Served S) (text : List ℕ) (new : Served S)
       → Type 0
   IsTold side came old text new = Asks side came old text new
-      ⊎ (Inquires side came old text new ⊎ (BacksUp side came old text new ⊎ IsBad old text new))
+      ⊎ (Inquires side came old text new
+      ⊎ (BacksUp side came old text new ⊎ IsRefused side came old text new))
 
   -- the first line that came is taken, and this is told of it
   pub record TakesLine (before after : LineConnection) (old : Served S) (text : List ℕ)

@@ -11,7 +11,7 @@ use crate::logging::{draft, look, note, push_out, refuse_line, refuse_request, s
 use crate::watch::Watch;
 use http_server::Log;
 use room_events::{Name, Reply};
-use room_log::{Door, EventLog};
+use room_log::{Door, EventLog, LineRefusal};
 use room_store::StoreFault;
 use std::fs::{File, Files};
 
@@ -156,10 +156,10 @@ impl Journal {
     }
 
     /// Tells that a door refused a line.
-    pub(crate) fn refuse_line(&mut self, moment: u64, door: Door)
+    pub(crate) fn refuse_line(&mut self, moment: u64, door: Door, why: LineRefusal)
         ensures { self.new ≡ self.old }
     {
-        refuse_line(&mut self.log, moment, door);
+        refuse_line(&mut self.log, moment, door, why);
     }
 
     /// Tells that a request was refused with a status.

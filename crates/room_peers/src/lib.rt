@@ -19,6 +19,7 @@ mod line_peer;
 mod line_text;
 mod load;
 mod logging;
+mod own_devices;
 mod patience;
 mod progress;
 mod request;

@@ -1,20 +1,22 @@
 //! A connection of lines: what came and is no whole line yet, and answers that wait to go.
-ghost use Rattle.std.specs.Prelude.{◌≡◌, ◌≢◌, ◌<◌, ◌≤◌, ◌+◌, ◌++◌, [], length, nat_lt, IfOk, IfSome, OnErr, OnOk, Ok, Some};
+ghost use Rattle.std.specs.Prelude.{◌≡◌, ◌≢◌, ◌<◌, ◌≤◌, ◌+◌, ◌++◌, [], false, length, nat_lt, take, true, IfOk, IfSome, OnErr, OnOk, Ok, Some};
 ghost use Rattle.std.specs.Io.KnownBytes.{Keeps};
 ghost use Rattle.room_lines.specs.Asking.{IsQuestionOf};
 ghost use Rattle.room_lines.specs.Backups.{IsBackupOf};
 ghost use Rattle.room_peers.specs.LineTexts.{bad_line_text, has_to_warn};
+ghost use Rattle.room_peers.specs.OwnDevices.{is_own};
 ghost use Rattle.room_peers.specs.Turns.{Continues};
 ghost use Rattle.room_peers.specs.Lines.{AnswersLine, Comes, IsEntryOf, IsNewOf, IsPutOff, IsQuiet, IsWaiting, Leaves, LosesAnswer, MayAsk, asks_documents, grammar_of, input_of, line_end, output_of, received_of, sent_of, side_of, longest_line};
 
 use crate::entry::Entry;
-use crate::line_text::{put_answer, put_bad, put_told};
+use crate::line_text::{put_answer, put_bad, put_refused, put_told};
+use crate::own_devices::{device_of, is_named};
 use crate::served::Served;
 use bytes::{Buf, BufMut, BytesMut};
 use http_server::{Log, Rope};
 use room_input::FieldFault;
 use room_lines::{BackupLine, Grammar, read_backup, read_question, read_station_question};
-use room_log::Door;
+use room_log::{Door, LineRefusal};
 use room_questions::Question;
 use sqlite::Alter;
 use std::alloc::{AllocError, Global};
@@ -32,6 +34,8 @@ const ROOM: usize = 4_096;
 pub enum Side {
     /// `release`, `start` and `settle`, and a station's questions.
     Station,
+    /// The same, for the devices alone whose names these are, parted by commas.
+    Bound(&'static [u8]),
     /// `open`, `device`, `rate`, `grant`, `cancel` and `hold`, an operator's questions, and the lines
     /// of a backup.
     Operator,
@@ -40,7 +44,7 @@ pub enum Side {
 impl Side {
     pub(crate) fn door(self) -> Door {
         match self {
-            Side::Station => Door::Stations,
+            Side::Station | Side::Bound(_) => Door::Stations,
             Side::Operator => Door::Operators,
         }
     }
@@ -49,8 +53,18 @@ impl Side {
         ensures { result ≡ grammar_of self moment }
     {
         match self {
-            Side::Station => Grammar::Station { moment },
+            Side::Station | Side::Bound(_) => Grammar::Station { moment },
             Side::Operator => Grammar::Operator { moment },
+        }
+    }
+
+    /// Whether a line may come for the device that it names.
+    fn is_own(self, line: &[u8]) -> bool
+        ensures { result ≡ is_own self line.now }
+    {
+        match self {
+            Side::Bound(names) => is_named(names, device_of(line)),
+            Side::Station | Side::Operator => true,
         }
     }
 }
@@ -128,9 +142,10 @@ impl LineConnection {
     }
 
     /// Answers the line at the front of what came, at the moment of what is served: what it asks
-    /// for is applied, once, or it is a question, or a bad line, which change nothing. A question
-    /// is put off while a round is under way. Where memory was refused, the connection has to be
-    /// closed; the line is left, or it was taken and its answer is lost.
+    /// for is applied, once, or it is a question, or it is refused, which change nothing. A question
+    /// is put off while a round is under way. By a bound door nothing is applied or asked but for
+    /// its devices. Where memory was refused, the connection has to be closed; the line is left, or
+    /// it was taken and its answer is lost.
     pub fn answer<S: Alter>(&mut self, served: &mut Served<S>) -> Result<Front, AllocError>
         ensures taken { result ≡ Ok Front.Answered
             → AnswersLine S.Store self.old self.new served.old served.new }
@@ -147,6 +162,9 @@ impl LineConnection {
         let Some(end) = line_end(self.input.as_slice()) else {
             return Ok(Front::Unended);
         };
+        if !self.side.is_own(&self.input.as_slice()[..end]) {
+            return self.refuse_other(served, end);
+        }
         let grammar = self.side.grammar(served.moment);
         match entry_of(self.alloc, grammar, &self.input.as_slice()[..end])? {
             Some(entry) => {
@@ -159,6 +177,30 @@ impl LineConnection {
         }
     }
 
+    /// Refuses a line, which ends there, that names no device of the bound door by which it came.
+    fn refuse_other<S: Alter>(
+        &mut self,
+        served: &mut Served<S>,
+        end: usize,
+    ) -> Result<Front, AllocError>
+        requires first { line_end (input_of self.old) ≡ Some end }
+        requires other { is_own (side_of self.old) (take end (input_of self.old)) ≡ false }
+        ensures taken { OnOk result
+            (AnswersLine S.Store self.old self.new served.old served.new) }
+        ensures answered { IfOk result (λ front. front ≡ Front.Answered) }
+        ensures lost { OnErr result
+            (LosesAnswer S.Store self.old self.new served.old served.new) }
+        ensures continues { Continues S.Store served.old served.new }
+        ensures quiet { IsQuiet self.old self.new }
+        ensures side { side_of self.new ≡ side_of self.old }
+    {
+        let why = refusal_of(self.alloc, &self.input.as_slice()[..end])?;
+        served.log_refused_line(self.side.door(), why);
+        self.input.advance(end + 1);
+        put_refused(&mut self.output, why)?;
+        Ok(Front::Answered)
+    }
+
     /// Answers a line, which ends there, that asks for nothing to be applied.
     fn answer_other<S: Alter>(
         &mut self,
@@ -166,6 +208,7 @@ impl LineConnection {
         end: usize,
     ) -> Result<Front, AllocError>
         requires first { line_end (input_of self.old) ≡ Some end }
+        requires own { is_own (side_of self.old) (take end (input_of self.old)) ≡ true }
         ensures taken { result ≡ Ok Front.Answered
             → AnswersLine S.Store self.old self.new served.old served.new }
         ensures whole { result ≢ Ok Front.Unended }
@@ -207,7 +250,7 @@ impl LineConnection {
         ensures side { side_of self.new ≡ side_of self.old }
     {
         let Some(line) = backup_line_of(self.side, &self.input.as_slice()[..end]) else {
-            served.log_bad_line(self.side.door());
+            served.log_refused_line(self.side.door(), LineRefusal::BadLine);
             self.input.advance(end + 1);
             put_bad(&mut self.output)?;
             return Ok(Front::Answered);
@@ -297,6 +340,17 @@ fn line_end(input: &[u8]) -> Option<usize>
     input.iter().position(|byte| *byte == b'\n')
 }
 
+/// Why a line that names no device of its door is refused: one that is no station's is bad there too.
+fn refusal_of(alloc: Global, line: &[u8]) -> Result<LineRefusal, AllocError> {
+    if read_station_question(line).is_ok() {
+        return Ok(LineRefusal::NotYourDevice);
+    }
+    match entry_of(alloc, Grammar::Station { moment: 0 }, line)? {
+        Some(_) => Ok(LineRefusal::NotYourDevice),
+        None => Ok(LineRefusal::BadLine),
+    }
+}
+
 /// What a line asks to be applied, or `None` where it asks for nothing of that kind.
 fn entry_of(alloc: Global, grammar: Grammar, line: &[u8]) -> Result<Option<Entry>, AllocError>
     ensures { IfOk result (λ entry. IfSome entry (IsEntryOf grammar line.now)) }
@@ -316,7 +370,7 @@ fn question_of(side: Side, line: &[u8]) -> Option<Question>
     ensures { IfSome result (λ question. MayAsk side question × IsQuestionOf line.now question) }
 {
     let read = match side {
-        Side::Station => read_station_question(line),
+        Side::Station | Side::Bound(_) => read_station_question(line),
         Side::Operator => read_question(line),
     };
     match read {
@@ -330,7 +384,7 @@ fn backup_line_of(side: Side, line: &[u8]) -> Option<BackupLine<'_>>
     ensures { IfSome result (λ asked. (side ≡ Side.Operator) × IsBackupOf line.now asked) }
 {
     match side {
-        Side::Station => None,
+        Side::Station | Side::Bound(_) => None,
         Side::Operator => read_backup(line).ok(),
     }
 }

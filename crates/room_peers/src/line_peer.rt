@@ -9,6 +9,7 @@ use crate::patience::Patience;
 use crate::progress::Progress;
 use crate::step::{Next, STEPS, Turn, after, drain};
 use crate::{LineConnection, Served, Side};
+use room_log::LineRefusal;
 use sqlite::Alter;
 use std::alloc::Global;
 use std::io::{Read, Write};
@@ -160,7 +161,7 @@ impl LinePeer {
     {
         self.has_ended = true;
         if self.connection.has_rest() {
-            served.log_bad_line(self.connection.side().door());
+            served.log_refused_line(self.connection.side().door(), LineRefusal::BadLine);
             return match self.connection.refuse_rest() {
                 Ok(()) => None,
                 Err(_) => Some(Next::Close),

@@ -1,11 +1,12 @@
 //! What is sent for a line.
 ghost use Rattle.std.specs.Prelude.{◌≡◌, ◌++◌, codes, slice_index, OnOk};
-ghost use Rattle.room_peers.specs.LineTexts.{answer_text, bad_line_text, line_text, part_text, parts_text, status_message, told_of};
+ghost use Rattle.room_peers.specs.LineTexts.{answer_text, bad_line_text, line_text, part_text, parts_text, refused_line, status_message, told_of};
 
 use crate::shared::shared;
 use bytes::BufMut;
 use http_server::Rope;
 use room_events::{Part, Reply};
+use room_log::LineRefusal;
 use room_store::StoreFault;
 use std::alloc::{AllocError, Global};
 
@@ -99,6 +100,16 @@ fn byte_at(bytes: &[u8], place: usize) -> u8
     ensures { result ≡ slice_index bytes.now place }
 {
     bytes.get(place).copied().unwrap_or(0)
+}
+
+/// Puts the answer to a line that is refused after what waits to go.
+pub(crate) fn put_refused(output: &mut Rope, why: LineRefusal) -> Result<(), AllocError>
+    ensures { OnOk result (output.new.items ≡ output.old.items ++ refused_line why) }
+{
+    match why {
+        LineRefusal::BadLine => put_bad(output),
+        LineRefusal::NotYourDevice => output.put_slice(b"not-your-device\n"),
+    }
 }
 
 /// Puts the answer to a bad line after what waits to go.

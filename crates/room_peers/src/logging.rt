@@ -4,7 +4,7 @@ ghost use Rattle.room_peers.specs.Logging.{Becomes, DraftsOne, KeepsLines, LogsO
 
 use crate::entry::Entry;
 use room_events::Reply;
-use room_log::{Door, EventLog};
+use room_log::{Door, EventLog, LineRefusal};
 use room_store::StoreFault;
 use std::fs::{File, Files};
 
@@ -45,11 +45,11 @@ pub(crate) fn push_out(log: &mut Option<EventLog>)
 }
 
 /// A door refused a line.
-pub(crate) fn refuse_line(log: &mut Option<EventLog>, moment: u64, door: Door)
+pub(crate) fn refuse_line(log: &mut Option<EventLog>, moment: u64, door: Door, why: LineRefusal)
     ensures { log.new ≡ log.old }
 {
     if let Some(log) = log {
-        log.refuse_line(moment, door);
+        log.refuse_line(moment, door, why);
     }
 }
 

@@ -25,7 +25,7 @@ use http::Request;
 use room_copy::CopyMaker;
 use room_events::{Name, Part, Reply};
 use room_lines::BackupLine;
-use room_log::{Door, EventLog};
+use room_log::{Door, EventLog, LineRefusal};
 use room_questions::Question;
 use room_requests::Refusal;
 use room_space::Spare;
@@ -147,11 +147,11 @@ impl<S: Alter> Served<S> {
         self.journal.look(files, moment);
     }
 
-    /// Has the log tell that a door refused a line.
-    pub(crate) fn log_bad_line(&mut self, door: Door)
+    /// Has the log tell that a door refused a line, and why.
+    pub(crate) fn log_refused_line(&mut self, door: Door, why: LineRefusal)
         ensures { self.new ≡ self.old }
     {
-        self.journal.refuse_line(self.moment, door);
+        self.journal.refuse_line(self.moment, door, why);
     }
 
     /// Has the log tell that a request with the path was refused.

@@ -1,5 +1,5 @@
 //! `serve`: one process for clients over HTTP, stations and operators.
-ghost use Rattle.std.specs.Prelude.{◌≡◌, []};
+ghost use Rattle.std.specs.Prelude.{◌≡◌, [], IfOk};
 ghost use Rattle.room_peers.specs.Journals.{open_of, rounds_of};
 
 use crate::database::serve_over;
@@ -12,6 +12,7 @@ use room_sockets::{Door, Entrance, Hall, Kind, moment};
 use room_space::Spare;
 use room_store::Store;
 use sqlite::{Alter, Connection};
+use std::alloc::{AllocError, Global};
 use std::hash::RandomState;
 use std::io;
 use std::io::Write;
@@ -97,7 +98,8 @@ fn open<W: Write>(rt: &HostRuntime, asked: &Serving<'_>, output: &mut W) -> io::
 fn doors_at(rt: &HostRuntime, asked: &[ServedDoor<'_>]) -> io::Result<Vec<Entrance>> {
     let mut doors = Vec::with_capacity(rt.alloc(), asked.len())?;
     for door in asked {
-        doors.push(Entrance::new(door_at(rt, door.address)?, kind_of(door.visitors)))?;
+        let kind = kind_of(rt, door)?;
+        doors.push(Entrance::new(door_at(rt, door.address)?, kind))?;
     }
     Ok(doors)
 }
@@ -109,13 +111,23 @@ fn door_at(rt: &HostRuntime, address: Address<'_>) -> io::Result<Door> {
     }
 }
 
-fn kind_of(visitors: Visitors) -> Kind {
-    match visitors {
-        Visitors::Clients => Kind::CLIENTS,
-        Visitors::Pages => Kind::PAGES,
-        Visitors::Stations => Kind::STATIONS,
-        Visitors::Operators => Kind::OPERATORS,
+fn kind_of(rt: &HostRuntime, door: &ServedDoor<'_>) -> io::Result<Kind> {
+    match door.visitors {
+        Visitors::Clients => Ok(Kind::CLIENTS),
+        Visitors::Pages => Ok(Kind::PAGES),
+        Visitors::Stations => Ok(Kind::STATIONS),
+        Visitors::Station => Ok(Kind::station(kept(rt.alloc(), door.devices)?)),
+        Visitors::Operators => Ok(Kind::OPERATORS),
     }
+}
+
+/// The names, in memory that is never freed: a door is there as long as the process.
+fn kept(alloc: Global, names: &str) -> Result<&'static [u8], AllocError>
+    ensures { IfOk result (λ kept. kept.now ≡ names.now) }
+{
+    let mut kept = Vec::with_capacity(alloc, names.len())?;
+    kept.extend_from_slice(names.as_bytes())?;
+    Ok(kept.leak())
 }
 
 /// Tells where each can connect, a free port that was taken among them.

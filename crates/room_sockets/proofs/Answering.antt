@@ -28,7 +28,7 @@ use Rattle.room_peers.specs.LinePeers as lines
 use Rattle.room_peers.specs.LinePeers.{LineCall, TakesLines, bytes_told, lines_of, taken}
 use Rattle.room_peers.specs.LineTexts.{has_to_warn}
 use Rattle.room_peers.specs.Keeping.{backup_of}
-use Rattle.room_peers.specs.Lines.{Asks, BacksUp, Inquires, IsBad, IsTold, input_of, output_of, sent_of, side_of}
+use Rattle.room_peers.specs.Lines.{Asks, BacksUp, Inquires, IsRefused, IsTold, input_of, output_of, sent_of, side_of}
 use Rattle.room_peers.specs.Requests.{asked}
 use Rattle.room_peers.specs.Streams.{Ends}
 use Rattle.room_peers.specs.declared.entry.Entry.TheVariants as entry
@@ -268,7 +268,7 @@ module _ {S : Type 0} (store : Ghosts S) (before : Served S) (fresh : IsFresh be
         let one : Told = (is.entry, is.told) in
         let long : length (journal ++ one ∷ []) ≡ suc (length journal) = omega (arith, length-append journal (one ∷ [])) in
         let stands : slice_get ((journal ++ one ∷ []) ++ told) (length journal) ≡ Some one = at_longer (journal ++ one ∷ []) told (length journal) one (at_seam journal [] one) in
-        inl (one, record { line = is.line; ended = is.ended; moment = moment_of old; said = is.said; says = is.says }, length journal, its, refl, omega arith, stands, subst (λ (n : ℕ). AnswersLineCalls store (store_of before) last side calls n its ((journal ++ one ∷ []) ++ told)) long later),
+        inl (one, record { line = is.line; ended = is.ended; own = is.own; moment = moment_of old; said = is.said; says = is.says }, length journal, its, refl, omega arith, stands, subst (λ (n : ℕ). AnswersLineCalls store (store_of before) last side calls n its ((journal ++ one ∷ []) ++ told)) long later),
   )
 
   -- nothing was applied: the rest stands where it did
@@ -288,6 +288,7 @@ module _ {S : Type 0} (store : Ghosts S) (before : Served S) (fresh : IsFresh be
           record {
             line = is.line;
             ended = is.ended;
+            own = is.own;
             question = is.question;
             asks = is.asks;
             said = is.said;
@@ -301,7 +302,7 @@ module _ {S : Type 0} (store : Ghosts S) (before : Served S) (fresh : IsFresh be
         )),
   )
 
-  bad_told : (side : Side) (call : LineCall) (old new : Served S) → IsBad store old call.1 new → LineTold side call old new
+  bad_told : (side : Side) (call : LineCall) (old new : Served S) → IsRefused store side call.0 old call.1 new → LineTold side call old new
   unfolding stays
   bad_told side call old new bad = subst (λ (served : Served S). LineTold side call old served) (sym bad.1) (stays store old, λ journal is_journal calls its told later. inr (inr (inr bad.0, none_told side calls journal told its later)))
 

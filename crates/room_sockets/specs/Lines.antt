@@ -1,5 +1,5 @@
 -- Lines of a door of lines, and what goes out in answer to them (this project's own).
-use Rattle.std.specs.Prelude.{◌≡◌, ◌≤◌, ◌⊎◌, ℕ, Bool, suc, length, slice_get, take, IsTrue, List, [], ◌∷◌, ◌++◌, Some, Result}
+use Rattle.std.specs.Prelude.{◌≡◌, ◌≤◌, ◌⊎◌, ℕ, Bool, true, suc, length, slice_get, take, IsTrue, List, [], ◌∷◌, ◌++◌, Some, Result}
 use Rattle.sqlite.specs.Held.{Held}
 use Rattle.sqlite_trees.specs.declared.store.Store.{Ghosts}
 use Rattle.room_events.specs.declared.event.Reply.{Reply}
@@ -13,17 +13,20 @@ use Rattle.room_peers.specs.Backups.{backup_text}
 use Rattle.room_peers.specs.declared.backup.BackupTold.{BackupTold}
 use Rattle.room_peers.specs.Journals.{Told}
 use Rattle.room_peers.specs.LinePeers.{LineCall, bytes_told, taken}
-use Rattle.room_peers.specs.Lines.{IsEntryOf, MayAsk, grammar_of, input_of, output_of, received_of, sent_of, side_of}
-use Rattle.room_peers.specs.LineTexts.{answer_text, bad_line_text, line_text}
+use Rattle.room_peers.specs.Lines.{IsEntryOf, IsRefusal, MayAsk, grammar_of, input_of, output_of, received_of, sent_of, side_of}
+use Rattle.room_peers.specs.LineTexts.{answer_text, line_text}
+use Rattle.room_peers.specs.OwnDevices.{is_own}
 use Rattle.room_peers.specs.declared.line_connection.LineConnection.{LineConnection}
 use Rattle.room_peers.specs.declared.line_connection.Side.{Side}
 use Rattle.room_peers.specs.declared.line_connection.Side.TheVariants.{Operator}
 use Rattle.room_sockets.specs.Questions.{AnswersBy}
 
--- the line is what was asked there, and what is told of it is what that came to
+-- The line is what was asked there, and what is told of it is what that came to. By a bound door it
+-- names one of its devices.
 pub record TellsLine (side : Side) (call : LineCall) (told : Told) : Type 0 where
   pub line : List ℕ
   pub ended : call.0 ≡ line ++ 10 ∷ []
+  pub own : is_own side line ≡ true
   pub moment : ℕ
   pub said : IsEntryOf (grammar_of side moment) line told.0
   pub says : call.1 ≡ line_text told.1
@@ -39,11 +42,12 @@ pub record TellsBackup (side : Side) (call : LineCall) : Type 0 where
   pub says : call.1 ≡ backup_text told
 
 module _ {S : Type 0} (store : Ghosts S) (first last : Held S) where
-  -- the line is a question of its side, and what is told of it answers that; `ping` may be told a
-  -- warning
+  -- The line is a question of its side, and what is told of it answers that; `ping` may be told a
+  -- warning. By a bound door it names one of its devices.
   pub record TellsAnswer (side : Side) (call : LineCall) (so_far : List Told) : Type 0 where
     pub line : List ℕ
     pub ended : call.0 ≡ line ++ 10 ∷ []
+    pub own : is_own side line ≡ true
     pub question : Question
     pub asks : MayAsk side question
     pub said : IsQuestionOf line question
@@ -56,7 +60,7 @@ module _ {S : Type 0} (store : Ghosts S) (first last : Held S) where
   -- Each line is told what stands in the journal at the next of these places, which rise from the
   -- least on. Others have no place: a question, which is answered by what stands there up to then, with
   -- all that was told on the connection before; a line of a backup, which is told how that goes on; and
-  -- a bad line, which is told to be one.
+  -- a line that is refused: a bad one, or by a bound door one of another device.
   abbrev pub AnswersLineCalls : (side : Side) → List LineCall
       → (least : ℕ) (places : List ℕ) (journal : List Told) → Type 0
   AnswersLineCalls side [] least places journal = places ≡ []
@@ -66,7 +70,7 @@ module _ {S : Type 0} (store : Ghosts S) (first last : Held S) where
       × AnswersLineCalls side calls (suc place) rest journal)
       ⊎ (((n : ℕ) × (least ≤ n) × (n ≤ length journal) × TellsAnswer side call (take n journal)
       × AnswersLineCalls side calls n places journal)
-      ⊎ ((TellsBackup side call ⊎ (call.1 ≡ bad_line_text))
+      ⊎ ((TellsBackup side call ⊎ IsRefusal side call.0 call.1)
       × AnswersLineCalls side calls least places journal))
 
   -- All that came are these lines, and what is no whole line yet; all that went, and what waits to

@@ -73,6 +73,17 @@ impl Kind {
         speech: Speech::Lines(Side::Operator),
         most: 64,
     };
+
+    /// Stations, for the devices alone whose names these are, parted by commas. It lets in few, so
+    /// that a hall has room for many such doors.
+    pub fn station(devices: &'static [u8]) -> Kind
+        ensures { result.speech ≡ Speech.Lines (Side.Bound devices) }
+    {
+        Kind {
+            speech: Speech::Lines(Side::Bound(devices)),
+            most: 16,
+        }
+    }
 }
 
 /// A door of a kind, and how many peers that came in by it are there.

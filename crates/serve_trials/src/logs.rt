@@ -21,6 +21,9 @@ const OPERATOR: &[u8] =
 const STATION: &[u8] = b"release d1 alice 7 31323334 -\nrelease d1 alice 1 - 12\nstart d1 alice 1\n\
     settle d1 alice 1 5 done\n";
 
+/// What comes by a bound door, for another device and its own, with what is no line.
+const BOUND: &[u8] = b"start d1 alice 1\nlist d1 alice\nnone\nstart d2 alice 1\n";
+
 /// The header of Print-Job alone.
 const HEADER_ALONE: &[u8] = b"POST /ipp/print/alice HTTP/1.1\r\nHost: localhost\r\n\
     Content-Type: application/ipp\r\nContent-Length: 8\r\n\r\n\x01\x01\x00\x02\x00\x00\x00\x01";
@@ -29,8 +32,8 @@ const HEADER_ALONE: &[u8] = b"POST /ipp/print/alice HTTP/1.1\r\nHost: localhost\
 const ELSEWHERE: &[u8] = b"POST /print/alice HTTP/1.1\r\nHost: localhost\r\n\
     Content-Type: application/ipp\r\nContent-Length: 0\r\n\r\n";
 
-/// The lines of the former, of a job of alice, of requests that make none, of one that is refused, and
-/// of the latter.
+/// The lines of the former, of a job of alice, of requests that make none, of one that is refused, of
+/// the latter, and of what comes by a bound door.
 const LINES: &[u8] = b"1788220800 operators open alice ok\n\
     1788220800 operators device d1 on ok\n\
     1788220800 operators rate d1 2 ok\n\
@@ -45,7 +48,11 @@ const LINES: &[u8] = b"1788220800 operators open alice ok\n\
     1788220800 stations d1 release alice 7 no-job\n\
     1788220800 stations d1 release alice 1 ok reserved 24 left 476\n\
     1788220800 stations d1 start alice 1 documents 1\n\
-    1788220800 stations d1 settle alice 1 5 done ok charged 10 left 490\n";
+    1788220800 stations d1 settle alice 1 5 done ok charged 10 left 490\n\
+    1788220800 stations refused not-your-device\n\
+    1788220800 stations refused not-your-device\n\
+    1788220800 stations refused bad-line\n\
+    1788220800 stations d2 start alice 1 no-device\n";
 
 /// A moment that is past all that are served: what is asked then fails.
 const LATE: u64 = 4_102_444_800;
@@ -90,6 +97,7 @@ fn ask_all(rt: &HostRuntime, rooms: &mut Served<MemStore>) -> Result<(), Fault> 
         exchange(rt, rooms, request, 100)?;
     }
     exchange_lines(rt, rooms, Side::Station, STATION, 100)?;
+    exchange_lines(rt, rooms, Side::Bound(b"d2"), BOUND, 100)?;
     Ok(())
 }
 

@@ -4,7 +4,8 @@
 //! - `= answered`: that of clients
 //! - `= shown`: that of browsers; `= shown with FILE` where the file's bytes come behind, and `= shown
 //!   first` where what goes out begins so
-//! - `= told an operator`, `= told a station`: those of lines
+//! - `= told an operator`, `= told a station`: those of lines; `= told the station of d1 and d3`: the
+//!   bound door of these devices
 //!
 //! A connection of HTTP is an exchange (`room_rows` says how). In one of lines, `> LINE` is sent, and
 //! `< LINE` is told.
@@ -15,6 +16,9 @@ use sqlite::MemStore;
 use std::alloc::AllocError;
 use std::fs;
 use trial_rooms::{Fault, exchange, exchange_lines, expect_bytes, open_rooms, show, with_case};
+
+/// The lines of a bound door.
+const BOUND: Side = Side::Bound(b"d1,d3");
 
 /// Sends each row of the file to new rooms. Expects the answers that it says.
 pub fn expect_rows(rt: &HostRuntime, file: &str) -> Result<(), Fault> {
@@ -52,6 +56,7 @@ fn expect_connections(
         match end {
             "= told an operator" => expect_told(rt, rooms, Side::Operator, lines, is_cut)?,
             "= told a station" => expect_told(rt, rooms, Side::Station, lines, is_cut)?,
+            "= told the station of d1 and d3" => expect_told(rt, rooms, BOUND, lines, is_cut)?,
             end => expect_answer(rt, rooms, lines, end, is_cut)?,
         }
     }

@@ -5,7 +5,7 @@ use Rattle.room_peers.specs.Lines.{input_of, output_of}
 use Rattle.room_peers.proofs.line_connection.LineConnection.answer_last.Goals as goal
 
 pub returns-in_err-put_bad-clause-lost : goal.returns-in_err-put_bad-clause-lost
-returns-in_err-put_bad-clause-lost g c = on_err _ _ (inr (_, takes_bad g.S.Store _ _ _ _ _ c.requires.first c.advance.ensures.items c.log_bad_line.ensures))
+returns-in_err-put_bad-clause-lost g c = on_err _ _ (inr (_, takes_bad g.S.Store _ _ _ _ _ c.requires.first c.advance.ensures.items c.log_refused_line.ensures))
 
 pub returns-in_err-put_slice-clause-lost : goal.returns-in_err-put_slice-clause-lost
 returns-in_err-put_slice-clause-lost g c =
