@@ -2,7 +2,7 @@
 
 use std::alloc::Global;
 use std::fs::{File, Files, OpenOptions};
-use std::io::{ErrorKind, Write};
+use std::io::Write;
 use std::os::unix::fs::{MetadataExt, OpenOptionsExt};
 use std::{fs, io};
 
@@ -80,18 +80,10 @@ impl Write for LogFile {
     }
 }
 
-/// Opens the file for what is appended. Where none is there it is made, for its owner alone, and not
-/// where a link leads.
 fn open_end<R: Files<File = File>>(files: &R, path: &str) -> io::Result<File> {
-    let made = OpenOptions::new()
+    OpenOptions::new()
         .append(true)
-        .create_new(true)
+        .create(true)
         .mode(OWNER_ALONE)
-        .open(files, path);
-    match made {
-        Err(error) if error.kind() == ErrorKind::AlreadyExists => {
-            OpenOptions::new().append(true).open(files, path)
-        }
-        made => made,
-    }
+        .open(files, path)
 }

@@ -4,7 +4,7 @@ ghost use Rattle.room_space.specs.Spares.{any_length, gone_of, held_of, kept_bac
 
 use std::fs::{File, Files, OpenOptions};
 use std::io;
-use std::io::{ErrorKind, Write};
+use std::io::Write;
 use std::os::unix::fs::OpenOptionsExt;
 
 /// The bytes of a whole spare file.
@@ -64,7 +64,12 @@ impl Spare {
     fn found<R: Files<File = File>>(files: &R, path: &str) -> io::Result<Spare>
         ensures { IfOk result (λ spare. held_of spare ≤ whole) }
     {
-        let file = open_end(files, path)?;
+        // Where it was cut, what is appended goes to its start again, and leaves no hole.
+        let file = OpenOptions::new()
+            .append(true)
+            .create(true)
+            .mode(OWNER_ALONE)
+            .open(files, path)?;
         let held = file.metadata()?.len().min(WHOLE as u64) as usize;
         let kept = Some(Kept {
             file,
@@ -163,23 +168,6 @@ impl Spare {
             None => false,
             Some(kept) => kept.mend(),
         }
-    }
-}
-
-/// Opens the file for what is appended. Where none is there it is made, for its owner alone, and not
-/// where a link leads. Where the file was cut, what is appended goes to its start again, and leaves
-/// no hole.
-fn open_end<R: Files<File = File>>(files: &R, path: &str) -> io::Result<File> {
-    let made = OpenOptions::new()
-        .append(true)
-        .create_new(true)
-        .mode(OWNER_ALONE)
-        .open(files, path);
-    match made {
-        Err(error) if error.kind() == ErrorKind::AlreadyExists => {
-            OpenOptions::new().append(true).open(files, path)
-        }
-        made => made,
     }
 }
 
