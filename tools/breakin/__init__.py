@@ -1,0 +1,1 @@
+"""The attacks of tools/break-in, a module for each part, and what they stand on."""
