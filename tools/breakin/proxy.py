@@ -3,6 +3,7 @@ import contextlib
 import json
 import re
 import ssl
+import threading
 import time
 
 from breakin.asking import (CLIENTS, NAME, PAGES, PRINT_JOB, STATIONS, STRANGERS, ask, basic, connect, message, read, refuses_version, speak,
@@ -297,10 +298,16 @@ def large_heads(house):
 def silent_handshakes(house):
     """Connections that never begin their TLS are let go."""
     kept = {}
-    for port in (CLIENTS, PAGES, STATIONS):
+
+    def wait(port):
         with contextlib.closing(connect(port, False, STRANGERS[2])) as stream:
             begun = time.monotonic()
             read(stream, 45)
             kept[port] = round(time.monotonic() - begun)
+    threads = [threading.Thread(target=wait, args=(port,)) for port in (CLIENTS, PAGES, STATIONS)]
+    for thread in threads:
+        thread.start()
+    for thread in threads:
+        thread.join()
     want(max(kept.values()) < 45, f'kept for {kept} s')
     return f'kept for {kept} s'
