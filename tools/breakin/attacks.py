@@ -10,7 +10,7 @@ ATTACKS = []
 
 
 def attack(part, house):
-    """Puts a function into the list: it tries to get in at this house (FRONT or PROXY), tells what came, and raises Wrong where it got in."""
+    """Puts a function into the list: it tries to get in at a house of this kind, FRONT or PROXY, and raises Wrong where it got in."""
     def put(function):
         ATTACKS.append(Attack(part, house, function))
         return function

@@ -1,9 +1,11 @@
 """Attacks on files: what others may read of them, and what is written where somebody else has put a link."""
 from breakin.asking import KEYWORD, OCTETS
 from breakin.attacks import FRONT, PROXY, attack, want_none
+from breakin.house import OPERATORS
 from messages import attribute
 from station_room import want
 
+COPY = '/var/lib/ipp-room/backup.db'
 PIN = [attribute(OCTETS, b'job-password', b'27182818'), attribute(KEYWORD, b'job-password-encryption', b'none')]
 
 
@@ -28,8 +30,8 @@ def keys(house):
 def of_the_packages(house):
     """Nobody else reads what the packages keep, or changes what they install."""
     read = others_read(house, '/var/lib/ipp-room /var/log/ipp-room /var/lib/ipp-room-station /var/spool/cups /etc/cups/ssl /var/log/cups')
-    written = house.machine.told("for p in ipp-room ipp-room-cups ipp-room-station; do dpkg -L $p; done | xargs -d '\\n' stat -c '%A %U %n' | "
-                                 "grep -E '^[-d].......w|^[-d]....w.* (?!root)| (ipp|lp|nobody)[^ ]* /' | grep -v '^d.*ipp-room /var' | head").splitlines()
+    written = house.machine.told("for p in ipp-room ipp-room-cups ipp-room-station; do dpkg -L $p; done | "
+                                 "xargs -d '\\n' stat -c '%A %U %n' | grep -E '^[-d].......w| (ipp|lp|nobody)[^ ]* /'").splitlines()
     entered = [(user, path) for user in ('nobody', 'alice', 'lp') for path in ('/var/lib/ipp-room', '/var/log/ipp-room')
                if house.ask_as(user, f'ls {path}')[1] == 0]
     want(not read and not written and not entered, (read, written, entered))
@@ -41,7 +43,8 @@ def made_by_hand(house):
     """Whatever the umask is, nobody else reads a database, its log, space and copies, or a log of events."""
     house.machine.run('rm -rf /tmp/room; install -d -o nobody -m 755 /tmp/room')
     house.ask_as('nobody', 'cd /tmp/room; umask 022; ipp-room create room.db; ipp-room open room.db alice; ipp-room copy room.db copy.db')
-    house.ask_as('nobody', 'cd /tmp/room; umask 000; ipp-room serve room.db 0 /tmp/room/stations /tmp/room/operators --log log >/dev/null & sleep 3; '
+    house.ask_as('nobody', 'cd /tmp/room; umask 000; '
+                           'ipp-room serve room.db 0 /tmp/room/stations /tmp/room/operators --log log >/dev/null & sleep 3; '
                            "cd /tmp/room; printf 'open kate\\n' | ipp-room send operators; ipp-room backup operators /tmp/room/backup.db; "
                            'stat -c "%a %n" * > modes; ipp-room end operators')
     rows = [line.split() for line in house.machine.told('cat /tmp/room/modes; rm -rf /tmp/room/modes').splitlines()]
@@ -55,18 +58,19 @@ def made_by_hand(house):
 @attack('files', FRONT)
 def copies_onto_links(house):
     """A copy is written into no file that a link in another's folder names, and onto none that is no database."""
-    house.machine.run('rm -rf /tmp/shared; install -d -o nobody -m 777 /tmp/shared; echo secret > /root/victim.txt; chmod 600 /root/victim.txt; '
-                      'cd /root; rm -f mine.db*; ipp-room create mine.db')
-    house.ask_as('nobody', 'cd /tmp/shared; ln -s /root/victim.txt a.db.part; ln -s /root/victim.txt b.db; ln -s /root/new.txt c.db.part; ln /etc/hostname d.db 2>/dev/null; '
-                           'mkdir e.db.part; mkfifo f.db.part')
+    house.machine.run('rm -rf /tmp/shared; install -d -o nobody -m 777 /tmp/shared; echo secret > /root/victim.txt; '
+                      'chmod 600 /root/victim.txt; cd /root; rm -f mine.db*; ipp-room create mine.db')
+    house.ask_as('nobody', 'cd /tmp/shared; ln -s /root/victim.txt a.db.part; ln -s /root/victim.txt b.db; ln -s /root/new.txt c.db.part; '
+                           'ln /etc/hostname d.db 2>/dev/null; mkdir e.db.part; mkfifo f.db.part')
     told = {name: house.machine.ask(f'cd /root; timeout 20 ipp-room copy mine.db /tmp/shared/{name}.db')[1] for name in 'abcdef'}
     state = house.machine.run("stat -c '%U %G %a %s' /root/victim.txt; cat /root/victim.txt").split('\n')
     made = house.machine.told('ls /root/new.txt 2>/dev/null').strip()
-    backup = house.machine.told(f'ipp-room backup /run/ipp-room/operators /tmp/shared/g.db; ipp-room backup /run/ipp-room/operators /etc/evil.db; '
-                                'ipp-room backup /run/ipp-room/operators /var/lib/ipp-room/room.db')
+    backup = house.machine.told('for f in /tmp/shared/g.db /etc/evil.db /var/lib/ipp-room/room.db; do '
+                                f'ipp-room backup {OPERATORS} $f; done')
     want(state[:2] == ['root root 600 7', 'secret'] and not made, (state, made, told))
     want('ok' not in backup.splitlines() and house.is_serving(), backup)
-    return f'`copy` onto links, a folder and a pipe ended with {told}; the files of root are as they were; `backup` elsewhere: {" ".join(backup.split())[:90]}'
+    return (f'`copy` onto links, a folder and a pipe ended with {told}; the files of root are as they were; '
+            f'`backup` elsewhere: {" ".join(backup.split())[:90]}')
 
 
 @attack('files', FRONT)
@@ -76,11 +80,11 @@ def copies_keep_nothing(house):
     house.make_job('bob', *PIN, name=b'Report', data=b'%PDF the secret of the document')
     number = house.jobs('bob')[-1][1]
     house.sends(f'cancel bob {number}')
-    house.machine.run('rm -f /var/lib/ipp-room/backup.db; runuser -u ipp-room -- ipp-room backup /run/ipp-room/operators /var/lib/ipp-room/backup.db')
-    mode = house.machine.run("stat -c '%U %a' /var/lib/ipp-room/backup.db").strip()
-    found = house.machine.told("grep -c 'secret of the document' /var/lib/ipp-room/backup.db").strip()
+    house.machine.run(f'rm -f {COPY}; runuser -u ipp-room -- ipp-room backup {OPERATORS} {COPY}')
+    mode = house.machine.run(f"stat -c '%U %a' {COPY}").strip()
+    found = house.machine.told(f"grep -c 'secret of the document' {COPY}").strip()
     log = house.machine.told("grep -cE '27182818|3237313832383138' /var/log/ipp-room/log").strip()
-    others = [user for user in ('nobody', 'alice', 'lp') if house.ask_as(user, 'cat /var/lib/ipp-room/backup.db >/dev/null')[1] == 0]
+    others = [user for user in ('nobody', 'alice', 'lp') if house.ask_as(user, f'cat {COPY} >/dev/null')[1] == 0]
     want(mode == 'ipp-room 600' and found == '0' and log == '0' and not others, (mode, found, log, others))
     return f'the copy is {mode}, has no byte of the document, and the log no PIN'
 
@@ -88,10 +92,10 @@ def copies_keep_nothing(house):
 @attack('files', FRONT)
 def told_of_what_is_kept(house):
     """That a copy has PINs and names of ended jobs is said on the page of whoever makes one."""
-    kept = house.machine.run("sqlite3 /var/lib/ipp-room/backup.db \"select count(*) from job where length(password) > 0 and ended > 0\"").strip()
+    kept = house.machine.run(f'sqlite3 {COPY} "select count(*) from job where length(password) > 0 and ended > 0"').strip()
     with open(f'{house.tree}/docs/OPERATING.md', encoding='utf-8') as file:
         page = file.read()
-    said = [line for line in page.splitlines() if 'PIN' in line and ('ended' in line or 'end' in line) and ('keep' in line or 'stay' in line or 'copy' in line or 'file' in line)]
+    said = [line for line in page.splitlines() if 'PIN' in line and 'ended' in line]
     want(kept == '0' or said, f'{kept} PINs of ended jobs are in the copy, and OPERATING does not say so')
     return f'{kept} PINs of ended jobs are in the copy; OPERATING says: {said[:1]}'
 

@@ -68,7 +68,8 @@ class Shell:
 
     def __init__(self, machine):
         self.machine, self.count = machine, 0
-        words = ['nsenter', '-t', str(machine.first), '-m', '-p', '-u', '-i', '-n', '-C', '-r', 'bash', '--norc', '-c', f'cd /root; {SHELL}']
+        words = ['nsenter', '-t', str(machine.first), '-m', '-p', '-u', '-i', '-n', '-C', '-r', 'bash', '--norc', '-c',
+                 f'cd /root; {SHELL}']
         self.process = subprocess.Popen(words, stdin=subprocess.PIPE, stdout=subprocess.PIPE, text=True, env=SURROUNDINGS)
 
     def run(self, command):
@@ -116,7 +117,8 @@ class House:
 
     def set_up(self):
         self.machine.put(*glob.glob(f'{self.folder}/packages/*.deb'))
-        shutil.copytree(f'{self.tree}/packaging', f'{self.machine.root}/root/packaging', ignore=shutil.ignore_patterns('__pycache__', 'deb'))
+        shutil.copytree(f'{self.tree}/packaging', f'{self.machine.root}/root/packaging', ignore=shutil.ignore_patterns('__pycache__',
+                                                                                                                       'deb'))
         # What the page's commands read.
         write(f'{self.machine.root}/root/ask', '')
         with open(f'{self.machine.root}/root/ask', 'wb') as file:
@@ -202,7 +204,8 @@ class House:
     def make_job(self, account, *attributes, name=b'Essay', data=b'%PDF-1.4 of nobody'):
         """A Print-Job of one page at the server itself."""
         with open(f'{self.machine.root}/root/print', 'wb') as file:
-            file.write(request(account, PRINT_JOB, attribute(NAME, b'job-name', name), integer(b'job-impressions', 1), *attributes, data=data))
+            file.write(request(account, PRINT_JOB, attribute(NAME, b'job-name', name), integer(b'job-impressions', 1), *attributes,
+                               data=data))
         door = '--unix-socket /run/ipp-room/clients' if self.machine.ask('test -S /run/ipp-room/clients')[1] == 0 else ''
         told = self.machine.run(f"curl -sS {door} -H 'Content-Type: application/ipp' --data-binary @print -o printed -w '%{{http_code}}' "
                                 f'http://127.0.0.1:6310/ipp/print/{account}')

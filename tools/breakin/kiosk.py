@@ -13,6 +13,7 @@ from station_room import Wrong, want
 
 # Seconds within which the station asks for the next account by itself: who sits there has 60 to type, and 10 to read.
 ASKS_AGAIN = 90
+WORDS = '/etc/default/ipp-room-station'
 
 
 def shown(house, seconds=2.0):
@@ -50,8 +51,10 @@ def keys_that_end(house):
     """No key ends the station, or gives a shell."""
     want(is_asking(house), 'the station does not ask')
     before = process(house)
-    keys = {'Ctrl-C': b'\x03', 'Ctrl-Z': b'\x1a', 'Ctrl-\\': b'\x1c', 'Ctrl-D': b'\x04', 'Ctrl-Y': b'\x19', 'Break': b'\0', 'Escape': b'\x1b', 'Ctrl-]': b'\x1d',
-            'Ctrl-L': b'\x0c', 'Ctrl-W': b'\x17', 'Ctrl-U': b'\x15', 'Ctrl-R': b'\x12', 'Ctrl-V Ctrl-C': b'\x16\x03', 'Ctrl-O': b'\x0f', 'F1': b'\x1b[[A',
+    keys = {'Ctrl-C': b'\x03', 'Ctrl-Z': b'\x1a', 'Ctrl-\\': b'\x1c', 'Ctrl-D': b'\x04', 'Ctrl-Y': b'\x19', 'Break': b'\0',
+            'Escape': b'\x1b', 'Ctrl-]': b'\x1d',
+            'Ctrl-L': b'\x0c', 'Ctrl-W': b'\x17', 'Ctrl-U': b'\x15', 'Ctrl-R': b'\x12', 'Ctrl-V Ctrl-C': b'\x16\x03', 'Ctrl-O': b'\x0f',
+            'F1': b'\x1b[[A',
             'not UTF-8': b'\xff\xfe\xc0', 'a long line': b'x' * 20000}
     for key in keys.values():
         press(house, key * 3)
@@ -147,7 +150,8 @@ def pins(house):
     house.clear('alice')
     want(b'9999' not in late, 'the PIN is shown')
     want(judged < 5 and waits and (b'Come again' in late or b'PIN is wrong' in late), (judged, waits, late[-200:]))
-    return f'5 guesses in a row: {judged} judged, {waits} told to come again; behind a restart: {"waits" if b"Come again" in late else "judged"}'
+    then = 'waits' if b'Come again' in late else 'judged'
+    return f'5 guesses in a row: {judged} judged, {waits} told to come again; behind a restart: {then}'
 
 
 @attack('kiosk', FRONT)
@@ -171,37 +175,40 @@ def another_device(house):
                         asked.append(secret.recv(1000)[:40])
         server = threading.Thread(target=serve, daemon=True)
         server.start()
-        before = house.machine.run('cat /etc/default/ipp-room-station')
-        house.machine.run(f"sed -i 's#ipp://printer.example#ipps://printer.example:6443#' /etc/default/ipp-room-station; systemctl restart ipp-room-station")
+        before = house.machine.run(f'cat {WORDS}')
+        house.machine.run(f"sed -i 's#ipp://printer.example#ipps://printer.example:6443#' {WORDS}; systemctl restart ipp-room-station")
         try:
-            house.clear('alice')
-            house.make_job('alice')
-            told = house.machine.told('sleep 3; systemctl is-active ipp-room-station; journalctl -b -u ipp-room-station -n 3 -o cat --no-pager')
+            house.clear('bob')
+            house.make_job('bob')
+            told = house.machine.told('sleep 3; journalctl -b -u ipp-room-station -n 3 -o cat --no-pager')
             with contextlib.suppress(Wrong, OSError):
                 if is_asking(house, 10):
-                    press(house, b'alice\n')
+                    press(house, b'bob\n')
                     shown(house, 1)
                     press(house, b'\n')
                     told += shown(house, 15).decode('utf-8', 'replace')
                     press(house, b'\n')
         finally:
-            house.clear('alice')
+            house.clear('bob')
             with open(f'{house.machine.root}/root/before', 'w', encoding='utf-8') as file:
                 file.write(before)
-            house.machine.run('cp /root/before /etc/default/ipp-room-station; systemctl restart ipp-room-station')
+            house.machine.run(f'cp /root/before {WORDS}; systemctl restart ipp-room-station')
     want_none(asked, 'a device with another certificate was asked')
+    want('rinter' in told or 'ertificate' in told, told)
     return f'a device with a certificate of its own was asked nothing; the station said: {" ".join(told.split())[-160:]}'
 
 
 @attack('kiosk', FRONT)
 def console(house):
     """At the kiosk's console there is no other terminal, no SysRq, and no Ctrl-Alt-Del."""
-    state = {name: house.machine.told(f'systemctl show -p ActiveState --value {name}').strip() for name in ('getty@tty1', 'getty@tty2', 'getty@tty6')}
+    state = {name: house.machine.told(f'systemctl show -p ActiveState --value {name}').strip() for name in ('getty@tty1', 'getty@tty2',
+                                                                                                            'getty@tty6')}
     logind = house.machine.told('systemd-analyze cat-config systemd/logind.conf | grep -E "^(NAutoVTs|ReserveVT)="')
     reboot = house.machine.told('systemctl is-enabled ctrl-alt-del.target; systemctl show -p LoadState --value ctrl-alt-del.target').split()
     sysrq = house.machine.told('grep -rhE "^ *kernel.sysrq" /etc/sysctl.d /usr/lib/sysctl.d /etc/sysctl.conf 2>/dev/null | tail -1').strip()
     got = [name for name, it in state.items() if it == 'active']
-    got += [] if 'NAutoVTs=0' in logind and 'ReserveVT=0' in logind else [f'further terminals by Alt-F2 ({logind.split() or "as Debian has it"})']
+    has_others = 'NAutoVTs=0' not in logind or 'ReserveVT=0' not in logind
+    got += [f'further terminals by Alt-F2 ({logind.split() or "as Debian has it"})'] if has_others else []
     got += [] if 'masked' in reboot else [f'Ctrl-Alt-Del ({reboot})']
     got += [] if sysrq.replace(' ', '') == 'kernel.sysrq=0' else [f'SysRq ({sysrq or "as the kernel has it"})']
     want_none(got, 'at the console')

@@ -24,7 +24,8 @@ def strangers(*kinds):
     with contextlib.ExitStack() as ends:
         begun = []
         for words in kinds:
-            process = subprocess.Popen([sys.executable, '-m', 'breakin.strangers', *map(str, words)], cwd=f'{TOP}/tools', stdout=subprocess.PIPE, text=True)
+            process = subprocess.Popen([sys.executable, '-m', 'breakin.strangers', *map(str, words)], cwd=f'{TOP}/tools',
+                                       stdout=subprocess.PIPE, text=True)
             ends.callback(process.wait)
             ends.callback(process.kill)
             begun.append(process)
@@ -41,7 +42,8 @@ def slowest(house, count):
     """Of each of page, Print-Job and a station's line: the slowest of so many, or how many had no answer."""
     hall = take(house, 'hall.pem', 'hall.key')
     acts = {'page': lambda number: ask(PAGES, '/kate', user='kate', seconds=20).status == 200,
-            'Print-Job': lambda number: prints(['kate', 'bob'][number % 2]), 'station': lambda number: speak(hall, b'list hall bob\n', 20).startswith(b'jobs ')}
+            'Print-Job': lambda number: prints(['kate', 'bob'][number % 2]), 'station': lambda number: speak(hall, b'list hall bob\n',
+                                                                                                             20).startswith(b'jobs ')}
     told = {}
     for name, act in acts.items():
         times = [timed(lambda number=number: act(number)) for number in range(count)]

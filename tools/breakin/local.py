@@ -27,7 +27,8 @@ def reaches(address, text):
 '''
 DOORS = {'6310': b'GET / HTTP/1.1\r\nHost: a\r\n\r\n', '6311': b'list hall alice\n', '6313': b'GET /alice HTTP/1.1\r\nHost: a\r\n\r\n',
          '/run/ipp-room/clients': b'GET / HTTP/1.1\r\nHost: a\r\n\r\n', '/run/ipp-room/pages': b'GET /alice HTTP/1.1\r\nHost: a\r\n\r\n',
-         '/run/ipp-room/stations': b'list hall alice\n', '/run/ipp-room/station-hall': b'list hall alice\n', '/run/ipp-room/operators': b'ping\n'}
+         '/run/ipp-room/stations': b'list hall alice\n', '/run/ipp-room/station-hall': b'list hall alice\n',
+         '/run/ipp-room/operators': b'ping\n'}
 
 
 def reached(house, user):
@@ -85,7 +86,7 @@ print(sorted(found), seen)
     watcher.join()
     row = came(house, 'mallory', 'Slow')
     house.clear('mallory')
-    want(is_taken(taken) and row and row[8] == 'password', (taken[:2], row))
+    want(is_taken(taken) and row and row[7] == 'password', (taken[:2], row))
     want(told[0].startswith('[]'), f'seen as nobody: {told[0]}')
     return f'20 s of looks at /proc as nobody while a job with a PIN is made ready: {told[0].strip()}'
 
@@ -95,14 +96,16 @@ def as_another(house):
     """A local user prints as nobody else, and changes nothing of CUPS."""
     before = house.count('kate')
     tried = {command: house.ask_as('mallory', command) for command in (
-        'seq 3 | lp -d release -U kate -t AsKate', 'seq 3 | CUPS_USER=kate lp -d release -t AsKate', 'lpadmin -p evil -E -v file:///tmp/evil',
+        'seq 3 | lp -d release -U kate -t AsKate', 'seq 3 | CUPS_USER=kate lp -d release -t AsKate',
+                                                                       'lpadmin -p evil -E -v file:///tmp/evil',
         'lpadmin -x release', 'lpadmin -p release -v file:///dev/null', 'cupsctl WebInterface=yes', 'cupsdisable release', 'cancel -a -x',
         'cancel -a -u kate', 'lpmove release device', 'cupsreject release', 'systemctl stop cups', 'systemctl stop ipp-room',
         'lp -d device /etc/hostname')}
     time.sleep(3)
     queues = house.machine.run('lpstat -v; lpstat -p; lpstat -a; systemctl is-active cups ipp-room')
     want(house.count('kate') == before, 'a job came to the account of another')
-    want('evil' not in queues and 'null' not in queues and 'disabled' not in queues and 'not accepting' not in queues and 'inactive' not in queues, queues)
+    want('evil' not in queues and 'null' not in queues and 'disabled' not in queues and 'not accepting' not in queues
+         and 'inactive' not in queues, queues)
     house.machine.told('cancel -a')
     return f'{len(tried)} commands: no job of another, no queue changed'
 
@@ -111,7 +114,8 @@ def as_another(house):
 def login_shells(house):
     """Nobody who prints can log in where the server runs."""
     shells = {line.split(':')[0]: line.split(':')[6] for line in house.machine.run('getent passwd').splitlines()}
-    got = {user: shell for user, shell in shells.items() if user in ('alice', 'ipp-room', 'ipp-room-station', 'lp') and 'nologin' not in shell
+    got = {user: shell for user, shell in shells.items() if user in ('alice', 'ipp-room', 'ipp-room-station', 'lp')
+           and 'nologin' not in shell
            and 'false' not in shell}
     want_none(got, 'may log in')
     return 'alice, who OPERATING makes, and the users of the packages: nologin'
@@ -121,8 +125,10 @@ def login_shells(house):
 def processes(house):
     """Another user sees nothing of the server's process, and sends it no signal."""
     pid = house.machine.run('systemctl show --property MainPID --value ipp-room').strip()
-    paths = [f'/proc/{pid}/{name}' for name in ('environ', 'maps', 'mem', 'fd/0', 'root/etc/passwd', 'cwd/room.db', 'stack', 'syscall', 'auxv')]
-    got = [(user, path) for user in ('nobody', 'alice', 'lp') for path in paths if house.ask_as(user, f'head -c 1 {path} >/dev/null')[1] == 0]
+    paths = [f'/proc/{pid}/{name}' for name in ('environ', 'maps', 'mem', 'fd/0', 'root/etc/passwd', 'cwd/room.db', 'stack', 'syscall',
+                                                'auxv')]
+    got = [(user, path) for user in ('nobody', 'alice', 'lp') for path in paths if house.ask_as(user,
+                                                                                                f'head -c 1 {path} >/dev/null')[1] == 0]
     got += [(user, signal) for user in ('nobody', 'alice', 'lp', 'ipp-room-station') for signal in ('TERM', 'KILL', 'STOP', 'HUP')
             if house.ask_as(user, f'kill -{signal} {pid}')[1] == 0]
     want_none(got, 'read or signalled')
@@ -136,7 +142,7 @@ def filters_of_jobs(house):
     """A program that runs as `lp`, as each filter does, sees no spool beyond CUPS, no data, no key, and gets no further right."""
     paths = ['/var/lib/ipp-room/room.db', '/var/lib/ipp-room', '/var/log/ipp-room/log', '/etc/shadow', '/etc/cups/ssl',
              '/var/lib/ipp-room-station/state.json', '/etc/default/ipp-room-nothing']
-    got = [path for path in paths if house.ask_as('lp', f'cat {path} >/dev/null 2>&1 || ls {path} >/dev/null 2>&1')[1] == 0]
+    got = [path for path in paths if house.ask_as('lp', f'head -c 1 {path} >/dev/null 2>&1 || ls {path}/ >/dev/null 2>&1')[1] == 0]
     groups = house.machine.run('id -nG lp')
     want(not got and 'ipp-operators' not in groups and 'ipp-stations' not in groups, (got, groups))
     return f'{len(paths)} paths: none; its groups are {groups.strip()}'
@@ -180,7 +186,8 @@ time.sleep(40)
 @attack('local', FRONT)
 def sockets_first(house):
     """Nobody else makes, moves or removes a door of the server."""
-    commands = ['ln -s /tmp/evil /run/ipp-room/clients', 'rm -f /run/ipp-room/operators', 'mv /run/ipp-room /run/gone', 'touch /run/ipp-room/evil',
+    commands = ['ln -s /tmp/evil /run/ipp-room/clients', 'rm -f /run/ipp-room/operators', 'mv /run/ipp-room /run/gone',
+                'touch /run/ipp-room/evil',
                 'ls /run/ipp-room', 'touch /var/lib/ipp-room/evil', 'touch /var/lib/ipp-room-station/may-print/room-alice-1-1',
                 'mkdir /run/ipp-room/evil', 'rm -f /run/cups/cups.sock']
     got = [(user, command) for user in ('nobody', 'alice', 'ipp-room-station') for command in commands

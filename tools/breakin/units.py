@@ -1,9 +1,8 @@
 """Attacks on what systemd and logrotate do as root, by the users of our own services; and what these may do."""
 import re
-import time
 
 from breakin.attacks import FRONT, attack, want_none
-from station_room import want
+from station_room import want, write
 
 MOST_EXPOSED = 1.5
 
@@ -24,48 +23,80 @@ def exposure(house):
 @attack('units', FRONT)
 def links_of_the_station(house):
     """Root gives no other folder away, whatever the station's user has made of its own."""
-    house.machine.run('rm -rf /root/victim; mkdir -m 700 /root/victim; chmod 711 /root; systemctl stop ipp-room-station; '
-                      'cd /var/lib/ipp-room-station && mv may-print /root/may-print.before')
-    house.ask_as('ipp-room-station', 'ln -s /root/victim /var/lib/ipp-room-station/may-print')
+    own, kept = '/var/lib/ipp-room-station/may-print', '/root/may-print.before'
+    house.machine.run(f'chmod 711 /root; rm -rf /root/victim; mkdir -m 700 /root/victim; systemctl stop ipp-room-station; mv {own} {kept}')
+    house.ask_as('ipp-room-station', f'ln -s /root/victim {own}')
     house.machine.told('timeout 30 systemctl start ipp-room-station; sleep 2')
     owner = house.machine.run("stat -c '%U %G %a' /root/victim").strip()
-    house.machine.told('systemctl stop ipp-room-station; cd /var/lib/ipp-room-station && rm -rf may-print && mv /root/may-print.before may-print; '
-                       'systemctl reset-failed ipp-room-station; systemctl start ipp-room-station')
+    house.machine.told(f'systemctl stop ipp-room-station; rm -rf {own}; mv {kept} {own}; {start("ipp-room-station")}')
     want(owner == 'root root 700', f'a link may-print to a folder of root: it is now {owner}')
     return f'a link in the place of may-print: the folder of root stays {owner}'
+
+
+def start(unit):
+    return f'systemctl reset-failed {unit}; systemctl start {unit}'
+
+
+# A server that was taken over: with the word `answers` it answers a ping, and only then makes a link of that door too.
+TAKEN_OVER = '''#!/usr/bin/python3
+import os, socket, sys, time
+doors = ['clients', 'pages', 'stations', 'station-hall', 'operators']
+if 'answers' in sys.argv:
+    with socket.socket(socket.AF_UNIX) as door:
+        door.bind('/run/ipp-room/operators')
+        door.listen()
+        for name in doors[:-1]:
+            os.symlink('/root/victim.sock', f'/run/ipp-room/{name}')
+        stream, _ = door.accept()
+        stream.recv(100)
+        os.symlink('/root/victim.sock', '/run/ipp-room/x')
+        os.rename('/run/ipp-room/x', '/run/ipp-room/operators')
+        stream.sendall(b'ok\\n')
+else:
+    for name in doors:
+        os.symlink('/root/victim.sock', f'/run/ipp-room/{name}')
+time.sleep(60)
+'''
+DROP_IN = '''[Service]
+ExecStart=
+ExecStart=/usr/local/bin/taken-over {word}
+ExecStop=
+NoExecPaths=
+ExecPaths=
+MemoryDenyWriteExecute=no
+SystemCallFilter=
+'''
 
 
 @attack('units', FRONT)
 def links_of_the_server(house):
     """Root changes no other file, whatever a server that was taken over leaves in its folder."""
-    script = ('import os, socket, time\n'
-              'for name in ("operators", "clients", "pages", "stations", "station-hall"):\n'
-              '    try: os.symlink("/root/victim.sock", f"/run/ipp-room/{name}")\n'
-              '    except OSError: pass\n'
-              'time.sleep(60)\n')
-    house.machine.run('chmod 711 /root; rm -f /root/victim.sock; systemctl stop ipp-room; mkdir -p /run/systemd/system/ipp-room.service.d; '
+    folder = f'{house.machine.root}/etc/systemd/system/ipp-room.service.d'
+    house.machine.run('chmod 711 /root; rm -f /root/victim.sock; mkdir -p /etc/systemd/system/ipp-room.service.d; '
                       'python3 -c "import socket; socket.socket(socket.AF_UNIX).bind(\'/root/victim.sock\')"; chmod 600 /root/victim.sock')
-    with open(f'{house.machine.root}/usr/local/bin/taken-over', 'w', encoding='utf-8') as file:
-        file.write('#!/usr/bin/python3\n' + script)
-    house.machine.run('chmod 755 /usr/local/bin/taken-over; printf "[Service]\\nExecStart=\\nExecStart=/usr/local/bin/taken-over\\nNoExecPaths=\\nExecPaths=\\n'
-                      'TimeoutStartSec=20\\nExecStop=\\nMemoryDenyWriteExecute=no\\nSystemCallFilter=\\n" '
-                      '> /run/systemd/system/ipp-room.service.d/evil.conf; systemctl daemon-reload')
-    house.machine.told('timeout 30 systemctl start --no-block ipp-room; sleep 8')
-    was = house.machine.told('ls -l /run/ipp-room; systemctl status ipp-room --no-pager | tail -5')
-    owner = house.machine.run("stat -c '%U %G %a' /root/victim.sock").strip()
-    house.machine.told('systemctl stop ipp-room; rm -rf /run/systemd/system/ipp-room.service.d; systemctl daemon-reload; systemctl reset-failed ipp-room; '
-                       'rm -f /run/ipp-room/*; systemctl start ipp-room')
-    house.wait_until_serving()
-    want('victim.sock' in was, f'the links were not made: {was}')
-    want(owner == 'root root 600', f'links to a socket of root in the place of the doors: it is now {owner}')
-    return f'links in the place of the doors: the socket of root stays {owner}'
+    write(f'{house.machine.root}/usr/local/bin/taken-over', TAKEN_OVER, 0o755)
+    owners = []
+    try:
+        for word in ('', 'answers'):
+            write(f'{folder}/evil.conf', DROP_IN.format(word=word))
+            house.machine.told('systemctl daemon-reload; systemctl stop ipp-room; systemctl start --no-block ipp-room; sleep 8')
+            made = house.machine.told('ls -l /run/ipp-room')
+            want(made.count('victim.sock') == 5, f'the links were not made: {made}')
+            owners.append(house.machine.run("stat -c '%U %G %a' /root/victim.sock").strip())
+    finally:
+        house.machine.told('rm -rf /etc/systemd/system/ipp-room.service.d; systemctl kill -s KILL ipp-room; systemctl daemon-reload; '
+                           f'systemctl stop ipp-room; rm -f /run/ipp-room/*; {start("ipp-room")}')
+        house.wait_until_serving()
+    want(owners == ['root root 600'] * 2, f'links to a socket of root in the place of the doors: it is now {owners}')
+    return f'links in the place of the doors, at once and behind a ping: the socket of root stays {owners[0]}'
 
 
 @attack('units', FRONT)
 def doors(house):
     """Each door has its own group, and nobody else's rights."""
     rows = house.machine.run("stat -c '%n %U %G %a' /run/ipp-room /run/ipp-room/*").splitlines()
-    got = [row for row in rows if row.split()[0] != '/run/ipp-room' and (row.split()[3][-1] != '0' or row.split()[2] in ('nogroup', 'users', 'root'))]
+    got = [row for row in rows if row.split()[0] != '/run/ipp-room' and (row.split()[3][-1] != '0' or row.split()[2] in ('nogroup', 'users',
+                                                                                                                         'root'))]
     folder = rows[0].split()
     want(folder[1] == 'ipp-room' and folder[3][-1] in '01', rows[0])
     want_none(got, 'open to others')
@@ -89,38 +120,45 @@ def rights(house):
 @attack('units', FRONT)
 def rotation(house):
     """logrotate does nothing to what the server's user puts in the place of its log."""
-    house.machine.run('chmod 711 /root; echo secret > /root/victim.txt; chmod 600 /root/victim.txt')
-    house.ask_as('ipp-room', 'cd /var/log/ipp-room; mv log log.kept; ln -s /root/victim.txt log; ln -s /root/victim.txt log.1; ln -s /root/victim.txt log.2.gz')
+    make_victim(house)
+    house.ask_as('ipp-room', 'cd /var/log/ipp-room; mv log log.kept; for n in log log.1 log.2.gz; do ln -s /root/victim.txt $n; done')
     told = house.machine.told('logrotate --force /etc/logrotate.d/ipp-room')
-    state = house.machine.run("stat -c '%U %G %a %s' /root/victim.txt").strip()
     house.machine.told('cd /var/log/ipp-room; rm -f log log.*gz log.1 log.2; mv log.kept log')
-    want(state == 'root root 600 7', f'a file of root is now {state}')
-    return f'links in the place of the log: a file of root stays {state}; logrotate said {" ".join(told.split())[:80]!r}'
+    check_victim(house)
+    return f'links in the place of the log: a file of root stays as it was; logrotate said {" ".join(told.split())[:80]!r}'
 
 
 @attack('units', FRONT)
 def upgrade(house):
     """What the server's user puts into its folder does nothing when the package is configured anew."""
-    house.machine.run('chmod 711 /root; echo secret > /root/victim.txt; chmod 600 /root/victim.txt')
-    house.ask_as('ipp-room', 'cd /var/lib/ipp-room; ln -s /root/victim.txt room.db-journal-of-mine; ln -s /root/victim.txt room.db-space.part; ln -s /root /var/lib/ipp-room/etc')
-    told, status = house.machine.ask('dpkg-reconfigure -f noninteractive ipp-room 2>&1; dpkg --configure -a')
-    state = house.machine.run("stat -c '%U %G %a %s' /root/victim.txt; stat -c '%U %G' /root").split('\n')
-    house.machine.told('cd /var/lib/ipp-room; rm -f room.db-journal-of-mine room.db-space.part etc')
+    make_victim(house)
+    links = 'room.db-journal room.db-space.part'
+    house.ask_as('ipp-room', f'cd /var/lib/ipp-room; for n in {links}; do ln -s /root/victim.txt $n; done; ln -s /root folder')
+    told, status = house.machine.ask('systemctl stop ipp-room; dpkg-reconfigure -f noninteractive ipp-room 2>&1')
+    house.machine.told(f'cd /var/lib/ipp-room; rm -f {links} folder; dpkg --configure -a; {start("ipp-room")}')
     house.wait_until_serving()
-    want(state[0] == 'root root 600 7' and state[1] == 'root root', (state, told))
-    return f'links in its folder: a file and a folder of root stay as they were (status {status})'
+    check_victim(house)
+    return f'links in its folder: a file and a folder of root stay as they were (status {status}: {" ".join(told.split())[-60:]!r})'
 
 
 @attack('units', FRONT)
 def space_of_a_link(house):
-    """A link in the place of the space that serve keeps, or of its log, is not followed to a file of others."""
-    house.machine.run('echo secret > /tmp/victim.txt; chown ipp-room /tmp/victim.txt; systemctl stop ipp-room; mv /var/lib/ipp-room/room.db-space /var/lib/ipp-room/kept')
-    house.ask_as('ipp-room', 'ln -s /var/lib/ipp-room/precious /var/lib/ipp-room/room.db-space; echo precious > /var/lib/ipp-room/precious')
+    """A link in the place of the space that serve keeps is not followed to another file."""
+    folder = '/var/lib/ipp-room'
+    house.machine.run(f'systemctl stop ipp-room; mv {folder}/room.db-space {folder}/kept')
+    house.ask_as('ipp-room', f'cd {folder}; echo precious > precious; ln -s {folder}/precious room.db-space')
     house.machine.told('timeout 40 systemctl start ipp-room; sleep 1')
-    kept = house.machine.told('cat /var/lib/ipp-room/precious | head -c 9').strip()
-    is_serving = house.is_serving()
-    house.machine.told('systemctl stop ipp-room; cd /var/lib/ipp-room; rm -f room.db-space precious; mv kept room.db-space; systemctl reset-failed ipp-room; systemctl start ipp-room')
+    kept, is_serving = house.machine.told(f'head -c 9 {folder}/precious').strip(), house.is_serving()
+    house.machine.told(f'systemctl stop ipp-room; cd {folder}; rm -f room.db-space precious; mv kept room.db-space; {start("ipp-room")}')
     house.wait_until_serving()
-    time.sleep(0.1)
     want(kept == 'precious', f'the file that the link names has {kept!r} now')
-    return f'room.db-space as a link to another file: it stays as it was (serving meanwhile: {is_serving})'
+    return f'room.db-space as a link to another file: that stays as it was (serving meanwhile: {is_serving})'
+
+
+def make_victim(house):
+    house.machine.run('chmod 711 /root; echo secret > /root/victim.txt; chmod 600 /root/victim.txt')
+
+
+def check_victim(house):
+    state = house.machine.run("stat -c '%U %G %a %s' /root/victim.txt; stat -c '%U %G' /root").split('\n')
+    want(state[:2] == ['root root 600 7', 'root root'], f'a file of root is now {state[0]}, its folder {state[1]}')
