@@ -9,11 +9,6 @@ COPY = '/var/lib/ipp-room/backup.db'
 PIN = [attribute(OCTETS, b'job-password', b'27182818'), attribute(KEYWORD, b'job-password-encryption', b'none')]
 
 
-def others_read(house, where):
-    """The files in these folders that anybody may read, or change."""
-    return house.machine.told(f'find {where} -type f \\( -perm /o+r -o -perm /o+w \\) 2>/dev/null').split()
-
-
 @attack('files', PROXY)
 def keys(house):
     """No other user reads a private key, or a hash of a password, that OPERATING has one make."""
@@ -29,7 +24,9 @@ def keys(house):
 @attack('files', FRONT)
 def of_the_packages(house):
     """Nobody else reads what the packages keep, or changes what they install."""
-    read = others_read(house, '/var/lib/ipp-room /var/log/ipp-room /var/lib/ipp-room-station /var/spool/cups /etc/cups/ssl /var/log/cups')
+    kept = '/var/lib/ipp-room /var/log/ipp-room /var/lib/ipp-room-station /var/spool/cups /etc/cups/ssl /var/log/cups'
+    read = [(user, path) for user in ('nobody', 'alice')
+            for path in house.ask_as(user, f'find {kept} -type f \\( -readable -o -writable \\) 2>/dev/null')[0].split()]
     written = house.machine.told("for p in ipp-room ipp-room-cups ipp-room-station; do dpkg -L $p; done | "
                                  "xargs -d '\\n' stat -c '%A %U %n' | grep -E '^[-d].......w| (ipp|lp|nobody)[^ ]* /'").splitlines()
     entered = [(user, path) for user in ('nobody', 'alice', 'lp') for path in ('/var/lib/ipp-room', '/var/log/ipp-room')
@@ -44,9 +41,10 @@ def made_by_hand(house):
     house.machine.run('rm -rf /tmp/room; install -d -o nobody -m 755 /tmp/room')
     house.ask_as('nobody', 'cd /tmp/room; umask 022; ipp-room create room.db; ipp-room open room.db alice; ipp-room copy room.db copy.db')
     house.ask_as('nobody', 'cd /tmp/room; umask 000; '
-                           'ipp-room serve room.db 0 /tmp/room/stations /tmp/room/operators --log log >/dev/null & sleep 3; '
-                           "cd /tmp/room; printf 'open kate\\n' | ipp-room send operators; ipp-room backup operators /tmp/room/backup.db; "
-                           'stat -c "%a %n" * > modes; ipp-room end operators')
+                           'ipp-room serve room.db 0 /tmp/room/stations /tmp/room/operators --log log >/dev/null 2>&1 & '
+                           'cd /tmp/room; for n in $(seq 60); do ipp-room ping operators >/dev/null 2>&1 && break; sleep 0.5; done; '
+                           "printf 'open kate\\n' | ipp-room send operators; ipp-room backup operators /tmp/room/backup.db; "
+                           'stat -c "%a %n" * > modes; kill $!')
     rows = [line.split() for line in house.machine.told('cat /tmp/room/modes; rm -rf /tmp/room/modes').splitlines()]
     names = {name for _, name in rows}
     want({'room.db', 'room.db-wal', 'room.db-space', 'copy.db', 'backup.db', 'log'} <= names, rows)

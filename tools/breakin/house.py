@@ -141,9 +141,18 @@ class House:
         # A line of a station that the page shows releases alice's first job.
         self.sends('open alice', 'open kate', 'device hall on', 'grant alice 2026-01 100000')
         self.make_job('alice')
+        self.open_door_of_hall()
         self.follow(ROOM)
         self.follow(LOOKS)
         self.let_in(USERS[1:])
+
+    def open_door_of_hall(self):
+        """The door of the station hall alone, where the page speaks of one."""
+        with open(f'{self.tree}/docs/OPERATING.md', encoding='utf-8') as file:
+            option = re.search(r'--station hall=[\w/-]+', file.read())
+        if option:
+            self.tell_set_up(f"sed -i 's#^OPTIONS=\"#&{option[0]} #' /etc/default/ipp-room && systemctl restart ipp-room", None, 0)
+            self.wait_until_serving()
 
     def let_in(self, users):
         """Further accounts at the proxy, by the page's own loop."""

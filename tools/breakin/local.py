@@ -191,7 +191,7 @@ def sockets_first(house):
                 'ls /run/ipp-room', 'touch /var/lib/ipp-room/evil', 'touch /var/lib/ipp-room-station/may-print/room-alice-1-1',
                 'mkdir /run/ipp-room/evil', 'rm -f /run/cups/cups.sock']
     got = [(user, command) for user in ('nobody', 'alice', 'ipp-room-station') for command in commands
-           if house.ask_as(user, command)[1] == 0 and not (user == 'ipp-room-station' and 'may-print' in command)]
+           if not (user == 'ipp-room-station' and 'may-print' in command) and house.ask_as(user, command)[1] == 0]
     want(house.is_serving(), 'the server is not reached any more')
     want_none(got, 'done')
     return f'{3 * len(commands)} commands: none was done'

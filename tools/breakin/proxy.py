@@ -223,28 +223,37 @@ def http2(house):
             f'beside the floods another request took at most {slowest:.1f} s')
 
 
+def guess(user, number, address, port=CLIENTS):
+    """The status that a wrong password of this user is told from this address."""
+    path = f'/ipp/print/{user}' if port == CLIENTS else f'/{user}'
+    return ask(port, path, fields=[basic(user, f'guess {number}')], source=address).status
+
+
 @attack('proxy', PROXY)
 def guesses_of_an_address(house):
-    """After some wrong passwords an address is told 429, and no password of it is looked at; another address goes on."""
-    told = [ask(CLIENTS, '/ipp/print/kate', 'POST', ['Content-Type: application/ipp', basic('kate', f'guess {number}')],
-                source=STRANGERS[0]).status
-            for number in range(150)]
-    late = ask(CLIENTS, '/ipp/print/mallory', 'POST', ['Content-Type: application/ipp', basic('mallory', 'guess')],
-               source=STRANGERS[0]).status
+    """After some wrong passwords of many names an address is told 429; another address goes on."""
+    told = [guess(f'user{number}', number, STRANGERS[0], [CLIENTS, PAGES][number % 2]) for number in range(900)]
     want(is_answered(), 'another address is not answered')
-    want(told.count(401) <= 100 and 429 in told, f'150 guesses were told {sorted(set(told))}, 401 {told.count(401)} times')
-    return f'150 guesses: {told.count(401)} judged, then 429; another name from there {late}; another address was answered'
+    want(told.count(401) <= 700 and 429 in told, f'{len(told)} guesses were told {sorted(set(told))}, 401 {told.count(401)} times')
+    return f'{len(told)} guesses of as many names at two doors: {told.count(401)} judged, then 429; another address was answered'
 
 
 @attack('proxy', PROXY)
 def guesses_of_a_name(house):
-    """Many addresses guess no more of one name than one does, and its owner is let in all the same."""
-    house.machine.told('true')
-    told = [ask(PAGES if number % 2 else CLIENTS, '/bob' if number % 2 else '/ipp/print/bob', fields=[basic('bob', f'guess {number}')],
-                source=STRANGERS[1 + number % 2]).status for number in range(120)]
-    want(told.count(401) <= 100 and 429 in told,
-         f'120 guesses of one name from 2 addresses were told {sorted(set(told))}, 401 {told.count(401)} times')
-    return f'120 guesses of one name from 2 addresses, at 631 and 443: {told.count(401)} judged, then 429'
+    """Nobody guesses a name's password for long, from one address or more, and its owner goes on."""
+    want(is_answered('bob'), 'bob is not answered before')
+    told = [guess('bob', number, STRANGERS[1 + number % 2], [CLIENTS, PAGES][number // 2 % 2]) for number in range(150)]
+    want(is_answered('bob'), 'bob is not answered any more')
+    want(told.count(401) <= 100 and 429 in told, f'{len(told)} guesses were told {sorted(set(told))}, 401 {told.count(401)} times')
+    return f'{len(told)} guesses of one name from 2 addresses at two doors: {told.count(401)} judged, then 429; its owner was answered'
+
+
+@attack('proxy', PROXY)
+def same_guess_again(house):
+    """A wrong password that a client sends again and again shuts nobody out."""
+    told = [ask(CLIENTS, '/ipp/print/mallory', fields=[basic('mallory', 'of yesterday')], source=STRANGERS[2]).status for _ in range(60)]
+    want(set(told) == {401} and is_answered('mallory'), sorted(set(told)))
+    return '60 times the same wrong password: 401, and the right one is let in'
 
 
 @attack('proxy', PROXY)
