@@ -380,7 +380,8 @@ def impressions(house, data, kind, name):
 def count(house):
     """What says that it has one page, and prints 50, counts 50, or is refused."""
     lying = documents.pdf(50).replace(b'/Count 50', b'/Count 1 ')
-    told = {kind: impressions(house, lying, kind.encode(), b'Lie') for kind in ('application/vnd.cups-pdf', 'application/pdf', 'application/octet-stream')}
+    kinds = ('application/vnd.cups-pdf', 'application/pdf', 'application/octet-stream')
+    told = {kind: impressions(house, lying, kind.encode(), b'Lie') for kind in kinds}
     want(set(told.values()) <= {'50', 'refused'}, f'50 pages that say 1: {told}')
     return f'50 pages that say 1: {told}'
 

@@ -150,9 +150,13 @@ class House:
         """The door of the station hall alone, where the page speaks of one."""
         with open(f'{self.tree}/docs/OPERATING.md', encoding='utf-8') as file:
             option = re.search(r'--station hall=[\w/-]+', file.read())
-        if option:
+        if option and '--station ' in self.machine.told('ipp-room serve --help'):
             self.tell_set_up(f"sed -i 's#^OPTIONS=\"#&{option[0]} #' /etc/default/ipp-room && systemctl restart ipp-room", None, 0)
             self.wait_until_serving()
+        elif option:
+            self.is_well_set_up = False
+            print('not ok proxy: the program has no `--station`, of which OPERATING speaks: all stations share a door', flush=True)
+            self.machine.run('ln -s stations /run/ipp-room/station-hall')
 
     def let_in(self, users):
         """Further accounts at the proxy, by the page's own loop."""
