@@ -60,7 +60,7 @@ def copies_onto_links(house):
                       'chmod 600 /root/victim.txt; cd /root; rm -f mine.db*; ipp-room create mine.db')
     house.ask_as('nobody', 'cd /tmp/shared; ln -s /root/victim.txt a.db.part; ln -s /root/victim.txt b.db; ln -s /root/new.txt c.db.part; '
                            'ln /etc/hostname d.db 2>/dev/null; mkdir e.db.part; mkfifo f.db.part')
-    told = {name: house.machine.ask(f'cd /root; timeout 20 ipp-room copy mine.db /tmp/shared/{name}.db')[1] for name in 'abcdef'}
+    told = {name: house.machine.ask(f'cd /root; timeout 60 ipp-room copy mine.db /tmp/shared/{name}.db')[1] for name in 'abcdef'}
     state = house.machine.run("stat -c '%U %G %a %s' /root/victim.txt; cat /root/victim.txt").split('\n')
     made = house.machine.told('ls /root/new.txt 2>/dev/null').strip()
     backup = house.machine.told('for f in /tmp/shared/g.db /etc/evil.db /var/lib/ipp-room/room.db; do '

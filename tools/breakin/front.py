@@ -56,6 +56,12 @@ def came(house, account, title, seconds=UNDISTURBED):
     return None
 
 
+def end_jobs(house, user):
+    """What the user has at the front, and in the account."""
+    house.machine.told(f'cancel -u {user} release')
+    house.clear(user)
+
+
 def text_of(house, account, row):
     """The text of a job's document, as a station gets it."""
     address = house.stations()
@@ -323,7 +329,7 @@ def inflated(house):
     answer = told.status, status_of(told.body)
     time.sleep(2)
     size = int(house.machine.run('du -sm /var/spool/cups').split()[0])
-    ipp(0x39, user='mallory')
+    end_jobs(house, 'mallory')
     want(size <= 520, f'640 MiB of zeros in {len(packed)} bytes: {answer}, {size} MiB in the spool')
     return f'640 MiB of zeros in {len(packed)} bytes: {answer}, {size} MiB in the spool'
 
@@ -354,7 +360,7 @@ def many_jobs(house):
         if not is_taken(ipp(CREATE_JOB, user='mallory', job=hold)):
             break
         taken += 1
-    ipp(0x39, user='mallory')
+    end_jobs(house, 'mallory')
     want(taken < 400, '400 of 400 held jobs of one user were taken')
     answer = print_job('kate', name=b'Beside many')
     want(is_taken(answer) and came(house, 'kate', 'Beside'), answer[:2])
@@ -380,6 +386,8 @@ def impressions(house, data, kind, name):
 def count(house):
     """What says that it has one page, and prints 50, counts 50, or is refused."""
     lying = documents.pdf(50).replace(b'/Count 50', b'/Count 1 ')
+    right = impressions(house, documents.pdf(50), b'application/pdf', b'Right')
+    want(right == '50', f'a right one of 50 pages: {right}')
     kinds = ('application/vnd.cups-pdf', 'application/pdf', 'application/octet-stream')
     told = {kind: impressions(house, lying, kind.encode(), b'Lie') for kind in kinds}
     want(set(told.values()) <= {'50', 'refused'}, f'50 pages that say 1: {told}')
@@ -450,14 +458,14 @@ def bomb_of_zeros():
 def stopped_by(house, name, data, kind=b'application/pdf', seconds=DISTURBED):
     """How long another user's job takes behind this one."""
     taken = print_job('mallory', data, kind, name)
+    want(is_taken(taken), f'{name.decode()} was not taken: {taken[:2]}')
     begun = time.monotonic()
     title = f'Behind-{name.decode()}'
     want(is_taken(print_job('kate', name=title.encode())), 'the other job was not taken')
     row = came(house, 'kate', title, seconds)
     took = time.monotonic() - begun
     for account in ('mallory', 'kate'):
-        ipp(0x39, user=account)
-        house.clear(account)
+        end_jobs(house, account)
     if row is None:
         # What holds the queue would hold it in the next attack too.
         house.machine.told('cancel -a; systemctl stop cups; pkill -KILL -u lp; systemctl start cups')
