@@ -343,12 +343,12 @@ def silent_handshakes(house):
     def wait(port):
         with contextlib.closing(connect(port, False, STRANGERS[2])) as stream:
             begun = time.monotonic()
-            read(stream, 45)
+            read(stream, 90)
             kept[port] = round(time.monotonic() - begun)
     threads = [threading.Thread(target=wait, args=(port,)) for port in (CLIENTS, PAGES, STATIONS)]
     for thread in threads:
         thread.start()
     for thread in threads:
         thread.join()
-    want(max(kept.values()) < 45, f'kept for {kept} s')
+    want(max(kept.values()) < 90, f'kept for {kept} s')
     return f'kept for {kept} s'
