@@ -180,7 +180,7 @@ def another_device(house):
         try:
             house.clear('bob')
             house.make_job('bob')
-            told = house.machine.told('sleep 3; journalctl -b -u ipp-room-station -n 3 -o cat --no-pager')
+            told = house.machine.told('sleep 3; journalctl -b -u ipp-room-station -n 12 -o cat --no-pager')
             with contextlib.suppress(Wrong, OSError):
                 if is_asking(house, 10):
                     press(house, b'bob\n')
