@@ -88,17 +88,6 @@ def copies_keep_nothing(house):
 
 
 @attack('files', FRONT)
-def told_of_what_is_kept(house):
-    """That a copy has PINs and names of ended jobs is said on the page of whoever makes one."""
-    kept = house.machine.run(f'sqlite3 {COPY} "select count(*) from job where length(password) > 0 and ended > 0"').strip()
-    with open(f'{house.tree}/docs/OPERATING.md', encoding='utf-8') as file:
-        page = file.read()
-    said = [line for line in page.splitlines() if 'PIN' in line and 'ended' in line]
-    want(kept == '0' or said, f'{kept} PINs of ended jobs are in the copy, and OPERATING does not say so')
-    return f'{kept} PINs of ended jobs are in the copy; OPERATING says: {said[:1]}'
-
-
-@attack('files', FRONT)
 def licences(house):
     """Each package says under which licence it may be installed."""
     told = {}

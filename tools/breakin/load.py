@@ -10,7 +10,7 @@ from breakin.attacks import PROXY, attack
 from breakin.proxy import print_job
 from breakin.stations import signed, speak, take
 from messages import TOP
-from station_room import want
+from station_room import wait_until, want
 
 # Seconds: what anybody waits at most, slowest of so many.
 MOST, MANY, FEW = 1.0, 100, 20
@@ -109,7 +109,7 @@ def half_lines(house):
     # Where stations are listed, this one has its line too.
     house.machine.run("test ! -e /etc/haproxy/stations.cfg || grep -q ' studio ' /etc/haproxy/stations.cfg || "
                       "{ echo '    server studio unix@/run/ipp-room/stations' >> /etc/haproxy/stations.cfg; systemctl reload haproxy; }")
-    want(speak(other).startswith(b'jobs '), 'the other station is not let in')
+    wait_until(lambda: speak(other).startswith(b'jobs '), 60, 'the other station')
     return beside(house, ('lines', 150, STRANGERS[1], other))
 
 
