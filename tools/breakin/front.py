@@ -57,8 +57,8 @@ def came(house, account, title, seconds=UNDISTURBED):
 
 
 def end_jobs(house, user):
-    """What the user has at the front, and in the account."""
-    house.machine.told(f'cancel -u {user} release')
+    """What waits at the front, and in the user's account."""
+    house.machine.told('cancel -a release')
     house.clear(user)
 
 
