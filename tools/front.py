@@ -67,7 +67,7 @@ def bring_up_loopback():
 
 
 def add_users(folder, names):
-    """Users of this machine as PAM knows them, all with one password. The machine's own files stay as they are."""
+    """Users of this machine as PAM knows them, all with one password, and the front's words for PAM. The machine's own files stay as they are."""
     code = subprocess.run(['openssl', 'passwd', '-6', PASSWORD], check=True, stdout=subprocess.PIPE).stdout.decode().strip()
     lines = {'passwd': [f'{name}:x:{FIRST_USER_ID + place}:{FIRST_USER_ID}::/:/bin/sh' for place, name in enumerate(names)],
              'shadow': [f'{name}:{code}:20000:0:99999:7:::' for name in names]}
@@ -76,6 +76,7 @@ def add_users(folder, names):
         with open(f'{folder}/{file}', 'a') as users:
             users.write('\n'.join(added) + '\n')
         subprocess.run(['mount', '--bind', f'{folder}/{file}', f'/etc/{file}'], check=True)
+    subprocess.run(['mount', '--bind', f'{PACKAGE}/pam', '/etc/pam.d/cups'], check=True)
 
 
 class Cupsd:

@@ -200,16 +200,11 @@ def another_device(house):
 
 @attack('kiosk', FRONT)
 def console(house):
-    """At the kiosk's console there is no other terminal, no SysRq, and no Ctrl-Alt-Del."""
-    state = {name: house.machine.told(f'systemctl show -p ActiveState --value {name}').strip() for name in ('getty@tty1', 'getty@tty2',
-                                                                                                            'getty@tty6')}
-    logind = house.machine.told('systemd-analyze cat-config systemd/logind.conf | grep -E "^(NAutoVTs|ReserveVT)="')
-    reboot = house.machine.told('systemctl is-enabled ctrl-alt-del.target; systemctl show -p LoadState --value ctrl-alt-del.target').split()
-    sysrq = house.machine.told('grep -rhE "^ *kernel.sysrq" /etc/sysctl.d /usr/lib/sysctl.d /etc/sysctl.conf 2>/dev/null | tail -1').strip()
-    got = [name for name, it in state.items() if it == 'active']
-    has_others = 'NAutoVTs=0' not in logind or 'ReserveVT=0' not in logind
-    got += [f'further terminals by Alt-F2 ({logind.split() or "as Debian has it"})'] if has_others else []
-    got += [] if 'masked' in reboot else [f'Ctrl-Alt-Del ({reboot})']
-    got += [] if sysrq.replace(' ', '') == 'kernel.sysrq=0' else [f'SysRq ({sysrq or "as the kernel has it"})']
-    want_none(got, 'at the console')
-    return 'no other terminal, no Ctrl-Alt-Del, no SysRq'
+    """The package has a unit that keeps a kiosk's console to its first terminal, which its operator enables. No container has a console."""
+    unit = 'ipp-room-kiosk.service'
+    state = house.machine.told(f'systemctl is-enabled {unit}; systemd-analyze verify {unit}').split('\n')
+    want(state[0] == 'disabled' and not any(unit in line for line in state[1:]), f'{unit}: {state}')
+    words = house.machine.told('cat /usr/lib/ipp-room-station/keep-console')
+    got = [name for name in ('VT_LOCKSWITCH', '/proc/sys/kernel/sysrq', '/proc/sys/kernel/cad_pid') if name not in words]
+    want_none(got, 'left to the keys')
+    return f'{unit} is there and is not enabled by itself; what it does was tried by hand'
