@@ -20,7 +20,7 @@ STOCK = '/usr/lib/cups'
 QUEUE = 'release'
 PASSWORD = 'secret'
 # This machine's address for whoever is at another: cupsd takes what comes over the loopback for its own machine.
-OUTSIDE = '192.0.2.1'
+OUTSIDE = '198.51.100.1'
 FIRST_USER_ID = 20000
 MOST_WAIT = 60
 FILES = """
