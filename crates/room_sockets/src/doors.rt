@@ -77,7 +77,7 @@ impl Kind {
     /// Stations, for the devices alone whose names these are, parted by commas. It lets in few, so
     /// that a hall has room for many such doors.
     pub fn station(devices: &'static [u8]) -> Kind
-        ensures { result.speech ≡ Speech.Lines (Side.Bound devices) }
+        ensures { result.speech ≡ Speech.Lines (Side.Bound devices.entry) }
     {
         Kind {
             speech: Speech::Lines(Side::Bound(devices)),
