@@ -2,6 +2,7 @@
 
 `be_alone` of front.py has to be called before a machine is begun. It and the one that runs this are then a network of their own.
 """
+import contextlib
 import glob
 import os
 import pty
@@ -28,6 +29,27 @@ def join_network(name, place):
         call('ip', 'address', 'add', address, 'dev', 'lo')
     write(f'{place}/hosts', f'127.0.0.1 localhost\n{HERE} {name}\n{HERE_BY_IPV6} {name}\n')
     call('mount', '--bind', f'{place}/hosts', '/etc/hosts')
+
+
+def join_group(number):
+    """A control group of its own for this process and what it begins: in one group two machines would end each other's services."""
+    for place in groups():
+        os.makedirs(f'{place}/machine-{number}', exist_ok=True)
+        write(f'{place}/machine-{number}/cgroup.procs', str(os.getpid()))
+
+
+def leave_group(number):
+    """Removes the group, once all have ended that were in it."""
+    for place in groups():
+        for folder, _, _ in os.walk(f'{place}/machine-{number}', topdown=False):
+            with contextlib.suppress(OSError):
+                os.rmdir(folder)
+
+
+def groups():
+    """Where the groups lie by which systemd knows its services."""
+    places = ['/sys/fs/cgroup', '/sys/fs/cgroup/unified', '/sys/fs/cgroup/systemd']
+    return [place for place in places if os.path.exists(f'{place}/cgroup.procs')]
 
 
 def prepare(folder, packages):
