@@ -1,6 +1,6 @@
 -- Options of `serve`, one after another.
-use Rattle.std.proofs.Common.{◌≡◌, ℕ, List, [], ◌∷◌, ◌++◌, Result, Ok, Err, OnOk, Bor, ap, append_assoc, inl, inr, refl, subst, sym, ◌∙◌}
-use Rattle.room_commands.specs.Visitors.{AreOptions, IsDoorOf, log_option, option_of}
+use Rattle.std.proofs.Common.{◌≡◌, ℕ, IsTrue, List, [], ◌∷◌, ◌++◌, Result, Ok, Err, OnOk, Bor, ap, append_assoc, inl, inr, refl, subst, sym, ◌∙◌}
+use Rattle.room_commands.specs.Visitors.{AreOptions, IsDoorOf, is_no_door, option_of}
 use Rattle.room_commands.specs.Words.{texts}
 use Rattle.room_commands.specs.declared.served_door.ServedDoor.{ServedDoor}
 use Rattle.room_commands.specs.declared.visitors.Visitors.{Visitors}
@@ -19,13 +19,13 @@ one_more options behind rest name value whose door was pushed now (Ok u) first s
       subst (λ (words : List (Bor (List ℕ))). AreOptions (texts words) (door ∷ more.0)) (sym (first ∙ ap (λ words. name ∷ words) second)) (inr (door, more.0, refl, by_name, by_value, more.2)),
     )
 
--- that of the log, and the options behind it
-pub log_more : {E : Type 0} (options behind rest : List (Bor (List ℕ))) (name value : Bor (List ℕ)) (was now : List ServedDoor) (r : Result (Unit {0}) E)
-    → options ≡ name ∷ behind → behind ≡ value ∷ rest → name.now ≡ log_option
+-- one that is no door, and the options behind it
+pub no_door_more : {E : Type 0} (options behind rest : List (Bor (List ℕ))) (name value : Bor (List ℕ)) (was now : List ServedDoor) (r : Result (Unit {0}) E)
+    → options ≡ name ∷ behind → behind ≡ value ∷ rest → IsTrue (is_no_door name.now value.now)
     → OnOk r ((further : List ServedDoor) × (now ≡ was ++ further) × AreOptions (texts rest) further)
     → OnOk r ((further : List ServedDoor) × (now ≡ was ++ further) × AreOptions (texts options) further)
-log_more options behind rest name value was now (Err e) first second named more = tt
-log_more options behind rest name value was now (Ok u) first second named more = (
+no_door_more options behind rest name value was now (Err e) first second named more = tt
+no_door_more options behind rest name value was now (Ok u) first second named more = (
   more.0,
   more.1,
   subst (λ (words : List (Bor (List ℕ))). AreOptions (texts words) more.0) (sym (first ∙ ap (λ words. name ∷ words) second)) (inl (named, more.2)),

@@ -1,5 +1,5 @@
 -- The numbers that a command line may say (this project's own).
-use Rattle.std.specs.Prelude.{◌≡◌, ℕ, ◌==◌, Bool, true, not, ◌&&◌, ◌||◌, IsTrue, nat_le, bytes_eq, ⊤, List, [], ◌∷◌, codes, length, Option, None, Some, drop, take, slice_get, option_map}
+use Rattle.std.specs.Prelude.{◌≡◌, ℕ, ◌==◌, Bool, true, not, ◌&&◌, ◌||◌, IsTrue, nat_le, bytes_eq, ⊤, List, [], ◌∷◌, codes, length, Option, None, Some, drop, take, slice_get, is_some, option_map}
 use Rattle.std.specs.List.{list_all, list_any}
 use Rattle.room_rules.specs.Limits.{last_job, last_month, longest_job_name, most_copies, most_impressions, most_pages, most_rate}
 use Rattle.room_commands.specs.declared.backing_up.BackingUp.{BackingUp}
@@ -18,7 +18,7 @@ use Rattle.room_desk.specs.declared.task.Task.{Task}
 use Rattle.room_desk.specs.declared.task.Task.TheVariants as task
 use Rattle.room_lines.specs.Saying.{SaysNumber}
 use Rattle.room_commands.specs.Addresses.{IsAddressOf, has_port_from}
-use Rattle.room_commands.specs.Visitors.{AreDoors, log_behind}
+use Rattle.room_commands.specs.Visitors.{AreDoors, log_option, pin_option, value_behind}
 
 -- connections of one run of `listen`
 abbrev pub most_connections : ℕ
@@ -96,11 +96,12 @@ abbrev pub is_owner_in_range : OwnerErrand → Bool
 is_owner_in_range errand = is_owner_task_in_range errand.task
 
 -- what the words of `serve` say: by their places the database and the addresses of three doors, and
--- behind them the options of further ones and of the log
+-- behind them the options of further ones, of the log and of the PIN
 pub record SaysServing (words : List (List ℕ)) (serving : Serving) : Type 0 where
   pub database : slice_get words 1 ≡ Some serving.database.now
   pub doors : AreDoors (drop 2 words) serving.doors.items
-  pub log : option_map (λ path. path.now) serving.log ≡ log_behind (drop 2 words)
+  pub log : option_map (λ path. path.now) serving.log ≡ value_behind log_option (drop 2 words)
+  pub pin : serving.needs_password ≡ is_some (value_behind pin_option (drop 2 words))
 
 -- what the words of `listen` say by their places
 pub record SaysListening (words : List (List ℕ)) (listening : Listening) : Type 0 where

@@ -1,5 +1,5 @@
 -- Who comes in by the doors of `serve`, and by which address (this project's own).
-use Rattle.std.specs.Prelude.{◌≡◌, ◌⊎◌, ℕ, Bool, true, false, if◌then◌else◌, IsTrue, List, [], ◌∷◌, codes, Option, Some, None}
+use Rattle.std.specs.Prelude.{◌≡◌, ◌⊎◌, ◌&&◌, ◌||◌, ℕ, Bool, true, false, if◌then◌else◌, IsTrue, List, [], ◌∷◌, codes, Option, Some, None}
 use Rattle.std.specs.Str.{bytes_eq}
 use Rattle.room_commands.specs.Addresses.{IsAddressOf, has_digits_alone}
 use Rattle.room_commands.specs.ServedWords.{SaysPlace}
@@ -37,30 +37,42 @@ pub record IsDoorOf (whose : Visitors) (word : List ℕ) (door : ServedDoor) : T
   pub says : SaysPlace (names_devices whose) word door.devices.now place
   pub address : IsAddressOf place 0 door.address
 
--- the word behind which the file of the log stands
+-- the word behind which the file of the log stands, and that behind which stands that the pages take a
+-- file with a PIN alone
 abbrev pub log_option : List ℕ
 log_option = codes "--log"
 
--- options, each a name and its value, are these doors, in order; that of the log is none
+abbrev pub pin_option : List ℕ
+pin_option = codes "--pages-pin"
+
+abbrev pub is_required : (value : List ℕ) → Bool
+is_required value = bytes_eq value (codes "required")
+
+-- these two are no door
+abbrev pub is_no_door : (name value : List ℕ) → Bool
+is_no_door name value =
+    bytes_eq name log_option || (bytes_eq name pin_option && is_required value)
+
+-- options, each a name and its value, are these doors, in order
 abbrev pub AreOptions : (words : List (List ℕ)) (doors : List ServedDoor) → Type 0
 AreOptions [] doors = doors ≡ []
 AreOptions (word ∷ []) doors = ⊥
 AreOptions (name ∷ value ∷ words) doors =
-    ((name ≡ log_option) × AreOptions words doors)
+    (IsTrue (is_no_door name value) × AreOptions words doors)
     ⊎ ((door : ServedDoor) × (more : List ServedDoor) × (doors ≡ door ∷ more)
     × (name ≡ option_of door.visitors) × IsDoorOf door.visitors value door × AreOptions words more)
 
--- the file of the log, by the first option of it
-abbrev pub log_among : (options : List (List ℕ)) → Option (List ℕ)
-log_among [] = None
-log_among (word ∷ []) = None
-log_among (name ∷ value ∷ words) =
-    if bytes_eq name log_option then Some value else log_among words
+-- the value of the first option of a name
+abbrev pub value_among : (option : List ℕ) (options : List (List ℕ)) → Option (List ℕ)
+value_among option [] = None
+value_among option (word ∷ []) = None
+value_among option (name ∷ value ∷ words) =
+    if bytes_eq name option then Some value else value_among option words
 
 -- behind the three addresses
-abbrev pub log_behind : (words : List (List ℕ)) → Option (List ℕ)
-log_behind (port ∷ stations ∷ operators ∷ options) = log_among options
-log_behind _ = None
+abbrev pub value_behind : (option : List ℕ) (words : List (List ℕ)) → Option (List ℕ)
+value_behind option (port ∷ stations ∷ operators ∷ options) = value_among option options
+value_behind option _ = None
 
 -- the port of clients, the addresses of stations and operators, and behind them options
 abbrev pub AreDoors : (words : List (List ℕ)) (doors : List ServedDoor) → Type 0

@@ -1,7 +1,7 @@
 //! A door that `serve` opens, and the words that say it.
-ghost use Rattle.std.specs.Prelude.{◌≡◌, ◌++◌, IfOk, IsTrue, List, OnOk, option_map};
+ghost use Rattle.std.specs.Prelude.{◌≡◌, ◌++◌, IfOk, IsTrue, List, OnOk, is_some, option_map};
 ghost use Rattle.room_commands.specs.Addresses.{has_digits_alone};
-ghost use Rattle.room_commands.specs.Visitors.{AreDoors, AreOptions, IsDoorOf, log_among, log_behind};
+ghost use Rattle.room_commands.specs.Visitors.{AreDoors, AreOptions, IsDoorOf, is_no_door, is_required, log_option, pin_option, value_among, value_behind};
 ghost use Rattle.room_commands.specs.Words.{texts};
 ghost use Rattle.room_commands.specs.declared.served_door.ServedDoor.{ServedDoor as PlainDoor};
 ghost use Rattle.room_commands.specs.declared.visitors.Visitors.TheVariants.{Clients};
@@ -14,6 +14,9 @@ use std::alloc::Global;
 
 /// The word behind which the file of the log stands.
 const LOG: &str = "--log";
+
+/// The word behind which stands that the pages take a file with a PIN alone.
+const PAGES_PIN: &str = "--pages-pin";
 
 /// A door that `serve` opens. A port of 0 is a free one.
 #[derive(Clone, Copy)]
@@ -75,24 +78,51 @@ pub(crate) fn doors_of<'a>(alloc: Global, words: &[&'a str]) -> Result<Vec<Serve
     Ok(doors)
 }
 
-/// The file of the log, which the first option of it says behind the three addresses.
+/// The file of the log, if an option says one behind the three addresses.
 pub(crate) fn log_behind<'a>(words: &[&'a str]) -> Option<&'a str>
-    ensures { option_map (λ path. path.now) result ≡ log_behind (texts words.now) }
+    ensures { option_map (λ path. path.now) result ≡ value_behind log_option (texts words.now) }
+{
+    value_behind(LOG, words)
+}
+
+/// Whether an option says that the pages take a file with a PIN alone.
+pub(crate) fn needs_password(words: &[&str]) -> bool
+    ensures { result ≡ is_some (value_behind pin_option (texts words.now)) }
+{
+    value_behind(PAGES_PIN, words).is_some()
+}
+
+/// The value of the first option of that name behind the three addresses.
+fn value_behind<'a>(option: &str, words: &[&'a str]) -> Option<&'a str>
+    ensures { option_map (λ value. value.now) result ≡ value_behind option.now (texts words.now) }
 {
     match words {
-        [_, _, _, options @ ..] => log_among(options),
+        [_, _, _, options @ ..] => value_among(option, options),
         _ => None,
     }
 }
 
-fn log_among<'a>(options: &[&'a str]) -> Option<&'a str>
-    ensures { option_map (λ path. path.now) result ≡ log_among (texts options.now) }
+fn value_among<'a>(option: &str, options: &[&'a str]) -> Option<&'a str>
+    ensures { option_map (λ value. value.now) result ≡ value_among option.now (texts options.now) }
 {
     match options {
-        [name, value, ..] if *name == LOG => Some(*value),
-        [_, _, rest @ ..] => log_among(rest),
+        [name, value, ..] if *name == option => Some(*value),
+        [_, _, rest @ ..] => value_among(option, rest),
         _ => None,
     }
+}
+
+/// Whether an option names the file of the log, or that a PIN is required, and no door.
+fn is_no_door(name: &str, value: &str) -> bool
+    ensures { result ≡ is_no_door name.now value.now }
+{
+    name == LOG || (name == PAGES_PIN && is_required(value))
+}
+
+fn is_required(value: &str) -> bool
+    ensures { result ≡ is_required value.now }
+{
+    value == "required"
 }
 
 /// Puts the doors that options say behind those that are there.
@@ -106,7 +136,7 @@ fn put_options<'a>(options: &[&'a str], doors: &mut Vec<ServedDoor<'a>>) -> Resu
     let Some((value, rest)) = behind.split_first() else {
         return Err(Unfit::Option);
     };
-    if *name == LOG {
+    if is_no_door(name, value) {
         return put_options(rest, doors);
     }
     let visitors = Visitors::of_option(name).ok_or(Unfit::Option)?;

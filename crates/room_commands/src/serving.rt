@@ -17,6 +17,8 @@ pub struct Serving<'a> {
     pub doors: Vec<ServedDoor<'a>>,
     /// The file of the log, where one is asked for.
     pub log: Option<&'a str>,
+    /// Whether the pages take a file with a password, a PIN, alone.
+    pub needs_password: bool,
 }
 
 impl<'a> Serving<'a> {

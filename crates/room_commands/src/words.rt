@@ -95,6 +95,8 @@ const OPERATORS_TOO: &str = "operators";
 
 const LOG: &str = "log";
 
+const PAGES_PIN: &str = "pages-pin";
+
 pub(crate) const ADDRESS: &str = "ADDRESS";
 
 pub(crate) const FOLDER: &str = "FOLDER";
@@ -122,6 +124,9 @@ pub(crate) const PAGES: &str = "pages";
 pub(crate) const PIN: &str = "pin";
 
 const NUMBER: &str = "N";
+
+/// The only value that the duty of a PIN has.
+const REQUIRED: &str = "required";
 
 /// A command, as the help shows it.
 #[derive(Clone, Copy)]
@@ -265,6 +270,12 @@ const TO_LOG: Argument = Argument {
     name: LOG,
     help: Some("A file to whose end a line an event goes"),
     kind: Kind::Named(FILE),
+};
+
+const PIN_ON_PAGES: Argument = Argument {
+    name: PAGES_PIN,
+    help: Some("Has the pages take a file with a PIN alone"),
+    kind: Kind::Named(REQUIRED),
 };
 
 const OF_MONTH: Argument = Argument {
@@ -428,6 +439,7 @@ pub(crate) const COMMANDS: [CommandWords; 25] = [
             MORE_STATIONS,
             ONE_STATION,
             MORE_OPERATORS,
+            PIN_ON_PAGES,
             TO_LOG,
         ],
     },

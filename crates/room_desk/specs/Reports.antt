@@ -9,13 +9,15 @@ use Rattle.room_desk.specs.declared.statement.Statement.{Statement}
 
 abbrev pub report_head : List (List ℕ)
 report_head = codes "account" ∷ codes "granted" ∷ codes "refunded" ∷ codes "reserved"
-    ∷ codes "charged" ∷ codes "charged_in_month" ∷ codes "jobs_in_month" ∷ codes "left" ∷ []
+    ∷ codes "charged" ∷ codes "charged_in_month" ∷ codes "jobs_in_month" ∷ codes "left"
+    ∷ codes "beyond_in_month" ∷ []
 
 -- what was given back stands beside what was granted, and is no part of it
 abbrev pub report_fields : (account : List ℕ) (statement : Statement) (refunded : ℕ) → List (List ℕ)
 report_fields account statement refunded = account ∷ decimal (statement.granted - refunded)
     ∷ decimal refunded ∷ statement.reserved.now ∷ statement.charged.now
-    ∷ statement.charged_then.now ∷ statement.ended_then.now ∷ statement.left.now ∷ []
+    ∷ statement.charged_then.now ∷ statement.ended_then.now ∷ statement.left.now
+    ∷ statement.beyond_then.now ∷ []
 
 -- the account's statement of the month and its grants were asked for, and its record was printed
 pub record ReportsAccount (month : ℕ) (account : List ℕ) (from to : At) : Type 0 where

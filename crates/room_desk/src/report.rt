@@ -40,7 +40,7 @@ fn print_head<O: Write>(alloc: Global, output: &mut O) -> Result<(), ClientFault
     ensures { OnOk result (Appends (O.contents output.old) (O.contents output.new)
         (record_text report_head)) }
 {
-    let fields: [&[u8]; 8] = [
+    let fields: [&[u8]; 9] = [
         b"account",
         b"granted",
         b"refunded",
@@ -49,6 +49,7 @@ fn print_head<O: Write>(alloc: Global, output: &mut O) -> Result<(), ClientFault
         b"charged_in_month",
         b"jobs_in_month",
         b"left",
+        b"beyond_in_month",
     ];
     print_record(alloc, &fields, output)
 }
@@ -122,6 +123,7 @@ fn print_account<O: Write>(
         statement.charged_then,
         statement.ended_then,
         statement.left,
+        statement.beyond_then,
     ];
     print_record(alloc, &fields, output)
 }

@@ -17,11 +17,12 @@ pub(crate) struct Statement<'a> {
     pub(crate) left: &'a [u8],
     pub(crate) charged_then: &'a [u8],
     pub(crate) ended_then: &'a [u8],
+    pub(crate) beyond_then: &'a [u8],
 }
 
 impl<'a> Statement<'a> {
     /// What `ok granted G reserved R charged C left L month M held H pending P processing I ended
-    /// E` says. Any other line is broken.
+    /// E beyond B` says. Any other line is broken.
     pub(crate) fn read(line: &'a [u8]) -> Result<Statement<'a>, ClientFault>
         ensures { IfOk result (TellsStatement line.now) }
     {
@@ -30,27 +31,42 @@ impl<'a> Statement<'a> {
         let (granted, reserved) = next_two(&mut words, b"granted", b"reserved")?;
         let granted = number_of(granted)?;
         let (charged, left) = next_two(&mut words, b"charged", b"left")?;
-        let (charged_then, ended_then) = take_month(words)?;
+        let month = take_month(words)?;
         Ok(Statement {
             granted,
             reserved,
             charged,
             left,
-            charged_then,
-            ended_then,
+            charged_then: month.charged,
+            ended_then: month.ended,
+            beyond_then: month.beyond,
         })
     }
 }
 
-/// What `month M held H pending P processing I ended E` says of the month: M and E.
-fn take_month<'a>(words: Words<'a>) -> Result<(&'a [u8], &'a [u8]), ClientFault>
-    ensures { IfOk result (λ both. TellsMonth words.entry.rest.now both.0.now both.1.now) }
+/// What a statement tells of its month.
+#[derive(Clone, Copy)]
+struct Month<'a> {
+    charged: &'a [u8],
+    ended: &'a [u8],
+    beyond: &'a [u8],
+}
+
+/// What `month M held H pending P processing I ended E beyond B` says of the month: M, E and B.
+fn take_month<'a>(words: Words<'a>) -> Result<Month<'a>, ClientFault>
+    ensures { IfOk result (TellsMonth words.entry.rest.now) }
 {
     let mut words = words;
     let (charged, _held) = next_two(&mut words, b"month", b"held")?;
     let (_pending, _processing) = next_two(&mut words, b"pending", b"processing")?;
-    words.skip(b"ended")?;
-    Ok((charged, words.last()))
+    let ended = next_number(&mut words, b"ended")?;
+    words.skip(b"beyond")?;
+    let beyond = words.last();
+    Ok(Month {
+        charged,
+        ended,
+        beyond,
+    })
 }
 
 /// The word behind the name, which comes next.

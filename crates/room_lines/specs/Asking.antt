@@ -31,7 +31,7 @@ SaysAbout fields account (Again device job) =
     (number : List ℕ) × (fields ≡ codes "again" ∷ device ∷ account ∷ number ∷ [])
     × SaysNumber number job
 -- no line asks for a page
-SaysAbout fields account (OwnerPage month outcome stays) = ⊥
+SaysAbout fields account (OwnerPage month outcome stays needs_password) = ⊥
 SaysAbout fields account (StatementPage month drawn_up) = ⊥
 
 abbrev pub SaysQuestion : (fields : List (List ℕ)) → Question → Type 0

@@ -107,6 +107,14 @@ line_text moment door event told =
     decimal moment ++ codes " " ++ door_word door ++ codes " " ++ event_fields event told
     ++ codes " " ++ outcome_field told ++ codes "\n"
 
+-- ---- what a device counted beyond a release
+
+-- the units of a job's charge beyond what it had reserved, behind the line of its settlement
+abbrev pub beyond_text : (moment : ℕ) (device account : List ℕ) (job units : ℕ) → List ℕ
+beyond_text moment device account job units =
+    decimal moment ++ codes " stations " ++ act_fields device (codes "beyond") account job
+    ++ codes " " ++ decimal units ++ codes "\n"
+
 -- ---- what a door refused
 
 -- what the line is told too

@@ -6,10 +6,10 @@ ghost use Rattle.room_log.specs.LogLines.{line_text};
 
 use crate::door::Door;
 use crate::file::LogFile;
-use crate::line::put_line;
+use crate::line::{put_beyond, put_line};
 use crate::refusal::{LineRefusal, put_refused_line, put_refused_request};
 use crate::waiting::Waiting;
-use room_events::{Event, Reply};
+use room_events::{Event, Name, Reply};
 use std::alloc::{AllocError, Global};
 use std::fs::{File, Files};
 use std::marker::Model;
@@ -24,6 +24,8 @@ pub struct EventLog {
     pub(crate) alloc: Global,
     pub(crate) waiting: Waiting,
     file: LogFile,
+    /// Lines of no event, which go behind those of the round that is under way.
+    notices: Vec<u8>,
     /// The moment of the last look at the path.
     looked_at: Option<u64>,
 }
@@ -35,6 +37,7 @@ impl Drop for EventLog {
             alloc: _,
             waiting: _,
             file: _,
+            notices: _,
             looked_at: _,
         } = self;
     }
@@ -61,6 +64,7 @@ impl EventLog {
             alloc,
             waiting: Waiting::new(alloc),
             file,
+            notices: Vec::new(alloc),
             looked_at: None,
         }
     }
@@ -108,6 +112,48 @@ impl EventLog {
     {
         self.waiting.settle(kept);
         self.push_out();
+        self.end_notices(kept);
+    }
+
+    /// Tells that the job which the event settled was charged so many units beyond what it had
+    /// reserved. The line goes behind that of the event; it is left out where memory is refused, lines
+    /// wait, or the round is lost.
+    pub fn tell_beyond(&mut self, moment: u64, event: &Event<'_>, units: u64)
+        ensures { self.new ≡ self.old }
+    {
+        if let Event::Settle {
+            device,
+            account,
+            job,
+            ..
+        } = event
+        {
+            self.add_notice(moment, *device, *account, *job, units);
+        }
+        if !self.waiting.has_drafts() {
+            self.end_notices(true);
+        }
+    }
+
+    fn add_notice(&mut self, moment: u64, device: Name, account: Name, job: u32, units: u64)
+        ensures { self.new ≡ self.old }
+    {
+        let before = self.notices.len();
+        let notices = &mut self.notices;
+        if put_beyond(notices, moment, device.bytes(), account.bytes(), job, units).is_err() {
+            self.notices.truncate(before);
+        }
+    }
+
+    /// The notices go to the file, where no line waits for it, or are dropped.
+    fn end_notices(&mut self, kept: bool)
+        ensures { self.new ≡ self.old }
+    {
+        if kept && !self.waiting.is_behind() && !self.notices.is_empty() {
+            // They are left out where the file refuses them.
+            let _ = self.file.append(self.notices.as_slice());
+        }
+        self.notices.clear();
     }
 
     /// Tells that a door refused a line. It is left out where memory is refused, or lines wait.

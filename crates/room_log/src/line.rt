@@ -1,7 +1,7 @@
 //! A line of the log, put after what a buffer holds.
 ghost use Rattle.std.specs.Prelude.{◌≡◌, ◌++◌, codes, OnOk};
 ghost use Rattle.room_events.specs.Events.{plain_event};
-ghost use Rattle.room_log.specs.LogLines.{act_fields, event_fields, grant_fields, ipp_fields, line_text, month_text, rate_fields, request_fields, settle_fields, turn_fields};
+ghost use Rattle.room_log.specs.LogLines.{act_fields, beyond_text, event_fields, grant_fields, ipp_fields, line_text, month_text, rate_fields, request_fields, settle_fields, turn_fields};
 
 use crate::about::about;
 use crate::door::Door;
@@ -32,6 +32,27 @@ pub fn put_line<F>(
     put_event(output, event, told)?;
     output.extend_from_slice(b" ")?;
     put_outcome(output, told)?;
+    output.extend_from_slice(b"\n")
+}
+
+/// Puts the line, with its line feed, that a job was charged so many units beyond what it had reserved.
+/// Where memory is refused, a part may stand.
+pub(crate) fn put_beyond(
+    output: &mut Vec<u8>,
+    moment: u64,
+    device: &[u8],
+    account: &[u8],
+    job: u32,
+    units: u64,
+) -> Result<(), AllocError>
+    ensures { OnOk result (output.new.items
+        ≡ output.old.items ++ beyond_text moment device.now account.now job units) }
+{
+    put_number(output, moment)?;
+    output.extend_from_slice(b" stations ")?;
+    put_act(output, device, b"beyond", account, job)?;
+    output.extend_from_slice(b" ")?;
+    put_number(output, units)?;
     output.extend_from_slice(b"\n")
 }
 

@@ -50,6 +50,7 @@ pub record Shows (surveys : List Surveyed) (it : Overview) : Type 0 where
   pub waiting : it.waiting ≡ sum_over (λ survey. length survey.unfinished) surveys
   pub unsettled : it.unsettled ≡ sum_over (λ survey. survey.summary.processing) surveys
   pub charged : it.charged ≡ sum_over (λ survey. survey.summary.charged_then) surveys
+  pub beyond : it.beyond ≡ sum_over (λ survey. survey.summary.beyond_then) surveys
   pub days : (place : ℕ) → place < MOST_DAYS
       → slice_index it.days place ≡ sum_over (λ survey. slice_index survey.days place) surveys
   pub begun : it.begun.items

@@ -63,6 +63,7 @@ pub record Lists (it : Overview) (gathers : Bool) (front : Option (List ℕ)) (d
   pub waiting : room.waiting ≡ it.waiting
   pub unsettled : room.unsettled ≡ it.unsettled
   pub charged : room.charged ≡ it.charged
+  pub beyond : room.beyond ≡ it.beyond
   pub days_are : room.days.now ≡ days
   pub begun : room.begun.now ≡ it.begun.items
   pub longest : room.longest.now ≡ it.longest.items

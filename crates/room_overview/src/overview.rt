@@ -29,6 +29,8 @@ pub struct Overview {
     pub(crate) waiting: u64,
     /// How many of them a device began and has not settled.
     pub(crate) unsettled: u64,
+    /// Units of those that were charged in the month beyond what the jobs' releases let them cost.
+    pub(crate) beyond: u64,
     /// Units that were charged in the month, and on each day of it.
     pub(crate) charged: u64,
     pub(crate) days: [u64; MOST_DAYS],
@@ -78,6 +80,7 @@ impl Overview {
             devices,
             waiting: 0,
             unsettled: 0,
+            beyond: 0,
             charged: 0,
             days: [0; MOST_DAYS],
             begun: Vec::new(alloc),
@@ -135,6 +138,7 @@ impl Overview {
         let jobs = survey.unfinished.as_slice();
         self.waiting = self.waiting.saturating_add(jobs.len() as u64);
         self.unsettled = self.unsettled.saturating_add(survey.summary.processing);
+        self.beyond = self.beyond.saturating_add(survey.summary.beyond_then);
         self.charged = self.charged.saturating_add(survey.summary.charged_then);
         add_days(&mut self.days, &survey.days);
         put_begun(&mut self.begun, account, jobs)?;

@@ -66,6 +66,7 @@ impl Overview {
             waiting: self.waiting,
             unsettled: self.unsettled,
             charged: self.charged,
+            beyond: self.beyond,
             days,
             begun: self.begun.as_slice(),
             longest: self.longest.as_slice(),

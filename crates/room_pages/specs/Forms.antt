@@ -1,7 +1,7 @@
 -- The form to print a file. Its script (`print.js`) sends the file as it is.
-use Rattle.std.specs.Prelude.{ℕ, List, [], ◌∷◌, ◌++◌, codes}
+use Rattle.std.specs.Prelude.{ℕ, Bool, List, [], ◌∷◌, ◌++◌, codes, if◌then◌else◌}
 use Rattle.room_markup.specs.Parts.{Part, html, Mark, Text}
-use Rattle.room_pages.specs.declared.texts.TheConstants.{COPIES, FILE, FILE_HELP, HAND_IN, PAGES_HELP, PAGES_OF_COPY, PASSWORD, PASSWORD_HELP, PRINT, SCRIPT_NEEDED, SENT_BROKEN, SENT_EMPTY, SENT_LARGE, SENT_REFUSED, SENT_SENDING}
+use Rattle.room_pages.specs.declared.texts.TheConstants.{COPIES, FILE, FILE_HELP, HAND_IN, PAGES_HELP, PAGES_OF_COPY, PASSWORD, PASSWORD_DUTY, PASSWORD_HELP, PRINT, SCRIPT_NEEDED, SENT_BROKEN, SENT_EMPTY, SENT_LARGE, SENT_REFUSED, SENT_SENDING}
 
 -- the head of the form to print, with what its script says
 unfoldable pub form_start : (account : List ℕ) → List Part
@@ -52,16 +52,30 @@ form_counts =
     ∷ Mark (codes "</small></div>\n")
     ∷ []
 
--- the field of the password, and the button
-unfoldable pub form_end : List Part
-form_end =
+-- where a file is taken with a password alone, the browser sends none without, and the page says so
+abbrev pub duty_mark : (needs_password : Bool) → List ℕ
+duty_mark needs_password = if needs_password then codes " required" else codes ""
+
+abbrev pub password_help : (needs_password : Bool) → List ℕ
+password_help needs_password = if needs_password then PASSWORD_DUTY.now else PASSWORD_HELP.now
+
+-- the field of the password
+unfoldable pub form_password : (duty help : List ℕ) → List Part
+form_password duty help =
     Mark (codes "<div><label for=\"password\">")
     ∷ Mark PASSWORD.now
     ∷ Mark (codes "</label><input id=\"password\" name=\"password\"")
     ∷ Mark (codes " type=\"password\" maxlength=\"32\" autocomplete=\"new-password\"")
+    ∷ Mark duty
     ∷ Mark (codes " aria-describedby=\"password-help\"><small id=\"password-help\">")
-    ∷ Mark PASSWORD_HELP.now
-    ∷ Mark (codes "</small></div>\n<div class=\"wide\"><button class=\"first\" disabled>")
+    ∷ Mark help
+    ∷ Mark (codes "</small></div>\n")
+    ∷ []
+
+-- the button, and the end of the form
+unfoldable pub form_end : List Part
+form_end =
+    Mark (codes "<div class=\"wide\"><button class=\"first\" disabled>")
     ∷ Mark HAND_IN.now
     ∷ Mark (codes "</button> <span id=\"sent\" role=\"status\"></span></div>\n</form>\n")
     ∷ Mark (codes "<noscript><p class=\"quiet\">")
@@ -69,6 +83,10 @@ form_end =
     ∷ Mark (codes "</p></noscript>\n</section>\n")
     ∷ []
 
-unfoldable pub print_form : (account : List ℕ) → List ℕ
-print_form account =
-    html (form_start account) ++ (html form_file ++ (html form_counts ++ html form_end))
+unfoldable pub print_form : (account : List ℕ) (needs_password : Bool) → List ℕ
+print_form account needs_password =
+    html (form_start account)
+    ++ (html form_file
+    ++ (html form_counts
+    ++ (html (form_password (duty_mark needs_password) (password_help needs_password))
+    ++ html form_end)))

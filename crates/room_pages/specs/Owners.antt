@@ -83,7 +83,8 @@ content owner =
 unfoldable pub lists : Owner → List ℕ
 lists owner =
     waiting_card owner.account owner.waiting
-    ++ (print_form owner.account ++ (devices_on owner.devices ++ ended_card owner.ended))
+    ++ (print_form owner.account owner.needs_password
+    ++ (devices_on owner.devices ++ ended_card owner.ended))
 
 unfoldable pub owner_end : Owner → List ℕ
 owner_end owner = html foot ++ (reload_words owner ++ END_OF_PAGE.now)

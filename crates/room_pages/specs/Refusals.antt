@@ -3,8 +3,8 @@ use Rattle.std.specs.Prelude.{ℕ, List, [], ◌∷◌, ◌++◌, codes}
 use Rattle.room_pages.specs.Frames.{document, top}
 use Rattle.room_markup.specs.Parts.{Part, html, Mark}
 use Rattle.room_pages.specs.declared.refusal.Refusal.{Refusal}
-use Rattle.room_pages.specs.declared.refusal.Refusal.TheVariants.{BadRequest, Forbidden, NotFound, OnlyRead, OnlyPost, TooLarge, WrongType, NoSpace, Busy, Failed}
-use Rattle.room_pages.specs.declared.texts.TheConstants.{ASK_AGAIN, BAD_REQUEST, CANNOT_DO, FAILED_HERE, FROM_ELSEWHERE, HAS_FAILED, IS_BAD_REQUEST, IS_FULL, IS_ONLY_DONE, IS_ONLY_READ, IS_TOO_LARGE, IS_WRONG_TYPE, WAS_NOT_DONE, NOT_NOW, NO_PAGE, NO_SUCH_PAGE, PRINT_ROOM, START_PAGE, TOO_LARGE}
+use Rattle.room_pages.specs.declared.refusal.Refusal.TheVariants.{BadRequest, Forbidden, NotFound, OnlyRead, OnlyPost, TooLarge, WrongType, NoPassword, NoSpace, Busy, Failed}
+use Rattle.room_pages.specs.declared.texts.TheConstants.{ASK_AGAIN, BAD_REQUEST, CANNOT_DO, FAILED_HERE, FROM_ELSEWHERE, HAS_FAILED, HAS_NO_PASSWORD, IS_BAD_REQUEST, IS_FULL, IS_ONLY_DONE, IS_ONLY_READ, IS_TOO_LARGE, IS_WRONG_TYPE, WAS_NOT_DONE, NOT_NOW, NO_PAGE, NO_SUCH_PAGE, PASSWORD_MISSING, PRINT_ROOM, START_PAGE, TOO_LARGE}
 
 abbrev pub heading : Refusal → List ℕ
 heading BadRequest = BAD_REQUEST.now
@@ -14,6 +14,7 @@ heading OnlyRead = CANNOT_DO.now
 heading OnlyPost = CANNOT_DO.now
 heading TooLarge = TOO_LARGE.now
 heading WrongType = CANNOT_DO.now
+heading NoPassword = PASSWORD_MISSING.now
 heading NoSpace = NOT_NOW.now
 heading Busy = NOT_NOW.now
 heading Failed = HAS_FAILED.now
@@ -26,6 +27,7 @@ sentence OnlyRead = IS_ONLY_READ.now
 sentence OnlyPost = IS_ONLY_DONE.now
 sentence TooLarge = IS_TOO_LARGE.now
 sentence WrongType = IS_WRONG_TYPE.now
+sentence NoPassword = HAS_NO_PASSWORD.now
 sentence NoSpace = IS_FULL.now
 sentence Busy = ASK_AGAIN.now
 sentence Failed = FAILED_HERE.now

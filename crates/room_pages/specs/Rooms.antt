@@ -9,7 +9,7 @@ use Rattle.room_pages.specs.Longest.{longest_card}
 use Rattle.room_markup.specs.Parts.{Part, html, Mark, Text, Number, Moment}
 use Rattle.room_pages.specs.declared.markup.TheConstants.{END_OF_PAGE, END_OF_PAIR, PAIR, RELOAD_SOON}
 use Rattle.room_pages.specs.declared.room.Room.{Room}
-use Rattle.room_pages.specs.declared.texts.TheConstants.{ACCOUNTS_OPEN, AS_OF, FIND, FIND_LABEL, HAS_MORE, IS_GATHERED, JOBS_WAITING, NOT_SETTLED, NOT_YET, OPERATORS, PRINT_ROOM, SKIPS, UNITS_THIS_MONTH}
+use Rattle.room_pages.specs.declared.texts.TheConstants.{ACCOUNTS_OPEN, AS_OF, FIND, FIND_LABEL, HAS_MORE, IS_GATHERED, JOBS_WAITING, NOT_SETTLED, NOT_YET, OPERATORS, PRINT_ROOM, SKIPS, UNITS_BEYOND, UNITS_THIS_MONTH}
 
 -- ---- the heading, and the form to find an account
 
@@ -50,8 +50,8 @@ unfoldable pub room_title : (at : Option ℕ) (front : List ℕ) → List ℕ
 room_title at front = html title_start ++ (as_of_text at ++ html (find_form front))
 
 -- the sums over all accounts
-unfoldable pub tiles : (accounts waiting begun charged : ℕ) → List Part
-tiles accounts waiting begun charged =
+unfoldable pub tiles : (accounts waiting begun charged beyond : ℕ) → List Part
+tiles accounts waiting begun charged beyond =
     Mark (codes "<section class=\"card\"><dl class=\"tiles\">\n<div><dt>")
     ∷ Mark ACCOUNTS_OPEN.now
     ∷ Mark (codes "</dt><dd>")
@@ -68,6 +68,10 @@ tiles accounts waiting begun charged =
     ∷ Mark UNITS_THIS_MONTH.now
     ∷ Mark (codes "</dt><dd>")
     ∷ Number charged
+    ∷ Mark (codes "</dd></div>\n<div><dt>")
+    ∷ Mark UNITS_BEYOND.now
+    ∷ Mark (codes "</dt><dd>")
+    ∷ Number beyond
     ∷ Mark (codes "</dd></div>\n</dl></section>\n")
     ∷ []
 
@@ -100,7 +104,8 @@ room_head it =
 
 unfoldable pub room_sums : Room → List ℕ
 room_sums it =
-    html (tiles it.open it.waiting it.unsettled it.charged) ++ chart it.month it.days.now
+    html (tiles it.open it.waiting it.unsettled it.charged it.beyond)
+    ++ chart it.month it.days.now
 
 unfoldable pub room_lists : Room → List ℕ
 room_lists it =

@@ -1,24 +1,35 @@
 //! The form to print a file.
 
 ghost use Rattle.std.specs.Prelude.{◌≡◌, ◌++◌, OnOk};
-ghost use Rattle.room_pages.specs.Forms.{form_counts, form_end, form_file, form_start, print_form};
+ghost use Rattle.room_pages.specs.Forms.{duty_mark, form_counts, form_end, form_file, form_password, form_start, password_help, print_form};
 ghost use Rattle.room_markup.specs.Parts.{html};
 
 use crate::texts::{
-    COPIES, FILE, FILE_HELP, HAND_IN, PAGES_HELP, PAGES_OF_COPY, PASSWORD, PASSWORD_HELP, PRINT,
-    SCRIPT_NEEDED, SENT_BROKEN, SENT_EMPTY, SENT_LARGE, SENT_REFUSED, SENT_SENDING,
+    COPIES, FILE, FILE_HELP, HAND_IN, PAGES_HELP, PAGES_OF_COPY, PASSWORD, PASSWORD_DUTY,
+    PASSWORD_HELP, PRINT, SCRIPT_NEEDED, SENT_BROKEN, SENT_EMPTY, SENT_LARGE, SENT_REFUSED,
+    SENT_SENDING,
 };
 use room_markup::{Piece, put_all};
 use std::alloc::AllocError;
 
-/// Appends the form to print a file in the account.
+/// Appends the form to print a file in the account, with a password alone or without one too.
 #[tactic(auto, using(std::proofs::Common::append_assoc), unfolding(crate::specs::Forms::print_form))]
-pub(crate) fn put_print_form(out: &mut Vec<u8>, account: &[u8]) -> Result<(), AllocError>
-    ensures { OnOk result (out.new.items ≡ out.old.items ++ print_form account.now) }
+pub(crate) fn put_print_form(
+    out: &mut Vec<u8>,
+    account: &[u8],
+    needs_password: bool,
+) -> Result<(), AllocError>
+    ensures { OnOk result
+        (out.new.items ≡ out.old.items ++ print_form account.now needs_password) }
 {
     put_form_start(out, account)?;
     put_form_file(out)?;
     put_form_counts(out)?;
+    put_form_password(
+        out,
+        duty_mark(needs_password),
+        password_help(needs_password),
+    )?;
     put_form_end(out)
 }
 
@@ -91,9 +102,10 @@ fn put_form_counts(out: &mut Vec<u8>) -> Result<(), AllocError>
     )
 }
 
-/// Appends the field of the password, and the button.
-fn put_form_end(out: &mut Vec<u8>) -> Result<(), AllocError>
-    ensures { OnOk result (out.new.items ≡ out.old.items ++ html form_end) }
+/// Appends the field of the password, with the mark of a duty, and what helps.
+fn put_form_password<'a>(out: &mut Vec<u8>, duty: &'a str, help: &'a str) -> Result<(), AllocError>
+    ensures { OnOk result
+        (out.new.items ≡ out.old.items ++ html (form_password duty.now help.now)) }
 {
     put_all(
         out,
@@ -102,9 +114,38 @@ fn put_form_end(out: &mut Vec<u8>) -> Result<(), AllocError>
             Piece::Mark(PASSWORD),
             Piece::Mark("</label><input id=\"password\" name=\"password\""),
             Piece::Mark(" type=\"password\" maxlength=\"32\" autocomplete=\"new-password\""),
+            Piece::Mark(duty),
             Piece::Mark(" aria-describedby=\"password-help\"><small id=\"password-help\">"),
-            Piece::Mark(PASSWORD_HELP),
-            Piece::Mark("</small></div>\n<div class=\"wide\"><button class=\"first\" disabled>"),
+            Piece::Mark(help),
+            Piece::Mark("</small></div>\n"),
+        ],
+    )
+}
+
+fn duty_mark(needs_password: bool) -> &'static str
+    ensures { result.now ≡ duty_mark needs_password }
+{
+    if needs_password { " required" } else { "" }
+}
+
+fn password_help(needs_password: bool) -> &'static str
+    ensures { result.now ≡ password_help needs_password }
+{
+    if needs_password {
+        PASSWORD_DUTY
+    } else {
+        PASSWORD_HELP
+    }
+}
+
+/// Appends the button, and the end of the form.
+fn put_form_end(out: &mut Vec<u8>) -> Result<(), AllocError>
+    ensures { OnOk result (out.new.items ≡ out.old.items ++ html form_end) }
+{
+    put_all(
+        out,
+        &[
+            Piece::Mark("<div class=\"wide\"><button class=\"first\" disabled>"),
             Piece::Mark(HAND_IN),
             Piece::Mark("</button> <span id=\"sent\" role=\"status\"></span></div>\n</form>\n"),
             Piece::Mark("<noscript><p class=\"quiet\">"),

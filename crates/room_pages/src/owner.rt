@@ -45,6 +45,8 @@ pub struct Owner {
     pub outcome: Option<Outcome>,
     /// Whether the page is to stay as it is, while jobs wait too.
     pub stays: bool,
+    /// Whether a file is taken with a password alone.
+    pub needs_password: bool,
 }
 
 /// Appends the page of an account's owner.
@@ -111,7 +113,7 @@ fn put_lists(out: &mut Vec<u8>, owner: &Owner) -> Result<(), AllocError>
     ensures { OnOk result (out.new.items ≡ out.old.items ++ lists owner.now) }
 {
     put_waiting_card(out, owner.account.bytes(), owner.waiting.as_slice())?;
-    put_print_form(out, owner.account.bytes())?;
+    put_print_form(out, owner.account.bytes(), owner.needs_password)?;
     put_devices_on(out, owner.devices.as_slice())?;
     put_ended_card(out, owner.ended.as_slice())
 }

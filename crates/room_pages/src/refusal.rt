@@ -7,9 +7,9 @@ ghost use Rattle.room_pages.specs.Refusals.{heading, refusal_card, refusal_page,
 
 use crate::frame::{put_document, put_top};
 use crate::texts::{
-    ASK_AGAIN, BAD_REQUEST, CANNOT_DO, FAILED_HERE, FROM_ELSEWHERE, HAS_FAILED, IS_BAD_REQUEST,
-    IS_FULL, IS_ONLY_DONE, IS_ONLY_READ, IS_TOO_LARGE, IS_WRONG_TYPE, NO_PAGE, NO_SUCH_PAGE,
-    NOT_NOW, PRINT_ROOM, START_PAGE, TOO_LARGE, WAS_NOT_DONE,
+    ASK_AGAIN, BAD_REQUEST, CANNOT_DO, FAILED_HERE, FROM_ELSEWHERE, HAS_FAILED, HAS_NO_PASSWORD,
+    IS_BAD_REQUEST, IS_FULL, IS_ONLY_DONE, IS_ONLY_READ, IS_TOO_LARGE, IS_WRONG_TYPE, NO_PAGE,
+    NO_SUCH_PAGE, NOT_NOW, PASSWORD_MISSING, PRINT_ROOM, START_PAGE, TOO_LARGE, WAS_NOT_DONE,
 };
 use room_markup::{Piece, put_all};
 use std::alloc::AllocError;
@@ -31,6 +31,8 @@ pub enum Refusal {
     TooLarge,
     /// Another type of body than its path takes.
     WrongType,
+    /// A file without a password, where it is taken with one alone.
+    NoPassword,
     /// The disk has no space for the file.
     NoSpace,
     /// What others ask at this moment shares a commit, and a page is to be asked alone.
@@ -58,6 +60,7 @@ fn heading(refusal: Refusal) -> &'static str
         Refusal::NotFound => NO_PAGE,
         Refusal::OnlyRead | Refusal::OnlyPost | Refusal::WrongType => CANNOT_DO,
         Refusal::TooLarge => TOO_LARGE,
+        Refusal::NoPassword => PASSWORD_MISSING,
         Refusal::NoSpace | Refusal::Busy => NOT_NOW,
         Refusal::Failed => HAS_FAILED,
     }
@@ -74,6 +77,7 @@ fn sentence(refusal: Refusal) -> &'static str
         Refusal::OnlyPost => IS_ONLY_DONE,
         Refusal::TooLarge => IS_TOO_LARGE,
         Refusal::WrongType => IS_WRONG_TYPE,
+        Refusal::NoPassword => HAS_NO_PASSWORD,
         Refusal::NoSpace => IS_FULL,
         Refusal::Busy => ASK_AGAIN,
         Refusal::Failed => FAILED_HERE,

@@ -19,7 +19,7 @@ use crate::longest::{LongestLine, put_longest_card};
 use crate::markup::{END_OF_PAGE, END_OF_PAIR, PAIR, RELOAD_SOON};
 use crate::texts::{
     ACCOUNTS_OPEN, AS_OF, FIND, FIND_LABEL, HAS_MORE, IS_GATHERED, JOBS_WAITING, NOT_SETTLED,
-    NOT_YET, OPERATORS, PRINT_ROOM, SKIPS, UNITS_THIS_MONTH,
+    NOT_YET, OPERATORS, PRINT_ROOM, SKIPS, UNITS_BEYOND, UNITS_THIS_MONTH,
 };
 use room_markup::{Piece, put_all};
 use room_rules::{Device, Name};
@@ -46,6 +46,8 @@ pub struct Room<'a> {
     pub unsettled: u64,
     /// Units that all accounts were charged in the month.
     pub charged: u64,
+    /// Units of these beyond what the jobs' releases let them cost.
+    pub beyond: u64,
     /// The units of each day of the month.
     pub days: &'a [DayLine],
     /// The jobs that a device began and has not settled, the oldest first.
@@ -116,7 +118,14 @@ fn put_remark_if(out: &mut Vec<u8>, holds: bool, said: &str) -> Result<(), Alloc
 fn put_room_sums(out: &mut Vec<u8>, room: &Room<'_>) -> Result<(), AllocError>
     ensures { OnOk result (out.new.items ≡ out.old.items ++ room_sums room.now) }
 {
-    put_tiles(out, room.open, room.waiting, room.unsettled, room.charged)?;
+    put_tiles(
+        out,
+        room.open,
+        room.waiting,
+        room.unsettled,
+        room.charged,
+        room.beyond,
+    )?;
     put_chart(out, room.month, room.days)
 }
 
@@ -214,9 +223,10 @@ fn put_tiles(
     waiting: u64,
     begun: u64,
     charged: u64,
+    beyond: u64,
 ) -> Result<(), AllocError>
-    ensures { OnOk result
-        (out.new.items ≡ out.old.items ++ html (tiles accounts waiting begun charged)) }
+    ensures { OnOk result (out.new.items
+        ≡ out.old.items ++ html (tiles accounts waiting begun charged beyond)) }
 {
     put_all(
         out,
@@ -237,6 +247,10 @@ fn put_tiles(
             Piece::Mark(UNITS_THIS_MONTH),
             Piece::Mark("</dt><dd>"),
             Piece::Number(charged),
+            Piece::Mark("</dd></div>\n<div><dt>"),
+            Piece::Mark(UNITS_BEYOND),
+            Piece::Mark("</dt><dd>"),
+            Piece::Number(beyond),
             Piece::Mark("</dd></div>\n</dl></section>\n"),
         ],
     )

@@ -69,7 +69,7 @@ dd{font-weight:600;font-variant-numeric:tabular-nums;overflow-wrap:anywhere}
 border:1px solid var(--edge);border-radius:3px;background:var(--rest);vertical-align:-1px}
 .key-charged::before{background:var(--juniper);border-color:var(--juniper)}
 .key-reserved::before{background:var(--soft);border-color:var(--soft)}
-.tiles{display:grid;grid-template-columns:repeat(4,minmax(0,1fr));gap:1.5rem}
+.tiles{display:grid;grid-template-columns:repeat(auto-fit,minmax(9rem,1fr));gap:1.5rem}
 .tiles dd{font:700 1.875rem/1.2 var(--serif)}
 .devices{display:grid;grid-template-columns:repeat(auto-fill,minmax(min(100%,15rem),1fr));gap:.75rem;
 padding:0;list-style:none}
@@ -167,7 +167,7 @@ padding:1rem 0;border-bottom:1px solid var(--rule)}
 main{gap:1rem;padding-block:1.5rem}
 .card,.note{padding:1rem}
 .pair{gap:1rem}
-.tiles{grid-template-columns:repeat(2,minmax(0,1fr));gap:1rem}
+.tiles{gap:1rem}
 .balance,.fields{grid-template-columns:minmax(0,1fr)}
 button{min-height:2.75rem}
 .acts form>*{flex:1}

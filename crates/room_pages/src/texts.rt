@@ -132,6 +132,9 @@ pub(crate) const PASSWORD: &str = "Password";
 pub(crate) const PASSWORD_HELP: &str =
     "May be empty. With one, only the password releases the job, at a device.";
 
+pub(crate) const PASSWORD_DUTY: &str =
+    "Choose one for this file. Only the password releases the job, at a device.";
+
 pub(crate) const HAND_IN: &str = "Hand in";
 
 pub(crate) const SCRIPT_NEEDED: &str =
@@ -283,6 +286,11 @@ pub(crate) const TOO_LARGE: &str = "The file is too large";
 pub(crate) const IS_TOO_LARGE: &str =
     "A file has 16 MiB (16777216 bytes) at most. It was not taken.";
 
+pub(crate) const PASSWORD_MISSING: &str = "A password is missing";
+
+pub(crate) const HAS_NO_PASSWORD: &str =
+    "This print room takes a file with a password alone. It was not taken.";
+
 pub(crate) const NOT_NOW: &str = "Not at this moment";
 
 pub(crate) const IS_FULL: &str =
@@ -346,6 +354,8 @@ pub(crate) const NOT_SETTLED: &str = "Begun, not settled";
 pub(crate) const UNITS_IN_MONTH: &str = "Units charged in ";
 
 pub(crate) const UNITS_THIS_MONTH: &str = "Units charged this month";
+
+pub(crate) const UNITS_BEYOND: &str = "Of these beyond what was released";
 
 pub(crate) const HIGHEST: &str = "Most on one day";
 

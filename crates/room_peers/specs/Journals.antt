@@ -65,6 +65,10 @@ is_lost_of served = served.is_lost
 abbrev pub ends_of : {S : Type 0} → Served S → Bool
 ends_of served = served.ends
 
+-- the pages take a file with a password alone
+abbrev pub needs_password_of : {S : Type 0} → Served S → Bool
+needs_password_of served = served.needs_password
+
 -- lines wait that the file of the log has not taken
 abbrev pub log_lags_of : {S : Type 0} → Served S → Bool
 log_lags_of served = log_lags served.journal.log

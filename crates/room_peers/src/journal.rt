@@ -7,7 +7,9 @@ ghost use Rattle.room_peers.specs.Tolds.{round_in};
 ghost use Rattle.room_peers.specs.Watching.{Watches};
 
 use crate::entry::Entry;
-use crate::logging::{draft, look, note, push_out, refuse_line, refuse_request, settle};
+use crate::logging::{
+    draft, look, note, push_out, refuse_line, refuse_request, settle, tell_beyond,
+};
 use crate::watch::Watch;
 use http_server::Log;
 use room_events::{Name, Reply};
@@ -153,6 +155,13 @@ impl Journal {
         ensures under_way { under_way_in self.new ≡ under_way_in self.old }
     {
         push_out(&mut self.log);
+    }
+
+    /// Tells that what came was charged so many units beyond what it had reserved.
+    pub(crate) fn tell_beyond(&mut self, entry: &Entry, units: u64)
+        ensures { self.new ≡ self.old }
+    {
+        tell_beyond(&mut self.log, entry, units);
     }
 
     /// Tells that a door refused a line.

@@ -26,6 +26,15 @@ pub(crate) fn draft(log: &mut Option<EventLog>, entry: &Entry, told: &Result<Rep
     }
 }
 
+/// The job that came was settled with a charge beyond what it had reserved.
+pub(crate) fn tell_beyond(log: &mut Option<EventLog>, entry: &Entry, units: u64)
+    ensures { log.new ≡ log.old }
+{
+    if let Some(log) = log {
+        log.tell_beyond(entry.moment(), &entry.event(), units);
+    }
+}
+
 /// The round is over.
 pub(crate) fn settle(log: &mut Option<EventLog>, kept: bool)
     ensures { Becomes (SettlesDrafts kept) log.old log.new }

@@ -1,7 +1,7 @@
 //! The rooms as one process serves them to everybody.
 ghost use Rattle.std.specs.Prelude.{◌≡◌, ◌≢◌, ◌+◌, ◌≤◌, ◌⊎◌, ◌++◌, ℕ, List, [], true, false, IsTrue, None, Some, Err, IfOk, OnErr, OnOk};
 ghost use Rattle.room_log.specs.Waits.{drafts_of, logged_of};
-ghost use Rattle.room_peers.specs.Journals.{asked_of, ends_of, is_full_of, is_lost_of, log_lags_of, moment_of, open_of, rounds_of, shares_of, store_of};
+ghost use Rattle.room_peers.specs.Journals.{asked_of, ends_of, needs_password_of, is_full_of, is_lost_of, log_lags_of, moment_of, open_of, rounds_of, shares_of, store_of};
 ghost use Rattle.room_peers.specs.Applying.{AppliesAlone, AppliesEntry};
 ghost use Rattle.room_peers.specs.Again.{IsOneMore, told_at_last};
 ghost use Rattle.room_peers.specs.Space.{entry_needs_space, lacks_space, length_of_entry, spare_of};
@@ -67,6 +67,8 @@ pub struct Served<S: Alter> {
     pub(crate) backup: Option<Backup>,
     /// What the print room's page shows.
     pub(crate) gathered: Gathered,
+    /// Whether the pages take a file with a password alone.
+    pub(crate) needs_password: bool,
 }
 
 // In the place of `#[derive(Drop)]`, so that no caller proves again how each part is dropped.
@@ -85,6 +87,7 @@ impl<S: Alter + Drop> Drop for Served<S> {
             ends: _,
             backup: _,
             gathered: _,
+            needs_password: _,
         } = self;
     }
 }
@@ -103,6 +106,7 @@ impl<S: Alter> Served<S> {
         ensures takes_all { takes_of (spare_of result) ≡ any_length }
         ensures goes_on { ends_of result ≡ false }
         ensures no_backup { backup_of result ≡ None }
+        ensures takes_without_password { needs_password_of result ≡ false }
     {
         Served {
             alloc,
@@ -117,6 +121,7 @@ impl<S: Alter> Served<S> {
             ends: false,
             backup: None,
             gathered: Gathered::nothing(alloc, moment),
+            needs_password: false,
         }
     }
 
@@ -125,6 +130,20 @@ impl<S: Alter> Served<S> {
         ensures { self.new ≡ record self.old { spare = spare } }
     {
         self.spare = spare;
+    }
+
+    /// From now on the pages take a file with a password alone, or without one too.
+    pub fn set_needs_password(&mut self, needs_password: bool)
+        ensures { self.new ≡ record self.old { needs_password = needs_password } }
+    {
+        self.needs_password = needs_password;
+    }
+
+    /// Whether the pages take a file with a password alone.
+    pub fn needs_password(&self) -> bool
+        ensures { result ≡ needs_password_of self.now }
+    {
+        self.needs_password
     }
 
     /// From now on what is applied is logged there. Nothing was asked yet.
@@ -318,8 +337,19 @@ impl<S: Alter> Served<S> {
         let told = self.apply_with_spare(entry);
         self.note_space(entry, &told);
         self.journal.add_alone(entry, &told);
+        self.tell_beyond(entry, &told);
         self.log_from_space();
         told
+    }
+
+    /// Has the log tell what a settlement charged beyond what its job had reserved.
+    fn tell_beyond(&mut self, entry: &Entry, told: &Result<Reply, StoreFault>)
+        ensures { self.new ≡ self.old }
+    {
+        let units = self.rounds.take_beyond();
+        if units > 0 && is_done(told) {
+            self.journal.tell_beyond(entry, units);
+        }
     }
 
     /// Where lines wait for the log's file it is given a piece of the space that is kept, and what that
@@ -440,6 +470,7 @@ impl<S: Alter> Served<S> {
         self.note_space(&entry, &told);
         self.bytes_told = self.bytes_told.saturating_add(size_of(&told));
         self.journal.add_shared(&entry, &told);
+        self.tell_beyond(&entry, &told);
         self.asked = Some(entry);
         Ok(told)
     }
@@ -619,6 +650,7 @@ impl<S: Alter> Served<S> {
             ends: _,
             backup: _,
             gathered: _,
+            needs_password: _,
         } = self;
         rounds.close()
     }

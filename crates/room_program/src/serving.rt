@@ -67,6 +67,7 @@ fn serve_all<S: Alter, W: Write>(
         served.set_log(EventLog::new(rt.alloc(), file));
     }
     served.set_spare(spare_for(rt, asked.database)?);
+    served.set_needs_password(asked.needs_password);
     let mut hall = open(rt, asked, output)?;
     let ended = run(rt, &mut hall, served);
     *kept = Some(hall);

@@ -18,9 +18,9 @@ most_shown = 20
 
 -- what the owner's page shows: the quota up to a month, all jobs that have not ended, the last that
 -- have, and all devices
-abbrev pub owner_of : (account : List ℕ) (month : ℕ) (outcome : Option Outcome) (stays : Bool)
-    (room : RoomValue) (devices : Devices) → Owner
-owner_of account month outcome stays room devices = record {
+abbrev pub owner_of : (account : List ℕ) (month : ℕ) (outcome : Option Outcome)
+    (stays needs_password : Bool) (room : RoomValue) (devices : Devices) → Owner
+owner_of account month outcome stays needs_password room devices = record {
   account = account;
   month = month;
   granted = granted_to room month;
@@ -31,6 +31,7 @@ owner_of account month outcome stays room devices = record {
   devices = values devices;
   outcome = outcome;
   stays = stays;
+  needs_password = needs_password;
 }
 
 -- what a statement shows of a summary, and of all jobs that have ended

@@ -39,7 +39,7 @@ ConcernsNoOther question name = (other : List ℕ) → Concerns question other �
 abbrev pub NeedsDevices : About → Type 0
 NeedsDevices (Waiting device) = ⊤
 NeedsDevices (Again device job) = ⊤
-NeedsDevices (OwnerPage month outcome stays) = ⊤
+NeedsDevices (OwnerPage month outcome stays needs_password) = ⊤
 NeedsDevices _ = ⊥
 
 -- those of devices
@@ -79,8 +79,8 @@ answer_about account Grants room devices =
     reply.Line (grants_text (map grant_of (entries room.grants)))
 answer_about account (Waiting device) room devices = waiting_told room devices device
 answer_about account (Again device number) room devices = again_told room devices device number
-answer_about account (OwnerPage month outcome stays) room devices =
-    reply.Line (owner_page (owner_of account month outcome stays room devices))
+answer_about account (OwnerPage month outcome stays needs_password) room devices =
+    reply.Line (owner_page (owner_of account month outcome stays needs_password room devices))
 answer_about account (StatementPage month drawn_up) room devices =
     reply.Line (statement_page (statement_of account month drawn_up room))
 

@@ -15,16 +15,22 @@ quota_text granted reserved charged =
     ++ (decimal charged
     ++ (codes " left " ++ signed_decimal (left_of (pos granted) (pos reserved) (pos charged))))))))
 
--- a statement: the quota, with what was granted up to the month; what was charged in the month; how
--- many jobs are held, pending and processing now, and how many ended in the month
-abbrev pub statement_text : (granted : ℕ) (summary : Summary) → List ℕ
-statement_text granted summary =
-    quota_text granted summary.reserved summary.charged
-    ++ (codes " month "
+-- what was charged in the month; how many jobs are held, pending and processing now, and how many
+-- ended in the month; and what of the charges lies beyond what the jobs' releases let them cost
+abbrev pub month_text : Summary → List ℕ
+month_text summary =
+    codes "month "
     ++ (decimal summary.charged_then
     ++ (codes " held "
     ++ (decimal summary.held
     ++ (codes " pending "
     ++ (decimal summary.pending
     ++ (codes " processing "
-    ++ (decimal summary.processing ++ (codes " ended " ++ decimal summary.ended_then)))))))))
+    ++ (decimal summary.processing
+    ++ (codes " ended "
+    ++ (decimal summary.ended_then ++ (codes " beyond " ++ decimal summary.beyond_then))))))))))
+
+-- a statement: the quota, with what was granted up to the month, and what the month tells
+abbrev pub statement_text : (granted : ℕ) (summary : Summary) → List ℕ
+statement_text granted summary =
+    quota_text granted summary.reserved summary.charged ++ (codes " " ++ month_text summary)

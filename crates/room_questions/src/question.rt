@@ -62,11 +62,12 @@ pub enum About {
         job: u32,
     },
     /// The owner's page, with the quota up to a month and what came of the last act. It stays as it
-    /// is, or loads itself anew while jobs wait.
+    /// is, or loads itself anew while jobs wait, and its form needs a password, or takes none too.
     OwnerPage {
         month: u32,
         outcome: Option<Outcome>,
         stays: bool,
+        needs_password: bool,
     },
     /// The statement of a month for paper, and the moment that it is drawn up at, in seconds since
     /// 1970-01-01T00:00:00Z.

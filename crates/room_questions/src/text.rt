@@ -2,7 +2,7 @@
 
 ghost use Rattle.std.specs.Prelude.{◌≡◌, ◌≤◌, IfOk, string_bytes};
 ghost use Rattle.room_questions.specs.Questions.{check_text};
-ghost use Rattle.room_questions.specs.Quotas.{quota_text, statement_text};
+ghost use Rattle.room_questions.specs.Quotas.{month_text, quota_text, statement_text};
 ghost use Rattle.room_rules.specs.Limits.{most_units};
 
 use ipp_coding::List;
@@ -52,22 +52,30 @@ pub fn statement_line(alloc: Global, granted: u64, summary: Summary) -> Result<L
     requires charged { summary.charged ≤ most_units }
     ensures text { IfOk result (λ line. line ≡ statement_text granted summary) }
 {
+    let quota = quota_text(alloc, granted, summary.reserved, summary.charged)?;
+    let month = month_text(alloc, summary)?;
+    let text = format!(in alloc; "{quota} {month}")?;
+    Ok(List {
+        items: text.into_bytes(),
+    })
+}
+
+fn month_text(alloc: Global, summary: Summary) -> Result<String, AllocError>
+    ensures { IfOk result (λ text. string_bytes text ≡ month_text summary) }
+{
     let Summary {
-        reserved,
-        charged,
+        reserved: _,
+        charged: _,
         charged_then,
+        beyond_then,
         held,
         pending,
         processing,
         ended_then,
     } = summary;
-    let quota = quota_text(alloc, granted, reserved, charged)?;
-    let text = format!(in alloc;
-        "{quota} month {charged_then} held {held} pending {pending} processing {processing} ended {ended_then}"
-    )?;
-    Ok(List {
-        items: text.into_bytes(),
-    })
+    format!(in alloc;
+        "month {charged_then} held {held} pending {pending} processing {processing} ended {ended_then} beyond {beyond_then}"
+    )
 }
 
 /// The line that tells whether the rows of an account are sound, without its end.

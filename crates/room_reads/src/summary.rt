@@ -9,6 +9,8 @@ pub struct Summary {
     pub charged: u64,
     /// Units that those were charged that ended in the month.
     pub charged_then: u64,
+    /// Units of these beyond what the jobs' releases let them cost: devices had counted more.
+    pub beyond_then: u64,
     /// How many jobs are held.
     pub held: u64,
     /// How many wait for a device.

@@ -21,7 +21,7 @@ use Rattle.room_peers.proofs.Journaling.{applied_then, backup_only, line_chain, 
 use Rattle.room_peers.specs.Answers.{Answers, Gives}
 use Rattle.room_peers.specs.HttpPeers as http
 use Rattle.room_peers.specs.HttpPeers.{calls_of, connection_of}
-use Rattle.room_peers.specs.Journals.{Notes, Told, applied, journal_of, log_lags_of, moment_of, shares_of, store_of}
+use Rattle.room_peers.specs.Journals.{Notes, Told, applied, journal_of, log_lags_of, moment_of, needs_password_of, shares_of, store_of}
 use Rattle.room_peers.specs.Turns.{Continues}
 use Rattle.room_peers.specs.LastPeers.{SaysLast, left_of}
 use Rattle.room_peers.specs.LinePeers as lines
@@ -377,7 +377,7 @@ module _ {S : Type 0} (store : Ghosts S) (before : Served S) (fresh : IsFresh be
   shown_told : (call : Call) (old new : Served S) → IsServed store before old → (HasCleanDisk (state store last) → IsClean store new) → IsLookedAt store (asks_of call.0) old call.0 call.1 new → PageTold call old new
   unfolding looked
   shown_told call old new served clean is = (
-    looked store (question_of (moment_of old) is.asks) is.shows.told old new is.shows.next,
+    looked store (question_of (needs_password_of old) (moment_of old) is.asks) is.shows.told old new is.shows.next,
     λ journal is_journal calls its told later.
         let so_far : take (length journal) ((journal ++ []) ++ told) ≡ journal_of old = take_within (journal ++ []) told (length journal) (omega (arith, ap length (append-nil journal))) ∙ ap (λ x. take (length journal) x) (append-nil journal) ∙ take-length journal ∙ is_journal is.shows.next.alone in
         inr (inl (
@@ -385,12 +385,13 @@ module _ {S : Type 0} (store : Ghosts S) (before : Served S) (fresh : IsFresh be
           omega arith,
           omega (arith, length-append (journal ++ []) told, ap length (append-nil journal)),
           record {
+            needs_password = needs_password_of old;
             moment = moment_of old;
-            question = question_of (moment_of old) is.asks;
+            question = question_of (needs_password_of old) (moment_of old) is.asks;
             wants = ok_and _ _ _ (asks_of call.0) is.asks is.wanted refl;
             told = is.shows.told;
             shows = is.shows.tells;
-            answers = subst (λ (log : List Told). AnswersBy store (store_of before) last log (question_of (moment_of old) is.asks) is.shows.told) (sym so_far) (answered_so store before fresh last (question_of (moment_of old) is.asks) is.shows.told old new served clean is.shows.next);
+            answers = subst (λ (log : List Told). AnswersBy store (store_of before) last log (question_of (needs_password_of old) (moment_of old) is.asks) is.shows.told) (sym so_far) (answered_so store before fresh last (question_of (needs_password_of old) (moment_of old) is.asks) is.shows.told old new served clean is.shows.next);
           },
           none_shown calls journal told its later,
         )),

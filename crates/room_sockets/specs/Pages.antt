@@ -1,5 +1,5 @@
 -- A browser's requests, and what goes out in answer to them (this project's own).
-use Rattle.std.specs.Prelude.{◌≡◌, ◌≤◌, ◌⊎◌, ℕ, suc, length, slice_get, take, List, [], ◌∷◌, Some, Result}
+use Rattle.std.specs.Prelude.{◌≡◌, ◌≤◌, ◌⊎◌, ℕ, Bool, suc, length, slice_get, take, List, [], ◌∷◌, Some, Result}
 use Rattle.std.specs.Result.{IsOkAnd}
 use Rattle.http_server.specs.Connection.{config_of, history}
 use Rattle.http_server.specs.Exchange.{Call}
@@ -36,9 +36,11 @@ pub record TellsAct (call : Call) (told : Told) : Type 0 where
 module _ {S : Type 0} (store : Ghosts S) (first last : Held S) where
   -- a page is answered by what stands there so far
   pub record TellsPage (call : Call) (so_far : List Told) : Type 0 where
+    pub needs_password : Bool
     pub moment : ℕ
     pub question : Question
-    pub wants : IsOkAnd (asks_of call.0) (λ asks. question ≡ question_of moment asks)
+    pub wants : IsOkAnd (asks_of call.0)
+        (λ asks. question ≡ question_of needs_password moment asks)
     pub told : Result Reply StoreFault
     pub shows : IsShown (has_long_body call.0) told call.1 ⊎ IsLostPage call.1
     pub answers : AnswersBy store first last so_far question told

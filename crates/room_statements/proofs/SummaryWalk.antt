@@ -1,5 +1,5 @@
 -- The walk over the jobs of an account for a statement: what its text means, and what it sums.
-use Rattle.std.proofs.Common.{◌≡◌, ℕ, ℤ, pos, negsuc, ◌+◌, ◌≤◌, Bool, true, false, cond, List, [], ◌∷◌, length, map, drop, codes, All, Option, Some, None, IfSome, IsPermutation, refl, sym, ap, subst, ◌∙◌, IsTrue, arith}
+use Rattle.std.proofs.Common.{◌≡◌, ℕ, ℤ, pos, negsuc, ◌+◌, ◌-◌, ◌≤◌, Bool, true, false, cond, List, [], ◌∷◌, length, map, drop, codes, All, Option, Some, None, IfSome, IsPermutation, refl, sym, ap, subst, ◌∙◌, IsTrue, arith}
 use Rattle.std.specs.List.{sum_by}
 use Rattle.std.specs.FinMap.{values, entries}
 use Rattle.std.proofs.lemmas.List.{length-map}
@@ -16,10 +16,11 @@ use Rattle.sqlite_rules.proofs.ListLemmas.{all_has}
 use Rattle.sqlite_rules.proofs.ProbeLemmas.{has_mapped}
 use Rattle.sqlite.specs.Effect.{Database}
 use Rattle.sqlite.specs.Listing.{understood}
-use Rattle.room_reads.specs.Summaries.{charged_then, is_held, is_in_month, is_pending, summary_of}
+use Rattle.room_reads.specs.Summaries.{beyond, beyond_then, charged_then, is_held, is_in_month, is_pending, summary_of}
 use Rattle.room_reads.specs.declared.summary.Summary.{Summary}
 use Rattle.room_rules.specs.JobStates.{is_processing}
 use Rattle.room_rules.specs.Limits.{last_next_job, most_units, IsMoment}
+use Rattle.room_rules.specs.Quota.{need_of}
 use Rattle.room_rules.specs.declared.job.Job.{Job}
 use Rattle.room_state.specs.Rooms.{RoomValue}
 use Rattle.room_state.specs.RoomRules.{IsRoom}
@@ -43,16 +44,16 @@ use Rattle.room_statements.proofs.RowTotals.{of_their_cells, sum_mapped, refused
 use Rattle.room_statements.proofs.TallyWalk.{units_of}
 
 abbrev pub summed_text : List ℕ
-summed_text = codes "SELECT state, reserved, charged, ended FROM job WHERE account = ?1"
+summed_text = codes "SELECT state, reserved, charged, ended, impressions, copies, rate FROM job WHERE account = ?1"
 
 abbrev pub summed_tests : List Term
 summed_tests = is_given 1 1 ∷ []
 
 abbrev pub summed_shows : List Term
-summed_shows = col 1 5 ∷ col 1 10 ∷ col 1 11 ∷ col 1 17 ∷ []
+summed_shows = col 1 5 ∷ col 1 10 ∷ col 1 11 ∷ col 1 17 ∷ col 1 9 ∷ col 1 8 ∷ col 1 13 ∷ []
 
 abbrev pub summed_names : List (List ℕ)
-summed_names = codes "state" ∷ codes "reserved" ∷ codes "charged" ∷ codes "ended" ∷ []
+summed_names = codes "state" ∷ codes "reserved" ∷ codes "charged" ∷ codes "ended" ∷ codes "impressions" ∷ codes "copies" ∷ codes "rate" ∷ []
 
 pub summed_is : Means room_schema summed_text (of_table 3 summed_tests summed_shows []) summed_names 1
 unfolding understood everything
@@ -61,14 +62,14 @@ summed_is = record { is = refl; lists_nothing = refl; is_plain = (refl, refl); t
 pub summed_takes : (name : List ℕ) → TakesParams room_schema (of_table 3 summed_tests summed_shows []) (Text name ∷ []) 1
 summed_takes name = record { given = refl; typed = refl }
 
-cells_summed : (r : Row) → column r 5 ∷ column r 10 ∷ column r 11 ∷ column r 17 ∷ [] ≡ summed_cells (drop 1 r)
+cells_summed : (r : Row) → column r 5 ∷ column r 10 ∷ column r 11 ∷ column r 17 ∷ column r 9 ∷ column r 8 ∷ column r 13 ∷ [] ≡ summed_cells (drop 1 r)
 cells_summed [] = refl
 cells_summed (v ∷ r) = refl
 
 -- the rows that pass the test of the text are those of the account
 pub jobs_shown : (name : List ℕ) (db : Database) → shown_of 3 summed_tests summed_shows (Text name ∷ []) db.trees ≡ map summed_cells (rows_under job (1 ∷ []) (Text name ∷ []) db)
 unfolding first_key
-jobs_shown name db = of_their_cells (λ r. column r 5 ∷ column r 10 ∷ column r 11 ∷ column r 17 ∷ []) summed_cells cells_summed _
+jobs_shown name db = of_their_cells (λ r. column r 5 ∷ column r 10 ∷ column r 11 ∷ column r 17 ∷ column r 9 ∷ column r 8 ∷ column r 13 ∷ []) summed_cells cells_summed _
 
 -- ---- what the rows tell
 
@@ -82,20 +83,27 @@ moment_read (Some at) = refl
 
 abbrev summary_on : (month : ℕ) → Row → Summary
 summary_on month row =
-    summary_of_job month (state_in (natural_in (integer_in (column row 0)))) (natural_in (integer_in (column row 1))) (natural_in (integer_in (column row 2))) (moment_in (integer_in (column row 3)))
+    let natural = λ (at : ℕ). natural_in (integer_in (column row at)) in
+    summary_of_job month (state_in (natural 0)) (natural 1) (natural 2) (beyond (natural 2) (natural 4) (natural 5) (natural 6)) (moment_in (integer_in (column row 3)))
 
 summary_told : (month : ℕ) (row : Row) (summary : Summary) → TellsSummary month row summary → summary_on month row ≡ summary
 summary_told month row summary it =
     let state = ap (λ v. state_in (natural_in (integer_in v))) it.told.counted.state ∙ state_read it.state in
     let ended = ap (λ v. moment_in (integer_in v)) it.told.ended ∙ moment_read it.ended in
-    let same : summary_on month row ≡ summary_of_job month it.state it.reserved it.charged it.ended =
-    (λ i. summary_of_job month (state i) (natural_in (integer_in (it.told.counted.reserved i))) (natural_in (integer_in (it.told.counted.charged i))) (ended i)) in
+    let more = it.told.beyond in
+    let charged : natural_in (integer_in (column row 2)) ≡ it.charged = (λ i. natural_in (integer_in (it.told.counted.charged i))) in
+    let further : beyond (natural_in (integer_in (column row 2))) (natural_in (integer_in (column row 4))) (natural_in (integer_in (column row 5))) (natural_in (integer_in (column row 6))) ≡ it.further =
+    (λ i. beyond (charged i) (natural_in (integer_in (more.told_impressions i))) (natural_in (integer_in (more.told_copies i))) (natural_in (integer_in (more.told_rate i)))) ∙ sym more.is in
+    let same : summary_on month row ≡ summary_of_job month it.state it.reserved it.charged it.further it.ended =
+    (λ i. summary_of_job month (state i) (natural_in (integer_in (it.told.counted.reserved i))) (charged i) (further i) (ended i)) in
     same ∙ sym it.is
 
 -- ---- the numbers of a summary, each of which is summed
 
 abbrev of_one : (month : ℕ) → Job → Summary
-of_one month it = summary_of_job month it.standing.state it.standing.reserved it.standing.charged it.standing.ended
+of_one month it =
+    let s = it.standing in
+    summary_of_job month s.state s.reserved s.charged (beyond s.charged s.impressions s.copies s.rate) s.ended
 
 record Number : Type 0 where
   of : Summary → ℕ
@@ -111,6 +119,9 @@ charged_of = record { of = λ s. s.charged; adds = λ s more. refl; sums = λ mo
 
 abbrev charged_then_of : Number
 charged_then_of = record { of = λ s. s.charged_then; adds = λ s more. refl; sums = λ month jobs. refl; bounded = λ s within. within.charged_then }
+
+abbrev beyond_then_of : Number
+beyond_then_of = record { of = λ s. s.beyond_then; adds = λ s more. refl; sums = λ month jobs. refl; bounded = λ s within. within.beyond_then }
 
 abbrev held_of : Number
 held_of = record { of = λ s. s.held; adds = λ s more. refl; sums = λ month jobs. refl; bounded = λ s within. within.held }
@@ -130,6 +141,7 @@ all_same a b same = λ i. record {
   reserved = same reserved_of i;
   charged = same charged_of i;
   charged_then = same charged_then_of i;
+  beyond_then = same beyond_then_of i;
   held = same held_of i;
   pending = same pending_of i;
   processing = same processing_of i;
@@ -141,6 +153,7 @@ all_within s within = record {
   reserved = within reserved_of;
   charged = within charged_of;
   charged_then = within charged_then_of;
+  beyond_then = within beyond_then_of;
   held = within held_of;
   pending = within pending_of;
   processing = within processing_of;
@@ -192,6 +205,22 @@ then_fewer month (it ∷ jobs) =
     one true units = omega arith
     one false units = omega arith
 
+beyond_fewer : (month : ℕ) (jobs : List Job) → (summary_of month jobs).beyond_then ≤ (summary_of month jobs).charged
+beyond_fewer month [] = omega arith
+beyond_fewer month (it ∷ jobs) =
+    let s = it.standing in
+    omega (
+      arith,
+      one (is_in_month month s.ended) s.charged (need_of s.impressions s.copies s.rate),
+      beyond_fewer month jobs,
+      sum_by-cons (beyond_then month) it jobs,
+      sum_by-cons (λ (it : Job). it.standing.charged) it jobs,
+    )
+  where
+    one : (b : Bool) (units need : ℕ) → cond b (units - need) 0 ≤ units
+    one true units need = omega arith
+    one false units need = omega arith
+
 jobs_within : (month : ℕ) (jobs : List Job) → IsTrue (is_in_bounds (tally_of jobs)) → length jobs ≤ last_next_job → IsInBounds (summary_of month jobs)
 jobs_within month jobs within few =
     let units = units_of (tally_of jobs) within in
@@ -199,6 +228,7 @@ jobs_within month jobs within few =
       reserved = units.0;
       charged = units.1;
       charged_then = omega (arith, then_fewer month jobs, units.1);
+      beyond_then = omega (arith, beyond_fewer month jobs, units.1);
       held = omega (arith, few, count_by-le-length (λ (it : Job). is_held it.standing.state) jobs);
       pending = omega (arith, few, count_by-le-length (λ (it : Job). is_pending it.standing.state) jobs);
       processing = omega (arith, few, count_by-le-length (λ (it : Job). is_processing it.standing.state) jobs);
@@ -223,7 +253,7 @@ module _ (name : List ℕ) (month : ℕ) (rows : List Row) where
     shown_told = subst (IsPermutation shown) (map-map summed_cells (job_cells name) jobs) (IsPermutation-map summed_cells rows (map (job_cells name) jobs) theirs)
 
     job_told : (it : Job) → summary_on month (told_of name it) ≡ of_one month it
-    job_told it = let s = it.standing in λ i. summary_of_job month (state_read s.state i) s.reserved s.charged (moment_read s.ended i)
+    job_told it = let s = it.standing in λ i. summary_of_job month (state_read s.state i) s.reserved s.charged (beyond s.charged s.impressions s.copies s.rate) (moment_read s.ended i)
 
     sum_told : (n : Number) → sum_by (λ r. n.of (summary_on month r)) shown ≡ n.of (summary_of month jobs)
     sum_told n =
@@ -244,15 +274,25 @@ module _ (name : List ℕ) (month : ℕ) (rows : List Row) where
         let here = has_mapped (told_of name) jobs it.row there in
         let s = here.0.standing in
         let moments = recursion_from_All (λ (it : Job). IfSome it.standing.ended IsMoment) jobs at_moments in
-        let told : TellsSummed it.row s.state s.reserved s.charged s.ended = record {
+        let further = beyond s.charged s.impressions s.copies s.rate in
+        let told : TellsSummed it.row s.state s.reserved s.charged further s.ended = record {
           counted = record { state = ap (λ r. column r 0) here.2; reserved = ap (λ r. column r 1) here.2; charged = ap (λ r. column r 2) here.2 };
+          beyond = record {
+            impressions = s.impressions;
+            copies = s.copies;
+            rate = s.rate;
+            told_impressions = ap (λ r. column r 4) here.2;
+            told_copies = ap (λ r. column r 5) here.2;
+            told_rate = ap (λ r. column r 6) here.2;
+            is = refl;
+          };
           ended = ap (λ r. column r 3) here.2;
           at_moment = all_has (λ (it : Job). IfSome it.standing.ended IsMoment) jobs here.0 moments here.1;
         } in
         let month_now : it.so_far.month ≡ month = month_stays first it.so_far it.given it.gathered in
         let so_far = it.so_far.summary in
         let one = of_one month here.0 in
-        let tells : TellsSummary month it.row one = record { state = s.state; reserved = s.reserved; charged = s.charged; ended = s.ended; told = told; is = refl } in
+        let tells : TellsSummary month it.row one = record { state = s.state; reserved = s.reserved; charged = s.charged; further = further; ended = s.ended; told = told; is = refl } in
         let fits : IsInBounds (sum_of so_far one) = all_within (sum_of so_far one) (λ n.
         let on = λ (r : Row). n.of (summary_on month r) in
         omega (

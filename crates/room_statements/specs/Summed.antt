@@ -2,33 +2,47 @@
 -- project's own). What all of a list come to is summary_of of room_reads.
 use Rattle.std.specs.Prelude.{◌≡◌, ℕ, ◌+◌, ◌≤◌, if◌then◌else◌, [], ◌∷◌, Option, IfSome}
 use Rattle.sqlite_value.specs.Order.{Row, column}
-use Rattle.room_reads.specs.Summaries.{charged_then, is_held, is_in_month, is_pending}
+use Rattle.room_reads.specs.Summaries.{beyond, charged_then, is_held, is_in_month, is_pending}
 use Rattle.room_reads.specs.declared.summary.Summary.{Summary}
 use Rattle.room_rules.specs.JobStates.{is_processing}
 use Rattle.room_rules.specs.Limits.{most_units, IsMoment}
 use Rattle.room_rules.specs.declared.job.JobState.{JobState}
-use Rattle.room_tables.specs.Cells.{moment}
+use Rattle.room_tables.specs.Cells.{moment, number}
 use Rattle.room_statements.specs.Totals.{TellsCounted}
 use Rattle.room_statements.specs.declared.summaries.Summed.{Summed}
 
--- the cells of a job that are summed: those that are counted, and that of its end
+-- the cells of a job that are summed: those that are counted, that of its end, and those of what its
+-- release let it cost
 abbrev pub summed_cells : Row → Row
 summed_cells cells =
-    column cells 4 ∷ column cells 9 ∷ column cells 10 ∷ column cells 16 ∷ []
+    column cells 4 ∷ column cells 9 ∷ column cells 10 ∷ column cells 16
+    ∷ column cells 8 ∷ column cells 7 ∷ column cells 12 ∷ []
 
-pub record TellsSummed (row : Row) (job : JobState) (reserves charges : ℕ) (end : Option ℕ)
-    : Type 0 where
+-- the row tells a job that was charged so many units beyond what its release let it cost
+pub record TellsBeyond (row : Row) (charges further : ℕ) : Type 0 where
+  pub impressions : ℕ
+  pub copies : ℕ
+  pub rate : ℕ
+  pub told_impressions : column row 4 ≡ number impressions
+  pub told_copies : column row 5 ≡ number copies
+  pub told_rate : column row 6 ≡ number rate
+  pub is : further ≡ beyond charges impressions copies rate
+
+pub record TellsSummed (row : Row) (job : JobState) (reserves charges further : ℕ)
+    (end : Option ℕ) : Type 0 where
   pub counted : TellsCounted row job reserves charges
+  pub beyond : TellsBeyond row charges further
   pub ended : column row 3 ≡ moment end
   pub at_moment : IfSome end IsMoment
 
 -- what one job comes to
-abbrev pub summary_of_job : (month : ℕ) (state : JobState) (reserved charged : ℕ)
+abbrev pub summary_of_job : (month : ℕ) (state : JobState) (reserved charged further : ℕ)
     (ended : Option ℕ) → Summary
-summary_of_job month state reserved charged ended = record {
+summary_of_job month state reserved charged further ended = record {
   reserved = reserved;
   charged = charged;
   charged_then = charged_then month ended charged;
+  beyond_then = charged_then month ended further;
   held = if is_held state then 1 else 0;
   pending = if is_pending state then 1 else 0;
   processing = if is_processing state then 1 else 0;
@@ -41,6 +55,7 @@ sum_of summary more = record {
   reserved = summary.reserved + more.reserved;
   charged = summary.charged + more.charged;
   charged_then = summary.charged_then + more.charged_then;
+  beyond_then = summary.beyond_then + more.beyond_then;
   held = summary.held + more.held;
   pending = summary.pending + more.pending;
   processing = summary.processing + more.processing;
@@ -52,6 +67,7 @@ pub record IsInBounds (summary : Summary) : Type 0 where
   pub reserved : summary.reserved ≤ most_units
   pub charged : summary.charged ≤ most_units
   pub charged_then : summary.charged_then ≤ most_units
+  pub beyond_then : summary.beyond_then ≤ most_units
   pub held : summary.held ≤ most_units
   pub pending : summary.pending ≤ most_units
   pub processing : summary.processing ≤ most_units
@@ -62,9 +78,10 @@ pub record TellsSummary (month : ℕ) (row : Row) (summary : Summary) : Type 0 w
   pub state : JobState
   pub reserved : ℕ
   pub charged : ℕ
+  pub further : ℕ
   pub ended : Option ℕ
-  pub told : TellsSummed row state reserved charged ended
-  pub is : summary ≡ summary_of_job month state reserved charged ended
+  pub told : TellsSummed row state reserved charged further ended
+  pub is : summary ≡ summary_of_job month state reserved charged further ended
 
 -- which is added
 pub record SumsJob (month : ℕ) (first : Summary) (row : Row) (last : Summary) : Type 0 where

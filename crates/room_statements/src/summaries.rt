@@ -2,12 +2,12 @@
 
 ghost use Rattle.std.specs.Prelude.{◌≡◌, ◌≤◌, ℕ, map, Err, IfOk, IfSome, None, OnOk, Option, IsPermutation};
 ghost use Rattle.std.specs.FinMap.{values};
-ghost use Rattle.room_reads.specs.Summaries.{is_held, is_in_month, is_pending, summary_of};
+ghost use Rattle.room_reads.specs.Summaries.{beyond, is_held, is_in_month, is_pending, summary_of};
 ghost use Rattle.room_reads.specs.declared.summary.Summary.{Summary as SummaryValue};
 ghost use Rattle.room_rules.specs.Limits.{most_units, IsMoment};
 ghost use Rattle.room_statements.specs.Prelude.{HasGathered, HoldsRoom, IfOurTables, KeepsOpen, ReadsStore, RoomValue, WalksStore, column};
 ghost use Rattle.room_statements.specs.SoundRows.{job_rows, CanBeSummed};
-ghost use Rattle.room_statements.specs.Summed.{gathers_summed, refuses_summed, sum_of, summary_of_job, summed_cells, IsInBounds, TellsSummary};
+ghost use Rattle.room_statements.specs.Summed.{gathers_summed, refuses_summed, sum_of, summary_of_job, summed_cells, IsInBounds, TellsBeyond, TellsSummary};
 ghost use Rattle.room_tables.specs.Cells.{moment};
 
 use crate::walking::{Gather, walk};
@@ -42,6 +42,7 @@ pub fn summarize<S: Alter>(
             reserved: 0,
             charged: 0,
             charged_then: 0,
+            beyond_then: 0,
             held: 0,
             pending: 0,
             processing: 0,
@@ -90,7 +91,7 @@ fn walk_jobs<S: Alter>(
 {
     walk(
         connection,
-        "SELECT state, reserved, charged, ended FROM job WHERE account = ?1",
+        "SELECT state, reserved, charged, ended, impressions, copies, rate FROM job WHERE account = ?1",
         &[ValueRef::Text(account.bytes())],
         summed,
     )
@@ -107,6 +108,7 @@ fn sum_of(summary: Summary, more: Summary) -> Option<Summary>
         reserved: sum_of_units(summary.reserved, more.reserved)?,
         charged: sum_of_units(summary.charged, more.charged)?,
         charged_then: sum_of_units(summary.charged_then, more.charged_then)?,
+        beyond_then: sum_of_units(summary.beyond_then, more.beyond_then)?,
         held: sum_of_units(summary.held, more.held)?,
         pending: sum_of_units(summary.pending, more.pending)?,
         processing: sum_of_units(summary.processing, more.processing)?,
@@ -120,13 +122,34 @@ fn summary_on(row: &Row, month: u32) -> Result<Summary, TableFault>
     ensures damaged { result ≡ Err TableFault.Damaged → (job : SummaryValue)
         → TellsSummary month row.now job → ⊥ }
 {
-    Ok(summary_of_job(
-        month,
-        state_at(row, 0)?,
-        number_at(row, 1)?,
-        number_at(row, 2)?,
-        end_at(row, 3)?,
+    let state = state_at(row, 0)?;
+    let reserved = number_at(row, 1)?;
+    let charged = number_at(row, 2)?;
+    let ended = end_at(row, 3)?;
+    let further = beyond_on(row, charged)?;
+    Ok(summary_of_job(month, state, reserved, charged, further, ended))
+}
+
+/// The units beyond what its release let it cost that the job was charged which the row tells.
+fn beyond_on(row: &Row, charged: u64) -> Result<u64, TableFault>
+    ensures told { IfOk result (TellsBeyond row.now charged) }
+    ensures damaged { result ≡ Err TableFault.Damaged → (charges further : ℕ)
+        → TellsBeyond row.now charges further → ⊥ }
+{
+    Ok(beyond(
+        charged,
+        number_at(row, 4)?,
+        number_at(row, 5)?,
+        number_at(row, 6)?,
     ))
+}
+
+/// The units of a charge beyond what the release of such a job let it cost. A product of more than a
+/// number can hold is more than any charge.
+fn beyond(charged: u64, impressions: u64, copies: u64, rate: u64) -> u64
+    ensures { result ≡ beyond charged impressions copies rate }
+{
+    charged.saturating_sub(impressions.saturating_mul(copies).saturating_mul(rate))
 }
 
 /// The moment of an end in a column, or that there is none. Anything else there is `Damaged`.
@@ -151,15 +174,17 @@ fn summary_of_job(
     state: JobState,
     reserved: u64,
     charged: u64,
+    further: u64,
     ended: Option<Moment>,
 ) -> Summary
-    ensures { result ≡ summary_of_job month state reserved charged ended }
+    ensures { result ≡ summary_of_job month state reserved charged further ended }
 {
     let ended_then = is_in_month(month, ended);
     Summary {
         reserved,
         charged,
         charged_then: if ended_then { charged } else { 0 },
+        beyond_then: if ended_then { further } else { 0 },
         held: is_held(state) as u64,
         pending: is_pending(state) as u64,
         processing: state.is_processing() as u64,

@@ -38,7 +38,7 @@ module _ (db : Database) (has : HasSchema db) (name : List ℕ) (sound : IsSound
   about_readable (Waiting device) devices = ((sound_rows_are_read.of_devices db has (devices tt)).devices device, λ known. jobs_readable db has name sound NotCompleted None)
   about_readable (Again device number) devices =
       ((sound_rows_are_read.of_devices db has (devices tt)).devices device, λ known. act_readable db has name sound number _ (λ it is there. on_ok (printed_by device (Some it)) (read.documents number)))
-  about_readable (OwnerPage month outcome stays) devices = record {
+  about_readable (OwnerPage month outcome stays needs_password) devices = record {
     quota = record { jobs = read.counted; grants = read.added month };
     waiting = jobs_readable db has name sound NotCompleted None;
     ended = jobs_readable db has name sound Completed (Some most_shown);

@@ -18,7 +18,7 @@ use Rattle.room_state.specs.Queues.{at_most, completed, not_completed}
 use Rattle.room_state.specs.Rooms.{RoomValue}
 use Rattle.room_state.specs.Sums.{charged_in, granted_to, reserved_in}
 
-module _ (account : List ℕ) (month : ℕ) (outcome : Option Outcome) (stays : Bool) where
+module _ (account : List ℕ) (month : ℕ) (outcome : Option Outcome) (stays needs_password : Bool) where
   abbrev pub owner_with : (granted reserved charged : ℕ) (waiting ended : List Job) (devices : List Device) → Owner
   owner_with granted reserved charged waiting ended devices = record {
     account = account;
@@ -31,13 +31,14 @@ module _ (account : List ℕ) (month : ℕ) (outcome : Option Outcome) (stays : 
     devices = devices;
     outcome = outcome;
     stays = stays;
+    needs_password = needs_password;
   }
 
   pub owner_told : (room : RoomValue) (devices : Devices) (granted reserved charged : ℕ) (waiting ended : List Job) (listed : List Device) (page : List ℕ)
       → (granted ≡ granted_to room month) × (reserved ≡ reserved_in room) × (charged ≡ charged_in room)
       → (waiting ≡ not_completed (values room.jobs)) × (ended ≡ at_most (Some most_shown) (completed (values room.jobs))) → listed ≡ values devices
       → page ≡ owner_page (owner_with granted reserved charged waiting ended listed)
-      → ◌≡◌ {A = Reply} (Line page) (Line (owner_page (owner_of account month outcome stays room devices)))
+      → ◌≡◌ {A = Reply} (Line page) (Line (owner_page (owner_of account month outcome stays needs_password room devices)))
   owner_told room devices granted reserved charged waiting ended listed page quota jobs all is =
       ap Line (is ∙ (λ i. owner_page (owner_with (quota.0 i) (quota.1 i) (quota.2 i) (jobs.0 i) (jobs.1 i) (all i))))
 

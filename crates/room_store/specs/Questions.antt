@@ -94,7 +94,7 @@ AboutIsReadable name db (Ended most) = JobsAreReadable name Completed (Some most
 AboutIsReadable name db Grants = GrantsAreReadable name db
 AboutIsReadable name db (Waiting device) = WaitingIsReadable name device db
 AboutIsReadable name db (Again device number) = AgainIsReadable name device number db
-AboutIsReadable name db (OwnerPage month outcome stays) = OwnerPageIsReadable name month db
+AboutIsReadable name db (OwnerPage month outcome stays needs_password) = OwnerPageIsReadable name month db
 AboutIsReadable name db (StatementPage month drawn_up) = StatementPageIsReadable name month db
 
 -- of an account that is not open its own row alone is read

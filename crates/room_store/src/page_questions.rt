@@ -30,9 +30,10 @@ pub(crate) fn tell_owner_page<S: Alter>(
     month: u32,
     outcome: Option<Outcome>,
     stays: bool,
+    needs_password: bool,
 ) -> Result<Reply, TableFault>
     ensures told { TellsAbout S.Store connection.old connection.new account
-        (about.OwnerPage month outcome stays) result }
+        (about.OwnerPage month outcome stays needs_password) result }
     ensures damaged { IfOurTables S.Store connection.old connection.new
         (λ db. result ≡ Err TableFault.Damaged → OwnerPageIsReadable account month db → ⊥) }
     ensures looks { LooksUp S.Store connection.old connection.new result }
@@ -51,6 +52,7 @@ pub(crate) fn tell_owner_page<S: Alter>(
         devices,
         outcome,
         stays,
+        needs_password,
     };
     Ok(Reply::Line(owner_page(alloc, &owner)?))
 }

@@ -172,7 +172,16 @@ fn tell_about<S: Alter>(
             month,
             outcome,
             stays,
-        } => tell_owner_page(alloc, connection, account, month, outcome, stays),
+            needs_password,
+        } => tell_owner_page(
+            alloc,
+            connection,
+            account,
+            month,
+            outcome,
+            stays,
+            needs_password,
+        ),
         About::StatementPage { month, drawn_up } => {
             tell_statement_page(alloc, connection, account, month, drawn_up)
         }

@@ -18,7 +18,7 @@ use Rattle.room_store.specs.declared.fault.StoreFault.{StoreFault}
 use Rattle.room_overview.specs.Pages.{IsPage}
 use Rattle.room_overview.specs.declared.overview.Overview.{Overview}
 use Rattle.room_peers.specs.Gathering.{asked_at, gathers}
-use Rattle.room_peers.specs.Journals.{moment_of, shares_of}
+use Rattle.room_peers.specs.Journals.{moment_of, needs_password_of, shares_of}
 use Rattle.room_peers.specs.Overviews.{gathered_of, shown_of}
 use Rattle.room_peers.specs.Requests.{has_long_body}
 use Rattle.room_peers.specs.Space.{spare_of}
@@ -26,7 +26,7 @@ use Rattle.room_peers.specs.Turns.{AnswersNext, AppliesNext}
 use Rattle.room_peers.specs.declared.entry.Entry.TheVariants as entry
 use Rattle.room_peers.specs.declared.served.Served.{Served}
 use Rattle.room_web.specs.Fields.{page_fields, sheet_fields}
-use Rattle.room_web.specs.Messages.{IsFileMessage, queue_uri}
+use Rattle.room_web.specs.Messages.{IsFileMessage, lacks_password, queue_uri}
 use Rattle.room_web.specs.Questions.{question_of}
 use Rattle.room_web.specs.Requests.{asked}
 use Rattle.room_web.specs.Responses.{IsDone, IsLost, IsRefusal, IsShown}
@@ -35,17 +35,18 @@ use Rattle.room_web.specs.declared.asked.Asked.{Asked}
 use Rattle.room_web.specs.declared.asked.Asked.TheVariants.{Style, Script, Room, Owner, Statement, Act, Print}
 use Rattle.room_web.specs.declared.pages.Pages.{Pages}
 use Rattle.room_pages.specs.declared.refusal.Refusal.{Refusal}
-use Rattle.room_pages.specs.declared.refusal.Refusal.TheVariants.{Busy, NoSpace}
+use Rattle.room_pages.specs.declared.refusal.Refusal.TheVariants.{Busy, NoPassword, NoSpace}
 
 -- ---- what asks nothing of the rooms
 
--- the style sheet, the script, and a file for which there is no space
+-- the style sheet, the script, and a file that lacks its password, or for which there is no space
 abbrev pub Stays : Asked → (closes : Bool) → Response → Type 0
 Stays Style closes response = IsResponse 200
     (sheet_fields (codes "text/css; charset=utf-8") closes) STYLE_SHEET.now response
 Stays Script closes response = IsResponse 200
     (sheet_fields (codes "text/javascript; charset=utf-8") closes) PRINT_SCRIPT.now response
-Stays (Print account copies pages) closes response = IsRefusal NoSpace closes response
+Stays (Print account copies pages) closes response =
+    IsRefusal NoPassword closes response ⊎ IsRefusal NoSpace closes response
 Stays _ closes response = ⊥
 
 abbrev pub IsRefusedOrStays : Result Asked Refusal → (closes : Bool) → Response → Type 0
@@ -126,12 +127,26 @@ module _ {S : Type 0} (store : Ghosts S) where
       Applies account page_act_is.Print 0 message closes
 
   -- Print-Job of the file is applied, where there is space for it
-  abbrev pub Prints : (account : List ℕ) (copies : ℕ) (pages : Option ℕ) (old : Served S)
+  abbrev pub PrintsFile : (account : List ℕ) (copies : ℕ) (pages : Option ℕ) (old : Served S)
       (request : Request (List ℕ)) (response : Response) (new : Served S) → Type 0
-  Prints account copies pages old request response new = (message : List ℕ)
+  PrintsFile account copies pages old request response new = (message : List ℕ)
       × IsFileMessage account request copies pages message
       × PrintsIf (nat_lt (takes_of (spare_of old)) (length message)) account message
       (has_long_body request) old response new
+
+  abbrev pub PrintsUnless : (lacks : Bool) (account : List ℕ) (copies : ℕ) (pages : Option ℕ)
+      (old : Served S) (request : Request (List ℕ)) (response : Response) (new : Served S)
+      → Type 0
+  PrintsUnless true account copies pages old request response new =
+      Refuses NoPassword (has_long_body request) old response new
+  PrintsUnless false account copies pages old request response new =
+      PrintsFile account copies pages old request response new
+
+  -- unless it lacks its password
+  abbrev pub Prints : (account : List ℕ) (copies : ℕ) (pages : Option ℕ) (old : Served S)
+      (request : Request (List ℕ)) (response : Response) (new : Served S) → Type 0
+  Prints account copies pages old request =
+      PrintsUnless (lacks_password (needs_password_of old) request) account copies pages old request
 
   -- the page is shown, and a newer overview is gathered where that is due
   abbrev pub ShowsRoom : (front behind : Option (List ℕ)) (closes : Bool) (old : Served S)
@@ -144,11 +159,11 @@ module _ {S : Type 0} (store : Ghosts S) where
   abbrev pub AnswersAsked : Asked → (old : Served S) (request : Request (List ℕ))
       (response : Response) (new : Served S) → Type 0
   AnswersAsked (Owner account came stays) old request response new =
-      Shows (question_of (moment_of old) (Owner account came stays)) (has_long_body request)
-      old response new
+      Shows (question_of (needs_password_of old) (moment_of old) (Owner account came stays))
+      (has_long_body request) old response new
   AnswersAsked (Statement account month) old request response new =
-      Shows (question_of (moment_of old) (Statement account month)) (has_long_body request)
-      old response new
+      Shows (question_of (needs_password_of old) (moment_of old) (Statement account month))
+      (has_long_body request) old response new
   AnswersAsked (Act account act job) old request response new =
       ActsOn account act job (has_long_body request) old response new
   AnswersAsked (Print account copies pages) old request response new =

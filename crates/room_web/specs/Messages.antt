@@ -1,6 +1,6 @@
 -- The messages of IPP that a browser's acts are, as any client could send them (all this project's
 -- own).
-use Rattle.std.specs.Prelude.{◌≡◌, ℕ, List, [], ◌++◌, map, Option, Some, None, codes, if◌then◌else◌, length, nat_lt, option_map}
+use Rattle.std.specs.Prelude.{◌≡◌, ℕ, Bool, ◌&&◌, not, List, [], ◌++◌, map, Option, Some, None, codes, if◌then◌else◌, is_some, length, nat_lt, option_map}
 use Rattle.std.specs.Borrow.{Bor}
 use Rattle.http.specs.Request.{body_of}
 use Rattle.http.specs.declared.request.Request.{Request}
@@ -45,6 +45,10 @@ password_in (Some value) = some_if_any (percent_decode value.bytes)
 
 abbrev pub password_sent : Request (List ℕ) → Option (List ℕ)
 password_sent request = password_in (value_in request (codes "job-password"))
+
+-- where a file needs a password, a request without one is refused
+abbrev pub lacks_password : (needs : Bool) → Request (List ℕ) → Bool
+lacks_password needs request = needs && not (is_some (password_sent request))
 
 abbrev pub word_of : Bor (List ℕ) → List ℕ
 word_of word = word.now

@@ -13,7 +13,7 @@ use Rattle.room_space.specs.Spares.{takes_of}
 use Rattle.room_peers.proofs.GatheringKept.{gathered_only}
 use Rattle.room_peers.proofs.Journaling.{looked}
 use Rattle.room_peers.specs.Gathering.{asked_at, gathers}
-use Rattle.room_peers.specs.Journals.{moment_of, shares_of}
+use Rattle.room_peers.specs.Journals.{moment_of, needs_password_of, shares_of}
 use Rattle.room_peers.specs.Overviews.{gathered_of, shown_of}
 use Rattle.room_peers.specs.ProofServices.{one_more}
 use Rattle.room_peers.specs.Requests.{has_long_body}
@@ -21,8 +21,8 @@ use Rattle.room_peers.specs.Space.{spare_of}
 use Rattle.room_peers.specs.Turns.{Continues}
 use Rattle.room_peers.specs.declared.gathering.Gathered.{Gathered}
 use Rattle.room_peers.specs.declared.served.Served.{Served}
-use Rattle.room_web.specs.Answers.{Answers, AnswersAsked, AnswersIf, AnswersPages, Applies, Gives, IsMessage, IsStill, PrintsIf, Shows, rooms_of}
-use Rattle.room_web.specs.Messages.{IsFileMessage, queue_uri}
+use Rattle.room_web.specs.Answers.{Answers, AnswersAsked, AnswersIf, AnswersPages, Applies, Gives, IsMessage, IsStill, PrintsIf, PrintsUnless, Shows, rooms_of}
+use Rattle.room_web.specs.Messages.{IsFileMessage, lacks_password, queue_uri}
 use Rattle.room_web.specs.Questions.{question_of}
 use Rattle.room_web.specs.Requests.{asked}
 use Rattle.room_web.specs.Told.{page_act}
@@ -49,7 +49,7 @@ module _ {S : Type 0} (store : Ghosts S) where
   pub record IsLookedAt (wants : Result Asked Refusal) (old : Served S) (request : Request (List ℕ)) (response : Response) (new : Served S) : Type 0 where
     pub asks : Asked
     pub wanted : wants ≡ Ok asks
-    pub shows : Shows store (question_of (moment_of old) asks) (has_long_body request) old response new
+    pub shows : Shows store (question_of (needs_password_of old) (moment_of old) asks) (has_long_body request) old response new
 
   -- nothing is asked of the rooms; an overview may be gathered from now on
   abbrev pub IsLeft : (wants : Result Asked Refusal) (old : Served S) (request : Request (List ℕ)) (response : Response) (new : Served S) → Type 0
@@ -64,7 +64,7 @@ module _ {S : Type 0} (store : Ghosts S) where
   file_comes : (lacks : Bool) (account : List ℕ) (copies : ℕ) (pages : Option ℕ) (message : List ℕ) (old : Served S) (request : Request (List ℕ)) (response : Response) (new : Served S) → IsFileMessage account request copies pages message →
       PrintsIf store lacks account message (has_long_body request) old response new
       → Comes (Ok (asked_is.Print account copies pages)) old request response new
-  file_comes true account copies pages message old request response new file is = inr (inr (inr (inl is.0), same_gathered old new is.1))
+  file_comes true account copies pages message old request response new file is = inr (inr (inr (inl (inr is.0)), same_gathered old new is.1))
   file_comes false account copies pages message old request response new file is = inl (record {
     asks = asked_is.Print account copies pages;
     wanted = refl;
@@ -75,6 +75,11 @@ module _ {S : Type 0} (store : Ghosts S) where
     is = (refl, refl, refl, file);
     applies = is;
   })
+
+  print_comes : (lacks : Bool) (account : List ℕ) (copies : ℕ) (pages : Option ℕ) (old : Served S) (request : Request (List ℕ)) (response : Response) (new : Served S) →
+      PrintsUnless store lacks account copies pages old request response new → Comes (Ok (asked_is.Print account copies pages)) old request response new
+  print_comes true account copies pages old request response new is = inr (inr (inr (inl (inl is.0)), same_gathered old new is.1))
+  print_comes false account copies pages old request response new is = file_comes (nat_lt (takes_of (spare_of old)) (length is.0)) account copies pages is.0 old request response new is.1 is.2
 
   asked_comes : (what : Asked) (old : Served S) (request : Request (List ℕ)) (response : Response) (new : Served S) → AnswersAsked store what old request response new → Comes (Ok what) old request response new
   asked_comes asked_is.Style old request response new is = inr (inr (inr (inl is.0), same_gathered old new is.1))
@@ -92,7 +97,7 @@ module _ {S : Type 0} (store : Ghosts S) where
     is = (refl, refl, refl, refl);
     applies = is;
   })
-  asked_comes (asked_is.Print account copies pages) old request response new is = file_comes (nat_lt (takes_of (spare_of old)) (length is.0)) account copies pages is.0 old request response new is.1 is.2
+  asked_comes (asked_is.Print account copies pages) old request response new is = print_comes (lacks_password (needs_password_of old) request) account copies pages old request response new is
 
   given_comes : (wants : Result Asked Refusal) (old : Served S) (request : Request (List ℕ)) (response : Response) (new : Served S) → Gives store wants old request response new → Comes wants old request response new
   given_comes (Ok what) old request response new is = asked_comes what old request response new is

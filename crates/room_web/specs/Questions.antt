@@ -1,5 +1,5 @@
 -- The question that a page of an account answers (all this project's own).
-use Rattle.std.specs.Prelude.{ℕ, if◌then◌else◌, nat_lt, unwrap_or}
+use Rattle.std.specs.Prelude.{ℕ, Bool, if◌then◌else◌, nat_lt, unwrap_or}
 use Rattle.room_questions.specs.declared.question.About.TheVariants.{OwnerPage, StatementPage}
 use Rattle.room_questions.specs.declared.question.Question.{Question}
 use Rattle.room_questions.specs.declared.question.Question.TheVariants.{Account, Ping}
@@ -13,9 +13,9 @@ abbrev pub month_then : (moment : ℕ) → ℕ
 month_then moment = if nat_lt last_moment moment then last_month else month_at moment
 
 -- what is no page of an account asks nothing
-abbrev pub question_of : (moment : ℕ) → Asked → Question
-question_of moment (Owner account came stays) =
-    Account account (OwnerPage (month_then moment) came stays)
-question_of moment (Statement account month) =
+abbrev pub question_of : (needs_password : Bool) (moment : ℕ) → Asked → Question
+question_of needs_password moment (Owner account came stays) =
+    Account account (OwnerPage (month_then moment) came stays needs_password)
+question_of needs_password moment (Statement account month) =
     Account account (StatementPage (unwrap_or month (month_then moment)) moment)
-question_of moment _ = Ping
+question_of needs_password moment _ = Ping

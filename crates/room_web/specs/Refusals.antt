@@ -1,7 +1,7 @@
 -- The statuses of refusals (RFC 9110 section 15).
 use Rattle.std.specs.Prelude.{ℕ}
 use Rattle.room_pages.specs.declared.refusal.Refusal.{Refusal}
-use Rattle.room_pages.specs.declared.refusal.Refusal.TheVariants.{BadRequest, Forbidden, NotFound, OnlyRead, OnlyPost, TooLarge, WrongType, NoSpace, Busy, Failed}
+use Rattle.room_pages.specs.declared.refusal.Refusal.TheVariants.{BadRequest, Forbidden, NotFound, OnlyRead, OnlyPost, TooLarge, WrongType, NoPassword, NoSpace, Busy, Failed}
 
 abbrev pub status_of : Refusal → ℕ
 status_of BadRequest = 400
@@ -11,6 +11,7 @@ status_of OnlyRead = 405
 status_of OnlyPost = 405
 status_of TooLarge = 413
 status_of WrongType = 415
+status_of NoPassword = 400
 status_of NoSpace = 503
 status_of Busy = 503
 status_of Failed = 500

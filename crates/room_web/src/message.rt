@@ -3,7 +3,7 @@ ghost use Rattle.std.specs.Prelude.{◌≡◌, IfOk, option_copied, option_map};
 ghost use Rattle.ipp_coding.specs.Spelling.{message_spelling};
 ghost use Rattle.percent_encoding.specs.Percent.{percent_decode};
 ghost use Rattle.room_owner.specs.Requests.{act_message, request as message_asked};
-ghost use Rattle.room_web.specs.Messages.{IsFileMessage, IsJobOf, file_name, name_part, password_in, password_sent, queue_uri, word_of};
+ghost use Rattle.room_web.specs.Messages.{IsFileMessage, IsJobOf, file_name, lacks_password, name_part, password_in, password_sent, queue_uri, word_of};
 
 use crate::asked::query_of;
 use crate::replaced::put_replaced;
@@ -125,6 +125,20 @@ fn decoded(alloc: Global, text: &[u8]) -> Result<Vec<u8>, AllocError>
     let mut bytes = Vec::new(alloc);
     percent_decode(text).append_to(&mut bytes)?;
     Ok(bytes)
+}
+
+/// Whether a file needs a password, and the request has none.
+pub(crate) fn lacks_password(
+    alloc: Global,
+    needs: bool,
+    request: &Request<Bytes>,
+) -> Result<bool, AllocError>
+    ensures { IfOk result (λ lacks. lacks ≡ lacks_password needs request.now) }
+{
+    if !needs {
+        return Ok(false);
+    }
+    Ok(password_of(alloc, request)?.is_none())
 }
 
 /// The password of the file, if it has one.

@@ -1,9 +1,9 @@
 //! The pages as a service of HTTP over what is served.
 ghost use Rattle.std.specs.Prelude.{◌≡◌, false, OnErr, OnOk};
 ghost use Rattle.http_server.specs.Response.{IsBlank};
-ghost use Rattle.room_peers.specs.Journals.{moment_of, shares_of};
+ghost use Rattle.room_peers.specs.Journals.{moment_of, needs_password_of, shares_of};
 ghost use Rattle.room_peers.specs.Requests.{has_long_body};
-ghost use Rattle.room_web.specs.Answers.{ActsOn, Answers, AnswersAsked, AnswersPages, Applies, Prints, Shows, ShowsRoom, rooms_of};
+ghost use Rattle.room_web.specs.Answers.{ActsOn, Answers, AnswersAsked, AnswersPages, Applies, Prints, PrintsFile, Shows, ShowsRoom, rooms_of};
 ghost use Rattle.room_web.specs.Questions.{question_of};
 ghost use Rattle.room_web.specs.Responses.{IsRefusal};
 ghost use Rattle.room_web.specs.ProofPages.{pages_continue};
@@ -11,7 +11,7 @@ ghost use Rattle.room_web.specs.ProofPages.{pages_continue};
 use crate::answer::{put_sheet, refuse, shared, show, tell};
 use crate::asked::{Asked, asked_by};
 use crate::fields::put_page_fields;
-use crate::message::{act_message, file_message};
+use crate::message::{act_message, file_message, lacks_password};
 use crate::questions::question_of;
 use crate::refusal::status_of;
 use crate::told::page_act;
@@ -157,10 +157,11 @@ fn show_room<S: Alter>(
 fn show_page<S: Alter>(served: &mut Served<S>, asked: &Asked, closes: bool, response: &mut Response)
     requires blank { IsBlank response.old }
     requires alone { shares_of served.old ≡ false }
-    ensures { Shows S.Store (question_of (moment_of served.old) asked.now) closes
+    ensures { Shows S.Store
+        (question_of (needs_password_of served.old) (moment_of served.old) asked.now) closes
         served.old response.new served.new }
 {
-    let question = question_of(served.moment(), asked);
+    let question = question_of(served.needs_password(), served.moment(), asked);
     let told = served.answer_question(question);
     show(response, told, closes);
 }
@@ -193,7 +194,7 @@ fn act_on<S: Alter>(
     Ok(())
 }
 
-/// Prints the file of a request, as one message of IPP, where the disk has space for it.
+/// Prints the file of a request, unless it lacks the password that it needs.
 fn print<S: Alter>(
     served: &mut Served<S>,
     account: Name,
@@ -206,6 +207,28 @@ fn print<S: Alter>(
     requires alone { shares_of served.old ≡ false }
     ensures ok { OnOk result
         (Prints S.Store account copies pages served.old request.now response.new served.new) }
+    ensures err { OnErr result (served.new ≡ served.old) }
+{
+    let alloc = *response.headers.allocator();
+    if lacks_password(alloc, served.needs_password(), request)? {
+        return turn_away(served, Refusal::NoPassword, request, response);
+    }
+    print_file(served, account, copies, pages, request, response)
+}
+
+/// Prints the file of a request, as one message of IPP, where the disk has space for it.
+fn print_file<S: Alter>(
+    served: &mut Served<S>,
+    account: Name,
+    copies: u32,
+    pages: Option<u32>,
+    request: &Request<Bytes>,
+    response: &mut Response,
+) -> Result<(), AllocError>
+    requires blank { IsBlank response.old }
+    requires alone { shares_of served.old ≡ false }
+    ensures ok { OnOk result
+        (PrintsFile S.Store account copies pages served.old request.now response.new served.new) }
     ensures err { OnErr result (served.new ≡ served.old) }
 {
     let alloc = *response.headers.allocator();

@@ -7,8 +7,8 @@ use room_questions::{About, Question};
 use room_rules::{LAST_MONTH, Moment, month_of};
 
 /// The question that the page answers, at a moment. What is no page of an account asks nothing.
-pub(crate) fn question_of(moment: u64, asked: &Asked) -> Question
-    ensures { result ≡ question_of moment asked.now }
+pub(crate) fn question_of(needs_password: bool, moment: u64, asked: &Asked) -> Question
+    ensures { result ≡ question_of needs_password moment asked.now }
 {
     match asked {
         Asked::Owner {
@@ -21,6 +21,7 @@ pub(crate) fn question_of(moment: u64, asked: &Asked) -> Question
                 month: month_then(moment),
                 outcome: *came,
                 stays: *stays,
+                needs_password,
             },
         },
         Asked::Statement { account, month } => Question::Account {

@@ -17,6 +17,7 @@ pub(crate) fn status_of(refusal: Refusal) -> StatusCode
         Refusal::OnlyPost => StatusCode::METHOD_NOT_ALLOWED,
         Refusal::TooLarge => StatusCode::PAYLOAD_TOO_LARGE,
         Refusal::WrongType => StatusCode::UNSUPPORTED_MEDIA_TYPE,
+        Refusal::NoPassword => StatusCode::BAD_REQUEST,
         Refusal::NoSpace => StatusCode::SERVICE_UNAVAILABLE,
         Refusal::Busy => StatusCode::SERVICE_UNAVAILABLE,
         Refusal::Failed => StatusCode::INTERNAL_SERVER_ERROR,

@@ -31,7 +31,7 @@ const TOLD: &[u8] = b"accounts 2\naccount abby\naccount alice\n\
     job 2 held - 1788220800 - - - 1 0 0 0 1 untitled\n\
     job 3 held - 1788220800 - - - 1 0 0 0 1 untitled\n\
     job 4 held - 1788220800 - - - 1 0 0 0 1 untitled\n\
-    ok granted 100 reserved 24 charged 0 left 76 month 0 held 3 pending 1 processing 0 ended 0\n";
+    ok granted 100 reserved 24 charged 0 left 76 month 0 held 3 pending 1 processing 0 ended 0 beyond 0\n";
 
 const START: &[u8] = b"start d1 alice 1\n";
 

@@ -19,7 +19,8 @@ const OPERATOR: &[u8] =
     ping\nnone\ncancel alice 7\n";
 
 const STATION: &[u8] = b"release d1 alice 7 31323334 -\nrelease d1 alice 1 - 12\nstart d1 alice 1\n\
-    settle d1 alice 1 5 done\n";
+    settle d1 alice 1 5 done\nrelease d1 alice 2 - 12\nstart d1 alice 2\n\
+    settle d1 alice 2 15 done\n";
 
 /// What comes by a bound door, for another device and its own, with what is no line.
 const BOUND: &[u8] = b"start d1 alice 1\nlist d1 alice\nnone\nstart d2 alice 1\n";
@@ -32,7 +33,7 @@ const HEADER_ALONE: &[u8] = b"POST /ipp/print/alice HTTP/1.1\r\nHost: localhost\
 const ELSEWHERE: &[u8] = b"POST /print/alice HTTP/1.1\r\nHost: localhost\r\n\
     Content-Type: application/ipp\r\nContent-Length: 0\r\n\r\n";
 
-/// The lines of the former, of a job of alice, of requests that make none, of one that is refused, of
+/// The lines of the former, of two jobs of alice, of requests that make none, of one that is refused, of
 /// the latter, and of what comes by a bound door.
 const LINES: &[u8] = b"1788220800 operators open alice ok\n\
     1788220800 operators device d1 on ok\n\
@@ -42,6 +43,7 @@ const LINES: &[u8] = b"1788220800 operators open alice ok\n\
     1788220800 operators refused bad-line\n\
     1788220800 operators alice Cancel-Job 7 0x0406 no-job\n\
     1788220800 clients alice Print-Job 1 0x0000 successful-ok\n\
+    1788220800 clients alice Print-Job 2 0x0000 successful-ok\n\
     1788220800 clients alice Validate-Job - 0x0000 successful-ok\n\
     1788220800 clients alice Print-Job - 0x0400 malformed\n\
     1788220800 clients refused 404 /print/alice\n\
@@ -49,6 +51,10 @@ const LINES: &[u8] = b"1788220800 operators open alice ok\n\
     1788220800 stations d1 release alice 1 ok reserved 24 left 476\n\
     1788220800 stations d1 start alice 1 documents 1\n\
     1788220800 stations d1 settle alice 1 5 done ok charged 10 left 490\n\
+    1788220800 stations d1 release alice 2 ok reserved 24 left 466\n\
+    1788220800 stations d1 start alice 2 documents 1\n\
+    1788220800 stations d1 settle alice 2 15 done ok charged 30 left 460\n\
+    1788220800 stations d1 beyond alice 2 6\n\
     1788220800 stations refused not-your-device\n\
     1788220800 stations refused not-your-device\n\
     1788220800 stations refused bad-line\n\
@@ -93,7 +99,7 @@ fn expect_logged(rt: &HostRuntime, rooms: &mut Served<MemStore>) -> Result<(), F
 fn ask_all(rt: &HostRuntime, rooms: &mut Served<MemStore>) -> Result<(), Fault> {
     let validate = joined(rt.alloc(), &[QUEUE, SIZED, REQUEST])?;
     exchange_lines(rt, rooms, Side::Operator, OPERATOR, 100)?;
-    for request in [PRINT, validate.as_slice(), HEADER_ALONE, ELSEWHERE] {
+    for request in [PRINT, PRINT, validate.as_slice(), HEADER_ALONE, ELSEWHERE] {
         exchange(rt, rooms, request, 100)?;
     }
     exchange_lines(rt, rooms, Side::Station, STATION, 100)?;

@@ -7,6 +7,8 @@
 //! - `= told an operator`, `= told a station`: those of lines; `= told the station of d1 and d3`: the
 //!   bound door of these devices
 //!
+//! `= the pages need a PIN` stands by itself: from there on they take no file without one.
+//!
 //! A connection of HTTP is an exchange (`room_rows` says how). In one of lines, `> LINE` is sent, and
 //! `< LINE` is told.
 
@@ -57,6 +59,7 @@ fn expect_connections(
             "= told an operator" => expect_told(rt, rooms, Side::Operator, lines, is_cut)?,
             "= told a station" => expect_told(rt, rooms, Side::Station, lines, is_cut)?,
             "= told the station of d1 and d3" => expect_told(rt, rooms, BOUND, lines, is_cut)?,
+            "= the pages need a PIN" => rooms.set_needs_password(true),
             end => expect_answer(rt, rooms, lines, end, is_cut)?,
         }
     }

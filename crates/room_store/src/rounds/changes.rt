@@ -14,6 +14,7 @@ ghost use Rattle.room_statements.specs.Rows.{IsFree};
 ghost use Rattle.room_tables.specs.Accounts.{job_at};
 ghost use Rattle.room_tables.specs.Calls.{IsUnchanged, IsUndone, KeepsConnection, UnchangedOrUndone};
 
+use crate::memory::Added;
 use crate::rounds::Rounds;
 use room_events::{Job, Moment, Name, Standing};
 use room_statements::NewDocument;
@@ -118,7 +119,16 @@ pub(crate) fn end_job<S: Alter>(
     let was = connection.memory.added_before(account, number);
     let made = room_statements::end_job(&mut connection.connection, account, number, standing);
     connection.memory.mind_move(account, was, standing, &made);
+    connection.beyond = beyond(was, standing);
     made
+}
+
+/// The units of a job's charge beyond what it reserved before, as far as that is known.
+fn beyond(was: Option<Added>, is: &Standing) -> u64 {
+    match was {
+        Some(added) => is.charged.saturating_sub(added.reserved),
+        None => 0,
+    }
 }
 
 /// Turns the device on or off. A device that is new gets rate 1.

@@ -1,13 +1,12 @@
-use Rattle.std.proofs.Common.{rules, ◌≡◌, ◌∙◌, sym}
-use Rattle.std.proofs.lemmas.Slice.Eq.{bytes_eq-Decides}
-use Rattle.room_commands.proofs.Options.{log_more, one_more}
-use Rattle.room_commands.specs.Visitors.{log_option, option_of}
+use Rattle.std.proofs.Common.{rules, ◌≡◌, IsTrue, subst}
+use Rattle.room_commands.proofs.Options.{no_door_more, one_more}
+use Rattle.room_commands.specs.Visitors.{is_no_door, option_of}
 use Rattle.room_commands.proofs.served_door.+put_options.Goals as goal
 
-pub returns-then-eq : goal.returns-then-eq
-returns-then-eq t c =
-    let named : c.in-Some.name.now.now ≡ log_option = (bytes_eq-Decides _ _).0 (sym c.eq.ensures ∙ c.if-eq.true) in
-    log_more c.args.options.now c.in-Some.behind.now c.in-Some-split_first.rest.now c.in-Some.name.now c.in-Some-split_first.value.now c.args.doors.now.items c.put_options.new.doors.items c.put_options.result
+pub returns-then-is_no_door : goal.returns-then-is_no_door
+returns-then-is_no_door t c =
+    let named : IsTrue (is_no_door c.in-Some.name.now.now c.in-Some-split_first.value.now.now) = search rules in
+    no_door_more c.args.options.now c.in-Some.behind.now c.in-Some-split_first.rest.now c.in-Some.name.now c.in-Some-split_first.value.now c.args.doors.now.items c.put_options.new.doors.items c.put_options.result
     c.in-Some.ensures.cases.0 c.in-Some-split_first.ensures.cases.0 named c.put_options.ensures
 
 pub returns : goal.returns

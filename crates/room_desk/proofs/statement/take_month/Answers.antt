@@ -7,6 +7,7 @@ returns c =
     let held = c.in_ok-charged._held.now in
     let pending = c.in_ok-_pending._pending.now in
     let processing = c.in_ok-_pending._processing.now in
+    let ended = c.in_ok-ended.ended.now in
     record {
       held = held;
       pending = pending;
@@ -15,5 +16,7 @@ returns c =
           ∙ ap (λ r. codes "month" ++ codes " " ++ (charged ++ codes " " ++ (codes "held" ++ codes " " ++ (held ++ codes " " ++ r))))
           (c.in_ok-_pending.ensures
           ∙ ap (λ r. codes "pending" ++ codes " " ++ (pending ++ codes " " ++ (codes "processing" ++ codes " " ++ (processing ++ codes " " ++ r))))
-          (c.in_ok-skip.ensures ∙ ap (λ r. codes "ended" ++ codes " " ++ r) (sym c.last.ensures)));
+          (c.in_ok-ended.ensures
+          ∙ ap (λ r. codes "ended" ++ codes " " ++ (ended ++ codes " " ++ r))
+          (c.in_ok-skip.ensures ∙ ap (λ r. codes "beyond" ++ codes " " ++ r) (sym c.last-beyond.ensures))));
     }

@@ -82,7 +82,7 @@ returns-clause-told g c clean has room devices holds held =
     let same_one = (first.same was_one has).now in
     let second = passed_then (state g.S.Store old) (state g.S.Store one) (state g.S.Store two) first (look_passed g.S.Store one two _ c.in_ok-waiting.ensures.looks) in
     let same_two = (second.same was_two has).now in
-    owner_told c.args.account c.args.month c.args.outcome c.args.stays room devices _ _ _ _ _ _ _
+    owner_told c.args.account c.args.month c.args.outcome c.args.stays c.args.needs_password room devices _ _ _ _ _ _ _
     (c.in_ok-quota.ensures.told was_one has room holds)
     (c.in_ok-waiting.ensures.told was_two (subst HasSchema (sym same_one) has) room (subst (λ (db : Database). HoldsRoom db c.args.account room) (sym same_one) holds))
     (c.in_ok-devices.ensures.listed clean (subst HasSchema (sym same_two) has) devices (subst (λ (db : Database). HoldsDevices db devices) (sym same_two) (held tt)))

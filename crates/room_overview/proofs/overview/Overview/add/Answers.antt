@@ -28,7 +28,8 @@ returns-clause-shows c surveys shows =
     record {
       waiting = omega (arith, c.saturating_add-self.ensures, shows.waiting, one_more (λ (s : Survey). length s.unfinished) surveys it, ap length jobs);
       unsettled = omega (arith, c.saturating_add-self-2.ensures, shows.unsettled, one_more (λ (s : Survey). s.summary.processing) surveys it);
-      charged = omega (arith, c.saturating_add-self-3.ensures, shows.charged, one_more (λ (s : Survey). s.summary.charged_then) surveys it);
+      beyond = omega (arith, c.saturating_add-self-3.ensures, shows.beyond, one_more (λ (s : Survey). s.summary.beyond_then) surveys it);
+      charged = omega (arith, c.saturating_add-self-4.ensures, shows.charged, one_more (λ (s : Survey). s.summary.charged_then) surveys it);
       days = λ place within. omega (arith, c.add_days.ensures place within, shows.days place within, one_more (λ (s : Survey). slice_index s.days place) surveys it);
       begun = oldest_of_jobs begun_at (begun_line c.args.account) c.args.self.now.begun.items c.put_begun.new.lines.items (flat_map begun_of surveys) c.as_slice-jobs.result.now c.in_ok-put_begun.ensures shows.begun
           ∙ ap (λ (jobs : List Job). oldest begun_at (flat_map begun_of surveys ++ filter_map (begun_line c.args.account) jobs)) jobs

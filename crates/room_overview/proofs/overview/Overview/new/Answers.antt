@@ -7,6 +7,7 @@ returns-clause-shows c = record {
   waiting = refl;
   unsettled = refl;
   charged = refl;
+  beyond = refl;
   days = λ place within. get_or-replicate 31 place 0 0 within;
   begun = c.new.ensures.items;
   longest = c.new-2.ensures.items;

@@ -1,7 +1,7 @@
 use Rattle.std.proofs.Common.{◌≡◌, false, nat_lt, length, rules, tests}
 use Rattle.room_peers.specs.Space.{spare_of}
 use Rattle.room_space.specs.Spares.{takes_of}
-use Rattle.room_web.proofs.pages.print.Goals as goal
+use Rattle.room_web.proofs.pages.print_file.Goals as goal
 
 pub returns-clause-ok : goal.returns-clause-ok
 returns-clause-ok g c =
