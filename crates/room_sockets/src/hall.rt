@@ -64,9 +64,13 @@ pub(crate) struct Peers {
     pub(crate) dropped_late_at: u64,
     /// Whether who waits is let in, and what comes is read.
     pub(crate) receives: bool,
-    /// Whether a browser had its turn in the pass. What others ask waits for the next, so that
-    /// nobody who prints waits for more than one page.
-    has_shown: bool,
+    /// The browser whose turn it is in the pass. What others ask waits for the next, so that nobody
+    /// who prints waits for more than one page.
+    chosen: Option<usize>,
+    /// How many passes there were.
+    passes: u64,
+    /// Of each key, the pass in which a browser of that key was chosen last.
+    chosen_at: Vec<u64>,
 }
 
 // In the place of `#[derive(Drop)]`, so that no caller proves again how each part is dropped.
@@ -83,7 +87,9 @@ impl Drop for Peers {
             pace: _,
             dropped_late_at: _,
             receives: _,
-            has_shown: _,
+            chosen: _,
+            passes: _,
+            chosen_at: _,
         } = self;
     }
 }
@@ -129,6 +135,8 @@ impl Hall {
                 .register(&mut entrance.door, Token(place), Interest::READABLE)?;
         }
         let events = Events::with_capacity(alloc, MOST_EVENTS)?;
+        let mut chosen_at = Vec::new(alloc);
+        chosen_at.resize(most_guests, 0)?;
         let peers = Peers {
             alloc,
             keys,
@@ -140,7 +148,9 @@ impl Hall {
             pace: Pace::new(ticks(rt)?),
             dropped_late_at: 0,
             receives: true,
-            has_shown: false,
+            chosen: None,
+            passes: 0,
+            chosen_at,
         };
         Ok(Hall {
             peers,
@@ -235,7 +245,7 @@ impl Hall {
         ensures serves { ServesThose S.Store (told_by self.new)
             (guests_of self.old) (guests_of self.new) served.old served.new }
     {
-        self.peers.has_shown = false;
+        self.peers.choose_browser(&self.events);
         self.peers.share(&self.events, clock, served);
         self.peers.serve_all(&self.events, clock, served);
         let ticks = self.peers.ticks(clock)?;
@@ -282,6 +292,36 @@ impl Peers {
             return None;
         }
         Some(Duration::from_millis(TICK))
+    }
+
+    /// Chooses the browser whose turn it is in the pass: of those of whom the system told, the one that
+    /// was chosen longest ago. In the system's order one that asks again at once would always be first.
+    fn choose_browser(&mut self, events: &Events)
+        ensures { self.new.guests ≡ self.old.guests }
+    {
+        self.passes = self.passes.saturating_add(1);
+        self.chosen = self.longest_waiting(events);
+        if let Some(key) = self.chosen {
+            if let Some(pass) = self.chosen_at.get_mut(key) {
+                *pass = self.passes;
+            }
+        }
+    }
+
+    fn longest_waiting(&self, events: &Events) -> Option<usize> {
+        let mut longest = None;
+        let mut since = u64::MAX;
+        for event in events {
+            let Some(key) = event.token().0.checked_sub(MOST_DOORS) else {
+                continue;
+            };
+            let pass = self.chosen_at.get(key).copied().unwrap_or(0);
+            if self.asks_alone(key) && pass < since {
+                longest = Some(key);
+                since = pass;
+            }
+        }
+        longest
     }
 
     /// Serves each of whom the system told.
@@ -335,7 +375,6 @@ impl Peers {
             is_last,
             reads: self.may_read(rests),
         };
-        self.has_shown |= self.asks_alone(key);
         let alloc = self.alloc;
         let shares = served.is_shared();
         let Some(guest) = self.guests.get_mut(key) else {
@@ -348,9 +387,9 @@ impl Peers {
         self.after_turn(key, next, shares, rests);
     }
 
-    /// Whether it is a browser, and another had its turn in the pass.
+    /// Whether it is a browser, and another has its turn in the pass.
     fn has_to_rest(&self, key: usize) -> bool {
-        self.has_shown && self.asks_alone(key)
+        self.chosen != Some(key) && self.asks_alone(key)
     }
 
     /// Whether what a peer sends is read in its turn.
