@@ -196,6 +196,27 @@ def again(house):
 
 
 @attack('stations', PROXY)
+def counts_more(house):
+    """What a station counts beyond what was released shows in the log, in the report and on the print room's page."""
+    house.clear('bob')
+    house.make_job('bob')
+    number = house.jobs('bob')[-1][1]
+    hall = take(house, 'hall.pem', 'hall.key')
+    told = [speak(hall, f'{line}\n'.encode(), 3).split(b'\n')[0].decode().split()
+            for line in (f'release hall bob {number} - -', f'start hall bob {number}', f'settle hall bob {number} 9 done')]
+    beyond = int(told[2][2]) - int(told[0][2])
+    log = house.machine.run('tail -n 1 /var/log/ipp-room/log').strip()
+    report = house.machine.run(f'ipp-room report /run/ipp-room/operators {time.strftime("%Y-%m", time.gmtime())}')
+    row = next(line for line in report.split() if line.startswith('bob,'))
+    page = house.machine.run('for n in 11 2 0; do curl -s --unix-socket /run/ipp-room/pages http://localhost/; sleep $n; done')
+    shown = re.findall(r'beyond what was released</dt><dd>(\d+)', page)
+    want(log.endswith(f' stations hall beyond bob {number} {beyond}'), f'the log: {log}')
+    want(report.splitlines()[0].strip().endswith('beyond_in_month') and int(row.rsplit(',', 1)[1]) >= beyond, f'the report: {row}')
+    want(shown and int(shown[-1]) >= beyond, f'the page: {shown}')
+    return f'{told[0][2]} reserved, {told[2][2]} charged: {log.split(" ", 1)[1]!r}; {row}; on the page {shown[-1]}'
+
+
+@attack('stations', PROXY)
 def other_devices(house):
     """A station that has a door of its own acts for its own devices alone."""
     serving = house.machine.run('systemctl show -p ExecStart ipp-room; cat /etc/default/ipp-room')
