@@ -105,6 +105,12 @@ def unread(house):
 
 
 @attack('load', PROXY)
+def browsers(house):
+    """16 browsers of one user that ask for a page again and again, and read it."""
+    return beside(house, ('browse', 16, STRANGERS[1]))
+
+
+@attack('load', PROXY)
 def half_lines(house):
     """150 half lines of one station, beside another."""
     other = signed(house, 'studio', '/CN=studio')
