@@ -5,6 +5,8 @@ import os
 
 TOP = os.path.dirname(os.path.dirname(os.path.abspath(__file__)))
 PROGRAM = os.environ.get('IPP_ROOM', f'{TOP}/ipp-room')
+# What the script at the top runs, once it has built it.
+BUILT = os.environ.get('IPP_ROOM', f'{TOP}/crates/room_cli/out/room_cli')
 MOMENT = 1788220800
 PRINT_JOB, VALIDATE_JOB, CREATE_JOB, SEND_DOCUMENT, CANCEL_JOB, GET_JOB, GET_JOBS, GET_PRINTER = 2, 4, 5, 6, 8, 9, 10, 11
 HOLD_JOB, RELEASE_JOB = 12, 13

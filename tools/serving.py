@@ -6,7 +6,7 @@ import socket
 import subprocess
 import time
 
-from messages import PROGRAM
+from messages import BUILT, PROGRAM
 
 MOST_WAIT = 30
 
@@ -32,12 +32,13 @@ class Serving:
     """A run of `serve` up to the end of the block, on free ports or at the paths that are named.
 
     `options` are words behind these, `descriptors` is how many files it may have open, `longest_file` how many bytes each
-    may have that it writes, and `variables` are put among those of its environment. `doors` has of each door whose it is and
-    its address, in their order.
+    may have that it writes, and `variables` are put among those of its environment: what they have loaded first is meant for
+    the program alone, and not for the script that builds it. `doors` has of each door whose it is and its address, in their
+    order.
     """
 
     def __init__(self, path, stations='0', operators='0', options=(), descriptors=4096, longest_file=None, variables=None):
-        self.words = [PROGRAM, 'serve', path, '0', stations, operators, *options]
+        self.words = [BUILT if variables else PROGRAM, 'serve', path, '0', stations, operators, *options]
         self.limits = {resource.RLIMIT_NOFILE: descriptors}
         if longest_file:
             self.limits[resource.RLIMIT_FSIZE] = longest_file
