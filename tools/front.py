@@ -21,6 +21,8 @@ QUEUE = 'release'
 PASSWORD = 'secret'
 # This machine's address for whoever is at another: cupsd takes what comes over the loopback for its own machine.
 OUTSIDE = '198.51.100.1'
+# Where PAM counts wrong passwords (packaging/cups/pam).
+GUESSES = '/run/cups-guesses'
 FIRST_USER_ID = 20000
 MOST_WAIT = 60
 FILES = """
@@ -77,6 +79,13 @@ def add_users(folder, names):
             users.write('\n'.join(added) + '\n')
         subprocess.run(['mount', '--bind', f'{folder}/{file}', f'/etc/{file}'], check=True)
     subprocess.run(['mount', '--bind', f'{PACKAGE}/pam', '/etc/pam.d/cups'], check=True)
+    os.makedirs(GUESSES, exist_ok=True)
+    subprocess.run(['mount', '-t', 'tmpfs', 'guesses', GUESSES], check=True)
+
+
+def forget_guesses():
+    for name in os.listdir(GUESSES):
+        os.remove(f'{GUESSES}/{name}')
 
 
 class Cupsd:
