@@ -37,8 +37,8 @@ pub record IsDoorOf (whose : Visitors) (word : List ℕ) (door : ServedDoor) : T
   pub says : SaysPlace (names_devices whose) word door.devices.now place
   pub address : IsAddressOf place 0 door.address
 
--- the word behind which the file of the log stands, and that behind which stands that the pages take a
--- file with a PIN alone
+-- the word behind which the file of the log stands, and that behind which `required` stands, where the
+-- pages are to take no file without a PIN
 abbrev pub log_option : List ℕ
 log_option = codes "--log"
 

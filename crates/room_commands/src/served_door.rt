@@ -15,7 +15,7 @@ use std::alloc::Global;
 /// The word behind which the file of the log stands.
 const LOG: &str = "--log";
 
-/// The word behind which stands that the pages take a file with a PIN alone.
+/// The word behind which `required` stands, where the pages are to take no file without a PIN.
 const PAGES_PIN: &str = "--pages-pin";
 
 /// A door that `serve` opens. A port of 0 is a free one.
@@ -85,7 +85,7 @@ pub(crate) fn log_behind<'a>(words: &[&'a str]) -> Option<&'a str>
     value_behind(LOG, words)
 }
 
-/// Whether an option says that the pages take a file with a PIN alone.
+/// Whether an option says that the pages take no file without a PIN.
 pub(crate) fn needs_password(words: &[&str]) -> bool
     ensures { result ≡ is_some (value_behind pin_option (texts words.now)) }
 {
@@ -138,6 +138,9 @@ fn put_options<'a>(options: &[&'a str], doors: &mut Vec<ServedDoor<'a>>) -> Resu
     };
     if is_no_door(name, value) {
         return put_options(rest, doors);
+    }
+    if *name == PAGES_PIN {
+        return Err(Unfit::PagesPin);
     }
     let visitors = Visitors::of_option(name).ok_or(Unfit::Option)?;
     let door = ServedDoor::read(visitors, value)?;

@@ -17,7 +17,7 @@ pub struct Serving<'a> {
     pub doors: Vec<ServedDoor<'a>>,
     /// The file of the log, where one is asked for.
     pub log: Option<&'a str>,
-    /// Whether the pages take a file with a password, a PIN, alone.
+    /// Whether the pages take no file without a password, a PIN.
     pub needs_password: bool,
 }
 

@@ -16,6 +16,7 @@ pub(crate) enum Unfit {
     ServedAddress,
     Devices,
     Option,
+    PagesPin,
     Address,
     File,
     Month,
@@ -49,6 +50,7 @@ impl Unfit {
                 )
             }
             Unfit::Option => Some("options stand behind the words, each with its value"),
+            Unfit::PagesPin => Some("--pages-pin has the value `required`, or is left out"),
             Unfit::Address => Some("ADDRESS is a port from 1 to 65535, or a path"),
             Unfit::File => Some("FILE begins with / and has no space in it"),
             Unfit::Month => Some("YYYY-MM is a month from 2000-01 to 2099-12"),

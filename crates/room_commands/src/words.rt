@@ -274,7 +274,7 @@ const TO_LOG: Argument = Argument {
 
 const PIN_ON_PAGES: Argument = Argument {
     name: PAGES_PIN,
-    help: Some("Has the pages take a file with a PIN alone"),
+    help: Some("Has the pages take no file without a PIN"),
     kind: Kind::Named(REQUIRED),
 };
 

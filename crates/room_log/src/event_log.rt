@@ -115,8 +115,8 @@ impl EventLog {
         self.end_notices(kept);
     }
 
-    /// Tells that the job which the event settled was charged so many units beyond what it had
-    /// reserved. The line goes behind that of the event; it is left out where memory is refused, lines
+    /// Has the next `note`, or the round's end, tell that the job which the event settles was charged
+    /// so many units beyond what it had reserved. The line is left out where memory is refused, lines
     /// wait, or the round is lost.
     pub fn tell_beyond(&mut self, moment: u64, event: &Event<'_>, units: u64)
         ensures { self.new ≡ self.old }
@@ -129,9 +129,6 @@ impl EventLog {
         } = event
         {
             self.add_notice(moment, *device, *account, *job, units);
-        }
-        if !self.waiting.has_drafts() {
-            self.end_notices(true);
         }
     }
 

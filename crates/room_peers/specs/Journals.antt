@@ -65,7 +65,7 @@ is_lost_of served = served.is_lost
 abbrev pub ends_of : {S : Type 0} → Served S → Bool
 ends_of served = served.ends
 
--- the pages take a file with a password alone
+-- the pages take no file without a password
 abbrev pub needs_password_of : {S : Type 0} → Served S → Bool
 needs_password_of served = served.needs_password
 

@@ -1,7 +1,7 @@
 //! The rooms as one process serves them to everybody.
 ghost use Rattle.std.specs.Prelude.{◌≡◌, ◌≢◌, ◌+◌, ◌≤◌, ◌⊎◌, ◌++◌, ℕ, List, [], true, false, IsTrue, None, Some, Err, IfOk, OnErr, OnOk};
 ghost use Rattle.room_log.specs.Waits.{drafts_of, logged_of};
-ghost use Rattle.room_peers.specs.Journals.{asked_of, ends_of, needs_password_of, is_full_of, is_lost_of, log_lags_of, moment_of, open_of, rounds_of, shares_of, store_of};
+ghost use Rattle.room_peers.specs.Journals.{asked_of, ends_of, is_full_of, is_lost_of, log_lags_of, moment_of, needs_password_of, open_of, rounds_of, shares_of, store_of};
 ghost use Rattle.room_peers.specs.Applying.{AppliesAlone, AppliesEntry};
 ghost use Rattle.room_peers.specs.Again.{IsOneMore, told_at_last};
 ghost use Rattle.room_peers.specs.Space.{entry_needs_space, lacks_space, length_of_entry, spare_of};
@@ -67,7 +67,7 @@ pub struct Served<S: Alter> {
     pub(crate) backup: Option<Backup>,
     /// What the print room's page shows.
     pub(crate) gathered: Gathered,
-    /// Whether the pages take a file with a password alone.
+    /// Whether the pages take no file without a password.
     pub(crate) needs_password: bool,
 }
 
@@ -132,14 +132,14 @@ impl<S: Alter> Served<S> {
         self.spare = spare;
     }
 
-    /// From now on the pages take a file with a password alone, or without one too.
+    /// From now on the pages take no file without a password, or take one.
     pub fn set_needs_password(&mut self, needs_password: bool)
         ensures { self.new ≡ record self.old { needs_password = needs_password } }
     {
         self.needs_password = needs_password;
     }
 
-    /// Whether the pages take a file with a password alone.
+    /// Whether the pages take no file without a password.
     pub fn needs_password(&self) -> bool
         ensures { result ≡ needs_password_of self.now }
     {
@@ -336,8 +336,8 @@ impl<S: Alter> Served<S> {
     {
         let told = self.apply_with_spare(entry);
         self.note_space(entry, &told);
-        self.journal.add_alone(entry, &told);
         self.tell_beyond(entry, &told);
+        self.journal.add_alone(entry, &told);
         self.log_from_space();
         told
     }
@@ -469,8 +469,8 @@ impl<S: Alter> Served<S> {
         let told = self.apply_in_round(&entry);
         self.note_space(&entry, &told);
         self.bytes_told = self.bytes_told.saturating_add(size_of(&told));
-        self.journal.add_shared(&entry, &told);
         self.tell_beyond(&entry, &told);
+        self.journal.add_shared(&entry, &told);
         self.asked = Some(entry);
         Ok(told)
     }

@@ -1,4 +1,4 @@
-use Rattle.std.proofs.Common.{rules, ◌≡◌, IsTrue, subst}
+use Rattle.std.proofs.Common.{rules, ◌≡◌, IsTrue}
 use Rattle.room_commands.proofs.Options.{no_door_more, one_more}
 use Rattle.room_commands.specs.Visitors.{is_no_door, option_of}
 use Rattle.room_commands.proofs.served_door.+put_options.Goals as goal
