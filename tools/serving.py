@@ -50,7 +50,8 @@ class Serving:
             signal.signal(signal.SIGXFSZ, signal.SIG_IGN)
             for which, most in self.limits.items():
                 resource.setrlimit(which, (most, most))
-        self.process = subprocess.Popen(self.words, stdout=subprocess.PIPE, preexec_fn=limit, env=self.environment)
+        self.process = subprocess.Popen(self.words, stdin=subprocess.DEVNULL, stdout=subprocess.PIPE, preexec_fn=limit,
+                                        env=self.environment)
         told = self.process.stdout.readline().decode().split()
         if told[:1] != ['serving']:
             raise OSError(f'serve told {told}, status {self.process.wait()}')

@@ -2,7 +2,6 @@
 
 use crate::digits::Digits;
 use crate::numbers::number_name;
-use crate::spelling::COMMENT;
 use crate::syntaxes::{DateTime, Range, Resolution};
 use crate::value_tag::{
     BOOLEAN, DATE_TIME, ENUM, INTEGER, NAME_WITH_LANGUAGE, RANGE_OF_INTEGER, RESOLUTION,
@@ -10,6 +9,9 @@ use crate::value_tag::{
 };
 use ipp_coding::{Value, bool_of, int_of, text_of};
 use std::{fmt, str};
+
+/// What begins a comment after something.
+const COMMENT: &str = "  #";
 
 /// A value in the notation: `""` where it is empty, hexadecimal digits where it is a number, a truth,
 /// a date, a resolution or a range, and otherwise in quotes, or in hexadecimal digits where it cannot

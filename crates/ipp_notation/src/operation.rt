@@ -7,13 +7,6 @@ use std::fmt;
 pub struct Operation(pub u16);
 
 impl Operation {
-    /// The operation with the name.
-    pub(crate) fn named(name: &str) -> Option<Operation> {
-        (0x0002..=0x0012)
-            .map(|id| Operation(id))
-            .find(|operation| operation.name() == Some(name))
-    }
-
     /// The name of the operation, for those of RFC 8011 section 5.4.15.
     pub fn name(self) -> Option<&'static str> {
         match self.0 {
