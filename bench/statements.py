@@ -17,7 +17,7 @@ def print_job_texts():
 
 def text_of(file, begin):
     """The one text of the file that begins so."""
-    with open(f'{TOP}/crates/room_statements/src/{file}', encoding='utf-8') as source:
+    with open(f'{TOP}/crates/rows_statements/src/{file}', encoding='utf-8') as source:
         found = re.findall(f'"({begin}[^"]*)"', source.read())
     if len(found) != 1:
         sys.exit(f'{file} has {len(found)} texts that begin with {begin}')

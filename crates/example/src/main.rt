@@ -8,7 +8,7 @@ mod quota;
 use crate::fault::Fault;
 use crate::machine::first_answers;
 use crate::quota::quota_of_alice;
-use room_lines::print_answer;
+use input_lines::print_answer;
 use std::io::Write;
 use std::process::ExitCode;
 

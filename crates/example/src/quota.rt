@@ -1,8 +1,8 @@
 //! What a user of the library writes.
 
 use crate::fault::Fault;
-use room_events::{Event, Name, Reply};
-use room_questions::{About, Question};
+use account_machine::{Event, Name, Reply};
+use account_questions::{About, Question};
 use room_store::Store;
 use sqlite::Connection;
 use std::alloc::Global;

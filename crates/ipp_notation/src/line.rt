@@ -5,8 +5,8 @@ ghost use Rattle.ipp_notation.specs.Lines.{HasMessage, HasNoMessage, IsOfScript,
 
 use crate::operation::Operation;
 use crate::status::Status;
+use input_fields::FieldFault;
 use memchr::{memchr, memrchr};
-use room_input::FieldFault;
 use std::alloc::{AllocError, Global};
 use std::fmt;
 
@@ -42,7 +42,7 @@ impl<'a> MessageLine<'a> {
         let Some((origin, words, digits)) = parted(line) else {
             return Ok(None);
         };
-        match room_input::bytes(alloc, digits) {
+        match input_fields::bytes(alloc, digits) {
             Ok(bytes) => Ok(Some(MessageLine {
                 origin,
                 words,

@@ -1,12 +1,12 @@
 -- What holds of each job of a room holds of those that Get-Jobs gives.
 use Rattle.std.proofs.Common.{List}
 use Rattle.std.specs.List.{AllByRecursion}
-use Rattle.room_asks.specs.Asks.{PlainAsk}
-use Rattle.room_asks.specs.declared.ask.Which.{Which}
-use Rattle.room_asks.specs.declared.ask.Which.TheVariants.{NotCompleted, Completed}
-use Rattle.room_events.specs.Queues.{chosen, asked_jobs}
-use Rattle.room_rules.specs.declared.job.Job.{Job}
-use Rattle.room_state.proofs.QueueOrders.{all_not_completed, all_completed, all_at_most}
+use Rattle.account_asks.specs.Asks.{PlainAsk}
+use Rattle.account_asks.specs.declared.ask.Which.{Which}
+use Rattle.account_asks.specs.declared.ask.Which.TheVariants.{NotCompleted, Completed}
+use Rattle.account_machine.specs.Queues.{chosen, asked_jobs}
+use Rattle.account_rules.specs.declared.job.Job.{Job}
+use Rattle.account_state.proofs.QueueOrders.{all_not_completed, all_completed, all_at_most}
 
 all_chosen : (P : Job → Type 0) (which : Which) (jobs : List Job) → AllByRecursion P jobs → AllByRecursion P (chosen which jobs)
 all_chosen P NotCompleted jobs all = all_not_completed P jobs all

@@ -5,13 +5,13 @@ use Rattle.std.specs.Ordering.{eq_by_cmp}
 use Rattle.std.specs.declared.cmp.Ordering.TheVariants.{Equal}
 use Rattle.std.specs.FinMap.{get, insert, get-retain_keys, same_map}
 use Rattle.std.proofs.lemmas.Bool.Decides.{nat_tests}
-use Rattle.room_rules.specs.declared.job.Document.{Document}
-use Rattle.room_state.specs.Rooms.{place_cmp}
+use Rattle.account_rules.specs.declared.job.Document.{Document}
+use Rattle.account_state.specs.Rooms.{place_cmp}
 use Rattle.room_core.specs.ProofRoomLists.{document_map, PlacesOnce}
-use Rattle.room_state.specs.Changes.{without_documents, with_document}
+use Rattle.account_state.specs.Changes.{without_documents, with_document}
 use Rattle.std.specs.Option.{option_to_list}
-use Rattle.room_state.specs.Conditions.{GoesOn}
-use Rattle.room_state.proofs.DocumentMaps.{place_cmp_total, exact_places, pair_tie}
+use Rattle.account_state.specs.Conditions.{GoesOn}
+use Rattle.account_state.proofs.DocumentMaps.{place_cmp_total, exact_places, pair_tie}
 use Rattle.room_core.proofs.KeyedMaps.{get_keyed, push_keyed, same_option}
 
 place_tie : (place : ℕ × ℕ) (document : Document) → eq_by_cmp place_cmp place (document.job, document.number) ≡ ((document.job == place.0) && (document.number == place.1))

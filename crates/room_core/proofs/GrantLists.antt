@@ -7,11 +7,11 @@ use Rattle.std.specs.FinMap.{get, insert, entries, nat_cmp-IsAntisymmetric, len-
 use Rattle.std.proofs.lemmas.List.{nil_from_length}
 use Rattle.std.proofs.lemmas.List.Sums.{sum_by-cons}
 use Rattle.std.proofs.lemmas.Bool.Decides.{nat_tests}
-use Rattle.room_rules.specs.declared.account.Grant.{Grant}
-use Rattle.room_state.specs.Rooms.{RoomValue}
+use Rattle.account_rules.specs.declared.account.Grant.{Grant}
+use Rattle.account_state.specs.Rooms.{RoomValue}
 use Rattle.room_core.specs.ProofRoomLists.{grant_map, by_month, MonthsOnce}
-use Rattle.room_state.specs.Sums.{granted_to, pages_by}
-use Rattle.room_state.proofs.FiniteMaps.{number_tie, sum-insert_new}
+use Rattle.account_state.specs.Sums.{granted_to, pages_by}
+use Rattle.account_state.proofs.FiniteMaps.{number_tie, sum-insert_new}
 use Rattle.room_core.proofs.KeyedMaps.{get_keyed, push_keyed}
 
 pub get_pages : (grants : List Grant) (month : ℕ) → get (grant_map grants) month ≡ option_map (λ grant. grant.pages) (first (λ grant. grant.month == month) grants)

@@ -7,15 +7,15 @@ use Rattle.std.specs.FinMap.{get, insert, entries, values, from_entries, is_sort
 use Rattle.std.specs.FinMap.Entries.{below_all}
 use Rattle.std.proofs.lemmas.Bool.Decides.{nat_tests}
 use Rattle.std.proofs.lemmas.Float.{T_from_true}
-use Rattle.room_rules.specs.declared.job.Job.{Job}
-use Rattle.room_state.specs.Rooms.{RoomValue}
+use Rattle.account_rules.specs.declared.job.Job.{Job}
+use Rattle.account_state.specs.Rooms.{RoomValue}
 use Rattle.room_core.specs.ProofRoomLists.{job_map, by_number}
-use Rattle.room_state.specs.RoomRules.{NumbersRise}
-use Rattle.room_state.proofs.FiniteMaps.{number_tie}
+use Rattle.account_state.specs.RoomRules.{NumbersRise}
+use Rattle.account_state.proofs.FiniteMaps.{number_tie}
 use Rattle.std.proofs.lemmas.Bool.{eqb-true}
-use Rattle.room_rules.specs.declared.job.Standing.{Standing}
+use Rattle.account_rules.specs.declared.job.Standing.{Standing}
 use Rattle.room_core.specs.ProofRestanding.{restood_job}
-use Rattle.room_state.proofs.KeptJobs.{job_inserted}
+use Rattle.account_state.proofs.KeptJobs.{job_inserted}
 use Rattle.room_core.proofs.KeyedMaps.{get_keyed, push_keyed, same_option}
 
 pub get_job : (jobs : List Job) (number : ℕ) → get (job_map jobs) number ≡ first (λ job. job.job == number) jobs

@@ -4,25 +4,25 @@ use Rattle.std.specs.List.{AllByRecursion}
 use Rattle.std.specs.Option.{IsSome, IfSome, option_to_list}
 use Rattle.std.specs.FinMap.{get, values}
 use Rattle.std.proofs.lemmas.Bool.Decides.{nat_tests}
-use Rattle.room_rules.specs.JobStates.{is_unfinished}
-use Rattle.room_rules.specs.declared.account.Grant.{Grant}
-use Rattle.room_rules.specs.declared.job.Job.{Job}
-use Rattle.room_rules.specs.declared.job.Document.{Document}
-use Rattle.room_rules.specs.declared.job.Standing.{Standing}
-use Rattle.room_state.specs.Rooms.{RoomValue}
+use Rattle.account_rules.specs.JobStates.{is_unfinished}
+use Rattle.account_rules.specs.declared.account.Grant.{Grant}
+use Rattle.account_rules.specs.declared.job.Job.{Job}
+use Rattle.account_rules.specs.declared.job.Document.{Document}
+use Rattle.account_rules.specs.declared.job.Standing.{Standing}
+use Rattle.account_state.specs.Rooms.{RoomValue}
 use Rattle.room_core.specs.ProofRoomLists.{job_map, document_map, grant_map, PlacesOnce, MonthsOnce}
-use Rattle.room_state.specs.RoomRules.{IsRoom, NumbersRise, has_document}
-use Rattle.room_state.specs.Changes.{with_new_job, with_standing, with_ended, with_grant, with_document, restood}
+use Rattle.account_state.specs.RoomRules.{IsRoom, NumbersRise, has_document}
+use Rattle.account_state.specs.Changes.{with_new_job, with_standing, with_ended, with_grant, with_document, restood}
 use Rattle.room_core.specs.ProofSkips.{with_next, CanSkipTo}
-use Rattle.room_state.specs.Conditions.{CanAddJob, CanRestand, CanFinish, CanAddGrant, GoesOn}
+use Rattle.account_state.specs.Conditions.{CanAddJob, CanRestand, CanFinish, CanAddGrant, GoesOn}
 use Rattle.room_core.specs.ProofRestanding.{restood_job}
-use Rattle.room_state.proofs.KeptRooms.{add_job_keeps, restand_keeps, finish_keeps, add_grant_keeps, job_there, restood_there}
-use Rattle.room_state.proofs.FiniteMaps.{all_along}
+use Rattle.account_state.proofs.KeptRooms.{add_job_keeps, restand_keeps, finish_keeps, add_grant_keeps, job_there, restood_there}
+use Rattle.account_state.proofs.FiniteMaps.{all_along}
 use Rattle.room_core.proofs.JobLists.{job_map-push, values-job_map, rise_push, rise_restood, job_map-restood}
 use Rattle.room_core.proofs.DocumentLists.{document_map-others, list_with, places_left}
 use Rattle.room_core.proofs.GrantLists.{grant_map-push, list_with as one_month_more}
-use Rattle.room_state.proofs.Bounds.{values_by_the_rules}
-use Rattle.room_state.proofs.KeptJobs.{below_more, none_next}
+use Rattle.account_state.proofs.Bounds.{values_by_the_rules}
+use Rattle.account_state.proofs.KeptJobs.{below_more, none_next}
 
 -- the value of a room with these parts
 abbrev pub whole : (opened next : ℕ) → List Job → List Document → List Grant → RoomValue

@@ -5,12 +5,12 @@ use Rattle.std.proofs.lemmas.List.{take_more}
 use Rattle.std.proofs.lemmas.List.Sums.{sum_by_push, sum_by-take-le}
 use Rattle.std.proofs.lemmas.List.Folds.{list_any-append}
 use Rattle.std.proofs.Math.Bool.{or-false}
-use Rattle.room_rules.specs.JobStates.{is_unfinished, is_processing}
-use Rattle.room_rules.specs.declared.job.Job.{Job}
-use Rattle.room_rules.specs.declared.job.Standing.{Standing}
-use Rattle.room_state.specs.declared.tally.Tally.{Tally}
-use Rattle.room_state.specs.Tallies.{tally_of, counted, is_in_bounds}
-use Rattle.room_state.proofs.TallyLemmas.{three_lower}
+use Rattle.account_rules.specs.JobStates.{is_unfinished, is_processing}
+use Rattle.account_rules.specs.declared.job.Job.{Job}
+use Rattle.account_rules.specs.declared.job.Standing.{Standing}
+use Rattle.account_state.specs.declared.tally.Tally.{Tally}
+use Rattle.account_state.specs.Tallies.{tally_of, counted, is_in_bounds}
+use Rattle.account_state.proofs.TallyLemmas.{three_lower}
 
 -- one job more, by its standing
 abbrev pub counted_with : Tally → Standing → Tally

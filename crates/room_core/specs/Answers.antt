@@ -1,12 +1,12 @@
--- What a call of the machine in memory answers and leaves, by its definition in room_events.
+-- What a call of the machine in memory answers and leaves, by its definition in account_machine.
 use Rattle.std.specs.Prelude.{◌≡◌, ℕ, List, Option, Result, IfOk}
-use Rattle.room_events.specs.declared.event.Reply.{Reply}
-use Rattle.room_events.specs.DeviceEvents.{DeviceAnswer}
-use Rattle.room_events.specs.Machine.{Answer}
-use Rattle.room_events.specs.Requests.{Response}
-use Rattle.room_events.specs.Steps.{Step}
-use Rattle.room_rules.specs.Devices.{Devices}
-use Rattle.room_state.specs.Rooms.{RoomValue}
+use Rattle.account_machine.specs.declared.event.Reply.{Reply}
+use Rattle.account_machine.specs.DeviceEvents.{DeviceAnswer}
+use Rattle.account_machine.specs.Machine.{Answer}
+use Rattle.account_machine.specs.Requests.{Response}
+use Rattle.account_machine.specs.Steps.{Step}
+use Rattle.account_rules.specs.Devices.{Devices}
+use Rattle.account_state.specs.Rooms.{RoomValue}
 
 -- where there is a reply, it and the room are those of the step
 abbrev pub IsStep : {E : Type 0} (result : Result Reply E) (room : RoomValue) (step : Step) → Type 0

@@ -2,9 +2,9 @@
 use Rattle.std.specs.Prelude.{List, map}
 use Rattle.std.specs.Borrow.{Bor}
 use Rattle.room_core.specs.declared.stations.Station.{Station}
-use Rattle.room_events.specs.Stations.{PlainStation, station}
-use Rattle.room_rules.specs.declared.job.Job.{Job}
-use Rattle.room_rules.specs.Devices.{device_map}
+use Rattle.account_machine.specs.Stations.{PlainStation, station}
+use Rattle.account_rules.specs.declared.job.Job.{Job}
+use Rattle.account_rules.specs.Devices.{device_map}
 
 abbrev pub plain_station : (at : Station) → PlainStation
 plain_station at = station (device_map at.devices.now) at.device at.now

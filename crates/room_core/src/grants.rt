@@ -3,12 +3,12 @@
 ghost use Rattle.std.specs.Prelude.{◌≡◌, ◌≤◌, ◌++◌, ◌∷◌, [], ◌==◌, pos, find, OnOk, OnErr};
 ghost use Rattle.std.specs.Option.{option_map};
 ghost use Rattle.std.specs.List.{sum_by};
-ghost use Rattle.room_rules.specs.Limits.{most_units};
+ghost use Rattle.account_rules.specs.Limits.{most_units};
 ghost use Rattle.room_core.specs.ProofRoomLists.{by_month};
-ghost use Rattle.room_state.specs.Sums.{pages_by};
+ghost use Rattle.account_state.specs.Sums.{pages_by};
 
+use account_rules::Grant;
 use ipp_coding::List;
-use room_rules::Grant;
 use std::alloc::AllocError;
 
 /// What was granted for the month.

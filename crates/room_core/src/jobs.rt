@@ -2,14 +2,14 @@
 
 ghost use Rattle.std.specs.Prelude.{◌≡◌, ◌++◌, ◌∷◌, [], ◌==◌, map, find, option_copied, IsTrue, OnOk, OnErr};
 ghost use Rattle.std.specs.Option.{option_to_list};
-ghost use Rattle.room_rules.specs.Limits.{may_be_job};
+ghost use Rattle.account_rules.specs.Limits.{may_be_job};
 ghost use Rattle.room_core.specs.ProofRestanding.{restood_job};
-ghost use Rattle.room_state.specs.Tallies.{tally_of, is_in_bounds};
+ghost use Rattle.account_state.specs.Tallies.{tally_of, is_in_bounds};
 
 use crate::documents;
+use account_rules::{Document, Job, Standing};
+use account_state::Tally;
 use ipp_coding::List;
-use room_rules::{Document, Job, Standing};
-use room_state::Tally;
 use std::alloc::AllocError;
 
 /// The job with the number.

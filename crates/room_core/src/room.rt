@@ -3,18 +3,18 @@
 ghost use Rattle.std.specs.Prelude.{◌≡◌, ◌≤◌, pos, is_some, option_copied, IfSome, IsNone, IsOk, OnOk, OnErr};
 ghost use Rattle.std.specs.List.{AllByRecursion};
 ghost use Rattle.std.specs.FinMap.{get, values};
-ghost use Rattle.room_rules.specs.Limits.{last_moment, last_next_job, most_unfinished, most_units};
-ghost use Rattle.room_state.specs.Rooms.{empty_room};
-ghost use Rattle.room_state.specs.RoomRules.{IsJobAt, IsDocumentAt, IsGrant, NumbersRise, has_document, unfinished_count};
-ghost use Rattle.room_state.specs.Sums.{has_processing, reserved_in, charged_in, granted_to};
-ghost use Rattle.room_state.specs.Changes.{with_new_job, with_standing, with_ended, with_grant};
+ghost use Rattle.account_rules.specs.Limits.{last_moment, last_next_job, most_unfinished, most_units};
+ghost use Rattle.account_state.specs.Rooms.{empty_room};
+ghost use Rattle.account_state.specs.RoomRules.{IsJobAt, IsDocumentAt, IsGrant, NumbersRise, has_document, unfinished_count};
+ghost use Rattle.account_state.specs.Sums.{has_processing, reserved_in, charged_in, granted_to};
+ghost use Rattle.account_state.specs.Changes.{with_new_job, with_standing, with_ended, with_grant};
 ghost use Rattle.room_core.specs.ProofSkips.{with_next, CanSkipTo};
-ghost use Rattle.room_state.specs.Conditions.{CanAddJob, CanRestand, CanFinish, CanAddGrant};
+ghost use Rattle.account_state.specs.Conditions.{CanAddJob, CanRestand, CanFinish, CanAddGrant};
 
 use crate::{documents, grants, jobs};
+use account_rules::{Account, Document, Grant, Job, Moment, Standing, may_be_job};
+use account_state::Tally;
 use ipp_coding::List;
-use room_rules::{Account, Document, Grant, Job, Moment, Standing, may_be_job};
-use room_state::Tally;
 use std::alloc::{AllocError, Global};
 use std::marker::Model;
 
@@ -32,12 +32,12 @@ pub struct Room {
 impl Model for Room {
     ghost use Rattle.std.specs.Coded.{codes};
     ghost use Rattle.std.specs.FinMap as finite;
-    ghost use Rattle.room_rules.specs.contracts.job.Job as job_type;
-    ghost use Rattle.room_rules.specs.contracts.job.Document as document_type;
-    ghost use Rattle.room_state.specs.Rooms.{RoomValue};
+    ghost use Rattle.account_rules.specs.contracts.job.Job as job_type;
+    ghost use Rattle.account_rules.specs.contracts.job.Document as document_type;
+    ghost use Rattle.account_state.specs.Rooms.{RoomValue};
     ghost use Rattle.room_core.specs.ProofRoomLists.{job_map, document_map, grant_map};
     ghost use Rattle.room_core.specs.ProofRoomLists.{PlacesOnce, MonthsOnce};
-    ghost use Rattle.room_state.specs.RoomRules.{IsRoom, NumbersRise};
+    ghost use Rattle.account_state.specs.RoomRules.{IsRoom, NumbersRise};
 
     ghost Value = { RoomValue };
 

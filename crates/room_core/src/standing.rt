@@ -4,7 +4,7 @@ ghost use Rattle.std.specs.Prelude.{◌≡◌, OnOk, OnErr};
 ghost use Rattle.room_core.specs.Prelude.{CanMove, with_moved};
 
 use crate::room::Room;
-use room_rules::Standing;
+use account_rules::Standing;
 use std::alloc::AllocError;
 
 /// Gives the job its next standing; one that ends loses its documents.

@@ -1,13 +1,13 @@
 -- Machines that are given the same.
 use Rattle.std.proofs.Common.{◌≡◌, ℕ, Bool, true, false, cond, List, [], ◌∷◌, filter, Option, length, refl, sym, ap, subst, ◌∙◌, arith}
 use Rattle.sqlite.specs.Effect.{Database}
-use Rattle.room_events.specs.Events.{Timed}
-use Rattle.room_rules.specs.Devices.{Devices}
-use Rattle.room_state.specs.Rooms.{RoomValue}
-use Rattle.room_tables.proofs.AgreedRows.{agree_again, hold_the_same}
-use Rattle.room_tables.specs.Accounts.{Holds}
-use Rattle.room_tables.specs.Agreement.{Agree}
-use Rattle.room_tables.specs.Devices.{HoldsDevices}
+use Rattle.account_machine.specs.Events.{Timed}
+use Rattle.account_rules.specs.Devices.{Devices}
+use Rattle.account_state.specs.Rooms.{RoomValue}
+use Rattle.rows_tables.proofs.AgreedRows.{agree_again, hold_the_same}
+use Rattle.rows_tables.specs.Accounts.{Holds}
+use Rattle.rows_tables.specs.Agreement.{Agree}
+use Rattle.rows_tables.specs.Devices.{HoldsDevices}
 use Rattle.room_serve.specs.declared.outcome.Outcome.{Outcome}
 use Rattle.room_serve.specs.declared.outcome.Outcome.TheVariants.{Answered, Failed}
 use Rattle.room_serve.specs.Own.{own}

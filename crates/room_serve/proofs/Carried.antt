@@ -4,14 +4,14 @@ use Rattle.std.proofs.Common.{◌≡◌, ◌⊎◌, ℕ, List, [], ◌∷◌, �
 use Rattle.std.specs.Io.KnownBytes.{Appends}
 use Rattle.sqlite.specs.Held.{Held, state}
 use Rattle.sqlite_trees.specs.declared.store.Store.{Ghosts}
-use Rattle.room_events.specs.Events.{Timed, PlainEvent, OfAccount, Ipp}
-use Rattle.room_events.specs.declared.event.Reply.{Reply}
-use Rattle.room_http.specs.Exchange.{Takes}
-use Rattle.room_http.specs.Http.{Http, Carried}
-use Rattle.room_requests.specs.Texts.{interim_text}
-use Rattle.room_http.specs.declared.fault.WireFault.{WireFault}
-use Rattle.room_http.specs.declared.fault.WireFault.TheVariants.{Read, Write, Memory, Ended}
-use Rattle.room_http.specs.declared.judging.Order.{Order}
+use Rattle.account_machine.specs.Events.{Timed, PlainEvent, OfAccount, Ipp}
+use Rattle.account_machine.specs.declared.event.Reply.{Reply}
+use Rattle.listen_http.specs.Exchange.{Takes}
+use Rattle.listen_http.specs.Http.{Http, Carried}
+use Rattle.input_http.specs.Texts.{interim_text}
+use Rattle.listen_http.specs.declared.fault.WireFault.{WireFault}
+use Rattle.listen_http.specs.declared.fault.WireFault.TheVariants.{Read, Write, Memory, Ended}
+use Rattle.listen_http.specs.declared.judging.Order.{Order}
 use Rattle.room_store.specs.Applied.{Applies}
 use Rattle.room_store.specs.declared.fault.StoreFault.{StoreFault}
 use Rattle.room_serve.proofs.LivesOn.{lists_join, lives_go_on_in_lists, one_applied}

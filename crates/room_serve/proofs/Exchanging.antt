@@ -3,14 +3,14 @@ use Rattle.std.proofs.Common.{◌≡◌, ℕ, List, take, Option, Result, Ok, Er
 use Rattle.std.specs.Io.KnownBytes.{Appends}
 use Rattle.sqlite.specs.Held.{Held}
 use Rattle.sqlite_trees.specs.declared.store.Store.{Ghosts}
-use Rattle.room_events.specs.declared.event.Reply.{Reply}
-use Rattle.room_http.specs.Exchange.{AppendsFront, FailedReceiving, Takes}
-use Rattle.room_http.specs.Http.{Http, Carried}
-use Rattle.room_requests.specs.Texts.{interim_text}
-use Rattle.room_http.specs.declared.fault.WireFault.{WireFault}
-use Rattle.room_http.specs.declared.fault.WireFault.TheVariants.{Read, Write, Memory, Ended}
-use Rattle.room_http.specs.declared.judging.Order.{Order}
-use Rattle.room_http.proofs.Streams.{Appends_more}
+use Rattle.account_machine.specs.declared.event.Reply.{Reply}
+use Rattle.listen_http.specs.Exchange.{AppendsFront, FailedReceiving, Takes}
+use Rattle.listen_http.specs.Http.{Http, Carried}
+use Rattle.input_http.specs.Texts.{interim_text}
+use Rattle.listen_http.specs.declared.fault.WireFault.{WireFault}
+use Rattle.listen_http.specs.declared.fault.WireFault.TheVariants.{Read, Write, Memory, Ended}
+use Rattle.listen_http.specs.declared.judging.Order.{Order}
+use Rattle.listen_http.proofs.Streams.{Appends_more}
 use Rattle.room_store.specs.declared.fault.StoreFault.{StoreFault}
 use Rattle.room_serve.specs.Exchanges.{Answers, AppliesMessage, AppendsBehind, Breaks, after_telling, has_carried, in_answer, in_interim, text_told}
 use Rattle.room_serve.specs.declared.wire.After.{After}

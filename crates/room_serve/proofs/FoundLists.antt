@@ -7,16 +7,16 @@ use Rattle.sqlite.specs.Held.{Held, state}
 use Rattle.sqlite.specs.State.{HasCleanDisk}
 use Rattle.sqlite_trees.specs.Tree.{Trees}
 use Rattle.sqlite_trees.specs.declared.store.Store.{Ghosts}
-use Rattle.room_events.specs.Events.{Timed, OfAccount, OfDevice}
-use Rattle.room_events.specs.declared.event.Reply.{Reply}
-use Rattle.room_events.specs.declared.event.Reply.TheVariants.{Short}
-use Rattle.room_laws.proofs.LifeLemmas.{lives_go_on}
-use Rattle.room_laws.specs.Lives.{Exchange, Life}
+use Rattle.account_machine.specs.Events.{Timed, OfAccount, OfDevice}
+use Rattle.account_machine.specs.declared.event.Reply.{Reply}
+use Rattle.account_machine.specs.declared.event.Reply.TheVariants.{Short}
+use Rattle.account_laws.proofs.LifeLemmas.{lives_go_on}
+use Rattle.account_laws.specs.Lives.{Exchange, Life}
 use Rattle.room_store.specs.Applied.{Applies}
 use Rattle.room_store.specs.Events.{IsShort}
-use Rattle.room_tables.specs.Calls.{LeavesNoMore}
-use Rattle.room_tables.specs.Crashes.{IsOnDisk}
-use Rattle.room_tables.specs.Keyed.{HasSchema}
+use Rattle.rows_tables.specs.Calls.{LeavesNoMore}
+use Rattle.rows_tables.specs.Crashes.{IsOnDisk}
+use Rattle.rows_tables.specs.Keyed.{HasSchema}
 use Rattle.room_serve.specs.Crashes.{HasOneDone, IsFound, IsUndone, ListsAreFound, with_event}
 use Rattle.room_serve.specs.LivesInFiles.{IsLifeIn, exchanges_of}
 use Rattle.room_serve.specs.Outcomes.{result_of}

@@ -7,20 +7,20 @@ use Rattle.sqlite.specs.Held.{Held, state}
 use Rattle.sqlite.specs.State.{State, HasCleanDisk}
 use Rattle.sqlite_trees.specs.Tree.{Trees}
 use Rattle.sqlite_trees.specs.declared.store.Store.{Ghosts}
-use Rattle.room_events.specs.DeviceEvents.{device_answered}
-use Rattle.room_events.specs.Events.{Timed, OfAccount, OfDevice}
-use Rattle.room_events.specs.Machine.{answered}
-use Rattle.room_events.specs.declared.event.Reply.{Reply}
-use Rattle.room_laws.proofs.LifeLemmas.{lives_go_on}
-use Rattle.room_laws.specs.Lives.{Exchange, Life}
+use Rattle.account_machine.specs.DeviceEvents.{device_answered}
+use Rattle.account_machine.specs.Events.{Timed, OfAccount, OfDevice}
+use Rattle.account_machine.specs.Machine.{answered}
+use Rattle.account_machine.specs.declared.event.Reply.{Reply}
+use Rattle.account_laws.proofs.LifeLemmas.{lives_go_on}
+use Rattle.account_laws.specs.Lives.{Exchange, Life}
 use Rattle.room_store.specs.Applied.{Applies, IsDone}
 use Rattle.room_store.specs.declared.fault.StoreFault.{StoreFault}
-use Rattle.room_tables.proofs.AgreedRows.{still_devices, still_holds}
-use Rattle.room_tables.specs.Accounts.{AgreeOnRows, Holds, account_at, document_at, grant_at, job_at}
-use Rattle.room_tables.specs.Crashes.{IsOnDisk}
-use Rattle.room_tables.specs.Devices.{AgreeOnDevices, device_at, rate_at}
-use Rattle.room_tables.specs.Keyed.{AreNumbered, HasSchema}
-use Rattle.room_tables.specs.Tables.{room_schema}
+use Rattle.rows_tables.proofs.AgreedRows.{still_devices, still_holds}
+use Rattle.rows_tables.specs.Accounts.{AgreeOnRows, Holds, account_at, document_at, grant_at, job_at}
+use Rattle.rows_tables.specs.Crashes.{IsOnDisk}
+use Rattle.rows_tables.specs.Devices.{AgreeOnDevices, device_at, rate_at}
+use Rattle.rows_tables.specs.Keyed.{AreNumbered, HasSchema}
+use Rattle.rows_tables.specs.Tables.{room_schema}
 use Rattle.room_serve.specs.Crashes.{AnsweredIsFound, IsFound, IsFoundAfter, UnderWayIsFound, with_event}
 use Rattle.room_serve.specs.LivesInFiles.{IsLifeIn, exchanges_of}
 use Rattle.room_serve.specs.Outcomes.{outcome_of}

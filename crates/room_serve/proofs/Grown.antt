@@ -1,7 +1,7 @@
 -- A list of events that grows by one at its end.
 use Rattle.std.proofs.Common.{◌≡◌, ℕ, Bool, true, false, cond, List, [], ◌∷◌, ◌++◌, length, refl, ap, ◌∙◌, arith}
 use Rattle.std.proofs.lemmas.List.Elements.{filter-append}
-use Rattle.room_events.specs.Events.{PlainEvent, Timed}
+use Rattle.account_machine.specs.Events.{PlainEvent, Timed}
 use Rattle.room_serve.specs.declared.outcome.Outcome.{Outcome}
 use Rattle.room_serve.specs.declared.outcome.Outcome.TheVariants.{Answered, Failed}
 use Rattle.room_serve.specs.Own.{of_devices, own}

@@ -3,12 +3,12 @@ use Rattle.std.proofs.Common.{◌≡◌, ℕ, ◌+◌, Bool, true, false, cond, 
 use Rattle.std.proofs.lemmas.List.{append-nil, append_assoc, length-append}
 use Rattle.std.proofs.lemmas.List.Elements.{filter-append}
 use Rattle.sqlite.specs.Effect.{Database}
-use Rattle.room_events.specs.DeviceEvents.{device_answered}
-use Rattle.room_events.specs.Events.{AccountEvent, PlainEvent, Timed, OfAccount, OfDevice}
-use Rattle.room_events.specs.Machine.{answered}
-use Rattle.room_events.specs.declared.event.Reply.{Reply}
-use Rattle.room_rules.specs.Devices.{Devices}
-use Rattle.room_state.specs.Rooms.{RoomValue}
+use Rattle.account_machine.specs.DeviceEvents.{device_answered}
+use Rattle.account_machine.specs.Events.{AccountEvent, PlainEvent, Timed, OfAccount, OfDevice}
+use Rattle.account_machine.specs.Machine.{answered}
+use Rattle.account_machine.specs.declared.event.Reply.{Reply}
+use Rattle.account_rules.specs.Devices.{Devices}
+use Rattle.account_state.specs.Rooms.{RoomValue}
 use Rattle.room_serve.specs.declared.outcome.Outcome.{Outcome}
 use Rattle.room_serve.specs.declared.outcome.Outcome.TheVariants.{Answered, Failed}
 use Rattle.room_serve.specs.Own.{is_of, own}

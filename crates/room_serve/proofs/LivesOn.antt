@@ -3,17 +3,17 @@ use Rattle.std.proofs.Common.{◌≡◌, ℕ, Bool, true, false, ◌||◌, cond,
 use Rattle.std.specs.FinMap.{empty}
 use Rattle.sqlite.specs.Held.{Held, state}
 use Rattle.sqlite_trees.specs.declared.store.Store.{Ghosts}
-use Rattle.room_events.specs.DeviceEvents.{device_answered}
-use Rattle.room_events.specs.Events.{Timed, OfAccount, OfDevice}
-use Rattle.room_events.specs.Machine.{answered}
-use Rattle.room_events.specs.declared.event.Reply.{Reply}
-use Rattle.room_laws.proofs.LifeLemmas.{lives_go_on}
-use Rattle.room_laws.specs.Lives.{LeadsTo, Life}
-use Rattle.room_rules.specs.Devices.{Devices}
-use Rattle.room_state.specs.Rooms.{RoomValue}
+use Rattle.account_machine.specs.DeviceEvents.{device_answered}
+use Rattle.account_machine.specs.Events.{Timed, OfAccount, OfDevice}
+use Rattle.account_machine.specs.Machine.{answered}
+use Rattle.account_machine.specs.declared.event.Reply.{Reply}
+use Rattle.account_laws.proofs.LifeLemmas.{lives_go_on}
+use Rattle.account_laws.specs.Lives.{LeadsTo, Life}
+use Rattle.account_rules.specs.Devices.{Devices}
+use Rattle.account_state.specs.Rooms.{RoomValue}
 use Rattle.room_store.specs.Applied.{Applies}
 use Rattle.room_store.specs.declared.fault.StoreFault.{StoreFault}
-use Rattle.room_tables.proofs.AgreedRows.{still_devices, still_holds}
+use Rattle.rows_tables.proofs.AgreedRows.{still_devices, still_holds}
 use Rattle.room_serve.specs.declared.outcome.Outcome.{Outcome}
 use Rattle.room_serve.specs.declared.outcome.Outcome.TheVariants.{Answered, Failed}
 use Rattle.room_serve.specs.Alone.{Alone, DevicesAlone, alone, change_on, devices_alone}

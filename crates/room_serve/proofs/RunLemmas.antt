@@ -9,20 +9,20 @@ use Rattle.sqlite.specs.Effect.{Database}
 use Rattle.sqlite.specs.Held.{Held, state}
 use Rattle.sqlite.specs.State.{State, HasCleanDisk}
 use Rattle.std.proofs.lemmas.Slice.Eq.{bytes_eq-Decides}
-use Rattle.room_events.specs.Events.{PlainEvent, AccountEvent, Timed, OfAccount, OfDevice}
-use Rattle.room_events.specs.Machine.{answered}
-use Rattle.room_events.specs.declared.event.Reply.{Reply}
+use Rattle.account_machine.specs.Events.{PlainEvent, AccountEvent, Timed, OfAccount, OfDevice}
+use Rattle.account_machine.specs.Machine.{answered}
+use Rattle.account_machine.specs.declared.event.Reply.{Reply}
 use Rattle.room_store.specs.Applied.{Applies, IsAnswered}
-use Rattle.room_rules.specs.Devices.{Devices}
-use Rattle.room_state.specs.Rooms.{RoomValue}
+use Rattle.account_rules.specs.Devices.{Devices}
+use Rattle.account_state.specs.Rooms.{RoomValue}
 use Rattle.room_store.specs.declared.fault.StoreFault.{StoreFault}
-use Rattle.room_tables.proofs.AgreedRows.{still_devices, still_holds}
-use Rattle.room_tables.proofs.Going.{goes_on}
-use Rattle.room_tables.specs.Accounts.{AgreeOnRows, Holds}
-use Rattle.room_tables.specs.Calls.{KeepsConnection}
-use Rattle.room_tables.specs.Devices.{AgreeOnDevices, HoldsDevices}
-use Rattle.room_tables.specs.Keyed.{HasSchema}
-use Rattle.room_tables.specs.Tables.{meta}
+use Rattle.rows_tables.proofs.AgreedRows.{still_devices, still_holds}
+use Rattle.rows_tables.proofs.Going.{goes_on}
+use Rattle.rows_tables.specs.Accounts.{AgreeOnRows, Holds}
+use Rattle.rows_tables.specs.Calls.{KeepsConnection}
+use Rattle.rows_tables.specs.Devices.{AgreeOnDevices, HoldsDevices}
+use Rattle.rows_tables.specs.Keyed.{HasSchema}
+use Rattle.rows_tables.specs.Tables.{meta}
 use Rattle.room_serve.specs.declared.outcome.Outcome.{Outcome}
 use Rattle.room_serve.specs.Own.{is_of, is_of_device, of_devices, own}
 use Rattle.room_serve.specs.Alone.{Alone, DevicesAlone, alone, answer_on, change_on, devices_alone}

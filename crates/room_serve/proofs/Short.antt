@@ -2,11 +2,11 @@
 use Rattle.std.proofs.Common.{◌≡◌, ◌⊎◌, ℕ, true, List, Option, Some, None, nat_lt, length, inl, inr, refl, arith}
 use Rattle.std.proofs.lemmas.Bool.Decides.{nat_tests}
 use Rattle.std.proofs.lemmas.Bool.{cases_Bool}
-use Rattle.room_events.specs.Events.{AccountEvent, OfAccount, Open, Ipp, Release, Start, Settle, Grant}
-use Rattle.room_events.specs.Machine.{answered}
-use Rattle.room_events.specs.declared.event.Reply.TheVariants as reply
-use Rattle.room_rules.specs.Devices.{Devices}
-use Rattle.room_state.specs.Rooms.{RoomValue}
+use Rattle.account_machine.specs.Events.{AccountEvent, OfAccount, Open, Ipp, Release, Start, Settle, Grant}
+use Rattle.account_machine.specs.Machine.{answered}
+use Rattle.account_machine.specs.declared.event.Reply.TheVariants as reply
+use Rattle.account_rules.specs.Devices.{Devices}
+use Rattle.account_state.specs.Rooms.{RoomValue}
 use Rattle.room_store.specs.Events.{IsShort}
 
 pub short_or_not : (account : List ℕ) (it : AccountEvent) → IsShort (OfAccount account it) ⊎ (IsShort (OfAccount account it) → ⊥)

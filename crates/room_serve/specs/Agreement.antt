@@ -1,11 +1,11 @@
 -- What holds of two databases that are the same to an account (all this project's own).
 use Rattle.std.specs.Prelude.{ℕ, List, Option}
 use Rattle.sqlite.specs.Effect.{Database}
-use Rattle.room_rules.specs.Devices.{Devices}
-use Rattle.room_state.specs.Rooms.{RoomValue}
-use Rattle.room_tables.specs.Accounts.{Holds}
-use Rattle.room_tables.specs.Agreement.{Agree}
-use Rattle.room_tables.specs.Devices.{HoldsDevices}
+use Rattle.account_rules.specs.Devices.{Devices}
+use Rattle.account_state.specs.Rooms.{RoomValue}
+use Rattle.rows_tables.specs.Accounts.{Holds}
+use Rattle.rows_tables.specs.Agreement.{Agree}
+use Rattle.rows_tables.specs.Devices.{HoldsDevices}
 
 abbrev pub HoldTheSame : Type 0
 HoldTheSame = (name : List ℕ) (a b : Database) → Agree name a b

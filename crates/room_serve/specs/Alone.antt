@@ -1,12 +1,12 @@
 -- One account's machine by itself, and the devices by themselves, from left to right (all this
 -- project's own).
 use Rattle.std.specs.Prelude.{List, [], ◌∷◌, ◌++◌, Option, if◌then◌else◌}
-use Rattle.room_events.specs.DeviceEvents.{device_answered}
-use Rattle.room_events.specs.Machine.{Answer, answered}
-use Rattle.room_events.specs.declared.event.Reply.{Reply}
-use Rattle.room_rules.specs.Devices.{Devices}
-use Rattle.room_state.specs.Rooms.{RoomValue}
-use Rattle.room_events.specs.Events.{Timed}
+use Rattle.account_machine.specs.DeviceEvents.{device_answered}
+use Rattle.account_machine.specs.Machine.{Answer, answered}
+use Rattle.account_machine.specs.declared.event.Reply.{Reply}
+use Rattle.account_rules.specs.Devices.{Devices}
+use Rattle.account_state.specs.Rooms.{RoomValue}
+use Rattle.account_machine.specs.Events.{Timed}
 use Rattle.room_serve.specs.Own.{is_of_device}
 
 -- ---- an account

@@ -4,15 +4,15 @@ use Rattle.std.specs.Prelude.{◌≡◌, ◌⊎◌, ℕ, true, List, [], ◌∷�
 use Rattle.std.specs.Io.KnownBytes.{Appends}
 use Rattle.sqlite.specs.Held.{Held, state}
 use Rattle.sqlite_trees.specs.declared.store.Store.{Ghosts}
-use Rattle.room_events.specs.Events.{Timed, OfAccount, Ipp}
-use Rattle.room_events.specs.declared.event.Reply.{Reply}
-use Rattle.room_http.specs.Exchange.{Takes}
-use Rattle.room_http.specs.Http.{Http, Carried}
-use Rattle.room_requests.specs.Texts.{interim_text}
-use Rattle.room_http.specs.declared.judging.Order.{Order}
-use Rattle.room_laws.specs.Lives.{Life}
+use Rattle.account_machine.specs.Events.{Timed, OfAccount, Ipp}
+use Rattle.account_machine.specs.declared.event.Reply.{Reply}
+use Rattle.listen_http.specs.Exchange.{Takes}
+use Rattle.listen_http.specs.Http.{Http, Carried}
+use Rattle.input_http.specs.Texts.{interim_text}
+use Rattle.listen_http.specs.declared.judging.Order.{Order}
+use Rattle.account_laws.specs.Lives.{Life}
 use Rattle.room_store.specs.declared.fault.StoreFault.{StoreFault}
-use Rattle.room_tables.specs.Calls.{IfOurTables}
+use Rattle.rows_tables.specs.Calls.{IfOurTables}
 use Rattle.room_serve.specs.Exchanges.{AppendsBehind, AppliesMessage, text_told}
 use Rattle.room_serve.specs.LivesInFiles.{IsLifeIn, exchanges_of}
 use Rattle.room_serve.specs.Outcomes.{outcome_of}

@@ -5,16 +5,16 @@ use Rattle.sqlite.specs.Effect.{Database}
 use Rattle.sqlite.specs.Held.{Held, state}
 use Rattle.sqlite_trees.specs.Tree.{Trees}
 use Rattle.sqlite_trees.specs.declared.store.Store.{Ghosts}
-use Rattle.room_events.specs.Events.{Timed}
-use Rattle.room_events.specs.declared.event.Reply.{Reply}
-use Rattle.room_events.specs.declared.event.Reply.TheVariants.{Short}
-use Rattle.room_laws.specs.Lives.{Life}
+use Rattle.account_machine.specs.Events.{Timed}
+use Rattle.account_machine.specs.declared.event.Reply.{Reply}
+use Rattle.account_machine.specs.declared.event.Reply.TheVariants.{Short}
+use Rattle.account_laws.specs.Lives.{Life}
 use Rattle.room_store.specs.Applied.{Applies}
 use Rattle.room_store.specs.declared.fault.StoreFault.{StoreFault}
-use Rattle.room_tables.specs.Calls.{IfOurTables}
-use Rattle.room_tables.specs.Crashes.{IsOnDisk}
-use Rattle.room_tables.specs.Keyed.{AreNumbered}
-use Rattle.room_tables.specs.Tables.{room_schema}
+use Rattle.rows_tables.specs.Calls.{IfOurTables}
+use Rattle.rows_tables.specs.Crashes.{IsOnDisk}
+use Rattle.rows_tables.specs.Keyed.{AreNumbered}
+use Rattle.rows_tables.specs.Tables.{room_schema}
 use Rattle.room_serve.specs.declared.outcome.Outcome.{Outcome}
 use Rattle.room_serve.specs.declared.outcome.Outcome.TheVariants.{Answered, Failed}
 use Rattle.room_serve.specs.LivesInFiles.{IsLifeIn, exchanges_of}

@@ -5,20 +5,20 @@ use Rattle.std.specs.Io.KnownBytes.{Appends}
 use Rattle.sqlite.specs.Held.{Held, state}
 use Rattle.sqlite_trees.specs.declared.store.Store.{Ghosts}
 use Rattle.ipp_coding.specs.Reading.{header_in}
-use Rattle.room_events.specs.Events.{OfAccount, Ipp}
-use Rattle.room_events.specs.declared.event.Reply.{Reply}
-use Rattle.room_events.specs.declared.event.Reply.TheVariants as reply_is
-use Rattle.room_http.specs.Exchange.{AppendsFront, AppendsInterim, Takes, TakesHead}
-use Rattle.room_http.specs.Http.{Http, Nothing, Refused, Carried}
-use Rattle.room_requests.specs.Texts.{answer_text, interim_text, refusal_text}
-use Rattle.room_http.specs.declared.fault.WireFault.{WireFault}
-use Rattle.room_http.specs.declared.fault.WireFault.TheVariants.{Read, Write, Memory, Ended}
-use Rattle.room_http.specs.declared.judging.Order.{Order}
-use Rattle.room_requests.specs.declared.refusal.Refusal.{Refusal}
-use Rattle.room_requests.specs.declared.refusal.Refusal.TheVariants.{NotFound}
+use Rattle.account_machine.specs.Events.{OfAccount, Ipp}
+use Rattle.account_machine.specs.declared.event.Reply.{Reply}
+use Rattle.account_machine.specs.declared.event.Reply.TheVariants as reply_is
+use Rattle.listen_http.specs.Exchange.{AppendsFront, AppendsInterim, Takes, TakesHead}
+use Rattle.listen_http.specs.Http.{Http, Nothing, Refused, Carried}
+use Rattle.input_http.specs.Texts.{answer_text, interim_text, refusal_text}
+use Rattle.listen_http.specs.declared.fault.WireFault.{WireFault}
+use Rattle.listen_http.specs.declared.fault.WireFault.TheVariants.{Read, Write, Memory, Ended}
+use Rattle.listen_http.specs.declared.judging.Order.{Order}
+use Rattle.input_http.specs.declared.refusal.Refusal.{Refusal}
+use Rattle.input_http.specs.declared.refusal.Refusal.TheVariants.{NotFound}
 use Rattle.room_store.specs.Applied.{Applies}
 use Rattle.room_store.specs.declared.fault.StoreFault.{StoreFault}
-use Rattle.room_replies.specs.Replies.{internal_error_text}
+use Rattle.account_replies.specs.Replies.{internal_error_text}
 use Rattle.room_serve.specs.declared.wire.After.{After}
 use Rattle.room_serve.specs.declared.wire.After.TheVariants.{Again, Close}
 

@@ -1,14 +1,14 @@
 -- The headline: what others ask makes no difference to an account (all this project's own).
 use Rattle.std.specs.Prelude.{◌≡◌, ℕ, Bool, List, length, IsTrue, true, ◌++◌}
 use Rattle.sqlite.specs.Effect.{Database}
-use Rattle.room_tables.specs.Accounts.{IsSound}
-use Rattle.room_tables.specs.Devices.{AreSoundDevices}
+use Rattle.rows_tables.specs.Accounts.{IsSound}
+use Rattle.rows_tables.specs.Devices.{AreSoundDevices}
 use Rattle.room_serve.specs.declared.outcome.Outcome.{Outcome}
-use Rattle.room_events.specs.Events.{Timed}
+use Rattle.account_machine.specs.Events.{Timed}
 use Rattle.room_serve.specs.Own.{is_of, own}
 use Rattle.room_serve.specs.Outcomes.{NoneFailed, replies_to}
 use Rattle.room_serve.specs.Runs.{RunsAlone}
-use Rattle.room_tables.specs.Agreement.{Agree}
+use Rattle.rows_tables.specs.Agreement.{Agree}
 
 -- a list of events, what each came to, and what that made of the database, as `run_events` has it
 pub record IsRun (events : List Timed) (outcomes : List Outcome) (old : Database) (is_open : Bool)

@@ -4,19 +4,19 @@ use Rattle.std.specs.Prelude.{ℕ, Bool, true, ◌||◌, List, [], ◌∷◌, �
 use Rattle.sqlite.specs.Effect.{Database}
 use Rattle.sqlite.specs.Held.{Held, state}
 use Rattle.sqlite_trees.specs.declared.store.Store.{Ghosts}
-use Rattle.room_events.specs.Events.{Timed, OfAccount, Ipp}
-use Rattle.room_events.specs.declared.event.Reply.{Reply}
-use Rattle.room_laws.specs.Lives.{IsLife, Life}
-use Rattle.room_rules.specs.Devices.{Devices}
-use Rattle.room_state.specs.Rooms.{RoomValue}
+use Rattle.account_machine.specs.Events.{Timed, OfAccount, Ipp}
+use Rattle.account_machine.specs.declared.event.Reply.{Reply}
+use Rattle.account_laws.specs.Lives.{IsLife, Life}
+use Rattle.account_rules.specs.Devices.{Devices}
+use Rattle.account_state.specs.Rooms.{RoomValue}
 use Rattle.room_store.specs.Opening.{MigratesDevices, OpensDevices, OpensRows}
 use Rattle.room_store.specs.declared.fault.StoreFault.{StoreFault}
-use Rattle.room_tables.specs.Accounts.{Holds}
-use Rattle.room_tables.specs.Calls.{IfDiskHonest, IfOurTables}
-use Rattle.room_tables.specs.Devices.{HoldsDevices}
-use Rattle.room_tables.specs.Keyed.{AreNumbered, HasSchema}
-use Rattle.room_tables.specs.Making.{IsNew}
-use Rattle.room_tables.specs.Migrating.{HoldsFirstDevices}
+use Rattle.rows_tables.specs.Accounts.{Holds}
+use Rattle.rows_tables.specs.Calls.{IfDiskHonest, IfOurTables}
+use Rattle.rows_tables.specs.Devices.{HoldsDevices}
+use Rattle.rows_tables.specs.Keyed.{AreNumbered, HasSchema}
+use Rattle.rows_tables.specs.Making.{IsNew}
+use Rattle.rows_tables.specs.Migrating.{HoldsFirstDevices}
 use Rattle.room_serve.specs.declared.outcome.Outcome.{Outcome}
 use Rattle.room_serve.specs.declared.outcome.Outcome.TheVariants.{Answered, Failed}
 use Rattle.room_serve.specs.Exchanges.{AppliesMessage}

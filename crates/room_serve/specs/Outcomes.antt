@@ -1,8 +1,8 @@
 -- Which events of a list were answered, which failed, and what was answered (all this project's
 -- own).
 use Rattle.std.specs.Prelude.{◌≡◌, ℕ, Bool, List, [], ◌∷◌, Option, Some, None, Result, Ok, Err, if◌then◌else◌}
-use Rattle.room_events.specs.Events.{PlainEvent, Timed}
-use Rattle.room_events.specs.declared.event.Reply.{Reply}
+use Rattle.account_machine.specs.Events.{PlainEvent, Timed}
+use Rattle.account_machine.specs.declared.event.Reply.{Reply}
 use Rattle.room_store.specs.declared.fault.StoreFault.{StoreFault}
 use Rattle.room_serve.specs.declared.outcome.Outcome.{Outcome}
 use Rattle.room_serve.specs.declared.outcome.Outcome.TheVariants.{Answered, Failed}

@@ -1,6 +1,6 @@
 -- An account's own events in a list of anybody's (all this project's own).
 use Rattle.std.specs.Prelude.{ℕ, Bool, true, false, ◌||◌, List, filter, bytes_eq}
-use Rattle.room_events.specs.Events.{PlainEvent, Timed, OfAccount, OfDevice}
+use Rattle.account_machine.specs.Events.{PlainEvent, Timed, OfAccount, OfDevice}
 
 -- it names this account
 abbrev pub is_of : (name : List ℕ) (e : PlainEvent) → Bool

@@ -4,14 +4,14 @@ use Rattle.std.specs.Prelude.{◌≡◌, ℕ, Bool, List, [], ◌∷◌, filter,
 use Rattle.sqlite_trees.specs.declared.store.Store.{Ghosts}
 use Rattle.sqlite.specs.Effect.{Database}
 use Rattle.sqlite.specs.Held.{Held, state}
-use Rattle.room_rules.specs.Devices.{Devices}
-use Rattle.room_state.specs.Rooms.{RoomValue}
+use Rattle.account_rules.specs.Devices.{Devices}
+use Rattle.account_state.specs.Rooms.{RoomValue}
 use Rattle.room_store.specs.Applied.{Applies}
-use Rattle.room_tables.specs.Accounts.{AgreeOnRows, Holds}
-use Rattle.room_tables.specs.Devices.{AgreeOnDevices, HoldsDevices}
-use Rattle.room_tables.specs.Tables.{meta}
+use Rattle.rows_tables.specs.Accounts.{AgreeOnRows, Holds}
+use Rattle.rows_tables.specs.Devices.{AgreeOnDevices, HoldsDevices}
+use Rattle.rows_tables.specs.Tables.{meta}
 use Rattle.room_serve.specs.declared.outcome.Outcome.{Outcome}
-use Rattle.room_events.specs.Events.{Timed}
+use Rattle.account_machine.specs.Events.{Timed}
 use Rattle.room_serve.specs.Own.{is_of, is_of_device, of_devices, own}
 use Rattle.room_serve.specs.Alone.{Alone, DevicesAlone, alone, devices_alone}
 use Rattle.room_serve.specs.Outcomes.{answered_of, replies_to, result_of}

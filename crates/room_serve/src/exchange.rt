@@ -3,18 +3,18 @@ ghost use Rattle.std.specs.Prelude.{◌≡◌, ◌↔◌, ◌+◌, ◌-◌, ◌^
 ghost use Rattle.std.specs.Io.KnownBytes.{Appends};
 ghost use Rattle.sqlite.specs.Held.{state};
 ghost use Rattle.ipp_coding.specs.Limits.{header_length};
-ghost use Rattle.room_events.specs.declared.event.Reply.{Reply as ToldReply};
-ghost use Rattle.room_http.specs.Exchange.{AppendsFront, TakesAtMost, most_taken, read_faults, write_faults};
+ghost use Rattle.account_machine.specs.declared.event.Reply.{Reply as ToldReply};
+ghost use Rattle.listen_http.specs.Exchange.{AppendsFront, TakesAtMost, most_taken, read_faults, write_faults};
 ghost use Rattle.room_store.specs.declared.fault.StoreFault.{StoreFault as ToldFault};
 ghost use Rattle.room_serve.specs.Exchanges.{Answers, AppliesMessage, Breaks, after_answer, after_telling, internal_error_answer, text_told};
 ghost use Rattle.room_serve.specs.Wires.{wire_has_ended, reader_of, writer_of};
-ghost use Rattle.room_tables.specs.Calls.{KeepsConnection};
+ghost use Rattle.rows_tables.specs.Calls.{KeepsConnection};
 
 use crate::wire::{After, Wire};
+use account_machine::{Event, Reply, internal_error};
+use input_fields::{Sink, Source};
 use ipp_coding::header_in;
-use room_events::{Event, Reply, internal_error};
-use room_http::{Order, Received, Refusal, WireFault, receive, send_answer, send_refusal};
-use room_input::{Sink, Source};
+use listen_http::{Order, Received, Refusal, WireFault, receive, send_answer, send_refusal};
 use room_store::{Store, StoreFault};
 use sqlite::Alter;
 use std::alloc::Global;

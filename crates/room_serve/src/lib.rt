@@ -24,11 +24,11 @@ mod wire;
 
 pub use exchange::serve_one;
 pub use fault::RunFault;
+pub use input_fields::{GrantFault, GrantLine, Sink, Source, read_grants};
 pub use laws::{
     agreement, isolation, lives_are_found, lives_go_on_in_files, lives_stay_in_files, runs_join,
 };
+pub use listen_http::WireFault;
 pub use outcome::Outcome;
-pub use room_http::WireFault;
-pub use room_input::{GrantFault, GrantLine, Sink, Source, read_grants};
 pub use run::run_events;
 pub use wire::{After, Wire};

@@ -3,7 +3,7 @@
 ghost use Rattle.std.specs.Prelude.{◌≡◌, option_copied};
 ghost use Rattle.room_serve.specs.Outcomes.{outcome_of, reply_of};
 
-use room_events::Reply;
+use account_machine::Reply;
 use room_store::StoreFault;
 
 /// The outcome of an event of a list.

@@ -3,18 +3,18 @@ ghost use Rattle.std.specs.Prelude.{◌≡◌, ◌++◌, ◌∷◌, [], ◌<◌,
 ghost use Rattle.std.specs.Vec.{vec_capacity, vec_len};
 ghost use Rattle.sqlite.specs.Held.{state};
 ghost use Rattle.sqlite_trees.specs.Tree.{Trees};
-ghost use Rattle.room_events.specs.Events.{plain_event, plain_timed};
-ghost use Rattle.room_events.specs.Fits.{fits};
-ghost use Rattle.room_laws.specs.Lives.{Life};
-ghost use Rattle.room_tables.specs.Calls.{KeepsConnection, IfOurTables};
-ghost use Rattle.room_tables.specs.Keyed.{HasSchema};
+ghost use Rattle.account_machine.specs.Events.{plain_event, plain_timed};
+ghost use Rattle.account_machine.specs.Fits.{fits};
+ghost use Rattle.account_laws.specs.Lives.{Life};
+ghost use Rattle.rows_tables.specs.Calls.{KeepsConnection, IfOurTables};
+ghost use Rattle.rows_tables.specs.Keyed.{HasSchema};
 ghost use Rattle.room_serve.specs.Crashes.{IsFound};
 ghost use Rattle.room_serve.specs.LivesInFiles.{IsLifeIn, exchanges_of};
 ghost use Rattle.room_serve.specs.Runs.{AreApplied, LeavesTheRest, RunsAlone, RunsDevices};
 
 use crate::fault::RunFault;
 use crate::outcome::Outcome;
-use room_events::Event;
+use account_machine::Event;
 use room_store::Store;
 use sqlite::Alter;
 use std::alloc::Global;

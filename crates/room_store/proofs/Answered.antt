@@ -2,22 +2,22 @@
 use Rattle.std.proofs.Common.{◌≡◌, ℕ, List, Option, Some, None, Result, Ok, Err, OnOk, IsSome, refl, sym, subst, ◌∙◌}
 use Rattle.sqlite_value.specs.Order.{Row}
 use Rattle.sqlite.specs.Effect.{Database}
-use Rattle.room_asks.specs.declared.ask.Which.TheVariants.{NotCompleted, Completed}
-use Rattle.room_questions.specs.Pages.{most_shown}
-use Rattle.room_questions.specs.Stations.{printed_by}
-use Rattle.room_questions.specs.declared.question.About.{About}
-use Rattle.room_questions.specs.declared.question.About.TheVariants.{Left, Statement, Jobs, Ended, Grants, Waiting, Again, OwnerPage, StatementPage}
-use Rattle.room_questions.specs.declared.question.Question.TheVariants.{Ping, End, Devices, Accounts, Check, Account}
-use Rattle.room_questions.specs.Questions.{NeedsDevices}
-use Rattle.room_rules.specs.Devices.{Devices as DeviceMap}
-use Rattle.room_statements.proofs.SoundReads.{sound_rows_are_read}
-use Rattle.room_statements.specs.SoundRows.{AccountsRead}
+use Rattle.account_asks.specs.declared.ask.Which.TheVariants.{NotCompleted, Completed}
+use Rattle.account_questions.specs.Pages.{most_shown}
+use Rattle.account_questions.specs.Stations.{printed_by}
+use Rattle.account_questions.specs.declared.question.About.{About}
+use Rattle.account_questions.specs.declared.question.About.TheVariants.{Left, Statement, Jobs, Ended, Grants, Waiting, Again, OwnerPage, StatementPage}
+use Rattle.account_questions.specs.declared.question.Question.TheVariants.{Ping, End, Devices, Accounts, Check, Account}
+use Rattle.account_questions.specs.Questions.{NeedsDevices}
+use Rattle.account_rules.specs.Devices.{Devices as DeviceMap}
+use Rattle.rows_statements.proofs.SoundReads.{sound_rows_are_read}
+use Rattle.rows_statements.specs.SoundRows.{AccountsRead}
 use Rattle.room_store.proofs.Readable.{act_readable, jobs_readable}
 use Rattle.room_store.specs.Questions.{AboutIsReadable, AgreeingAreAnsweredAlike, OpenNames, SoundRowsAreAnswered}
-use Rattle.room_tables.proofs.AgreedRows.{still_holds}
-use Rattle.room_tables.specs.Accounts.{IsSound, account_at}
-use Rattle.room_tables.specs.Devices.{AgreeOnDevices, AreSoundDevices, HoldsDevices}
-use Rattle.room_tables.specs.Keyed.{HasSchema}
+use Rattle.rows_tables.proofs.AgreedRows.{still_holds}
+use Rattle.rows_tables.specs.Accounts.{IsSound, account_at}
+use Rattle.rows_tables.specs.Devices.{AgreeOnDevices, AreSoundDevices, HoldsDevices}
+use Rattle.rows_tables.specs.Keyed.{HasSchema}
 
 -- ---- sound rows
 

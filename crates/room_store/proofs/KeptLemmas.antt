@@ -8,19 +8,19 @@ use Rattle.std.specs.List.{sum_by}
 use Rattle.sqlite.specs.Effect.{Database}
 use Rattle.sqlite.specs.Held.{Held, state}
 use Rattle.sqlite.specs.State.{State, HasCleanDisk}
-use Rattle.room_rules.specs.declared.account.Account.{Account}
-use Rattle.room_rules.specs.declared.job.Job.{Job}
-use Rattle.room_rules.specs.declared.job.Standing.{Standing}
-use Rattle.room_state.specs.RoomRules.{unfinished_count}
-use Rattle.room_state.specs.Rooms.{RoomValue}
-use Rattle.room_state.specs.Sums.{charged_in, reserved_in}
-use Rattle.room_statements.proofs.SummedJobs.{same_sum}
-use Rattle.room_statements.specs.Alone.{OnlyAccount, OnlyDevices}
-use Rattle.room_statements.proofs.CountedRows.{same_counted}
-use Rattle.room_statements.proofs.CountWalk.{count_of_room}
-use Rattle.room_statements.specs.JobSums.{IsCounted, IsSum, MovesCount, MovesSum, charges, counts, reserves}
-use Rattle.room_statements.specs.Rounds.{BeginsRound, EndsRound}
-use Rattle.room_statements.specs.Queues.{IsNumbered}
+use Rattle.account_rules.specs.declared.account.Account.{Account}
+use Rattle.account_rules.specs.declared.job.Job.{Job}
+use Rattle.account_rules.specs.declared.job.Standing.{Standing}
+use Rattle.account_state.specs.RoomRules.{unfinished_count}
+use Rattle.account_state.specs.Rooms.{RoomValue}
+use Rattle.account_state.specs.Sums.{charged_in, reserved_in}
+use Rattle.rows_statements.proofs.SummedJobs.{same_sum}
+use Rattle.rows_statements.specs.Alone.{OnlyAccount, OnlyDevices}
+use Rattle.rows_statements.proofs.CountedRows.{same_counted}
+use Rattle.rows_statements.proofs.CountWalk.{count_of_room}
+use Rattle.rows_statements.specs.JobSums.{IsCounted, IsSum, MovesCount, MovesSum, charges, counts, reserves}
+use Rattle.rows_statements.specs.Rounds.{BeginsRound, EndsRound}
+use Rattle.rows_statements.specs.Queues.{IsNumbered}
 use Rattle.room_store.specs.Kept.{AreRight, HasCount, HasRow, HasSums, HaveSums, IsKept, IsMoved, IsNothing, IsRight, IsSeen, KeepsKept, MindsAccount, MindsCount, MindsJob, MindsMaking, MindsMove, MindsOpening, MindsSums, Outlasts, SetsKept, WhereOpen, kept_in, kept_of, known_of, unknown}
 use Rattle.room_store.specs.ProofKnown.{HasAccountRow, HasJobRow}
 use Rattle.room_store.specs.Serving.{LooksUp}
@@ -30,11 +30,11 @@ use Rattle.room_store.specs.declared.memory.Seen.{Seen}
 use Rattle.room_store.specs.declared.memory.Sums.{Sums}
 use Rattle.room_store.specs.declared.cache.Kept.{Kept}
 use Rattle.room_store.specs.declared.cache.Key.{Key}
-use Rattle.room_tables.specs.Accounts.{AgreeOnRows, HoldsRoom, account_at, job_at}
-use Rattle.room_tables.specs.Calls.{ChangesWhole, IsUnchanged, IsUndone, KeepsConnection, ReadsStore, UnchangedOrUndone}
-use Rattle.room_tables.specs.Cells.{account_cells, job_cells}
-use Rattle.room_tables.specs.Keyed.{HasSchema}
-use Rattle.room_tables.specs.declared.fault.TableFault.{TableFault}
+use Rattle.rows_tables.specs.Accounts.{AgreeOnRows, HoldsRoom, account_at, job_at}
+use Rattle.rows_tables.specs.Calls.{ChangesWhole, IsUnchanged, IsUndone, KeepsConnection, ReadsStore, UnchangedOrUndone}
+use Rattle.rows_tables.specs.Cells.{account_cells, job_cells}
+use Rattle.rows_tables.specs.Keyed.{HasSchema}
+use Rattle.rows_tables.specs.declared.fault.TableFault.{TableFault}
 
 abbrev Entries : Type 0
 Entries = List (Key × Kept)

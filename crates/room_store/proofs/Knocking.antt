@@ -5,23 +5,23 @@ use Rattle.sqlite_trees.specs.declared.store.Store.{Ghosts}
 use Rattle.sqlite.specs.Held.{Held, state}
 use Rattle.sqlite.specs.State.{State, IsNotRun, IsUnchanged as IsLeftSame}
 use Rattle.sqlite.specs.declared.error.Error.{Error}
-use Rattle.room_events.specs.DeviceEvents.{device_answered}
-use Rattle.room_events.specs.Events.{PlainEvent, OfAccount, OfDevice}
-use Rattle.room_events.specs.Machine.{answered}
-use Rattle.room_events.specs.declared.event.Reply.{Reply}
-use Rattle.room_rules.specs.Devices.{Devices}
-use Rattle.room_state.specs.Rooms.{RoomValue}
-use Rattle.room_statements.proofs.RoundTexts.{empty_is_one}
-use Rattle.room_statements.specs.Alone.{OnlyAccount, OnlyDevices}
+use Rattle.account_machine.specs.DeviceEvents.{device_answered}
+use Rattle.account_machine.specs.Events.{PlainEvent, OfAccount, OfDevice}
+use Rattle.account_machine.specs.Machine.{answered}
+use Rattle.account_machine.specs.declared.event.Reply.{Reply}
+use Rattle.account_rules.specs.Devices.{Devices}
+use Rattle.account_state.specs.Rooms.{RoomValue}
+use Rattle.rows_statements.proofs.RoundTexts.{empty_is_one}
+use Rattle.rows_statements.specs.Alone.{OnlyAccount, OnlyDevices}
 use Rattle.room_store.proofs.ServingLemmas.{Passed, look_failed_as, serves_after}
 use Rattle.room_store.specs.Reading.{IsReadable}
 use Rattle.room_store.specs.Serving.{DoesEvent, LooksUp, MayBeHeld}
-use Rattle.room_tables.proofs.Savepoints.{undone_by}
-use Rattle.room_tables.specs.Accounts.{Holds}
-use Rattle.room_tables.specs.Calls.{IsUnchanged, IsUndone}
-use Rattle.room_tables.specs.Devices.{HoldsDevices}
-use Rattle.room_tables.specs.declared.fault.TableFault.{TableFault}
-use Rattle.room_tables.specs.declared.fault.TableFault.TheVariants as table
+use Rattle.rows_tables.proofs.Savepoints.{undone_by}
+use Rattle.rows_tables.specs.Accounts.{Holds}
+use Rattle.rows_tables.specs.Calls.{IsUnchanged, IsUndone}
+use Rattle.rows_tables.specs.Devices.{HoldsDevices}
+use Rattle.rows_tables.specs.declared.fault.TableFault.{TableFault}
+use Rattle.rows_tables.specs.declared.fault.TableFault.TheVariants as table
 
 pub unchanged_by : (old new : State) → IsLeftSame old new → IsUnchanged old new
 unchanged_by old new same = record { now = same.0.now_is; committed = same.0.committed_is; mode = same.0.mode }

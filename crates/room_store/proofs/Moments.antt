@@ -1,7 +1,7 @@
 -- A number that a moment was made of.
 use Rattle.std.proofs.Common.{◌≡◌, ◌<◌, ◌≤◌, ◌↔◌, ℕ, Option, Some, IfSome, IsNone, ⊎_elim, subst}
 use Rattle.std.proofs.lemmas.Bool.{cases_lt}
-use Rattle.room_rules.specs.Limits.{last_moment}
+use Rattle.account_rules.specs.Limits.{last_moment}
 
 -- it lies in the range
 pub in_time : (told : Option ℕ) (now moment : ℕ) → told ≡ Some moment → (IsNone told ↔ (last_moment < now)) → now ≤ last_moment

@@ -9,11 +9,11 @@ use Rattle.sqlite.specs.Effect.{Database}
 use Rattle.sqlite.specs.State.{State, HasCleanDisk}
 use Rattle.room_store.proofs.Kept.{opened_devices, opened_rows, opened_schema}
 use Rattle.room_store.specs.Shapes.{AreTables}
-use Rattle.room_tables.specs.Accounts.{AgreeOnRows, account_at, document_at, grant_at, job_at}
-use Rattle.room_tables.specs.Devices.{AgreeOnDevices, device_at, rate_at}
-use Rattle.room_tables.specs.Keyed.{AreNumbered, HasSchema}
-use Rattle.room_tables.specs.Making.{OpensTables}
-use Rattle.room_tables.specs.Tables.{room_schema}
+use Rattle.rows_tables.specs.Accounts.{AgreeOnRows, account_at, document_at, grant_at, job_at}
+use Rattle.rows_tables.specs.Devices.{AgreeOnDevices, device_at, rate_at}
+use Rattle.rows_tables.specs.Keyed.{AreNumbered, HasSchema}
+use Rattle.rows_tables.specs.Making.{OpensTables}
+use Rattle.rows_tables.specs.Tables.{room_schema}
 
 pub numbered_of : (shapes : ℕ → Shape) (tables : List Table) (db : Database) → IsOrdered shapes db.trees → AreTables shapes tables → AreNumbered tables db
 numbered_of shapes [] db ordered are = tt

@@ -1,22 +1,22 @@
 -- Pages that are told: what was read is what they show.
 use Rattle.std.proofs.Common.{◌≡◌, ℕ, Bool, List, Option, Some, ap, ◌∙◌}
 use Rattle.std.specs.FinMap.{values}
-use Rattle.room_events.specs.declared.event.Reply.{Reply}
-use Rattle.room_events.specs.declared.event.Reply.TheVariants.{Line}
-use Rattle.room_pages.specs.Owners.{owner_page}
-use Rattle.room_pages.specs.Statements.{statement_page}
-use Rattle.room_pages.specs.declared.outcome.Outcome.{Outcome}
-use Rattle.room_pages.specs.declared.owner.Owner.{Owner}
-use Rattle.room_pages.specs.declared.statement.Statement.{Statement}
-use Rattle.room_questions.specs.Pages.{most_shown, owner_of, statement_of, statement_with}
-use Rattle.room_reads.specs.Summaries.{summary_of}
-use Rattle.room_reads.specs.declared.summary.Summary.{Summary}
-use Rattle.room_rules.specs.Devices.{Devices}
-use Rattle.room_rules.specs.declared.device.Device.{Device}
-use Rattle.room_rules.specs.declared.job.Job.{Job}
-use Rattle.room_state.specs.Queues.{at_most, completed, not_completed}
-use Rattle.room_state.specs.Rooms.{RoomValue}
-use Rattle.room_state.specs.Sums.{charged_in, granted_to, reserved_in}
+use Rattle.account_machine.specs.declared.event.Reply.{Reply}
+use Rattle.account_machine.specs.declared.event.Reply.TheVariants.{Line}
+use Rattle.page_pages.specs.Owners.{owner_page}
+use Rattle.page_pages.specs.Statements.{statement_page}
+use Rattle.page_pages.specs.declared.outcome.Outcome.{Outcome}
+use Rattle.page_pages.specs.declared.owner.Owner.{Owner}
+use Rattle.page_pages.specs.declared.statement.Statement.{Statement}
+use Rattle.account_questions.specs.Pages.{most_shown, owner_of, statement_of, statement_with}
+use Rattle.account_reads.specs.Summaries.{summary_of}
+use Rattle.account_reads.specs.declared.summary.Summary.{Summary}
+use Rattle.account_rules.specs.Devices.{Devices}
+use Rattle.account_rules.specs.declared.device.Device.{Device}
+use Rattle.account_rules.specs.declared.job.Job.{Job}
+use Rattle.account_state.specs.Queues.{at_most, completed, not_completed}
+use Rattle.account_state.specs.Rooms.{RoomValue}
+use Rattle.account_state.specs.Sums.{charged_in, granted_to, reserved_in}
 
 module _ (account : List ℕ) (month : ℕ) (outcome : Option Outcome) (stays needs_password : Bool) where
   abbrev pub owner_with : (granted reserved charged : ℕ) (waiting ended : List Job) (devices : List Device) → Owner

@@ -3,7 +3,7 @@ use Rattle.std.proofs.Common.{Result, Ok, Err, refl, inl, arith}
 use Rattle.sqlite_trees.specs.declared.store.Store.{Ghosts}
 use Rattle.sqlite.specs.State.{State}
 use Rattle.sqlite.specs.Held.{Held, state}
-use Rattle.room_tables.specs.declared.fault.TableFault.{TableFault}
+use Rattle.rows_tables.specs.declared.fault.TableFault.{TableFault}
 use Rattle.room_store.specs.Serving.{StaysOpen}
 use Rattle.room_store.proofs.ServingLemmas.{Passed}
 

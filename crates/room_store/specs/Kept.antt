@@ -4,10 +4,10 @@ use Rattle.std.specs.Map.{lookup}
 use Rattle.lru.specs.LruCache.{LruCache}
 use Rattle.sqlite.specs.Effect.{Database}
 use Rattle.sqlite.specs.State.{State, HasCleanDisk}
-use Rattle.room_rules.specs.declared.account.Account.{Account}
-use Rattle.room_rules.specs.declared.job.Job.{Job}
-use Rattle.room_rules.specs.declared.job.Standing.{Standing}
-use Rattle.room_statements.specs.JobSums.{IsCounted, IsSum, charges, counts, reserves}
+use Rattle.account_rules.specs.declared.account.Account.{Account}
+use Rattle.account_rules.specs.declared.job.Job.{Job}
+use Rattle.account_rules.specs.declared.job.Standing.{Standing}
+use Rattle.rows_statements.specs.JobSums.{IsCounted, IsSum, charges, counts, reserves}
 use Rattle.room_store.specs.ProofKnown.{HasAccountRow, HasJobRow}
 use Rattle.room_store.specs.declared.cache.Kept.{Kept}
 use Rattle.room_store.specs.declared.cache.Key.{Key}
@@ -15,8 +15,8 @@ use Rattle.room_store.specs.declared.memory.Sums.{Sums}
 use Rattle.room_store.specs.declared.memory.Added.{Added}
 use Rattle.room_store.specs.declared.memory.Memory.{Memory}
 use Rattle.room_store.specs.declared.memory.Seen.{Seen}
-use Rattle.room_tables.specs.Keyed.{HasSchema}
-use Rattle.room_tables.specs.declared.fault.TableFault.{TableFault}
+use Rattle.rows_tables.specs.Keyed.{HasSchema}
+use Rattle.rows_tables.specs.declared.fault.TableFault.{TableFault}
 
 -- ---- accounts by name
 

@@ -2,12 +2,12 @@
 use Rattle.std.specs.Prelude.{ℕ, List}
 use Rattle.sqlite.specs.Held.{Held, state}
 use Rattle.sqlite_trees.specs.declared.store.Store.{Ghosts}
-use Rattle.room_rules.specs.Devices.{Devices}
-use Rattle.room_tables.specs.Accounts.{AgreeOnRows}
-use Rattle.room_tables.specs.Calls.{IfDiskHonest, KeepsConnection, UnchangedIfHonest}
-use Rattle.room_tables.specs.Devices.{AgreeOnDevices, HoldsDevices}
-use Rattle.room_tables.specs.Keyed.{AreNumbered, HasSchema}
-use Rattle.room_tables.specs.Migrating.{HoldsFirstDevices}
+use Rattle.account_rules.specs.Devices.{Devices}
+use Rattle.rows_tables.specs.Accounts.{AgreeOnRows}
+use Rattle.rows_tables.specs.Calls.{IfDiskHonest, KeepsConnection, UnchangedIfHonest}
+use Rattle.rows_tables.specs.Devices.{AgreeOnDevices, HoldsDevices}
+use Rattle.rows_tables.specs.Keyed.{AreNumbered, HasSchema}
+use Rattle.rows_tables.specs.Migrating.{HoldsFirstDevices}
 
 module _ {S : Type 0} (store : Ghosts S) (old new : Held S) where
   -- each account keeps its rows; and the tables are the store's, if row numbers came once

@@ -4,32 +4,32 @@ use Rattle.sqlite.specs.Effect.{Database}
 use Rattle.sqlite.specs.Held.{Held, state}
 use Rattle.sqlite.specs.State.{HasCleanDisk}
 use Rattle.sqlite_trees.specs.declared.store.Store.{Ghosts}
-use Rattle.room_asks.specs.declared.ask.Which.TheVariants.{NotCompleted, Completed}
-use Rattle.room_events.specs.declared.event.Reply.{Reply}
-use Rattle.room_events.specs.declared.event.Reply.TheVariants as reply
-use Rattle.room_reads.specs.Names.{AreNames}
-use Rattle.room_questions.specs.Pages.{most_shown}
-use Rattle.room_questions.specs.Questions.{answer_about, answer_to, check_text, Concerns, ConcernsDevices, ConcernsNames, NeedsDevices}
-use Rattle.room_questions.specs.Stations.{printed_by}
-use Rattle.room_questions.specs.declared.question.About.{About}
-use Rattle.room_questions.specs.declared.question.About.TheVariants.{Left, Statement, Jobs, Ended, Grants, Waiting, Again, OwnerPage, StatementPage}
-use Rattle.room_questions.specs.declared.question.Question.{Question}
-use Rattle.room_questions.specs.declared.question.Question.TheVariants.{Ping, End, Devices, Accounts, Check, Account}
-use Rattle.room_replies.specs.Words.{word_text}
-use Rattle.room_rules.specs.Devices.{Devices as DeviceMap}
-use Rattle.room_rules.specs.declared.refusal.Word.TheVariants.{NoAccount}
-use Rattle.room_state.specs.RoomRules.{IsGrant}
-use Rattle.room_state.specs.Rooms.{RoomValue}
-use Rattle.room_statements.specs.SoundRows.{AreNamed, AreRowsOf, CanBeAdded, CanBeCounted, CanBeListed, CanBeSummed, grant_rows, job_rows}
+use Rattle.account_asks.specs.declared.ask.Which.TheVariants.{NotCompleted, Completed}
+use Rattle.account_machine.specs.declared.event.Reply.{Reply}
+use Rattle.account_machine.specs.declared.event.Reply.TheVariants as reply
+use Rattle.account_reads.specs.Names.{AreNames}
+use Rattle.account_questions.specs.Pages.{most_shown}
+use Rattle.account_questions.specs.Questions.{answer_about, answer_to, check_text, Concerns, ConcernsDevices, ConcernsNames, NeedsDevices}
+use Rattle.account_questions.specs.Stations.{printed_by}
+use Rattle.account_questions.specs.declared.question.About.{About}
+use Rattle.account_questions.specs.declared.question.About.TheVariants.{Left, Statement, Jobs, Ended, Grants, Waiting, Again, OwnerPage, StatementPage}
+use Rattle.account_questions.specs.declared.question.Question.{Question}
+use Rattle.account_questions.specs.declared.question.Question.TheVariants.{Ping, End, Devices, Accounts, Check, Account}
+use Rattle.account_replies.specs.Words.{word_text}
+use Rattle.account_rules.specs.Devices.{Devices as DeviceMap}
+use Rattle.account_rules.specs.declared.refusal.Word.TheVariants.{NoAccount}
+use Rattle.account_state.specs.RoomRules.{IsGrant}
+use Rattle.account_state.specs.Rooms.{RoomValue}
+use Rattle.rows_statements.specs.SoundRows.{AreNamed, AreRowsOf, CanBeAdded, CanBeCounted, CanBeListed, CanBeSummed, grant_rows, job_rows}
 use Rattle.room_store.specs.Reading.{AccountIsReadable, ActIsReadable, DeviceIsReadable, DocumentsAreReadable, JobsAreReadable}
 use Rattle.room_store.specs.declared.fault.StoreFault.{StoreFault}
 use Rattle.room_store.specs.declared.fault.StoreFault.TheVariants.{Damaged}
-use Rattle.room_tables.specs.Accounts.{AgreeOnRows, Holds, HoldsNothing, HoldsRoom, IsSound, account_at}
-use Rattle.room_tables.specs.Calls.{IfOurTables, IsUnchanged, KeepsConnection, LeavesNoMore}
-use Rattle.room_tables.specs.Cells.{grant_cells}
-use Rattle.room_tables.specs.Devices.{AgreeOnDevices, AreSoundDevices, HoldsDevices, device_at}
-use Rattle.room_tables.specs.Keyed.{HasSchema}
-use Rattle.room_tables.specs.declared.fault.TableFault.{TableFault}
+use Rattle.rows_tables.specs.Accounts.{AgreeOnRows, Holds, HoldsNothing, HoldsRoom, IsSound, account_at}
+use Rattle.rows_tables.specs.Calls.{IfOurTables, IsUnchanged, KeepsConnection, LeavesNoMore}
+use Rattle.rows_tables.specs.Cells.{grant_cells}
+use Rattle.rows_tables.specs.Devices.{AgreeOnDevices, AreSoundDevices, HoldsDevices, device_at}
+use Rattle.rows_tables.specs.Keyed.{HasSchema}
+use Rattle.rows_tables.specs.declared.fault.TableFault.{TableFault}
 
 -- the names of all accounts that have a row
 abbrev pub OpenNames : (db : Database) (names : List (List ℕ)) → Type 0

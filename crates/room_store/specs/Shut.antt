@@ -1,7 +1,7 @@
 -- What is left of a connection that a fault has shut (all this project's own).
 use Rattle.std.specs.Prelude.{IsTrue}
 use Rattle.sqlite.specs.State.{State, HasCleanDisk}
-use Rattle.room_tables.specs.Calls.{LeavesNoMore}
+use Rattle.rows_tables.specs.Calls.{LeavesNoMore}
 
 -- where it was shut before the call a crash finds nothing that it could not have found then
 abbrev pub LeavesIfShut : (old new : State) → Type 0

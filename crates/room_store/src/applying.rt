@@ -1,16 +1,16 @@
 //! An event is applied in a transaction of its own.
 
 ghost use Rattle.std.specs.Prelude.{◌≡◌, not, IsTrue};
-ghost use Rattle.room_events.specs.Events.{plain_event};
-ghost use Rattle.room_events.specs.Fits.{fits};
+ghost use Rattle.account_machine.specs.Events.{plain_event};
+ghost use Rattle.account_machine.specs.Fits.{fits};
 ghost use Rattle.room_store.specs.Applied.{Applies};
-ghost use Rattle.room_tables.specs.Crashes.{IsOnDisk};
+ghost use Rattle.rows_tables.specs.Crashes.{IsOnDisk};
 ghost use Rattle.sqlite.specs.Held.{state};
 
 use crate::events::{answer_on_disk, is_short};
 use crate::fault::StoreFault;
 use crate::rounds::Rounds;
-use room_events::{Event, Moment, Reply};
+use account_machine::{Event, Moment, Reply};
 use sqlite::Alter;
 use std::alloc::Global;
 

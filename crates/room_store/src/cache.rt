@@ -3,8 +3,8 @@
 ghost use Rattle.std.specs.Prelude.{◌≡◌, [], IfSome};
 ghost use Rattle.room_store.specs.Kept.{kept_of, SetsKept};
 
+use account_machine::{Account, Name};
 use lru::LruCache;
-use room_events::{Account, Name};
 use std::alloc::Global;
 use std::hash::{Hash, Hasher};
 use std::num::NonZeroUsize;

@@ -1,14 +1,14 @@
 //! What is kept in memory of the tables, so that it is not read again.
 
 ghost use Rattle.std.specs.Prelude.{◌≡◌, ◌≤◌, ◌<◌, ◌+◌, ℕ, [], IfSome, None, Some, bytes_eq};
-ghost use Rattle.room_rules.specs.Limits.{last_next_job, most_unfinished, most_units};
+ghost use Rattle.account_rules.specs.Limits.{last_next_job, most_unfinished, most_units};
 ghost use Rattle.room_store.specs.Kept.{added_by, kept_in, kept_of, known_of, unknown, HasCount, HasRow, HasSums, IsMoved, IsNothing, KeepsKept, MakesKept, MindsAccount, MindsCount, MindsJob, MindsMaking, MindsMove, MindsOpening, MindsSums, MovesKept, MovesTo, Outlasts};
-ghost use Rattle.room_tables.specs.Accounts.{IsAccount};
+ghost use Rattle.rows_tables.specs.Accounts.{IsAccount};
 
 use crate::cache::{Accounts, Kept, find, no_accounts, set};
-use room_events::{Account, Job, Name, Standing};
-use room_rules::{LAST_JOB, LAST_MOMENT, MOST_UNFINISHED, MOST_UNITS};
-use room_tables::TableFault;
+use account_machine::{Account, Job, Name, Standing};
+use account_rules::{LAST_JOB, LAST_MOMENT, MOST_UNFINISHED, MOST_UNITS};
+use rows_tables::TableFault;
 use std::alloc::Global;
 
 /// What an account's jobs reserve and were charged, in units of the quota.

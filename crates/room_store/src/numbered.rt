@@ -5,9 +5,9 @@ ghost use Rattle.sqlite.specs.Held.{state};
 ghost use Rattle.sqlite.specs.State.{HasCleanDisk};
 ghost use Rattle.sqlite_trees.specs.declared.store.Shape.TheVariants as shape;
 ghost use Rattle.room_store.specs.Shapes.{AreTables};
-ghost use Rattle.room_tables.specs.Tables.{room_schema};
+ghost use Rattle.rows_tables.specs.Tables.{room_schema};
 
-use room_tables::OpenFault;
+use rows_tables::OpenFault;
 use sqlite::{Alter, Connection};
 use sqlite_trees::store::Shape;
 use std::alloc::Global;
@@ -29,8 +29,8 @@ impl<S: Alter + Drop> Drop for Numbered<S> {
 impl<S: Alter> Model for Numbered<S> {
     ghost use Rattle.sqlite.specs.Held.{Held, held_code, state};
     ghost use Rattle.sqlite.specs.State.{HasCleanDisk};
-    ghost use Rattle.room_tables.specs.Keyed.{AreNumbered};
-    ghost use Rattle.room_tables.specs.Tables.{room_schema};
+    ghost use Rattle.rows_tables.specs.Keyed.{AreNumbered};
+    ghost use Rattle.rows_tables.specs.Tables.{room_schema};
 
     ghost Value = { Held S };
 
@@ -45,7 +45,7 @@ impl<S: Alter> Model for Numbered<S> {
 impl<S: Alter> Numbered<S> {
     ghost use Rattle.sqlite.specs.Held.{state};
     ghost use Rattle.sqlite.specs.State.{HasCleanDisk};
-    ghost use Rattle.room_tables.specs.Keyed.{AreNumbered};
+    ghost use Rattle.rows_tables.specs.Keyed.{AreNumbered};
 
     /// The connection.
     pub(crate) fn into_connection(self) -> Connection<S>

@@ -2,23 +2,23 @@
 
 ghost use Rattle.std.specs.Prelude.{◌≡◌, Some, None, Err, IfOk};
 ghost use Rattle.std.specs.FinMap.{values};
-ghost use Rattle.room_asks.specs.declared.ask.Which.TheVariants.{NotCompleted, Completed};
-ghost use Rattle.room_questions.specs.Pages.{most_shown};
-ghost use Rattle.room_questions.specs.declared.question.About.TheVariants as about;
-ghost use Rattle.room_state.specs.Queues.{at_most, completed, not_completed};
+ghost use Rattle.account_asks.specs.declared.ask.Which.TheVariants.{NotCompleted, Completed};
+ghost use Rattle.account_questions.specs.Pages.{most_shown};
+ghost use Rattle.account_questions.specs.declared.question.About.TheVariants as about;
+ghost use Rattle.account_state.specs.Queues.{at_most, completed, not_completed};
 ghost use Rattle.room_store.specs.Prelude.{HoldsRoom, IfOurTables, LooksUp, RoomValue};
 ghost use Rattle.room_store.specs.Questions.{OwnerPageIsReadable, StatementPageIsReadable, TellsAbout};
 ghost use Rattle.room_store.specs.Reading.{JobsAreReadable};
 
-use crate::account_questions::{read_quota, read_statement};
+use crate::about_accounts::{read_quota, read_statement};
 use crate::rounds::Rounds;
 use crate::rounds::lists::list_devices;
 use crate::rounds::reads::{ended_jobs, unfinished_jobs};
+use account_machine::{Job, Name, Reply};
+use account_questions::{MOST_SHOWN, owner_page, statement_page, statement_with};
 use ipp_coding::List;
-use room_events::{Job, Name, Reply};
-use room_pages::{Outcome, Owner};
-use room_questions::{MOST_SHOWN, owner_page, statement_page, statement_with};
-use room_tables::TableFault;
+use page_pages::{Outcome, Owner};
+use rows_tables::TableFault;
 use sqlite::Alter;
 use std::alloc::Global;
 

@@ -2,28 +2,28 @@
 
 ghost use Rattle.std.specs.Prelude.{◌≡◌, ℕ, List, Option, Err, IfOk, codes};
 ghost use Rattle.std.specs.FinMap.{values};
-ghost use Rattle.room_events.specs.declared.event.Reply.TheVariants as reply;
-ghost use Rattle.room_questions.specs.Lists.{accounts_text, devices_text};
-ghost use Rattle.room_reads.specs.Names.{next_names};
-ghost use Rattle.room_questions.specs.Questions.{NeedsDevices, answer_to};
-ghost use Rattle.room_questions.specs.declared.question.Question.TheVariants as question;
-ghost use Rattle.room_rules.specs.Devices.{Devices};
-ghost use Rattle.room_statements.specs.SoundRows.{AreNamed, CanBeListed};
+ghost use Rattle.account_machine.specs.declared.event.Reply.TheVariants as reply;
+ghost use Rattle.account_questions.specs.Lists.{accounts_text, devices_text};
+ghost use Rattle.account_reads.specs.Names.{next_names};
+ghost use Rattle.account_questions.specs.Questions.{NeedsDevices, answer_to};
+ghost use Rattle.account_questions.specs.declared.question.Question.TheVariants as question;
+ghost use Rattle.account_rules.specs.Devices.{Devices};
+ghost use Rattle.rows_statements.specs.SoundRows.{AreNamed, CanBeListed};
 ghost use Rattle.room_store.specs.Questions.{AboutIsReadable, AccountIsAnswerable, IsAbout, OpenNames, QuestionIsReadable, TellsAbout, TellsOfAnyRows, TellsWhetherSound};
 ghost use Rattle.room_store.specs.Prelude.{IfOurTables, LooksUp, RoomValue, WasOpen};
-ghost use Rattle.room_tables.specs.Accounts.{Holds};
-ghost use Rattle.room_tables.specs.Devices.{HoldsDevices};
+ghost use Rattle.rows_tables.specs.Accounts.{Holds};
+ghost use Rattle.rows_tables.specs.Devices.{HoldsDevices};
 
-use crate::account_questions::{tell_ended, tell_grants, tell_jobs, tell_left, tell_statement};
+use crate::about_accounts::{tell_ended, tell_grants, tell_jobs, tell_left, tell_statement};
 use crate::page_questions::{tell_owner_page, tell_statement_page};
 use crate::rounds::Rounds;
 use crate::rounds::lists::{check_account, list_devices, next_accounts};
 use crate::rounds::reads::{find_account, knock};
 use crate::station_questions::{tell_again, tell_waiting};
 use crate::told::{refusing, telling};
-use room_events::{Name, Reply, Success, Word};
-use room_questions::{About, Question, accounts_lines, check_line, devices_lines};
-use room_tables::TableFault;
+use account_machine::{Name, Reply, Success, Word};
+use account_questions::{About, Question, accounts_lines, check_line, devices_lines};
+use rows_tables::TableFault;
 use sqlite::Alter;
 use std::alloc::Global;
 

@@ -2,14 +2,14 @@
 
 ghost use Rattle.std.proofs.Props.{props};
 ghost use Rattle.std.specs.Prelude.{◌≡◌};
-ghost use Rattle.room_asks.specs.Asks.{IsAsk, plain_ask};
-ghost use Rattle.room_events.specs.Requests.{asked_at};
-ghost use Rattle.room_replies.specs.Limits.{IsPlace};
-ghost use Rattle.room_replies.specs.Places.{plain_place};
+ghost use Rattle.account_asks.specs.Asks.{IsAsk, plain_ask};
+ghost use Rattle.account_machine.specs.Requests.{asked_at};
+ghost use Rattle.account_replies.specs.Limits.{IsPlace};
+ghost use Rattle.account_replies.specs.Places.{plain_place};
 ghost use Rattle.room_store.specs.ProofAsks.{AreValues-prop};
-ghost use Rattle.room_tables.specs.Accounts.{IsAccount};
+ghost use Rattle.rows_tables.specs.Accounts.{IsAccount};
 
-use room_events::{Account, Ask, Moment, Name, Place, asked_at};
+use account_machine::{Account, Ask, Moment, Name, Place, asked_at};
 
 /// A request to an account that is open: the account and its own row, the moment, and what is
 /// asked.

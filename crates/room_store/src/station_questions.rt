@@ -2,8 +2,8 @@
 
 ghost use Rattle.std.specs.Prelude.{◌≡◌, Err, IfOk};
 ghost use Rattle.std.specs.FinMap.{get};
-ghost use Rattle.room_questions.specs.Stations.{handed_again, printed_by, said_or};
-ghost use Rattle.room_questions.specs.declared.question.About.TheVariants as about;
+ghost use Rattle.account_questions.specs.Stations.{handed_again, printed_by, said_or};
+ghost use Rattle.account_questions.specs.declared.question.About.TheVariants as about;
 ghost use Rattle.room_store.specs.Questions.{AgainIsReadable, PrintedIsReadable, TellsAbout, WaitingIsReadable};
 ghost use Rattle.room_store.specs.Prelude.{HoldsRoom, IfOurTables, LooksUp, RoomValue};
 ghost use Rattle.room_store.specs.Reading.{DocumentsAreReadable};
@@ -12,9 +12,9 @@ use crate::rounds::Rounds;
 use crate::rounds::reads::{find_device, find_documents, look_up, unfinished_jobs};
 use crate::stations::parts;
 use crate::told::refusing;
-use room_events::{Job, Name, Reply, Word, known_device};
-use room_questions::{jobs_lines, printed_by, waiting_at};
-use room_tables::TableFault;
+use account_machine::{Job, Name, Reply, Word, known_device};
+use account_questions::{jobs_lines, printed_by, waiting_at};
+use rows_tables::TableFault;
 use sqlite::Alter;
 use std::alloc::Global;
 

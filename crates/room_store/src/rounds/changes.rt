@@ -4,21 +4,21 @@
 ghost use Rattle.std.specs.Prelude.{◌≡◌, ◌<◌, pos, None, Err, IsTrue, OnErr, OnOk};
 ghost use Rattle.sqlite.specs.Held.{state};
 ghost use Rattle.sqlite.specs.State.{HasCleanDisk, Survives};
-ghost use Rattle.room_rules.specs.Limits.{last_next_job, IsRate};
-ghost use Rattle.room_rules.specs.Standings.{IsStanding};
-ghost use Rattle.room_statements.specs.Changed.{FinishesJob, GrantsPages, MakesJob, OpensAccount, RatesDevice, RestandsJob, SwitchesDevice};
-ghost use Rattle.room_statements.specs.NewDocuments.{first_of};
-ghost use Rattle.room_statements.specs.Prelude.{ChangesWhole, IfOurTables};
-ghost use Rattle.room_statements.specs.Rounds.{BeginsRound, EndsRound};
-ghost use Rattle.room_statements.specs.Rows.{IsFree};
-ghost use Rattle.room_tables.specs.Accounts.{job_at};
-ghost use Rattle.room_tables.specs.Calls.{IsUnchanged, IsUndone, KeepsConnection, UnchangedOrUndone};
+ghost use Rattle.account_rules.specs.Limits.{last_next_job, IsRate};
+ghost use Rattle.account_rules.specs.Standings.{IsStanding};
+ghost use Rattle.rows_statements.specs.Changed.{FinishesJob, GrantsPages, MakesJob, OpensAccount, RatesDevice, RestandsJob, SwitchesDevice};
+ghost use Rattle.rows_statements.specs.NewDocuments.{first_of};
+ghost use Rattle.rows_statements.specs.Prelude.{ChangesWhole, IfOurTables};
+ghost use Rattle.rows_statements.specs.Rounds.{BeginsRound, EndsRound};
+ghost use Rattle.rows_statements.specs.Rows.{IsFree};
+ghost use Rattle.rows_tables.specs.Accounts.{job_at};
+ghost use Rattle.rows_tables.specs.Calls.{IsUnchanged, IsUndone, KeepsConnection, UnchangedOrUndone};
 
 use crate::memory::Added;
 use crate::rounds::Rounds;
-use room_events::{Job, Moment, Name, Standing};
-use room_statements::NewDocument;
-use room_tables::TableFault;
+use account_machine::{Job, Moment, Name, Standing};
+use rows_statements::NewDocument;
+use rows_tables::TableFault;
 use sqlite::{Alter, Error};
 
 /// Opens the account at the moment `now`.
@@ -31,7 +31,7 @@ pub(crate) fn open_account<S: Alter>(
         (OpensAccount account now) }
 {
     let _alone = connection.connection.is_autocommit();
-    let made = room_statements::open_account(&mut connection.connection, account, now);
+    let made = rows_statements::open_account(&mut connection.connection, account, now);
     connection.memory.mind_opening(account, &made);
     made
 }
@@ -47,7 +47,7 @@ pub(crate) fn add_grant<S: Alter>(
         (GrantsPages account month pages) }
 {
     let _alone = connection.connection.is_autocommit();
-    let made = room_statements::add_grant(&mut connection.connection, account, month, pages);
+    let made = rows_statements::add_grant(&mut connection.connection, account, month, pages);
     connection.memory.mind(&made);
     made
 }
@@ -70,7 +70,7 @@ pub(crate) fn make_job<S: Alter>(
 {
     let _alone = connection.connection.is_autocommit();
     let was = connection.memory.row(account);
-    let made = room_statements::make_job(&mut connection.connection, account, job, document);
+    let made = rows_statements::make_job(&mut connection.connection, account, job, document);
     connection.memory.mind_making(account, was, job, &made);
     made
 }
@@ -93,7 +93,7 @@ pub(crate) fn restand_job<S: Alter>(
 {
     let _alone = connection.connection.is_autocommit();
     let was = connection.memory.added_before(account, number);
-    let made = room_statements::restand_job(
+    let made = rows_statements::restand_job(
         &mut connection.connection,
         account,
         number,
@@ -117,7 +117,7 @@ pub(crate) fn end_job<S: Alter>(
 {
     let _alone = connection.connection.is_autocommit();
     let was = connection.memory.added_before(account, number);
-    let made = room_statements::end_job(&mut connection.connection, account, number, standing);
+    let made = rows_statements::end_job(&mut connection.connection, account, number, standing);
     connection.memory.mind_move(account, was, standing, &made);
     connection.beyond = beyond(was, standing);
     made
@@ -142,7 +142,7 @@ pub(crate) fn turn_device<S: Alter>(
         (SwitchesDevice name on is_new) }
 {
     let _alone = connection.connection.is_autocommit();
-    let made = room_statements::turn_device(&mut connection.connection, name, on, is_new);
+    let made = rows_statements::turn_device(&mut connection.connection, name, on, is_new);
     connection.memory.mind(&made);
     made
 }
@@ -158,7 +158,7 @@ pub(crate) fn rate_device<S: Alter>(
         (RatesDevice name units) }
 {
     let _alone = connection.connection.is_autocommit();
-    let made = room_statements::rate_device(&mut connection.connection, name, units);
+    let made = rows_statements::rate_device(&mut connection.connection, name, units);
     connection.memory.mind(&made);
     made
 }
@@ -177,7 +177,7 @@ pub(crate) fn begin_round<S: Alter>(connection: &mut Rounds<S>) -> Result<(), Er
         (λ _. ⊥) }
 {
     let _alone = connection.connection.is_autocommit();
-    let made = room_statements::begin_round(&mut connection.connection);
+    let made = rows_statements::begin_round(&mut connection.connection);
     connection.memory.mind(&made);
     made
 }
@@ -197,7 +197,7 @@ pub(crate) fn commit_round<S: Alter>(connection: &mut Rounds<S>) -> Result<(), E
         (λ found. found ≡ (state S.Store connection.old).now.trees) }
 {
     let _alone = connection.connection.is_autocommit();
-    let made = room_statements::commit_round(&mut connection.connection);
+    let made = rows_statements::commit_round(&mut connection.connection);
     connection.memory.mind(&made);
     made
 }

@@ -3,30 +3,30 @@
 ghost use Rattle.std.specs.Prelude.{◌≡◌, ◌≤◌, ℕ, List, map, option_map, pos, Err, IfOk, IfSome, IsSome};
 ghost use Rattle.std.specs.FinMap.{entries, values};
 ghost use Rattle.std.specs.List.{AllByRecursion};
-ghost use Rattle.room_checks.specs.Checks.{IsSoundAs};
-ghost use Rattle.room_overview.specs.Surveys.{IsInBounds, IsSurvey};
-ghost use Rattle.room_reads.specs.Grants.{grant_of};
-ghost use Rattle.room_reads.specs.Names.{next_names, AreNames};
-ghost use Rattle.room_reads.specs.Summaries.{summary_of};
-ghost use Rattle.room_rules.specs.Devices.{Devices};
-ghost use Rattle.room_rules.specs.Limits.{most_units};
-ghost use Rattle.room_state.specs.RoomRules.{IsGrant};
-ghost use Rattle.room_statements.specs.GrantLists.{IsInRange};
-ghost use Rattle.room_statements.specs.Prelude.{HoldsRoom, IfOurTables, IsRowOf, ReadsStore, RoomValue};
-ghost use Rattle.room_statements.specs.Shown.{IsJob};
-ghost use Rattle.room_statements.specs.SoundRows.{AreNamed, AreRowsOf, CanBeListed, CanBeSummed, grant_rows, job_rows};
-ghost use Rattle.room_survey.specs.Reading.{SurveyIsReadable};
-ghost use Rattle.room_tables.specs.Accounts.{account_at, job_at, IsSound};
-ghost use Rattle.room_tables.specs.Cells.{grant_cells, job_cells};
-ghost use Rattle.room_tables.specs.Devices.{HoldsDevices};
+ghost use Rattle.rows_checks.specs.Checks.{IsSoundAs};
+ghost use Rattle.page_overview.specs.Surveys.{IsInBounds, IsSurvey};
+ghost use Rattle.account_reads.specs.Grants.{grant_of};
+ghost use Rattle.account_reads.specs.Names.{next_names, AreNames};
+ghost use Rattle.account_reads.specs.Summaries.{summary_of};
+ghost use Rattle.account_rules.specs.Devices.{Devices};
+ghost use Rattle.account_rules.specs.Limits.{most_units};
+ghost use Rattle.account_state.specs.RoomRules.{IsGrant};
+ghost use Rattle.rows_statements.specs.GrantLists.{IsInRange};
+ghost use Rattle.rows_statements.specs.Prelude.{HoldsRoom, IfOurTables, IsRowOf, ReadsStore, RoomValue};
+ghost use Rattle.rows_statements.specs.Shown.{IsJob};
+ghost use Rattle.rows_statements.specs.SoundRows.{AreNamed, AreRowsOf, CanBeListed, CanBeSummed, grant_rows, job_rows};
+ghost use Rattle.rows_survey.specs.Reading.{SurveyIsReadable};
+ghost use Rattle.rows_tables.specs.Accounts.{account_at, job_at, IsSound};
+ghost use Rattle.rows_tables.specs.Cells.{grant_cells, job_cells};
+ghost use Rattle.rows_tables.specs.Devices.{HoldsDevices};
 
 use crate::rounds::Rounds;
+use account_machine::{Job, Name};
+use account_reads::Summary;
+use account_rules::{Device, Grant};
 use ipp_coding::List;
-use room_events::{Job, Name};
-use room_overview::Survey;
-use room_reads::Summary;
-use room_rules::{Device, Grant};
-use room_tables::TableFault;
+use page_overview::Survey;
+use rows_tables::TableFault;
 use sqlite::Alter;
 use std::alloc::Global;
 
@@ -48,7 +48,7 @@ pub fn find_job<S: Alter>(
     ensures reads { ReadsStore S.Store connection.old connection.new result }
 {
     let _alone = connection.connection.is_autocommit();
-    let found = room_statements::find_job(&mut connection.connection, account, number);
+    let found = rows_statements::find_job(&mut connection.connection, account, number);
     connection.memory.mind(&found);
     found
 }
@@ -71,7 +71,7 @@ pub fn list_grants<S: Alter>(
     ensures reads { ReadsStore S.Store connection.old connection.new result }
 {
     let _alone = connection.connection.is_autocommit();
-    let found = room_statements::list_grants(alloc, &mut connection.connection, account);
+    let found = rows_statements::list_grants(alloc, &mut connection.connection, account);
     connection.memory.mind(&found);
     found
 }
@@ -94,7 +94,7 @@ pub(crate) fn summarize<S: Alter>(
     ensures reads { ReadsStore S.Store connection.old connection.new result }
 {
     let _alone = connection.connection.is_autocommit();
-    let found = room_statements::summarize(&mut connection.connection, account, month);
+    let found = rows_statements::summarize(&mut connection.connection, account, month);
     connection.memory.mind(&found);
     found
 }
@@ -113,7 +113,7 @@ pub(crate) fn check_account<S: Alter>(
     ensures reads { ReadsStore S.Store connection.old connection.new result }
 {
     let _alone = connection.connection.is_autocommit();
-    let found = room_checks::check_account(alloc, &mut connection.connection, account);
+    let found = rows_checks::check_account(alloc, &mut connection.connection, account);
     connection.memory.mind(&found);
     found
 }
@@ -131,7 +131,7 @@ pub fn list_devices<S: Alter>(
     ensures reads { ReadsStore S.Store connection.old connection.new result }
 {
     let _alone = connection.connection.is_autocommit();
-    let found = room_statements::list_devices(alloc, &mut connection.connection);
+    let found = rows_statements::list_devices(alloc, &mut connection.connection);
     connection.memory.mind(&found);
     found
 }
@@ -151,7 +151,7 @@ pub fn next_accounts<S: Alter>(
     ensures reads { ReadsStore S.Store connection.old connection.new result }
 {
     let _alone = connection.connection.is_autocommit();
-    let found = room_statements::next_accounts(alloc, &mut connection.connection, behind);
+    let found = rows_statements::next_accounts(alloc, &mut connection.connection, behind);
     connection.memory.mind(&found);
     found
 }
@@ -172,7 +172,7 @@ pub fn survey<S: Alter>(
     ensures reads { ReadsStore S.Store connection.old connection.new result }
 {
     let _alone = connection.connection.is_autocommit();
-    let found = room_survey::survey(alloc, &mut connection.connection, account, month);
+    let found = rows_survey::survey(alloc, &mut connection.connection, account, month);
     connection.memory.mind(&found);
     found
 }

@@ -6,33 +6,33 @@ ghost use Rattle.std.specs.FinMap.{get, values};
 ghost use Rattle.std.specs.List.{AllByRecursion};
 ghost use Rattle.sqlite.specs.Held.{state};
 ghost use Rattle.sqlite.specs.State.{HasCleanDisk, Survives};
-ghost use Rattle.room_rules.specs.Devices.{Devices, is_some_on};
-ghost use Rattle.room_rules.specs.Limits.{most_pages, most_unfinished, most_units, IsRate};
-ghost use Rattle.room_state.specs.Documents.{documents_of};
-ghost use Rattle.room_state.specs.Queues.{at_most, completed, not_completed};
-ghost use Rattle.room_state.specs.RoomRules.{unfinished_count};
-ghost use Rattle.room_state.specs.Sums.{charged_in, granted_to, has_processing, reserved_in};
-ghost use Rattle.room_state.specs.Tallies.{tally_of};
-ghost use Rattle.room_statements.specs.JobSums.{IsCounted};
-ghost use Rattle.room_statements.specs.Documents.{IsDocumentOf};
-ghost use Rattle.room_statements.specs.Prelude.{HoldsRoom, IfOurTables, IsRowOf, ReadsStore, RoomValue};
-ghost use Rattle.room_statements.specs.Queues.{by_falling_end, by_rising_number, IsNumbered};
-ghost use Rattle.room_statements.specs.SoundRows.{AreRowsOf, CanBeAdded, CanBeCounted, FirstAreRowsOf, device_rows, document_rows, ended_rows, grant_rows, job_rows, unfinished_rows};
+ghost use Rattle.account_rules.specs.Devices.{Devices, is_some_on};
+ghost use Rattle.account_rules.specs.Limits.{most_pages, most_unfinished, most_units, IsRate};
+ghost use Rattle.account_state.specs.Documents.{documents_of};
+ghost use Rattle.account_state.specs.Queues.{at_most, completed, not_completed};
+ghost use Rattle.account_state.specs.RoomRules.{unfinished_count};
+ghost use Rattle.account_state.specs.Sums.{charged_in, granted_to, has_processing, reserved_in};
+ghost use Rattle.account_state.specs.Tallies.{tally_of};
+ghost use Rattle.rows_statements.specs.JobSums.{IsCounted};
+ghost use Rattle.rows_statements.specs.Documents.{IsDocumentOf};
+ghost use Rattle.rows_statements.specs.Prelude.{HoldsRoom, IfOurTables, IsRowOf, ReadsStore, RoomValue};
+ghost use Rattle.rows_statements.specs.Queues.{by_falling_end, by_rising_number, IsNumbered};
+ghost use Rattle.rows_statements.specs.SoundRows.{AreRowsOf, CanBeAdded, CanBeCounted, FirstAreRowsOf, device_rows, document_rows, ended_rows, grant_rows, job_rows, unfinished_rows};
 ghost use Rattle.room_store.specs.Kept.{HasCount, HasRow, HasSums, HaveSums};
 ghost use Rattle.room_store.specs.ProofKnown.{HasAccountRow, HasJobRow};
 ghost use Rattle.room_store.specs.Reading.{JobIsReadable};
 ghost use Rattle.room_store.specs.Serving.{LooksUp, WasOpen};
-ghost use Rattle.room_tables.specs.Accounts.{IsAccount, account_at, grant_at, job_at};
-ghost use Rattle.room_tables.specs.Calls.{IsUnchanged, IsUndone};
-ghost use Rattle.room_tables.specs.Cells.{account_cells, document_cells, grant_cells, job_cells, on_cells, units_cells};
-ghost use Rattle.room_tables.specs.Devices.{HoldsDevices, device_at, rate_at};
+ghost use Rattle.rows_tables.specs.Accounts.{IsAccount, account_at, grant_at, job_at};
+ghost use Rattle.rows_tables.specs.Calls.{IsUnchanged, IsUndone};
+ghost use Rattle.rows_tables.specs.Cells.{account_cells, document_cells, grant_cells, job_cells, on_cells, units_cells};
+ghost use Rattle.rows_tables.specs.Devices.{HoldsDevices, device_at, rate_at};
 
 use crate::memory::{Memory, Sums};
 use crate::rounds::Rounds;
 use crate::{events, lookup};
+use account_machine::{Account, Document, Job, Name, Tally};
 use ipp_coding::List;
-use room_events::{Account, Document, Job, Name, Tally};
-use room_tables::TableFault;
+use rows_tables::TableFault;
 use sqlite::{Alter, Connection};
 use std::alloc::Global;
 
@@ -75,7 +75,7 @@ fn find_knowing<S: Alter>(
     ensures reads { ReadsStore S.Store connection.old connection.new result }
 {
     let Some(row) = known else {
-        return room_statements::find_account(connection, account);
+        return rows_statements::find_account(connection, account);
     };
     match events::knock(connection) {
         Ok(()) => Ok(Some(row)),
@@ -121,7 +121,7 @@ pub(crate) fn find_device<S: Alter>(
     ensures reads { ReadsStore S.Store connection.old connection.new result }
 {
     let _alone = connection.connection.is_autocommit();
-    let found = room_statements::find_device(&mut connection.connection, name);
+    let found = rows_statements::find_device(&mut connection.connection, name);
     connection.memory.mind(&found);
     found
 }
@@ -138,7 +138,7 @@ pub(crate) fn is_device_on<S: Alter>(connection: &mut Rounds<S>) -> Result<bool,
     ensures reads { ReadsStore S.Store connection.old connection.new result }
 {
     let _alone = connection.connection.is_autocommit();
-    let found = room_statements::is_device_on(&mut connection.connection);
+    let found = rows_statements::is_device_on(&mut connection.connection);
     connection.memory.mind(&found);
     found
 }
@@ -160,7 +160,7 @@ pub(crate) fn find_rate<S: Alter>(
     ensures reads { ReadsStore S.Store connection.old connection.new result }
 {
     let _alone = connection.connection.is_autocommit();
-    let found = room_statements::find_rate(&mut connection.connection, name);
+    let found = rows_statements::find_rate(&mut connection.connection, name);
     connection.memory.mind(&found);
     found
 }
@@ -183,7 +183,7 @@ pub fn find_documents<S: Alter>(
     ensures reads { ReadsStore S.Store connection.old connection.new result }
 {
     let _alone = connection.connection.is_autocommit();
-    let found = room_statements::find_documents(alloc, &mut connection.connection, account, job);
+    let found = rows_statements::find_documents(alloc, &mut connection.connection, account, job);
     connection.memory.mind(&found);
     found
 }
@@ -205,7 +205,7 @@ pub(crate) fn find_grant<S: Alter>(
     ensures reads { ReadsStore S.Store connection.old connection.new result }
 {
     let _alone = connection.connection.is_autocommit();
-    let found = room_statements::find_grant(&mut connection.connection, account, month);
+    let found = rows_statements::find_grant(&mut connection.connection, account, month);
     connection.memory.mind(&found);
     found
 }
@@ -226,7 +226,7 @@ pub(crate) fn granted_to<S: Alter>(
     ensures reads { ReadsStore S.Store connection.old connection.new result }
 {
     let _alone = connection.connection.is_autocommit();
-    let found = room_statements::granted_to(&mut connection.connection, account, month);
+    let found = rows_statements::granted_to(&mut connection.connection, account, month);
     connection.memory.mind(&found);
     found
 }
@@ -253,7 +253,7 @@ pub(crate) fn tally_unfinished<S: Alter>(
     ensures reads { ReadsStore S.Store connection.old connection.new result }
 {
     let _alone = connection.connection.is_autocommit();
-    let found = room_statements::tally_unfinished(&mut connection.connection, account);
+    let found = rows_statements::tally_unfinished(&mut connection.connection, account);
     connection.memory.mind(&found);
     found
 }
@@ -299,7 +299,7 @@ fn count_knowing<S: Alter>(
     ensures reads { ReadsStore S.Store connection.old connection.new result }
 {
     let Some(count) = known else {
-        return room_statements::count_unfinished(connection, account);
+        return rows_statements::count_unfinished(connection, account);
     };
     match events::knock(connection) {
         Ok(()) => Ok(count),
@@ -326,7 +326,7 @@ pub(crate) fn unfinished_jobs<S: Alter>(
     ensures reads { ReadsStore S.Store connection.old connection.new result }
 {
     let _alone = connection.connection.is_autocommit();
-    let found = room_statements::unfinished_jobs(alloc, &mut connection.connection, account, limit);
+    let found = rows_statements::unfinished_jobs(alloc, &mut connection.connection, account, limit);
     connection.memory.mind(&found);
     found
 }
@@ -351,7 +351,7 @@ pub(crate) fn ended_jobs<S: Alter>(
     ensures reads { ReadsStore S.Store connection.old connection.new result }
 {
     let _alone = connection.connection.is_autocommit();
-    let found = room_statements::ended_jobs(alloc, &mut connection.connection, account, limit);
+    let found = rows_statements::ended_jobs(alloc, &mut connection.connection, account, limit);
     connection.memory.mind(&found);
     found
 }
@@ -415,7 +415,7 @@ fn added_up<S: Alter>(connection: &mut Connection<S>, account: Name) -> Result<S
         (λ db. result ≡ Err TableFault.Damaged → CanBeCounted account (job_rows db account) → ⊥) }
     ensures reads { ReadsStore S.Store connection.old connection.new result }
 {
-    match room_statements::tally_jobs(connection, account) {
+    match rows_statements::tally_jobs(connection, account) {
         Ok(tally) => Ok(Sums {
             reserved: tally.reserved,
             charged: tally.charged,

@@ -1,6 +1,6 @@
 use Rattle.std.proofs.Common.{rules, not, ◌==◌}
 use Rattle.std.proofs.lemmas.Fn.{filter_same}
-use Rattle.room_rules.specs.declared.job.Document.{Document}
+use Rattle.account_rules.specs.declared.job.Document.{Document}
 use Rattle.room_core.proofs.documents.retain_others.Goals as goal
 
 pub returns : goal.returns

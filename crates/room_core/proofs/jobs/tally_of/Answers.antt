@@ -1,9 +1,9 @@
 use Rattle.std.proofs.Common.{◌≡◌, ◌+◌, take, IsTrue, refl, sym, ap, subst, ◌∙◌}
 use Rattle.std.specs.Option.{IsSome}
-use Rattle.room_state.specs.declared.tally.Tally.{Tally}
-use Rattle.room_state.specs.Tallies.{tally_of, is_in_bounds}
+use Rattle.account_state.specs.declared.tally.Tally.{Tally}
+use Rattle.account_state.specs.Tallies.{tally_of, is_in_bounds}
 use Rattle.room_core.proofs.Tallies.{counted_with, tally_more, in_bounds_before}
-use Rattle.room_state.proofs.TallyLemmas.{counted_some}
+use Rattle.account_state.proofs.TallyLemmas.{counted_some}
 use Rattle.room_core.proofs.jobs.tally_of.Goals as goal
 
 -- so far, and with this job

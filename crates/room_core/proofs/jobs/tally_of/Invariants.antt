@@ -1,5 +1,5 @@
 use Rattle.std.proofs.Common.{◌≡◌, take}
-use Rattle.room_state.specs.Tallies.{tally_of}
+use Rattle.account_state.specs.Tallies.{tally_of}
 use Rattle.room_core.proofs.jobs.tally_of.Given as goal
 
 abbrev pub invariant-loop-job : goal.invariant-loop-job

@@ -1,8 +1,8 @@
 use Rattle.std.proofs.Common.{◌≤◌, ℕ, List, length, refl, sym, subst}
-use Rattle.room_http.specs.Exchange.{Takes}
-use Rattle.room_http.specs.Http.{Http, Carried}
-use Rattle.room_requests.specs.Texts.{interim_text, refusal_text}
-use Rattle.room_http.proofs.Streams.{Appends_more}
+use Rattle.listen_http.specs.Exchange.{Takes}
+use Rattle.listen_http.specs.Http.{Http, Carried}
+use Rattle.input_http.specs.Texts.{interim_text, refusal_text}
+use Rattle.listen_http.proofs.Streams.{Appends_more}
 use Rattle.room_serve.specs.Exchanges.{Breaks, has_nothing, has_refused, in_refusal}
 use Rattle.room_serve.proofs.Exchanging.{answered, behind, broke}
 use Rattle.room_serve.proofs.exchange.exchange.Goals as goal

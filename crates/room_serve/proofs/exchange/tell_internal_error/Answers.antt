@@ -1,7 +1,7 @@
 use Rattle.std.proofs.Common.{◌∙◌, ℕ, List, ap, subst}
-use Rattle.room_http.specs.Exchange.{AppendsFront}
-use Rattle.room_requests.specs.Texts.{answer_text}
-use Rattle.room_replies.specs.Replies.{internal_error_text}
+use Rattle.listen_http.specs.Exchange.{AppendsFront}
+use Rattle.input_http.specs.Texts.{answer_text}
+use Rattle.account_replies.specs.Replies.{internal_error_text}
 use Rattle.room_serve.proofs.exchange.tell_internal_error.Goals as goal
 
 pub returns-in-Err-clause-front : goal.returns-in-Err-clause-front

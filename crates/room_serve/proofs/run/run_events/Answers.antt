@@ -3,8 +3,8 @@ use Rattle.std.proofs.lemmas.List.{length-map, map-append, take_all, take_more}
 use Rattle.std.proofs.lemmas.List.Elements.{All-get_or}
 use Rattle.sqlite.specs.Held.{state}
 use Rattle.sqlite.specs.State.{HasCleanDisk}
-use Rattle.room_events.specs.Events.{Timed, plain_event, plain_timed}
-use Rattle.room_events.specs.Fits.{fits}
+use Rattle.account_machine.specs.Events.{Timed, plain_event, plain_timed}
+use Rattle.account_machine.specs.Fits.{fits}
 use Rattle.room_store.specs.Applied.{Applies}
 use Rattle.room_serve.proofs.FoundLives.{answered_is_found}
 use Rattle.room_serve.proofs.LivesOn.{lives_go_on_in_runs}

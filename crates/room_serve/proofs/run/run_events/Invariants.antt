@@ -1,7 +1,7 @@
 use Rattle.std.proofs.Common.{◌≤◌, length, map, take}
 use Rattle.std.specs.Vec.{vec_capacity}
 use Rattle.sqlite.specs.Held.{state}
-use Rattle.room_events.specs.Events.{plain_timed}
+use Rattle.account_machine.specs.Events.{plain_timed}
 use Rattle.room_serve.proofs.RunLemmas.{SoFar}
 use Rattle.room_serve.specs.Runs.{AreApplied}
 use Rattle.room_serve.proofs.run.run_events.Given as goal

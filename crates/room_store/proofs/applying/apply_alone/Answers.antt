@@ -2,11 +2,11 @@ use Rattle.std.proofs.Common.{◌≡◌, ◌≤◌, false, Result, Ok, Err, sym,
 use Rattle.std.proofs.lemmas.Result.{err_from_is_err_and}
 use Rattle.sqlite.specs.Held.{state}
 use Rattle.sqlite.specs.State.{HasCleanDisk}
-use Rattle.room_events.specs.Events.{plain_event}
-use Rattle.room_events.specs.declared.event.Reply.{Reply}
-use Rattle.room_events.specs.declared.event.Reply.TheVariants.{Short}
-use Rattle.room_rules.specs.Limits.{last_moment}
-use Rattle.room_tables.specs.declared.fault.TableFault.{TableFault}
+use Rattle.account_machine.specs.Events.{plain_event}
+use Rattle.account_machine.specs.declared.event.Reply.{Reply}
+use Rattle.account_machine.specs.declared.event.Reply.TheVariants.{Short}
+use Rattle.account_rules.specs.Limits.{last_moment}
+use Rattle.rows_tables.specs.declared.fault.TableFault.{TableFault}
 use Rattle.room_store.specs.Applied.{Applies}
 use Rattle.room_store.specs.declared.fault.StoreFault.{StoreFault}
 use Rattle.room_store.proofs.Applied.{applied_answer, applied_fault, going}

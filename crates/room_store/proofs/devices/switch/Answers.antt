@@ -3,13 +3,13 @@ use Rattle.std.proofs.lemmas.Result.{err_from_is_err_and}
 use Rattle.sqlite.specs.Held.{state}
 use Rattle.sqlite.specs.State.{HasCleanDisk}
 use Rattle.sqlite.specs.Effect.{Database}
-use Rattle.room_rules.specs.Devices.{turned}
-use Rattle.room_statements.specs.Changed.{SwitchesDevice}
-use Rattle.room_statements.specs.Alone.{OnlyDevices}
-use Rattle.room_statements.proofs.Retelling.{leaves_as}
-use Rattle.room_statements.proofs.WalkLemmas.{never_damaged}
-use Rattle.room_tables.specs.Devices.{HoldsDevices}
-use Rattle.room_tables.specs.Keyed.{HasSchema}
+use Rattle.account_rules.specs.Devices.{turned}
+use Rattle.rows_statements.specs.Changed.{SwitchesDevice}
+use Rattle.rows_statements.specs.Alone.{OnlyDevices}
+use Rattle.rows_statements.proofs.Retelling.{leaves_as}
+use Rattle.rows_statements.proofs.WalkLemmas.{never_damaged}
+use Rattle.rows_tables.specs.Devices.{HoldsDevices}
+use Rattle.rows_tables.specs.Keyed.{HasSchema}
 use Rattle.room_store.specs.Serving.{ChangesRows}
 use Rattle.room_store.proofs.FoundDevices.{is_new_device}
 use Rattle.room_store.proofs.ServingLemmas.{changed_after, handed, not_changed_after, read_failed_as, read_passed}

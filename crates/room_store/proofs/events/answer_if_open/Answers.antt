@@ -1,6 +1,6 @@
 use Rattle.std.proofs.Common.{Err, ap}
 use Rattle.std.proofs.lemmas.Result.{err_from_is_err_and}
-use Rattle.room_events.specs.Events.{plain_event}
+use Rattle.account_machine.specs.Events.{plain_event}
 use Rattle.room_store.proofs.Knocking.{event_after, event_failed}
 use Rattle.room_store.proofs.ServingLemmas.{look_passed}
 use Rattle.room_store.proofs.events.answer_if_open.Goals as goal

@@ -1,6 +1,6 @@
 use Rattle.std.proofs.Common.{sym, subst}
-use Rattle.room_events.specs.Events.{plain_event}
-use Rattle.room_events.specs.Machine.{answered_open}
+use Rattle.account_machine.specs.Events.{plain_event}
+use Rattle.account_machine.specs.Machine.{answered_open}
 use Rattle.room_store.specs.Reading.{IsReadableOpen}
 use Rattle.room_store.specs.Serving.{DoesStep}
 use Rattle.room_store.proofs.events.answer_open.Goals as goal

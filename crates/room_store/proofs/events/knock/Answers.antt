@@ -1,10 +1,10 @@
 use Rattle.std.proofs.Common.{Result, OnErr, [], inl, inr, subst, sym}
 use Rattle.sqlite.specs.Held.{state}
-use Rattle.room_tables.specs.Calls.{IsUndone}
+use Rattle.rows_tables.specs.Calls.{IsUndone}
 use Rattle.room_store.proofs.Knocking.{empty_fails, not_run_back, unchanged_by}
 use Rattle.room_store.specs.Serving.{LooksUp}
-use Rattle.room_tables.proofs.Going.{goes_by}
-use Rattle.room_tables.specs.declared.fault.TableFault.{TableFault}
+use Rattle.rows_tables.proofs.Going.{goes_by}
+use Rattle.rows_tables.specs.declared.fault.TableFault.{TableFault}
 use Rattle.room_store.proofs.events.knock.Goals as goal
 use Rattle.room_store.proofs.events.knock.Goals.{in-Ok, in-Err}
 

@@ -1,7 +1,7 @@
 use Rattle.std.proofs.Common.{◌≡◌, false, sym, subst, ◌∙◌, arith, rules}
 use Rattle.sqlite_trees.specs.View.{IsClean, IsOrdered}
 use Rattle.sqlite.specs.Held.{state}
-use Rattle.room_tables.specs.Tables.{room_schema}
+use Rattle.rows_tables.specs.Tables.{room_schema}
 use Rattle.room_store.proofs.NumberedLemmas.{numbered_of, open_unless_broken}
 use Rattle.room_store.proofs.numbered.reopen.Goals as goal
 

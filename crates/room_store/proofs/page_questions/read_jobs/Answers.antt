@@ -3,13 +3,13 @@ use Rattle.std.proofs.lemmas.Result.{err_from_is_err_and}
 use Rattle.sqlite.specs.Effect.{Database}
 use Rattle.sqlite.specs.Held.{state}
 use Rattle.sqlite.specs.State.{HasCleanDisk}
-use Rattle.room_asks.specs.declared.ask.Which.TheVariants.{Completed}
-use Rattle.room_questions.specs.Pages.{most_shown}
+use Rattle.account_asks.specs.declared.ask.Which.TheVariants.{Completed}
+use Rattle.account_questions.specs.Pages.{most_shown}
 use Rattle.room_store.proofs.ServingLemmas.{fault_of, looked, looks_after, looks_as, looks_read, passed_then, read_passed}
 use Rattle.room_store.proofs.page_questions.read_jobs.Goals as goal
 use Rattle.room_store.specs.Reading.{JobsAreReadable}
-use Rattle.room_tables.specs.Accounts.{HoldsRoom}
-use Rattle.room_tables.specs.Keyed.{HasSchema}
+use Rattle.rows_tables.specs.Accounts.{HoldsRoom}
+use Rattle.rows_tables.specs.Keyed.{HasSchema}
 
 pub returns-in_err-waiting-clause-damaged : goal.returns-in_err-waiting-clause-damaged
 returns-in_err-waiting-clause-damaged g c clean has is waiting ended =

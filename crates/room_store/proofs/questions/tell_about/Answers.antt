@@ -1,13 +1,13 @@
 use Rattle.std.proofs.Common.{◌≡◌, ℕ, List, Result, Err, sym, subst}
 use Rattle.sqlite_trees.specs.declared.store.Store.{Ghosts}
 use Rattle.sqlite.specs.Held.{Held}
-use Rattle.room_events.specs.declared.event.Reply.{Reply}
-use Rattle.room_questions.specs.declared.question.About.{About}
+use Rattle.account_machine.specs.declared.event.Reply.{Reply}
+use Rattle.account_questions.specs.declared.question.About.{About}
 use Rattle.room_store.specs.Questions.{AboutIsReadable, TellsAbout}
 use Rattle.room_store.proofs.questions.tell_about.Goals as goal
-use Rattle.room_tables.specs.Calls.{IfOurTables}
-use Rattle.room_tables.specs.declared.fault.TableFault.{TableFault}
-use Rattle.room_tables.specs.declared.fault.TableFault.TheVariants.{Damaged}
+use Rattle.rows_tables.specs.Calls.{IfOurTables}
+use Rattle.rows_tables.specs.declared.fault.TableFault.{TableFault}
+use Rattle.rows_tables.specs.declared.fault.TableFault.TheVariants.{Damaged}
 
 -- what holds of a question holds of one that is the same
 module _ {S : Type 0} (store : Ghosts S) (old new : Held S) (name : List ℕ) (r : Result Reply TableFault) {asked about : About} (is : asked ≡ about) where

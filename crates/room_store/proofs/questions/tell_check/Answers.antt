@@ -1,10 +1,10 @@
 use Rattle.std.proofs.Common.{◌≡◌, ℕ, Bool, true, false, List, ap, inl, sym}
 use Rattle.std.proofs.lemmas.Bool.{true≢false}
 use Rattle.sqlite.specs.Effect.{Database}
-use Rattle.room_events.specs.declared.event.Reply.{Reply}
-use Rattle.room_events.specs.declared.event.Reply.TheVariants.{Line}
-use Rattle.room_questions.specs.Questions.{check_text}
-use Rattle.room_checks.specs.Checks.{IsSoundAs}
+use Rattle.account_machine.specs.declared.event.Reply.{Reply}
+use Rattle.account_machine.specs.declared.event.Reply.TheVariants.{Line}
+use Rattle.account_questions.specs.Questions.{check_text}
+use Rattle.rows_checks.specs.Checks.{IsSoundAs}
 use Rattle.room_store.specs.Questions.{TellsWhetherSound}
 use Rattle.room_store.proofs.ServingLemmas.{looked, read_passed}
 use Rattle.room_store.proofs.questions.tell_check.Goals as goal

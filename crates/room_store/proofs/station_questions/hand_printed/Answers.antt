@@ -2,20 +2,20 @@ use Rattle.std.proofs.Common.{◌≡◌, ℕ, Bool, true, false, not, if◌then�
 use Rattle.sqlite.specs.Effect.{Database}
 use Rattle.sqlite.specs.Held.{state}
 use Rattle.sqlite.specs.State.{HasCleanDisk}
-use Rattle.room_questions.specs.Stations.{printed_by}
-use Rattle.room_rules.specs.Effects.{is_bound_elsewhere}
-use Rattle.room_rules.specs.JobStates.{is_processing}
-use Rattle.room_rules.specs.declared.job.Job.{Job}
-use Rattle.room_rules.specs.declared.refusal.Word.{Word}
-use Rattle.room_rules.specs.declared.refusal.Word.TheVariants.{NotProcessing, OtherDevice, Stopping}
-use Rattle.room_statements.specs.Queues.{IsNumbered}
+use Rattle.account_questions.specs.Stations.{printed_by}
+use Rattle.account_rules.specs.Effects.{is_bound_elsewhere}
+use Rattle.account_rules.specs.JobStates.{is_processing}
+use Rattle.account_rules.specs.declared.job.Job.{Job}
+use Rattle.account_rules.specs.declared.refusal.Word.{Word}
+use Rattle.account_rules.specs.declared.refusal.Word.TheVariants.{NotProcessing, OtherDevice, Stopping}
+use Rattle.rows_statements.specs.Queues.{IsNumbered}
 use Rattle.room_store.proofs.Found.{act_of}
 use Rattle.room_store.proofs.ServingLemmas.{look_passed, looks_after}
 use Rattle.room_store.proofs.station_questions.hand_printed.Goals as goal
 use Rattle.room_store.specs.ProofKnown.{HasJobRow}
 use Rattle.room_store.specs.Questions.{PrintedIsReadable}
 use Rattle.room_store.specs.Reading.{DocumentsAreReadable}
-use Rattle.room_tables.specs.Keyed.{HasSchema}
+use Rattle.rows_tables.specs.Keyed.{HasSchema}
 
 -- the job that is printed is the one that was found
 same_job : (device : List ℕ) (job : Job) (P : Job → Type 0) → OnOk (printed_by device (Some job)) (P job) → IfOk (printed_by device (Some job)) P

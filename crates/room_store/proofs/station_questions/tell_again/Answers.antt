@@ -4,7 +4,7 @@ use Rattle.sqlite.specs.State.{HasCleanDisk}
 use Rattle.room_store.proofs.ServingLemmas.{looks_after, read_passed}
 use Rattle.room_store.proofs.Stationed.{known_row}
 use Rattle.room_store.specs.Questions.{PrintedIsReadable}
-use Rattle.room_tables.specs.Keyed.{HasSchema}
+use Rattle.rows_tables.specs.Keyed.{HasSchema}
 use Rattle.room_store.proofs.station_questions.tell_again.Goals as goal
 
 pub returns-clause-damaged : goal.returns-clause-damaged

@@ -3,11 +3,11 @@ use Rattle.std.proofs.lemmas.Result.{err_from_is_err_and}
 use Rattle.sqlite.specs.Effect.{Database}
 use Rattle.sqlite.specs.Held.{state}
 use Rattle.sqlite.specs.State.{HasCleanDisk}
-use Rattle.room_asks.specs.declared.ask.Which.TheVariants.{NotCompleted}
+use Rattle.account_asks.specs.declared.ask.Which.TheVariants.{NotCompleted}
 use Rattle.room_store.proofs.ServingLemmas.{fault_of, looked, passed_then, read_passed}
 use Rattle.room_store.proofs.Stationed.{known_row}
 use Rattle.room_store.specs.Reading.{JobsAreReadable}
-use Rattle.room_tables.specs.Keyed.{HasSchema}
+use Rattle.rows_tables.specs.Keyed.{HasSchema}
 use Rattle.room_store.proofs.station_questions.tell_waiting.Goals as goal
 
 pub returns-in-Err-clause-looks : goal.returns-in-Err-clause-looks

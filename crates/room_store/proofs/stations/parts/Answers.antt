@@ -1,7 +1,7 @@
 use Rattle.std.proofs.Common.{◌≡◌, List, [], ◌∷◌, ◌++◌, map, append_assoc, ap, ◌∙◌}
-use Rattle.room_replies.specs.Parts.{part_of}
-use Rattle.room_replies.specs.declared.part.Part.{Part}
-use Rattle.room_rules.specs.declared.job.Document.{Document}
+use Rattle.account_replies.specs.Parts.{part_of}
+use Rattle.account_replies.specs.declared.part.Part.{Part}
+use Rattle.account_rules.specs.declared.job.Document.{Document}
 use Rattle.room_store.proofs.stations.parts.Goals as goal
 
 -- what was pushed, and then what is left, where the first that was left is pushed

@@ -2,9 +2,9 @@ use Rattle.std.proofs.Common.{◌≡◌, sym, ap, subst, ◌∙◌, ◌==◌, �
 use Rattle.std.specs.Option.{option_copied}
 use Rattle.std.specs.List.{find as first}
 use Rattle.std.specs.FinMap.{get}
-use Rattle.room_rules.specs.declared.job.Document.{Document}
-use Rattle.room_state.specs.Rooms.{RoomValue}
-use Rattle.room_state.specs.RoomRules.{IsRoom, IsDocumentAt}
+use Rattle.account_rules.specs.declared.job.Document.{Document}
+use Rattle.account_state.specs.Rooms.{RoomValue}
+use Rattle.account_state.specs.RoomRules.{IsRoom, IsDocumentAt}
 use Rattle.room_core.proofs.DocumentLists.{get_document}
 use Rattle.room_core.proofs.Lookups.{copied_keeps, is_some-copied}
 use Rattle.room_core.proofs.room.Room.document.Goals as goal

@@ -1,9 +1,9 @@
 use Rattle.std.proofs.Common.{◌≡◌, sym, ap, subst, ◌∙◌, ◌==◌, option_map}
 use Rattle.std.specs.List.{find as first}
 use Rattle.std.specs.FinMap.{get}
-use Rattle.room_rules.specs.declared.account.Grant.{Grant}
-use Rattle.room_state.specs.Rooms.{RoomValue}
-use Rattle.room_state.specs.RoomRules.{IsRoom, IsGrant}
+use Rattle.account_rules.specs.declared.account.Grant.{Grant}
+use Rattle.account_state.specs.Rooms.{RoomValue}
+use Rattle.account_state.specs.RoomRules.{IsRoom, IsGrant}
 use Rattle.room_core.proofs.GrantLists.{get_pages}
 use Rattle.room_core.proofs.Lookups.{value_keeps}
 use Rattle.room_core.proofs.room.Room.grant.Goals as goal

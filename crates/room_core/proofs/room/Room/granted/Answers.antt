@@ -1,10 +1,10 @@
 use Rattle.std.proofs.Common.{◌≡◌, ◌≤◌, pos, refl, sym, ap, subst, ◌∙◌, arith}
 use Rattle.std.proofs.lemmas.Int.{ints}
-use Rattle.room_rules.specs.Limits.{most_units}
-use Rattle.room_state.specs.RoomRules.{IsRoom}
-use Rattle.room_state.specs.Sums.{granted_to}
+use Rattle.account_rules.specs.Limits.{most_units}
+use Rattle.account_state.specs.RoomRules.{IsRoom}
+use Rattle.account_state.specs.Sums.{granted_to}
 use Rattle.room_core.proofs.GrantLists.{granted_seen}
-use Rattle.room_state.proofs.Bounds.{granted_bound}
+use Rattle.account_state.proofs.Bounds.{granted_bound}
 use Rattle.room_core.proofs.room.Room.granted.Goals as goal
 
 pub pages_up_to-requires : goal.pages_up_to-requires

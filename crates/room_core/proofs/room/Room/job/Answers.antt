@@ -2,12 +2,12 @@ use Rattle.std.proofs.Common.{◌≡◌, sym, ap, subst, ◌∙◌, ◌==◌}
 use Rattle.std.specs.Option.{option_copied}
 use Rattle.std.specs.List.{find as first}
 use Rattle.std.specs.FinMap.{get}
-use Rattle.room_rules.specs.declared.job.Job.{Job}
-use Rattle.room_state.specs.Rooms.{RoomValue}
-use Rattle.room_state.specs.RoomRules.{IsRoom, IsJobAt}
+use Rattle.account_rules.specs.declared.job.Job.{Job}
+use Rattle.account_state.specs.Rooms.{RoomValue}
+use Rattle.account_state.specs.RoomRules.{IsRoom, IsJobAt}
 use Rattle.room_core.proofs.JobLists.{get_job}
 use Rattle.room_core.proofs.Lookups.{copied_keeps}
-use Rattle.room_state.proofs.Lookups.{none_so_numbered}
+use Rattle.account_state.proofs.Lookups.{none_so_numbered}
 use Rattle.room_core.proofs.room.Room.job.Goals as goal
 
 found : (c : goal.After-find_job) → option_copied c.find_job.result ≡ get c.args.self.now.jobs c.args.number

@@ -1,10 +1,10 @@
 use Rattle.std.proofs.Common.{◌≡◌, refl, sym, subst}
 use Rattle.std.specs.List.{AllByRecursion}
 use Rattle.std.specs.FinMap.{values}
-use Rattle.room_rules.specs.declared.job.Job.{Job}
-use Rattle.room_state.specs.RoomRules.{IsRoom, IsJobAt}
+use Rattle.account_rules.specs.declared.job.Job.{Job}
+use Rattle.account_state.specs.RoomRules.{IsRoom, IsJobAt}
 use Rattle.room_core.proofs.JobLists.{jobs_seen}
-use Rattle.room_state.proofs.Bounds.{values_by_the_rules}
+use Rattle.account_state.proofs.Bounds.{values_by_the_rules}
 use Rattle.room_core.proofs.room.Room.jobs.Goals as goal
 
 all : (c : goal.After-as_slice) → c.as_slice.result.now ≡ values c.args.self.now.jobs

@@ -1,4 +1,4 @@
-use Rattle.room_state.proofs.RoomLemmas.{empty_room_keeps}
+use Rattle.account_state.proofs.RoomLemmas.{empty_room_keeps}
 use Rattle.room_core.proofs.room.Room.new.Goals as goal
 
 pub invariant_of-result : goal.invariant_of-result

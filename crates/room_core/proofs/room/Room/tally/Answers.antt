@@ -1,12 +1,12 @@
 use Rattle.std.proofs.Common.{◌≡◌, ◌≤◌, IsTrue, refl, sym, ap, subst, ◌∙◌}
 use Rattle.std.specs.FinMap.{values}
-use Rattle.room_rules.specs.Limits.{most_unfinished, most_units}
-use Rattle.room_state.specs.declared.tally.Tally.{Tally}
-use Rattle.room_state.specs.RoomRules.{IsRoom}
-use Rattle.room_state.specs.Tallies.{tally_of, is_in_bounds}
+use Rattle.account_rules.specs.Limits.{most_unfinished, most_units}
+use Rattle.account_state.specs.declared.tally.Tally.{Tally}
+use Rattle.account_state.specs.RoomRules.{IsRoom}
+use Rattle.account_state.specs.Tallies.{tally_of, is_in_bounds}
 use Rattle.room_core.proofs.JobLists.{jobs_seen}
-use Rattle.room_state.proofs.Bounds.{reserved_bound, charged_bound}
-use Rattle.room_state.proofs.TallyLemmas.{room_in_bounds}
+use Rattle.account_state.proofs.Bounds.{reserved_bound, charged_bound}
+use Rattle.account_state.proofs.TallyLemmas.{room_in_bounds}
 use Rattle.room_core.proofs.room.Room.tally.Goals as goal
 
 counted : (c : goal.After-tally_of) → c.tally_of.result ≡ tally_of (values c.args.self.now.jobs)

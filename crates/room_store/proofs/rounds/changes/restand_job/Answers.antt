@@ -1,10 +1,10 @@
 use Rattle.std.proofs.Common.{◌≡◌, ℕ, pos, Some, not, ap, subst, ◌∙◌}
 use Rattle.sqlite.specs.Held.{state}
-use Rattle.room_statements.specs.JobSums.{MovesCount, MovesSum, charges, counts, reserves}
+use Rattle.rows_statements.specs.JobSums.{MovesCount, MovesSum, charges, counts, reserves}
 use Rattle.room_store.specs.declared.memory.Added.{Added}
 use Rattle.room_store.proofs.KeptLemmas.{job_changed, found_seen}
-use Rattle.room_tables.specs.Accounts.{job_at}
-use Rattle.room_tables.specs.Cells.{job_cells}
+use Rattle.rows_tables.specs.Accounts.{job_at}
+use Rattle.rows_tables.specs.Cells.{job_cells}
 use Rattle.room_store.proofs.rounds.changes.restand_job.Goals as goal
 
 pub invariant_of-connection : goal.invariant_of-connection

@@ -1,11 +1,11 @@
 use Rattle.std.proofs.Common.{IfOk, not, ap, subst, ◌∙◌}
 use Rattle.sqlite.specs.Held.{state}
 use Rattle.sqlite.specs.State.{HasCleanDisk}
-use Rattle.room_checks.specs.Checks.{IsSoundAs}
+use Rattle.rows_checks.specs.Checks.{IsSoundAs}
 use Rattle.room_store.proofs.KeptLemmas.{told_kept}
 use Rattle.room_store.proofs.ServingLemmas.{looks_read}
 use Rattle.room_store.proofs.rounds.lists.check_account.Goals as goal
-use Rattle.room_tables.specs.Keyed.{HasSchema}
+use Rattle.rows_tables.specs.Keyed.{HasSchema}
 
 pub invariant_of-connection : goal.invariant_of-connection
 invariant_of-connection g c ours =

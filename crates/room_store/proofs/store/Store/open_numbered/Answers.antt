@@ -4,7 +4,7 @@ use Rattle.sqlite.specs.State.{HasCleanDisk}
 use Rattle.room_store.proofs.KeptLemmas.{nothing_kept}
 use Rattle.room_store.proofs.NumberedLemmas.{numbered_opened}
 use Rattle.room_store.proofs.store.Store.open_numbered.Goals as goal
-use Rattle.room_tables.specs.Making.{OpensTables}
+use Rattle.rows_tables.specs.Making.{OpensTables}
 
 outside : (inside told : Bool) → told ≡ not inside → told ≡ true → inside ≡ false
 outside false told is was = refl

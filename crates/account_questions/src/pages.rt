@@ -1,0 +1,64 @@
+//! The pages of an account, as bytes.
+
+ghost use Rattle.std.specs.Prelude.{◌≡◌, ◌≤◌, IfOk};
+ghost use Rattle.page_pages.specs.Owners.{owner_page};
+ghost use Rattle.page_pages.specs.Statements.{statement_page};
+ghost use Rattle.account_questions.specs.Pages.{statement_with};
+ghost use Rattle.account_rules.specs.Limits.{most_units};
+
+use account_reads::Summary;
+use account_rules::{Job, Name};
+use ipp_coding::List;
+use page_pages::{Owner, Statement, put_owner_page, put_statement};
+use std::alloc::{AllocError, Global};
+
+/// How many jobs that have ended the owner's page shows.
+pub const MOST_SHOWN: u32 = 20;
+
+/// The page of an account's owner.
+pub fn owner_page(alloc: Global, owner: &Owner) -> Result<List<u8>, AllocError>
+    requires granted { owner.now.granted ≤ most_units }
+    requires reserved { owner.now.reserved ≤ most_units }
+    requires charged { owner.now.charged ≤ most_units }
+    ensures bytes { IfOk result (λ page. page ≡ owner_page owner.now) }
+{
+    let mut items = Vec::new(alloc);
+    put_owner_page(&mut items, owner)?;
+    Ok(List { items })
+}
+
+/// A statement for paper.
+pub fn statement_page(alloc: Global, statement: &Statement) -> Result<List<u8>, AllocError>
+    requires granted { statement.now.granted ≤ most_units }
+    requires reserved { statement.now.reserved ≤ most_units }
+    requires charged { statement.now.charged ≤ most_units }
+    ensures bytes { IfOk result (λ page. page ≡ statement_page statement.now) }
+{
+    let mut items = Vec::new(alloc);
+    put_statement(&mut items, statement)?;
+    Ok(List { items })
+}
+
+/// What a statement shows of a summary, and of jobs that have ended.
+pub fn statement_with(
+    account: Name,
+    month: u32,
+    drawn_up: u64,
+    granted: u64,
+    summary: Summary,
+    ended: List<Job>,
+) -> Statement
+    ensures { result ≡ statement_with account month drawn_up granted summary ended }
+{
+    Statement {
+        account,
+        month,
+        drawn_up,
+        granted,
+        reserved: summary.reserved,
+        charged: summary.charged,
+        charged_then: summary.charged_then,
+        ended_then: summary.ended_then,
+        ended,
+    }
+}

@@ -1,0 +1,49 @@
+//! What standard input has for a command.
+ghost use Rattle.std.specs.Prelude.{◌≡◌, ◌≤◌, ◌<◌, ℕ, List, false, true, IfOk, IsErrOf, All, length};
+ghost use Rattle.cli_commands.specs.Runs.{AreGiven, AreRecords};
+ghost use Rattle.input_fields.specs.GrantFiles.{is_too_large};
+ghost use Rattle.input_fields.specs.GrantLines.{IsInRange};
+ghost use Rattle.input_fields.specs.Streams.{MayBeLeft};
+
+use crate::fault::Fault;
+use input_fields::{Counted, GrantLine, read_grants, read_whole};
+use input_lines::{Grammar, Line};
+use std::alloc::Global;
+use std::io::Read;
+
+/// The most bytes that lines may have.
+const MOST_BYTES: usize = 67_108_864;
+
+/// The lines, all of which have to be of the grammar.
+pub fn read_lines<R: Read + Drop>(
+    alloc: Global,
+    input: R,
+    grammar: Grammar,
+) -> Result<Vec<Line>, Fault>
+    ensures said { IfOk result
+        (λ lines. AreGiven (MayBeLeft (R.remaining input) false) grammar lines.items) }
+{
+    let text = read_text(alloc, input)?;
+    Ok(grammar.read(alloc, text.as_slice())?)
+}
+
+/// All of the input, whatever lines it has.
+pub fn read_text<R: Read + Drop>(alloc: Global, input: R) -> Result<Vec<u8>, Fault>
+    ensures all { IfOk result (λ text. MayBeLeft (R.remaining input) false text.items) }
+    ensures short { IfOk result (λ text. length text.items ≤ MOST_BYTES) }
+    ensures long { IsErrOf result Fault.Input → (text : List ℕ)
+        × MayBeLeft (R.remaining input) false text × (MOST_BYTES < length text) }
+{
+    Ok(read_whole(alloc, &mut Counted::new(input), MOST_BYTES)?)
+}
+
+/// The records of a file of grants, good and bad.
+pub fn read_records<R: Read + Drop>(alloc: Global, input: R) -> Result<Vec<GrantLine>, Fault>
+    ensures said { IfOk result
+        (λ records. AreRecords (MayBeLeft (R.remaining input) false) records.items) }
+    ensures ranges { IfOk result (λ lines. All IsInRange lines.items) }
+    ensures many { IsErrOf result Fault.Input → (file : List ℕ)
+        × MayBeLeft (R.remaining input) false file × (is_too_large file ≡ true) }
+{
+    Ok(read_grants(alloc, &mut Counted::new(input))?)
+}

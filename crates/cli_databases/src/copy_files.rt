@@ -1,0 +1,44 @@
+//! The files of copies of the database that is served.
+
+use crate::placing::{Keeper, OnDisk, part_of, remove_database};
+use cli_commands::Fault;
+use sqlite::{Connection, File, FileStore};
+use store_copy::CopyMaker;
+
+/// Makes copies as files of this machine.
+#[derive(Drop)]
+pub struct CopyFiles<'a> {
+    rt: &'a HostRuntime,
+}
+
+impl<'a> CopyFiles<'a> {
+    /// Makes copies through the files of the process.
+    pub fn new(rt: &'a HostRuntime) -> CopyFiles<'a> {
+        CopyFiles { rt }
+    }
+
+    /// A new `FILE.part`, in the place of what an earlier copy left there.
+    fn make_part(&self, file: &[u8]) -> Result<Connection<FileStore<File>>, Fault> {
+        let Ok(file) = str::from_utf8(file) else {
+            return Err(Fault::Store);
+        };
+        let keeper = OnDisk { rt: self.rt };
+        let part = part_of(self.rt, file)?;
+        remove_database(self.rt, &keeper, part.as_str())?;
+        keeper.open(part.as_str())
+    }
+}
+
+impl CopyMaker for CopyFiles<'_> {
+    type Rows = Connection<FileStore<File>>;
+
+    fn make(&mut self, file: &[u8]) -> Option<Connection<FileStore<File>>> {
+        self.make_part(file).ok()
+    }
+
+    fn close(&mut self, rows: Connection<FileStore<File>>) -> bool {
+        rows.close().is_ok()
+    }
+
+    fn give_up(&mut self, _rows: Connection<FileStore<File>>) {}
+}

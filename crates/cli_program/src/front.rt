@@ -1,0 +1,18 @@
+//! What serves others over a store, whatever storage that is on.
+
+use cli_commands::Fault;
+use room_store::Store;
+use sqlite::{Alter, Connection};
+use std::io::Write;
+
+/// A command that has the store for as long as it serves.
+pub trait Front {
+    /// Serves until the command has done what was asked, or something fails. Writes what the
+    /// command tells of itself, and hands the store's connection back.
+    fn serve<S: Alter + Drop, W: Write>(
+        &mut self,
+        rt: &HostRuntime,
+        store: Store<S>,
+        output: &mut W,
+    ) -> (Connection<S>, Result<(), Fault>);
+}

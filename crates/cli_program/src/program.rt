@@ -1,0 +1,75 @@
+//! One run of the program, from its words to its exit status.
+ghost use Rattle.std.specs.Prelude.{◌≤◌, IfOk};
+
+use crate::backing_up::run_backup;
+use crate::errands::run_errand;
+use crate::listening::listen;
+use crate::owner::run_owner_errand;
+use crate::sending::send;
+use crate::serving::serve;
+use crate::version::{asks_for_version, print_version};
+use cli_commands::{BackingUp, Errand, Fault, Listening, OwnerErrand, Sending, Serving, words_of};
+use cli_databases::run_on;
+use serve_sockets::moment;
+use std::io::{BufWriter, Write};
+
+/// Does what the words after the program's name ask for, over the standard streams, and answers the
+/// exit status. Where that is not 0, standard error has why. `commit` is what the version tells of the
+/// sources that the program is built of.
+pub fn start(rt: &HostRuntime, commit: &str) -> u8
+    ensures { result ≤ 5 }
+{
+    match begin(rt, commit) {
+        Ok(status) => status,
+        Err(fault) => {
+            // The status tells of the fault even where its text can't be written.
+            let _ = fault.report(&mut rt.stderr());
+            fault.status()
+        }
+    }
+}
+
+// The exit status of a run, or why it could not begin.
+fn begin(rt: &HostRuntime, commit: &str) -> Result<u8, Fault>
+    ensures { IfOk result (λ status. status ≤ 5) }
+{
+    let alloc = rt.alloc();
+    let given = words_of(rt)?;
+    let words: Vec<&str> = given.iter().map(|word| word.as_str()).collect(alloc)?;
+    let mut output = BufWriter::new(alloc, rt.stdout())?;
+    if asks_for_version(words.as_slice()) {
+        print_version(&mut output, commit)?;
+        return Ok(0);
+    }
+    run(rt, words.as_slice(), &mut output)
+}
+
+fn run<W: Write>(rt: &HostRuntime, words: &[&str], output: &mut W) -> Result<u8, Fault>
+    ensures { IfOk result (λ status. status ≤ 5) }
+{
+    let alloc = rt.alloc();
+    if let Some(asked) = Listening::read(alloc, words)? {
+        listen(rt, &asked, output)?;
+        return Ok(0);
+    }
+    if let Some(asked) = Serving::read(alloc, words)? {
+        serve(rt, &asked, output)?;
+        return Ok(0);
+    }
+    if let Some(asked) = Sending::read(alloc, words)? {
+        send(rt, &asked, output)?;
+        return Ok(0);
+    }
+    if let Some(asked) = Errand::read(alloc, words)? {
+        run_errand(rt, &asked, output)?;
+        return Ok(0);
+    }
+    if let Some(asked) = OwnerErrand::read(alloc, words)? {
+        run_owner_errand(rt, &asked, output)?;
+        return Ok(0);
+    }
+    if let Some(asked) = BackingUp::read(alloc, words)? {
+        return run_backup(rt, &asked, output);
+    }
+    Ok(run_on(rt, words, moment(rt), rt.stdin(), output, &mut rt.stderr()))
+}

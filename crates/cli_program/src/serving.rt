@@ -1,0 +1,152 @@
+//! `serve`: one process for clients over HTTP, stations and operators.
+ghost use Rattle.std.specs.Prelude.{◌≡◌, [], IfOk};
+ghost use Rattle.serve_peers.specs.Journals.{open_of, rounds_of};
+
+use crate::database::serve_over;
+use crate::front::Front;
+use cli_commands::{Address, Fault, MEMORY, ServedDoor, Serving, Visitors};
+use cli_databases::CopyFiles;
+use room_store::Store;
+use serve_log::{EventLog, LogFile};
+use serve_peers::{Copies, Served};
+use serve_sockets::{Door, Entrance, Hall, Kind, moment};
+use serve_space::Spare;
+use sqlite::{Alter, Connection};
+use std::alloc::{AllocError, Global};
+use std::hash::RandomState;
+use std::io;
+use std::io::Write;
+
+/// Serves everybody until an operator asks it to end, or a signal ends the process. It fails where
+/// it can't begin, or the system fails. Once all can connect it writes a line: `serving`, and
+/// ` VISITORS=ADDRESS` for each door. A log that can't be opened is the system's failure.
+pub fn serve<W: Write>(rt: &HostRuntime, asked: &Serving<'_>, output: &mut W) -> Result<(), Fault> {
+    let moment = moment(rt).ok_or(Fault::Io)?;
+    let mut front = Begun {
+        asked,
+        moment,
+        hall: None,
+    };
+    serve_over(rt, asked.database, &mut front, output)
+}
+
+// The command, begun at a moment.
+#[derive(Drop)]
+struct Begun<'a> {
+    asked: &'a Serving<'a>,
+    moment: u64,
+    /// Stays until the file is closed, so that a connection that asked for the end sees it last.
+    hall: Option<Hall>,
+}
+
+impl Front for Begun<'_> {
+    fn serve<S: Alter + Drop, W: Write>(
+        &mut self,
+        rt: &HostRuntime,
+        store: Store<S>,
+        output: &mut W,
+    ) -> (Connection<S>, Result<(), Fault>) {
+        let mut served = Served::new(rt.alloc(), store, self.moment);
+        let ended = serve_all(rt, &mut served, self.asked, &mut self.hall, output);
+        (served.close(), ended)
+    }
+}
+
+fn serve_all<S: Alter, W: Write>(
+    rt: &HostRuntime,
+    served: &mut Served<S>,
+    asked: &Serving<'_>,
+    kept: &mut Option<Hall>,
+    output: &mut W,
+) -> Result<(), Fault>
+    requires rounds { rounds_of served.old ≡ [] }
+    requires none_open { open_of served.old ≡ [] }
+{
+    if let Some(path) = asked.log {
+        let file = LogFile::open(rt, path)?;
+        served.set_log(EventLog::new(rt.alloc(), file));
+    }
+    served.set_spare(spare_for(rt, asked.database)?);
+    served.set_needs_password(asked.needs_password);
+    let mut hall = open(rt, asked, output)?;
+    let ended = run(rt, &mut hall, served);
+    *kept = Some(hall);
+    Ok(ended?)
+}
+
+fn run<S: Alter>(rt: &HostRuntime, hall: &mut Hall, served: &mut Served<S>) -> io::Result<()> {
+    let mut copies = Copies::new(CopyFiles::new(rt));
+    hall.run(rt, served, &mut copies)
+}
+
+/// The space that is kept for a full disk: a file beside that of the database, whose name has
+/// `-space` behind it. For tables in memory none is kept.
+fn spare_for(rt: &HostRuntime, database: &str) -> io::Result<Spare> {
+    if database == MEMORY {
+        return Ok(Spare::none());
+    }
+    let path = format!(in rt.alloc(); "{database}-space")?;
+    Spare::open(rt, path.as_str())
+}
+
+/// The hall behind the doors, at which all can connect.
+fn open<W: Write>(rt: &HostRuntime, asked: &Serving<'_>, output: &mut W) -> io::Result<Hall> {
+    let doors = doors_at(rt, asked.doors.as_slice())?;
+    tell(output, asked.doors.as_slice(), doors.as_slice())?;
+    Hall::open(rt, doors, RandomState::new(rt)?)
+}
+
+fn doors_at(rt: &HostRuntime, asked: &[ServedDoor<'_>]) -> io::Result<Vec<Entrance>> {
+    let mut doors = Vec::with_capacity(rt.alloc(), asked.len())?;
+    for door in asked {
+        let kind = kind_of(rt, door)?;
+        doors.push(Entrance::new(door_at(rt, door.address)?, kind))?;
+    }
+    Ok(doors)
+}
+
+fn door_at(rt: &HostRuntime, address: Address<'_>) -> io::Result<Door> {
+    match address {
+        Address::Port(port) => Door::at_port(rt, port),
+        Address::Path(path) => Door::at_path(rt, path),
+    }
+}
+
+fn kind_of(rt: &HostRuntime, door: &ServedDoor<'_>) -> io::Result<Kind> {
+    match door.visitors {
+        Visitors::Clients => Ok(Kind::CLIENTS),
+        Visitors::Pages => Ok(Kind::PAGES),
+        Visitors::Stations => Ok(Kind::STATIONS),
+        Visitors::Station => Ok(Kind::station(kept(rt.alloc(), door.devices)?)),
+        Visitors::Operators => Ok(Kind::OPERATORS),
+    }
+}
+
+/// The names, in memory that is never freed: a door is there as long as the process.
+fn kept(alloc: Global, names: &str) -> Result<&'static [u8], AllocError>
+    ensures { IfOk result (λ kept. kept.now ≡ names.now) }
+{
+    let mut kept = Vec::with_capacity(alloc, names.len())?;
+    kept.extend_from_slice(names.as_bytes())?;
+    Ok(kept.leak())
+}
+
+/// Tells where each can connect, a free port that was taken among them.
+fn tell<W: Write>(output: &mut W, asked: &[ServedDoor<'_>], doors: &[Entrance]) -> io::Result<()> {
+    write!(output, "serving")?;
+    for (asked, door) in asked.iter().zip(doors) {
+        let visitors = asked.visitors.name();
+        let address = named(asked.address, door);
+        write!(output, " {visitors}={address}")?;
+    }
+    writeln!(output)?;
+    output.flush()
+}
+
+/// The address, with the port that was taken for it.
+fn named<'a>(address: Address<'a>, door: &Entrance) -> Address<'a> {
+    match door.port() {
+        Some(port) => Address::Port(port),
+        None => address,
+    }
+}

@@ -1,0 +1,34 @@
+//! The words of a line, which have a space between each two.
+
+ghost use Rattle.std.specs.Prelude.{◌≡◌, ◌+◌, ◌<◌, ◌++◌, IfSome, codes, length, take};
+ghost use Rattle.client_lines.specs.Words.{HasNoSpace};
+
+/// The bytes before the first space and those after it, or `None` where no space is.
+pub fn first_word(line: &[u8]) -> Option<(&[u8], &[u8])>
+    ensures parts { IfSome result (λ parts. line.now ≡ parts.0.now ++ codes " " ++ parts.1.now) }
+    ensures word { IfSome result (λ parts. HasNoSpace parts.0.now) }
+{
+    let end = space_in(line)?;
+    Some((&line[..end], &line[end + 1..]))
+}
+
+/// What comes after the word and a space, or `None` where that is not what the line begins with.
+pub fn after_word<'a>(line: &'a [u8], word: &[u8]) -> Option<&'a [u8]>
+    ensures { IfSome result (λ rest. line.now ≡ word.now ++ codes " " ++ rest.now) }
+{
+    let (first, rest) = first_word(line)?;
+    if first == word {
+        return Some(rest);
+    }
+    None
+}
+
+/// Where the first space is.
+fn space_in(line: &[u8]) -> Option<usize>
+    ensures bound { IfSome result (λ end. end < length line.now) }
+    ensures found { IfSome result
+        (λ end. take (end + 1) line.now ≡ take end line.now ++ codes " ") }
+    ensures before { IfSome result (λ end. HasNoSpace (take end line.now)) }
+{
+    line.iter().position(|byte| *byte == b' ')
+}

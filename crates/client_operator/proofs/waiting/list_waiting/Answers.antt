@@ -1,0 +1,9 @@
+use Rattle.client_operator.specs.Waiting.{ListsAccount, waiting_head}
+use Rattle.client_operator.proofs.Reported.{PrintsTable-of}
+use Rattle.client_operator.proofs.waiting.list_waiting.Goals as goal
+
+pub returns : goal.returns
+returns g c =
+    PrintsTable-of waiting_head (ListsAccount c.args.age) c.in_ok-names.names.items
+    c.as_slice.result.now _ _ _ _ _ _ _ c.as_slice.ensures.value (c.in_ok-names.ensures _)
+    c.in_ok-print_head.ensures c.in_ok-list_each.ensures c.in_ok-flush.ensures.bytes

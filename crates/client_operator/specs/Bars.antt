@@ -1,0 +1,7 @@
+-- What shows how far a task has come, as contracts see it (this project's own).
+use Rattle.std.specs.Prelude.{Option}
+use Rattle.client_operator.specs.declared.bar.Bar.{Bar}
+
+-- where it shows that, if it does
+abbrev pub terminal_of : {E : Type 0} → Bar E → Option E
+terminal_of bar = bar.terminal

@@ -1,0 +1,58 @@
+//! Which site sent a form.
+ghost use Rattle.std.specs.Prelude.{◌≡◌, option_copied};
+ghost use Rattle.input_http.specs.Origins.{is_foreign, is_origin_of, is_own, is_own_origin, is_own_site};
+
+use crate::targets::is_post;
+use bytes::Bytes;
+use http::{HeaderValue, Request};
+
+/// Whether it asks for something to be done, and its browser does not tell that a page of this site
+/// asks, or its owner.
+pub fn is_foreign(request: &Request<Bytes>) -> bool
+    ensures { result ≡ is_foreign request.now }
+{
+    is_post(request.method().as_str().as_bytes()) && !is_own(request)
+}
+
+fn is_own(request: &Request<Bytes>) -> bool
+    ensures { result ≡ is_own request.now }
+{
+    let site = request.headers().get("sec-fetch-site");
+    let origin = request.headers().get("origin");
+    let host = request.headers().get("host");
+    (site.is_some() || origin.is_some()) && is_own_site(site) && is_own_origin(origin, host)
+}
+
+fn is_own_site(site: Option<&HeaderValue>) -> bool
+    ensures { result ≡ is_own_site (option_copied site.entry) }
+{
+    match site {
+        None => true,
+        Some(site) => {
+            site.as_bytes() == b"same-origin".as_slice() || site.as_bytes() == b"none".as_slice()
+        }
+    }
+}
+
+fn is_own_origin(origin: Option<&HeaderValue>, host: Option<&HeaderValue>) -> bool
+    ensures { result ≡ is_own_origin (option_copied origin.entry) (option_copied host.entry) }
+{
+    match (origin, host) {
+        (None, _) => true,
+        (Some(_), None) => false,
+        (Some(origin), Some(host)) => is_origin_of(origin.as_bytes(), host.as_bytes()),
+    }
+}
+
+/// Whether the origin is that of a page of the host.
+fn is_origin_of(origin: &[u8], host: &[u8]) -> bool
+    ensures { result ≡ is_origin_of origin.now host.now }
+{
+    match origin.strip_prefix(b"https://".as_slice()) {
+        Some(rest) => rest == host,
+        None => match origin.strip_prefix(b"http://".as_slice()) {
+            Some(rest) => rest == host,
+            None => false,
+        },
+    }
+}

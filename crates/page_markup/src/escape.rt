@@ -1,0 +1,46 @@
+//! Text as a page shows it.
+
+ghost use Rattle.std.specs.Prelude.{◌≡◌, ◌++◌, OnOk, flat_map};
+ghost use Rattle.page_markup.specs.Escaping.{escaped, is_control, shown_byte};
+
+use std::alloc::AllocError;
+
+/// Appends a text as HTML shows it, in an element or in a quoted attribute. What is no UTF-8 and
+/// what controls a terminal is shown as U+FFFD.
+pub(crate) fn put_escaped(out: &mut Vec<u8>, text: &[u8]) -> Result<(), AllocError>
+    ensures { OnOk result (out.new.items ≡ out.old.items ++ escaped text.now) }
+{
+    let readable = String::from_utf8_lossy(*out.allocator(), text)?;
+    put_readable(out, readable.as_bytes())
+}
+
+fn put_readable(out: &mut Vec<u8>, text: &[u8]) -> Result<(), AllocError>
+    ensures { OnOk result (out.new.items ≡ out.old.items ++ flat_map shown_byte text.now) }
+{
+    for byte in text {
+        put_byte(out, *byte)?;
+    }
+    Ok(())
+}
+
+fn put_byte(out: &mut Vec<u8>, byte: u8) -> Result<(), AllocError>
+    ensures { OnOk result (out.new.items ≡ out.old.items ++ shown_byte byte) }
+{
+    if is_control(byte) {
+        return out.extend_from_slice(&[0xEF, 0xBF, 0xBD]);
+    }
+    match byte {
+        b'&' => out.extend_from_slice(b"&amp;"),
+        b'<' => out.extend_from_slice(b"&lt;"),
+        b'>' => out.extend_from_slice(b"&gt;"),
+        b'"' => out.extend_from_slice(b"&quot;"),
+        b'\'' => out.extend_from_slice(b"&#39;"),
+        _ => out.extend_from_slice(&[byte]),
+    }
+}
+
+fn is_control(byte: u8) -> bool
+    ensures { result ≡ is_control byte }
+{
+    byte < 32 || byte == 127
+}

@@ -1,0 +1,157 @@
+//! The page that shows an overview.
+
+ghost use Rattle.std.specs.Prelude.{◌≡◌, ◌++◌, ◌≤◌, ℕ, length, List, IfOk, OnOk};
+ghost use Rattle.page_overview.specs.Pages.{begins_so, comes_behind, days_in, found, is_listed, next_behind, numbered, IsPage, Lists};
+ghost use Rattle.page_pages.specs.Rooms.{room_page};
+ghost use Rattle.page_pages.specs.declared.room.Room.{Room as RoomRecord};
+
+use crate::overview::Overview;
+use account_rules::{LAST_MONTH, Name};
+use jiff_core::civil::days_in_month;
+use page_pages::{AccountLine, DayLine, Room, put_room_page};
+use std::alloc::{AllocError, Global};
+
+/// So many accounts are listed on one page.
+const MOST_LISTED: usize = 100;
+
+impl Overview {
+    /// Appends the print room's page. Of the accounts it lists those whose names begin so and come
+    /// behind a name, at most 100. `gathers`: all accounts are being gathered anew.
+    pub fn put_page(
+        &self,
+        out: &mut Vec<u8>,
+        gathers: bool,
+        front: Option<Name>,
+        behind: Option<Name>,
+    ) -> Result<(), AllocError>
+        ensures { OnOk result ((page : List ℕ) × IsPage self.now gathers front behind page
+            × (out.new.items ≡ out.old.items ++ page)) }
+    {
+        let alloc = *out.allocator();
+        let days = day_lines(alloc, &self.days[..days_in(self.month)])?;
+        let mut accounts = find(alloc, self.accounts.as_slice(), &front, &behind)?;
+        let next = next_behind(accounts.as_slice());
+        accounts.truncate(MOST_LISTED);
+        self.put_listed(
+            out,
+            gathers,
+            front,
+            days.as_slice(),
+            accounts.as_slice(),
+            next,
+        )
+    }
+
+    /// Appends the page with these days and accounts.
+    fn put_listed(
+        &self,
+        out: &mut Vec<u8>,
+        gathers: bool,
+        front: Option<Name>,
+        days: &[DayLine],
+        accounts: &[AccountLine],
+        behind: Option<Name>,
+    ) -> Result<(), AllocError>
+        ensures { OnOk result ((room : RoomRecord)
+            × Lists self.now gathers front days.now accounts.now behind room
+            × (out.new.items ≡ out.old.items ++ room_page room)) }
+    {
+        let room = Room {
+            as_of: self.as_of,
+            gathers,
+            skips: self.skips,
+            has_more: self.has_more,
+            month: self.month,
+            open: self.accounts.len() as u64,
+            waiting: self.waiting,
+            unsettled: self.unsettled,
+            charged: self.charged,
+            beyond: self.beyond,
+            days,
+            begun: self.begun.as_slice(),
+            longest: self.longest.as_slice(),
+            devices: self.devices.as_slice(),
+            front,
+            accounts,
+            behind,
+        };
+        put_room_page(out, &room)
+    }
+}
+
+/// How many days the month has. One past the last that the rules know has as many as that.
+fn days_in(month: u32) -> usize
+    ensures days { result ≡ days_in month }
+    ensures high { result ≤ 31 }
+{
+    let known = month.min(LAST_MONTH);
+    days_in_month((known / 12) as i16, (known % 12 + 1) as u8) as usize
+}
+
+/// The units of each day, with its number.
+fn day_lines(alloc: Global, units: &[u64]) -> Result<Vec<DayLine>, AllocError>
+    requires { length units.now ≤ 31 }
+    ensures { IfOk result (λ lines. lines.items ≡ numbered 1 units.now) }
+{
+    let mut lines = Vec::new(alloc);
+    let mut day = 1u32;
+    for of_day in units {
+        lines.push(DayLine {
+            day,
+            units: *of_day,
+        })?;
+        day += 1;
+    }
+    Ok(lines)
+}
+
+/// The first accounts of those that are asked for, and one more where there are more.
+fn find(
+    alloc: Global,
+    lines: &[AccountLine],
+    front: &Option<Name>,
+    behind: &Option<Name>,
+) -> Result<Vec<AccountLine>, AllocError>
+    ensures { IfOk result (λ they. they.items ≡ found front.now behind.now lines.now) }
+{
+    lines
+        .iter()
+        .filter(|line| is_listed(front, behind, line))
+        .take(MOST_LISTED + 1)
+        .copied()
+        .collect(alloc)
+}
+
+fn is_listed(front: &Option<Name>, behind: &Option<Name>, line: &AccountLine) -> bool
+    ensures { result ≡ is_listed front.now behind.now line.now }
+{
+    begins_so(front, line.account) && comes_behind(behind, line.account)
+}
+
+fn begins_so(front: &Option<Name>, account: Name) -> bool
+    ensures { result ≡ begins_so front.now account }
+{
+    match front {
+        Some(front) => account.bytes().starts_with(front.bytes()),
+        None => true,
+    }
+}
+
+fn comes_behind(behind: &Option<Name>, account: Name) -> bool
+    ensures { result ≡ comes_behind behind.now account }
+{
+    match behind {
+        Some(name) => name.bytes().cmp(account.bytes()).is_lt(),
+        None => true,
+    }
+}
+
+/// The last account that is listed, where more were found.
+fn next_behind(lines: &[AccountLine]) -> Option<Name>
+    ensures { result ≡ next_behind lines.now }
+{
+    if lines.len() <= MOST_LISTED {
+        return None;
+    }
+    Some(lines[MOST_LISTED - 1].account)
+}

@@ -1,0 +1,7 @@
+use Rattle.std.proofs.Common.{◌≡◌, ◌++◌, take, flat_map}
+use Rattle.page_pages.specs.Begun.{begun_item}
+use Rattle.page_pages.proofs.begun.put_lines.Given as goal
+
+-- the lines so far
+abbrev pub invariant-loop-line : goal.invariant-loop-line
+invariant-loop-line l = l.out.items ≡ l.fn.out.items ++ flat_map begun_item (take l.line-index l.lines)

@@ -1,0 +1,7 @@
+use Rattle.std.proofs.Common.{◌≡◌, ◌++◌, take, flat_map}
+use Rattle.page_pages.specs.Statements.{job_if_then}
+use Rattle.page_pages.proofs.statement.put_jobs_then.Given as goal
+
+-- the jobs so far
+abbrev pub invariant-loop-job : goal.invariant-loop-job
+invariant-loop-job l = l.out.items ≡ l.fn.out.items ++ flat_map (job_if_then l.fn.month) (take l.job-index l.jobs)

@@ -1,0 +1,114 @@
+//! What stands around the content of a page, and of a card of it.
+
+ghost use Rattle.std.specs.Prelude.{◌≡◌, ◌++◌, OnOk};
+ghost use Rattle.page_pages.specs.Frames.{card, document, foot, reload, remark, top};
+ghost use Rattle.page_markup.specs.Parts.{html};
+
+use crate::markup::{BODY, DOCUMENT, SIGNS};
+use crate::texts::{PRODUCT, SKIP, TIMES, UNITS};
+use page_markup::{Piece, put_all};
+use std::alloc::AllocError;
+
+/// Appends what has a browser load the page of an account anew.
+pub(crate) fn put_reload(out: &mut Vec<u8>, account: &[u8]) -> Result<(), AllocError>
+    ensures { OnOk result (out.new.items ≡ out.old.items ++ html (reload account.now)) }
+{
+    put_all(
+        out,
+        &[
+            Piece::Mark("<meta http-equiv=\"refresh\" content=\"30; url=/"),
+            Piece::Text(account),
+            Piece::Mark("\">\n"),
+        ],
+    )
+}
+
+/// Appends the begin of a page with its title.
+pub(crate) fn put_document(out: &mut Vec<u8>, title: &[u8]) -> Result<(), AllocError>
+    ensures { OnOk result (out.new.items ≡ out.old.items ++ html (document title.now)) }
+{
+    put_all(
+        out,
+        &[
+            Piece::Mark(DOCUMENT),
+            Piece::Mark("<title>"),
+            Piece::Text(title),
+            Piece::Mark(" - "),
+            Piece::Mark(PRODUCT),
+            Piece::Mark("</title>\n"),
+        ],
+    )
+}
+
+/// Appends what stands above the content of a page.
+pub(crate) fn put_top(out: &mut Vec<u8>, place: &str) -> Result<(), AllocError>
+    ensures { OnOk result (out.new.items ≡ out.old.items ++ html (top place.now)) }
+{
+    put_all(
+        out,
+        &[
+            Piece::Mark(BODY),
+            Piece::Mark(SIGNS),
+            Piece::Mark("<a class=\"skip\" href=\"#main\">"),
+            Piece::Mark(SKIP),
+            Piece::Mark("</a>\n<header class=\"banner\"><div><span class=\"brand\">"),
+            Piece::Mark("<svg class=\"sign\" aria-hidden=\"true\"><use href=\"#sprig\"/></svg>"),
+            Piece::Mark(PRODUCT),
+            Piece::Mark("</span><span class=\"quiet\">"),
+            Piece::Mark(place),
+            Piece::Mark("</span></div></header>\n<main id=\"main\">\n"),
+        ],
+    )
+}
+
+/// Appends the begin of a card with its heading.
+pub(crate) fn put_card<'a>(
+    out: &mut Vec<u8>,
+    name: &'a str,
+    heading: &'a str,
+) -> Result<(), AllocError>
+    ensures { OnOk result (out.new.items ≡ out.old.items ++ html (card name.now heading.now)) }
+{
+    put_all(
+        out,
+        &[
+            Piece::Mark("<section class=\"card\" aria-labelledby=\""),
+            Piece::Mark(name),
+            Piece::Mark("\">\n<header><h2 id=\""),
+            Piece::Mark(name),
+            Piece::Mark("\">"),
+            Piece::Mark(heading),
+            Piece::Mark("</h2></header>\n"),
+        ],
+    )
+}
+
+/// Appends a sentence.
+pub(crate) fn put_remark(out: &mut Vec<u8>, said: &str) -> Result<(), AllocError>
+    ensures { OnOk result (out.new.items ≡ out.old.items ++ html (remark said.now)) }
+{
+    put_all(
+        out,
+        &[
+            Piece::Mark("<p class=\"quiet\">"),
+            Piece::Mark(said),
+            Piece::Mark("</p>\n"),
+        ],
+    )
+}
+
+/// Appends the head of what stands below the content.
+pub(crate) fn put_foot(out: &mut Vec<u8>) -> Result<(), AllocError>
+    ensures { OnOk result (out.new.items ≡ out.old.items ++ html foot) }
+{
+    put_all(
+        out,
+        &[
+            Piece::Mark("</main>\n<footer class=\"foot\"><p class=\"quiet\">"),
+            Piece::Mark(UNITS),
+            Piece::Mark(" "),
+            Piece::Mark(TIMES),
+            Piece::Mark("\n"),
+        ],
+    )
+}

@@ -1,0 +1,42 @@
+//! The pages that an owner and a print room look at: each one's bytes, as definitions over what the
+//! reads of the store give, and the functions that write them. A page is a list of parts
+//! (`page_markup`).
+#![tactic(auto)]
+
+mod accounts;
+mod balance;
+mod begun;
+mod chart;
+mod devices;
+mod ended;
+mod form;
+mod frame;
+mod laws;
+mod longest;
+mod markup;
+mod outcome;
+mod owner;
+mod phase;
+mod reason;
+mod refusal;
+mod room;
+mod statement;
+mod style;
+mod texts;
+mod waiting;
+
+pub use accounts::AccountLine;
+pub use begun::BegunLine;
+pub use chart::DayLine;
+pub use laws::{
+    holds_go_through, names_are_no_tags, passwords_are_kept, releases_are_offered,
+    releases_go_through,
+};
+pub use longest::LongestLine;
+pub use outcome::{Act, Outcome};
+pub use owner::{Owner, put_owner_page};
+pub use phase::{Phase, phase_of};
+pub use refusal::{Refusal, put_refusal_page};
+pub use room::{Room, put_room_page};
+pub use statement::{Statement, put_statement};
+pub use style::{PAGE_POLICY, PRINT_SCRIPT, STYLE_SHEET};

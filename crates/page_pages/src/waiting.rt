@@ -1,0 +1,321 @@
+//! The jobs that wait, with what their owner may do with them.
+
+ghost use Rattle.std.specs.Prelude.{◌≡◌, ◌++◌, OnOk, flat_map};
+ghost use Rattle.page_pages.specs.Frames.{card, remark};
+ghost use Rattle.page_markup.specs.Parts.{html};
+ghost use Rattle.page_pages.specs.Phases.{phase_of, sentence, sign, word};
+ghost use Rattle.page_pages.specs.Waiting.{acts_start, button, job_counts, job_name, job_state, waiting_columns, buttons, cancel_button, device_words, hold_buttons, job_acts, job_row, release_buttons, no_device_words, table_of_waiting, waiting_card};
+
+use crate::frame::{put_card, put_remark};
+use crate::markup::{END_OF_ACTS, END_OF_CARD, END_OF_TABLE, FIRST_ACT};
+use crate::phase::{Phase, phase_of, sentence, sign, word};
+use crate::texts::{
+    ACTS, ANY_DEVICE, CANCEL, COPIES, DEVICE, FILES, HOLD, JOB, MADE, NO_DEVICE_YET, NOTHING_WAITS,
+    NUMBER, PAGES, RELEASE, STATE, WAITING,
+};
+use account_rules::{Job, Name};
+use page_markup::{Piece, put_all};
+use std::alloc::AllocError;
+
+/// Appends the jobs that wait.
+#[tactic(auto, using(std::proofs::Common::append_assoc), unfolding(crate::specs::Waiting::waiting_card))]
+pub(crate) fn put_waiting_card(
+    out: &mut Vec<u8>,
+    account: &[u8],
+    jobs: &[Job],
+) -> Result<(), AllocError>
+    ensures { OnOk result (out.new.items ≡ out.old.items ++ waiting_card account.now jobs.now) }
+{
+    put_card(out, "waiting", WAITING)?;
+    put_table_of_waiting(out, account, jobs)?;
+    out.extend_from_slice(END_OF_CARD.as_bytes())
+}
+
+fn put_table_of_waiting(out: &mut Vec<u8>, account: &[u8], jobs: &[Job]) -> Result<(), AllocError>
+    ensures { OnOk result
+        (out.new.items ≡ out.old.items ++ table_of_waiting account.now jobs.now) }
+{
+    if jobs.is_empty() {
+        return put_remark(out, NOTHING_WAITS);
+    }
+    put_table(out, account, jobs)
+}
+
+#[tactic(auto, using(std::proofs::Common::append_assoc))]
+fn put_table(out: &mut Vec<u8>, account: &[u8], jobs: &[Job]) -> Result<(), AllocError>
+    ensures { OnOk result (out.new.items ≡ out.old.items ++ (html waiting_columns
+        ++ (flat_map (job_row account.now) jobs.now ++ END_OF_TABLE.now))) }
+{
+    put_waiting_columns(out)?;
+    put_jobs(out, account, jobs)?;
+    out.extend_from_slice(END_OF_TABLE.as_bytes())
+}
+
+fn put_jobs(out: &mut Vec<u8>, account: &[u8], jobs: &[Job]) -> Result<(), AllocError>
+    ensures { OnOk result
+        (out.new.items ≡ out.old.items ++ flat_map (job_row account.now) jobs.now) }
+{
+    for job in jobs {
+        put_job_row(out, account, job)?;
+    }
+    Ok(())
+}
+
+#[tactic(auto, using(std::proofs::Common::append_assoc), unfolding(crate::specs::Waiting::job_row))]
+fn put_job_row(out: &mut Vec<u8>, account: &[u8], job: &Job) -> Result<(), AllocError>
+    ensures { OnOk result (out.new.items ≡ out.old.items ++ job_row account.now job.now) }
+{
+    let phase = phase_of(job);
+    put_job_name(out, job.job, job.name.as_slice())?;
+    put_job_state(out, sign(phase), word(phase), sentence(phase))?;
+    put_counts(out, phase, job)?;
+    put_job_acts(out, account, phase, job.job)
+}
+
+fn put_counts(out: &mut Vec<u8>, phase: Phase, job: &Job) -> Result<(), AllocError>
+    ensures { OnOk result (out.new.items ≡ out.old.items ++ html (job_counts
+        (device_words phase job.now.standing.device)
+        job.now.standing.impressions
+        job.now.standing.copies
+        job.now.standing.documents
+        job.now.standing.created)) }
+{
+    put_job_counts(
+        out,
+        device_words(phase, &job.standing.device),
+        job.standing.impressions,
+        job.standing.copies,
+        job.standing.documents,
+        job.standing.created,
+    )
+}
+
+/// Where a job may be printed, or is.
+fn device_words(phase: Phase, device: &Option<Name>) -> &[u8]
+    ensures { result.now ≡ device_words phase device.now }
+{
+    match device {
+        Some(name) => name.bytes(),
+        None => no_device_words(phase).as_bytes(),
+    }
+}
+
+fn no_device_words(phase: Phase) -> &'static str
+    ensures { result.now ≡ no_device_words phase }
+{
+    match phase {
+        Phase::Released => ANY_DEVICE,
+        _ => NO_DEVICE_YET,
+    }
+}
+
+#[tactic(auto, using(std::proofs::Common::append_assoc), unfolding(crate::specs::Waiting::job_acts))]
+fn put_job_acts(
+    out: &mut Vec<u8>,
+    account: &[u8],
+    phase: Phase,
+    number: u32,
+) -> Result<(), AllocError>
+    ensures { OnOk result
+        (out.new.items ≡ out.old.items ++ job_acts account.now phase number) }
+{
+    put_acts_start(out, account, number)?;
+    put_buttons(out, phase, number)?;
+    out.extend_from_slice(END_OF_ACTS.as_bytes())
+}
+
+/// Appends a button for each act that may go through.
+fn put_buttons(out: &mut Vec<u8>, phase: Phase, number: u32) -> Result<(), AllocError>
+    ensures { OnOk result (out.new.items ≡ out.old.items ++ buttons phase number) }
+{
+    match phase {
+        Phase::Ready => put_release_buttons(out, number),
+        Phase::Released => put_hold_buttons(out, number),
+        Phase::Incomplete | Phase::Locked | Phase::Uncounted | Phase::Printing => {
+            put_cancel_button(out, number)
+        }
+        Phase::Stopping | Phase::Printed | Phase::Canceled | Phase::Failed => Ok(()),
+    }
+}
+
+#[tactic(auto, using(std::proofs::Common::append_assoc), unfolding(crate::specs::Waiting::release_buttons))]
+fn put_release_buttons(out: &mut Vec<u8>, number: u32) -> Result<(), AllocError>
+    ensures { OnOk result (out.new.items ≡ out.old.items ++ release_buttons number) }
+{
+    put_button(out, FIRST_ACT, "release", RELEASE, number)?;
+    put_cancel_button(out, number)
+}
+
+#[tactic(auto, using(std::proofs::Common::append_assoc), unfolding(crate::specs::Waiting::hold_buttons))]
+fn put_hold_buttons(out: &mut Vec<u8>, number: u32) -> Result<(), AllocError>
+    ensures { OnOk result (out.new.items ≡ out.old.items ++ hold_buttons number) }
+{
+    put_button(out, "", "hold", HOLD, number)?;
+    put_cancel_button(out, number)
+}
+
+#[tactic(auto, unfolding(crate::specs::Waiting::cancel_button))]
+fn put_cancel_button(out: &mut Vec<u8>, number: u32) -> Result<(), AllocError>
+    ensures { OnOk result (out.new.items ≡ out.old.items ++ cancel_button number) }
+{
+    put_button(out, "", "cancel", CANCEL, number)
+}
+
+/// Appends the heads of the columns.
+fn put_waiting_columns(out: &mut Vec<u8>) -> Result<(), AllocError>
+    ensures { OnOk result (out.new.items ≡ out.old.items ++ html waiting_columns) }
+{
+    put_all(
+        out,
+        &[
+            Piece::Mark("<table class=\"jobs\">\n<thead><tr><th scope=\"col\" class=\"number\">"),
+            Piece::Mark(NUMBER),
+            Piece::Mark("</th><th scope=\"col\">"),
+            Piece::Mark(JOB),
+            Piece::Mark("</th><th scope=\"col\">"),
+            Piece::Mark(STATE),
+            Piece::Mark("</th><th scope=\"col\">"),
+            Piece::Mark(DEVICE),
+            Piece::Mark("</th><th scope=\"col\" class=\"count\">"),
+            Piece::Mark(PAGES),
+            Piece::Mark("</th><th scope=\"col\" class=\"count\">"),
+            Piece::Mark(COPIES),
+            Piece::Mark("</th><th scope=\"col\" class=\"count\">"),
+            Piece::Mark(FILES),
+            Piece::Mark("</th><th scope=\"col\">"),
+            Piece::Mark(MADE),
+            Piece::Mark("</th><th scope=\"col\"><span class=\"unseen\">"),
+            Piece::Mark(ACTS),
+            Piece::Mark("</span></th></tr></thead>\n<tbody>\n"),
+        ],
+    )
+}
+
+/// Appends the number and the name of a job.
+fn put_job_name(out: &mut Vec<u8>, number: u32, name: &[u8]) -> Result<(), AllocError>
+    ensures { OnOk result (out.new.items ≡ out.old.items ++ html (job_name number name.now)) }
+{
+    put_all(
+        out,
+        &[
+            Piece::Mark("<tr><td class=\"number\" data-label=\""),
+            Piece::Mark(JOB),
+            Piece::Mark("\">"),
+            Piece::Number(number as u64),
+            Piece::Mark("</td><th scope=\"row\" id=\"job-"),
+            Piece::Number(number as u64),
+            Piece::Mark("\"><bdi>"),
+            Piece::Text(name),
+            Piece::Mark("</bdi></th>\n"),
+        ],
+    )
+}
+
+/// Appends how a job stands.
+fn put_job_state<'a>(
+    out: &mut Vec<u8>,
+    symbol: &'a str,
+    state: &'a str,
+    why: &'a str,
+) -> Result<(), AllocError>
+    ensures { OnOk result
+        (out.new.items ≡ out.old.items ++ html (job_state symbol.now state.now why.now)) }
+{
+    put_all(
+        out,
+        &[
+            Piece::Mark("<td><span class=\"state\"><svg class=\"sign\" aria-hidden=\"true\"><use "),
+            Piece::Mark("href=\"#"),
+            Piece::Mark(symbol),
+            Piece::Mark("\"/></svg>"),
+            Piece::Mark(state),
+            Piece::Mark("</span><small>"),
+            Piece::Mark(why),
+            Piece::Mark("</small></td>\n"),
+        ],
+    )
+}
+
+/// Appends where a job may be printed, how much it is, and when it was made.
+fn put_job_counts(
+    out: &mut Vec<u8>,
+    device: &[u8],
+    impressions: u32,
+    copies: u32,
+    documents: u32,
+    created: u64,
+) -> Result<(), AllocError>
+    ensures { OnOk result
+        (out.new.items ≡ out.old.items
+        ++ html (job_counts device.now impressions copies documents created)) }
+{
+    put_all(
+        out,
+        &[
+            Piece::Mark("<td data-label=\""),
+            Piece::Mark(DEVICE),
+            Piece::Mark("\">"),
+            Piece::Text(device),
+            Piece::Mark("</td><td class=\"count\" data-label=\""),
+            Piece::Mark(PAGES),
+            Piece::Mark("\">"),
+            Piece::Known(impressions),
+            Piece::Mark("</td><td class=\"count\" data-label=\""),
+            Piece::Mark(COPIES),
+            Piece::Mark("\">"),
+            Piece::Number(copies as u64),
+            Piece::Mark("</td><td class=\"count\" data-label=\""),
+            Piece::Mark(FILES),
+            Piece::Mark("\">"),
+            Piece::Number(documents as u64),
+            Piece::Mark("</td>\n<td class=\"when\" data-label=\""),
+            Piece::Mark(MADE),
+            Piece::Mark("\">"),
+            Piece::Moment(created),
+            Piece::Mark("</td>\n"),
+        ],
+    )
+}
+
+/// Appends the head of the form of a job.
+fn put_acts_start(out: &mut Vec<u8>, account: &[u8], number: u32) -> Result<(), AllocError>
+    ensures { OnOk result (out.new.items ≡ out.old.items ++ html (acts_start account.now number)) }
+{
+    put_all(
+        out,
+        &[
+            Piece::Mark("<td class=\"acts\"><form method=\"post\" action=\"/"),
+            Piece::Text(account),
+            Piece::Mark("/"),
+            Piece::Number(number as u64),
+            Piece::Mark("\">"),
+        ],
+    )
+}
+
+/// Appends a button of the form of a job.
+fn put_button<'a>(
+    out: &mut Vec<u8>,
+    look: &'a str,
+    act: &'a str,
+    label: &'a str,
+    number: u32,
+) -> Result<(), AllocError>
+    ensures { OnOk result
+        (out.new.items ≡ out.old.items ++ html (button look.now act.now label.now number)) }
+{
+    put_all(
+        out,
+        &[
+            Piece::Mark("<button"),
+            Piece::Mark(look),
+            Piece::Mark(" name=\"act\" value=\""),
+            Piece::Mark(act),
+            Piece::Mark("\" aria-describedby=\"job-"),
+            Piece::Number(number as u64),
+            Piece::Mark("\">"),
+            Piece::Mark(label),
+            Piece::Mark("</button>"),
+        ],
+    )
+}

@@ -1,5 +1,0 @@
-use Rattle.room_checks.proofs.CheckedRooms as lemma
-use Rattle.room_checks.proofs.law.checked_rows_are_sound.Goals as goal
-
-pub returns : goal.returns
-returns c = lemma.rows_in_order_are_sound

@@ -1,7 +1,0 @@
-use Rattle.std.proofs.Common.{rules}
-use Rattle.room_client.specs.Answers.{after_list_word}
-use Rattle.room_client.proofs.answer.after_list_word.Goals as goal
-
-pub returns : goal.returns
-unfolding after_list_word
-returns c = search rules

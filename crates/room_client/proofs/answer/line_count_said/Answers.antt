@@ -1,5 +1,0 @@
-use Rattle.room_client.proofs.LineCounts.{line_count_is}
-use Rattle.room_client.proofs.answer.line_count_said.Goals as goal
-
-pub returns : goal.returns
-returns c = line_count_is c.number.result c.args.text.now c.number.ensures

@@ -1,7 +1,0 @@
-use Rattle.std.proofs.Common.{◌≡◌, ℕ, List, ◌++◌}
-use Rattle.std.specs.Io.KnownBytes.{Appends}
-use Rattle.room_client.proofs.sent.put.Given as goal
-
-abbrev pub invariant-loop : goal.invariant-loop
-invariant-loop g l = (done : List ℕ) × (l.bytes ≡ done ++ l.rest)
-    × Appends (g.W.Write.contents l.initial.writer) (g.W.Write.contents l.writer) done

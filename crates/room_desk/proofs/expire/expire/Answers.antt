@@ -1,9 +1,0 @@
-use Rattle.room_client.proofs.Refused.{IfOk-map}
-use Rattle.room_desk.proofs.Expired.{Expires-of}
-use Rattle.room_desk.proofs.expire.expire.Goals as goal
-
-pub returns : goal.returns
-returns g c = IfOk-map c.expire_each.result _ _
-    (λ done each. Expires-of c.args.expiry done c.in_ok-names.names.items c.as_slice.result.now _ _ _
-    c.as_slice.ensures.value (c.in_ok-names.ensures _) each)
-    c.expire_each.ensures

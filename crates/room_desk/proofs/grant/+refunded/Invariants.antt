@@ -1,5 +1,0 @@
-use Rattle.std.proofs.Common.{length}
-use Rattle.room_desk.proofs.grant.+refunded.Given as goal
-
-abbrev pub decreases-refunded : goal.decreases-refunded
-decreases-refunded l = length l.lines.now

@@ -1,5 +1,0 @@
-use Rattle.room_laws.proofs.AsksLieWithin as proof
-use Rattle.room_laws.proofs.laws.asks_lie_within.Goals as goal
-
-pub returns : goal.returns
-returns c = proof.asks_lie_within

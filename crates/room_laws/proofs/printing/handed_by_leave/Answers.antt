@@ -1,5 +1,0 @@
-use Rattle.room_laws.proofs.HandedByLeave as proof
-use Rattle.room_laws.proofs.printing.handed_by_leave.Goals as goal
-
-pub returns : goal.returns
-returns c = proof.handed_by_leave

@@ -1,5 +1,0 @@
-use Rattle.room_markup.proofs.Escapes.{read_text}
-use Rattle.room_markup.proofs.laws.is_read_back.Goals as goal
-
-pub returns : goal.returns
-returns c = read_text

@@ -1,8 +1,0 @@
-use Rattle.std.proofs.Common.{◌≡◌, take}
-use Rattle.std.specs.List.{fold}
-use Rattle.room_overview.specs.ProofOldest.{put_begun_line}
-use Rattle.room_overview.proofs.oldest.put_begun.Given as goal
-
--- the jobs so far
-abbrev pub invariant-loop-job : goal.invariant-loop-job
-invariant-loop-job l = l.lines.items ≡ fold (put_begun_line l.account) l.fn.lines.items (take l.job-index l.jobs)

@@ -1,5 +1,0 @@
-use Rattle.std.proofs.Common.{length}
-use Rattle.room_owner.proofs.head.+length_told.Given as goal
-
-abbrev pub decreases-length_told : goal.decreases-length_told
-decreases-length_told l = length l.headers.now

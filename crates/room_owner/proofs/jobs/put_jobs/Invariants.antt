@@ -1,9 +1,0 @@
-use Rattle.std.proofs.Common.{map, take}
-use Rattle.ipp_coding.specs.Plain.{plain_group}
-use Rattle.room_desk.specs.Talks.{InTurn}
-use Rattle.room_owner.specs.Tables.{ListsJob}
-use Rattle.room_owner.proofs.jobs.put_jobs.Given as goal
-
-abbrev pub invariant-loop-group : goal.invariant-loop-group
-invariant-loop-group l = InTurn (ListsJob l.now) l.initial.text.items l.text.items
-    (map plain_group (take l.group-index l.groups))

@@ -1,6 +1,0 @@
-use Rattle.room_pages.specs.Balances.{bar}
-use Rattle.room_pages.proofs.balance.put_bar.Goals as goal
-
-pub returns : goal.returns
-unfolding bar
-returns c = c.put_all.ensures

@@ -1,6 +1,0 @@
-use Rattle.room_pages.specs.Balances.{units_left}
-use Rattle.room_pages.proofs.balance.put_units_left.Goals as goal
-
-pub returns : goal.returns
-unfolding units_left
-returns c = c.put_all.ensures

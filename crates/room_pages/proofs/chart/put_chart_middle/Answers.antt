@@ -1,6 +1,0 @@
-use Rattle.room_pages.specs.Charts.{chart_middle}
-use Rattle.room_pages.proofs.chart.put_chart_middle.Goals as goal
-
-pub returns : goal.returns
-unfolding chart_middle
-returns c = c.put_all.ensures

@@ -1,6 +1,0 @@
-use Rattle.room_pages.specs.Charts.{chart_start}
-use Rattle.room_pages.proofs.chart.put_chart_start.Goals as goal
-
-pub returns : goal.returns
-unfolding chart_start
-returns c = c.put_all.ensures

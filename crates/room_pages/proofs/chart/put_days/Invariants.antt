@@ -1,7 +1,0 @@
-use Rattle.std.proofs.Common.{◌≡◌, ◌++◌, take, flat_map}
-use Rattle.room_pages.specs.Charts.{day_item}
-use Rattle.room_pages.proofs.chart.put_days.Given as goal
-
--- the days so far
-abbrev pub invariant-loop-day : goal.invariant-loop-day
-invariant-loop-day l = l.out.items ≡ l.fn.out.items ++ flat_map day_item (take l.day-index l.days)

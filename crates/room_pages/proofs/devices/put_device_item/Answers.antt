@@ -1,6 +1,0 @@
-use Rattle.room_pages.specs.Devices.{device_item}
-use Rattle.room_pages.proofs.devices.put_device_item.Goals as goal
-
-pub returns : goal.returns
-unfolding device_item
-returns c = c.put_all.ensures

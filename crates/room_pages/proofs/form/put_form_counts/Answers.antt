@@ -1,6 +1,0 @@
-use Rattle.room_pages.specs.Forms.{form_counts}
-use Rattle.room_pages.proofs.form.put_form_counts.Goals as goal
-
-pub returns : goal.returns
-unfolding form_counts
-returns c = c.put_all.ensures

@@ -1,6 +1,0 @@
-use Rattle.room_pages.specs.Forms.{form_end}
-use Rattle.room_pages.proofs.form.put_form_end.Goals as goal
-
-pub returns : goal.returns
-unfolding form_end
-returns c = c.put_all.ensures

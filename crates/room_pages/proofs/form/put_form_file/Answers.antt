@@ -1,6 +1,0 @@
-use Rattle.room_pages.specs.Forms.{form_file}
-use Rattle.room_pages.proofs.form.put_form_file.Goals as goal
-
-pub returns : goal.returns
-unfolding form_file
-returns c = c.put_all.ensures

@@ -1,6 +1,0 @@
-use Rattle.room_pages.specs.Forms.{form_start}
-use Rattle.room_pages.proofs.form.put_form_start.Goals as goal
-
-pub returns : goal.returns
-unfolding form_start
-returns c = c.put_all.ensures

@@ -1,6 +1,0 @@
-use Rattle.room_pages.specs.Frames.{foot}
-use Rattle.room_pages.proofs.frame.put_foot.Goals as goal
-
-pub returns : goal.returns
-unfolding foot
-returns c = c.put_all.ensures

@@ -1,6 +1,0 @@
-use Rattle.room_pages.specs.Frames.{reload}
-use Rattle.room_pages.proofs.frame.put_reload.Goals as goal
-
-pub returns : goal.returns
-unfolding reload
-returns c = c.put_all.ensures

@@ -1,6 +1,0 @@
-use Rattle.room_pages.specs.Frames.{remark}
-use Rattle.room_pages.proofs.frame.put_remark.Goals as goal
-
-pub returns : goal.returns
-unfolding remark
-returns c = c.put_all.ensures

@@ -1,6 +1,0 @@
-use Rattle.room_pages.specs.Frames.{top}
-use Rattle.room_pages.proofs.frame.put_top.Goals as goal
-
-pub returns : goal.returns
-unfolding top
-returns c = c.put_all.ensures

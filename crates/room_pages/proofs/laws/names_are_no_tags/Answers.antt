@@ -1,5 +1,0 @@
-use Rattle.room_pages.proofs.TagLemmas.{names_are_no_tags}
-use Rattle.room_pages.proofs.laws.names_are_no_tags.Goals as goal
-
-pub returns : goal.returns
-returns c = names_are_no_tags

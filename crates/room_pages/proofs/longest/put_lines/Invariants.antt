@@ -1,7 +1,0 @@
-use Rattle.std.proofs.Common.{◌≡◌, ◌++◌, take, flat_map}
-use Rattle.room_pages.specs.Longest.{longest_item}
-use Rattle.room_pages.proofs.longest.put_lines.Given as goal
-
--- the lines so far
-abbrev pub invariant-loop-line : goal.invariant-loop-line
-invariant-loop-line l = l.out.items ≡ l.fn.out.items ++ flat_map longest_item (take l.line-index l.lines)

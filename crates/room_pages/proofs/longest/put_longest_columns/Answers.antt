@@ -1,6 +1,0 @@
-use Rattle.room_pages.specs.Longest.{longest_columns}
-use Rattle.room_pages.proofs.longest.put_longest_columns.Goals as goal
-
-pub returns : goal.returns
-unfolding longest_columns
-returns c = c.put_all.ensures

@@ -1,6 +1,0 @@
-use Rattle.room_pages.specs.Longest.{longest_row}
-use Rattle.room_pages.proofs.longest.put_longest_row.Goals as goal
-
-pub returns : goal.returns
-unfolding longest_row
-returns c = c.put_all.ensures

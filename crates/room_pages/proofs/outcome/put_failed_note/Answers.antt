@@ -1,6 +1,0 @@
-use Rattle.room_pages.specs.Outcomes.{failed_note}
-use Rattle.room_pages.proofs.outcome.put_failed_note.Goals as goal
-
-pub returns : goal.returns
-unfolding failed_note
-returns c = c.put_all.ensures

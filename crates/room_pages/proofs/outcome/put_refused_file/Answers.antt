@@ -1,6 +1,0 @@
-use Rattle.room_pages.specs.Outcomes.{refused_file}
-use Rattle.room_pages.proofs.outcome.put_refused_file.Goals as goal
-
-pub returns : goal.returns
-unfolding refused_file
-returns c = c.put_all.ensures

@@ -1,6 +1,0 @@
-use Rattle.room_pages.specs.Outcomes.{refused_job}
-use Rattle.room_pages.proofs.outcome.put_refused_job.Goals as goal
-
-pub returns : goal.returns
-unfolding refused_job
-returns c = c.put_all.ensures

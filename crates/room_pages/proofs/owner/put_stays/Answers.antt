@@ -1,6 +1,0 @@
-use Rattle.room_pages.specs.Owners.{stays}
-use Rattle.room_pages.proofs.owner.put_stays.Goals as goal
-
-pub returns : goal.returns
-unfolding stays
-returns c = c.put_all.ensures

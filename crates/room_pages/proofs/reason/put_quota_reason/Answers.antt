@@ -1,6 +1,0 @@
-use Rattle.room_pages.specs.Reasons.{quota_reason}
-use Rattle.room_pages.proofs.reason.put_quota_reason.Goals as goal
-
-pub returns : goal.returns
-unfolding quota_reason
-returns c = c.put_all.ensures

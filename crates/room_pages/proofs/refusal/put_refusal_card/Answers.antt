@@ -1,6 +1,0 @@
-use Rattle.room_pages.specs.Refusals.{refusal_card}
-use Rattle.room_pages.proofs.refusal.put_refusal_card.Goals as goal
-
-pub returns : goal.returns
-unfolding refusal_card
-returns c = c.put_all.ensures

@@ -1,6 +1,0 @@
-use Rattle.room_pages.specs.Rooms.{as_of}
-use Rattle.room_pages.proofs.room.put_as_of.Goals as goal
-
-pub returns : goal.returns
-unfolding as_of
-returns c = c.put_all.ensures

@@ -1,6 +1,0 @@
-use Rattle.room_pages.specs.Rooms.{tiles}
-use Rattle.room_pages.proofs.room.put_tiles.Goals as goal
-
-pub returns : goal.returns
-unfolding tiles
-returns c = c.put_all.ensures

@@ -1,6 +1,0 @@
-use Rattle.room_pages.specs.Rooms.{title_start}
-use Rattle.room_pages.proofs.room.put_title_start.Goals as goal
-
-pub returns : goal.returns
-unfolding title_start
-returns c = c.put_all.ensures

@@ -1,6 +1,0 @@
-use Rattle.room_pages.specs.Statements.{sheet_foot}
-use Rattle.room_pages.proofs.statement.put_sheet_foot.Goals as goal
-
-pub returns : goal.returns
-unfolding sheet_foot
-returns c = c.put_all.ensures

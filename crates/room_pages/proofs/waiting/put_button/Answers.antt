@@ -1,6 +1,0 @@
-use Rattle.room_pages.specs.Waiting.{button}
-use Rattle.room_pages.proofs.waiting.put_button.Goals as goal
-
-pub returns : goal.returns
-unfolding button
-returns c = c.put_all.ensures

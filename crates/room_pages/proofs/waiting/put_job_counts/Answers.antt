@@ -1,6 +1,0 @@
-use Rattle.room_pages.specs.Waiting.{job_counts}
-use Rattle.room_pages.proofs.waiting.put_job_counts.Goals as goal
-
-pub returns : goal.returns
-unfolding job_counts
-returns c = c.put_all.ensures

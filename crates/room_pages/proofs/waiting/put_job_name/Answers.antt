@@ -1,6 +1,0 @@
-use Rattle.room_pages.specs.Waiting.{job_name}
-use Rattle.room_pages.proofs.waiting.put_job_name.Goals as goal
-
-pub returns : goal.returns
-unfolding job_name
-returns c = c.put_all.ensures

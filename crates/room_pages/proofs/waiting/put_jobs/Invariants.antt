@@ -1,7 +1,0 @@
-use Rattle.std.proofs.Common.{◌≡◌, ◌++◌, take, flat_map}
-use Rattle.room_pages.specs.Waiting.{job_row}
-use Rattle.room_pages.proofs.waiting.put_jobs.Given as goal
-
--- the jobs so far
-abbrev pub invariant-loop-job : goal.invariant-loop-job
-invariant-loop-job l = l.out.items ≡ l.fn.out.items ++ flat_map (job_row l.account) (take l.job-index l.jobs)

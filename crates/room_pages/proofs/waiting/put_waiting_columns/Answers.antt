@@ -1,6 +1,0 @@
-use Rattle.room_pages.specs.Waiting.{waiting_columns}
-use Rattle.room_pages.proofs.waiting.put_waiting_columns.Goals as goal
-
-pub returns : goal.returns
-unfolding waiting_columns
-returns c = c.put_all.ensures

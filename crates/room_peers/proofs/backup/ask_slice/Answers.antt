@@ -1,8 +1,0 @@
-use Rattle.std.proofs.Common.{rules, ◌≡◌, sym, ◌∙◌, inr}
-use Rattle.room_peers.specs.Backups.{file_of}
-use Rattle.room_peers.proofs.backup.ask_slice.Goals as goal
-
-pub returns : goal.returns
-returns c =
-    let same : file_of c.in-Some.asked ≡ c.args.file.now = search rules in
-    inr (c.in-Some.asked, sym c.take.ensures.value ∙ c.in-Some.is, same, c.slice_told-told.ensures, c.next.ensures)

@@ -1,5 +1,0 @@
-use Rattle.room_peers.proofs.Finding.{always_lives}
-use Rattle.room_peers.proofs.laws.always_lives.Goals as goal
-
-pub returns : goal.returns
-returns g c = always_lives g.S.Store

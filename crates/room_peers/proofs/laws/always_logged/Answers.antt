@@ -1,4 +1,0 @@
-use Rattle.room_peers.proofs.laws.always_logged.Goals as goal
-
-pub returns : goal.returns
-returns g c = λ served. served.journal.told

@@ -1,9 +1,0 @@
-use Rattle.std.proofs.Common.{◌≡◌, length, reverse}
-use Rattle.room_requests.specs.Words.{without_front}
-use Rattle.room_requests.proofs.words.without_back.Given as goal
-
-abbrev pub invariant-loop-bytes : goal.invariant-loop-bytes
-invariant-loop-bytes l = without_front l.margin (reverse l.bytes) ≡ without_front l.margin (reverse l.fn.bytes)
-
-abbrev pub decreases-loop-bytes : goal.decreases-loop-bytes
-decreases-loop-bytes l = length l.bytes

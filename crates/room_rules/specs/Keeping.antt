@@ -1,9 +1,0 @@
--- What an act keeps of a job (this project's own).
-use Rattle.std.specs.Prelude.{◌≡◌, true}
-use Rattle.room_rules.specs.JobStates.{is_unfinished}
-use Rattle.room_rules.specs.declared.job.Standing.{Standing}
-
--- an act brings no document, and takes up no job that has ended
-pub record Keeps (before after : Standing) : Type 0 where
-  pub documents : after.documents ≡ before.documents
-  pub no_return : is_unfinished after.state ≡ true → is_unfinished before.state ≡ true

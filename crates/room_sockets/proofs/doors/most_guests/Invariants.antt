@@ -1,7 +1,0 @@
-use Rattle.std.proofs.Common.{◌≡◌, ◌≤◌, map, sum, take}
-use Rattle.room_sockets.specs.Doors.{most_of}
-use Rattle.room_sockets.specs.declared.doors.TheConstants.{MOST_GUESTS}
-use Rattle.room_sockets.proofs.doors.most_guests.Given as goal
-
-abbrev pub invariant-loop-entrance : goal.invariant-loop-entrance
-invariant-loop-entrance l = (l.most ≡ sum (map most_of (take l.entrance-index l.doors))) × (l.most ≤ MOST_GUESTS)

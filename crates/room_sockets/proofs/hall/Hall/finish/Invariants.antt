@@ -1,5 +1,0 @@
-use Rattle.room_sockets.specs.Halls.{GoesOn, guests_of}
-use Rattle.room_sockets.proofs.hall.Hall.finish.Given as goal
-
-abbrev pub invariant-loop : goal.invariant-loop
-invariant-loop g l = GoesOn g.S.Store (guests_of l.fn.self) (guests_of l.self) l.fn.served l.served

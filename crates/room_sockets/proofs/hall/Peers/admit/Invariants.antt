@@ -1,5 +1,0 @@
-use Rattle.room_sockets.specs.Halls.{OnlyEnter}
-use Rattle.room_sockets.proofs.hall.Peers.admit.Given as goal
-
-abbrev pub invariant-loop : goal.invariant-loop
-invariant-loop l = OnlyEnter l.fn.self.guests l.self.guests

@@ -1,5 +1,0 @@
-use Rattle.room_sockets.specs.Halls.{OnlyEnter}
-use Rattle.room_sockets.proofs.hall.Peers.admit_all.Given as goal
-
-abbrev pub invariant-loop-place : goal.invariant-loop-place
-invariant-loop-place l = OnlyEnter l.fn.self.guests l.self.guests

@@ -1,5 +1,0 @@
-use Rattle.room_sockets.specs.Halls.{OnlyLeave}
-use Rattle.room_sockets.proofs.hall.Peers.resume_all_held_back.Given as goal
-
-abbrev pub invariant-loop-key : goal.invariant-loop-key
-invariant-loop-key l = OnlyLeave l.fn.self.guests l.self.guests

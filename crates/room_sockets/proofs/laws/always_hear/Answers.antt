@@ -1,5 +1,0 @@
-use Rattle.room_sockets.proofs.HearingLemmas.{always_hear}
-use Rattle.room_sockets.proofs.laws.always_hear.Goals as goal
-
-pub returns : goal.returns
-returns g c = always_hear g.S.Store

@@ -1,5 +1,0 @@
-use Rattle.room_statements.proofs.NamesKept as lemma
-use Rattle.room_statements.proofs.law.names_stay.Goals as goal
-
-pub returns : goal.returns
-returns c = lemma.names_stay

@@ -1,7 +1,0 @@
-use Rattle.room_web.proofs.FieldLists.{one_then}
-use Rattle.room_web.proofs.fields.put_sheet_fields.Goals as goal
-
-pub returns-clause-fields : goal.returns-clause-fields
-returns-clause-fields c =
-    one_then _ _ _ _ _ _ _ c.from_static.ensures c.in_ok-add_header.ensures.headers
-    (one_then _ _ _ _ _ _ _ c.from_static-kept.ensures c.in_ok-add_header-2.ensures.headers c.in_ok-put_safe_fields.ensures.fields)

@@ -1,5 +1,0 @@
-use Rattle.room_web.proofs.ForeignForms.{foreign_forms_do_nothing}
-use Rattle.room_web.proofs.laws.foreign_forms_do_nothing.Goals as goal
-
-pub returns : goal.returns
-returns g c = foreign_forms_do_nothing g.S.Store

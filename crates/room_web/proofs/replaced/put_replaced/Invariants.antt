@@ -1,7 +1,0 @@
-use Rattle.std.proofs.Common.{◌≡◌, ◌++◌, map, take}
-use Rattle.room_web.specs.Parts.{replaced}
-use Rattle.room_web.proofs.replaced.put_replaced.Given as goal
-
--- what was put so far
-abbrev pub invariant-loop-byte : goal.invariant-loop-byte
-invariant-loop-byte l = l.output.items ≡ l.fn.output.items ++ map (replaced l.from l.to) (take l.byte-index l.text)

@@ -1,0 +1,13 @@
+use Rattle.std.proofs.Common.{◌≡◌, ◌∙◌, sym, ap, Err}
+use Rattle.std.proofs.lemmas.Result.{err_from_is_err_and}
+use Rattle.sqlite.specs.Held.{state}
+use Rattle.rows_tables.specs.declared.fault.TableFault.TheVariants.{Damaged}
+use Rattle.rows_tables.proofs.KeyedRows.{same_fault}
+use Rattle.rows_statements.proofs.GrantLemmas.{grant_read}
+use Rattle.rows_checks.proofs.grants.check_grant.Goals as goal
+
+pub returns-in_err-find_grant-clause-damaged : goal.returns-in_err-find_grant-clause-damaged
+returns-in_err-find_grant-clause-damaged g c clean has is_damaged sound =
+    let told = err_from_is_err_and c.from_residual.result c.from_residual.ensures.1 in
+    let fault : c.in_err-find_grant.field-0.0 ≡ Damaged = sym told.2 ∙ same_fault (sym told.1 ∙ is_damaged) in
+    c.in_err-find_grant.ensures.damaged clean has (ap Err fault) (grant_read (state g.S.Store c.args.connection.now).now c.args.account c.args.month sound)

@@ -1,0 +1,16 @@
+use Rattle.std.proofs.Common.{take, Ok}
+use Rattle.std.specs.List.{AllByRecursion}
+use Rattle.sqlite.specs.State.{HasCleanDisk}
+use Rattle.sqlite.specs.Held.{state}
+use Rattle.rows_tables.specs.Calls.{ReadsStore}
+use Rattle.rows_tables.specs.Keyed.{HasSchema}
+use Rattle.rows_tables.specs.declared.fault.TableFault.{TableFault}
+use Rattle.rows_checks.specs.Checks.{JobIsInOrder}
+use Rattle.rows_checks.proofs.jobs.check_jobs.Given as goal
+
+abbrev pub invariant-loop-number : goal.invariant-loop-number
+invariant-loop-number g l =
+    let old = state g.S.Store l.fn.connection in
+    ReadsStore g.S.Store l.fn.connection l.connection {T = Unit {0}} {E = TableFault} (Ok tt)
+    × (HasCleanDisk (state g.S.Store l.connection) → HasSchema old.now → AllByRecursion (JobIsInOrder old.now l.account l.next_job) (take l.number-index l.number-items))
+    × (HasCleanDisk (state g.S.Store l.connection) → HasCleanDisk (state g.S.Store l.initial.connection))

@@ -1,0 +1,74 @@
+//! Whether all rows of an account are in order.
+
+ghost use Rattle.std.specs.Prelude.{◌≡◌, Err, IfOk, None, OnOk, Some};
+ghost use Rattle.rows_checks.specs.Checks.{AreOfNoRoom, IsSoundAs, OthersAreInOrder};
+ghost use Rattle.rows_statements.specs.Prelude.{IfOurTables, ReadsStore};
+ghost use Rattle.rows_tables.specs.Accounts.{account_at, HoldsNothing, IsSound};
+
+use crate::documents::{check_no_document, check_places};
+use crate::grants::{check_grants, check_no_grant};
+use crate::jobs::{check_jobs, check_no_job};
+use account_rules::Name;
+use rows_statements::{count_unfinished, find_account};
+use rows_tables::TableFault;
+use sqlite::{Alter, Connection};
+use std::alloc::Global;
+
+/// Whether the account is open, where its rows are sound. All of them are read, and the numbers of
+/// its jobs, of their documents and of the months of its grants are kept meanwhile. `Damaged` tells
+/// that they are not sound; `Storage` and `Memory` that the storage failed or memory ran out.
+pub fn check_account<S: Alter>(
+    alloc: Global,
+    connection: &mut Connection<S>,
+    account: Name,
+) -> Result<bool, TableFault>
+    ensures sound { IfOurTables S.Store connection.old connection.new
+        (λ db. IfOk result (IsSoundAs db account)) }
+    ensures damaged { IfOurTables S.Store connection.old connection.new
+        (λ db. result ≡ Err TableFault.Damaged → IsSound db account → ⊥) }
+    ensures reads { ReadsStore S.Store connection.old connection.new result }
+{
+    match find_account(connection, account)? {
+        Some(row) => {
+            check_room(alloc, connection, account, row.next_job)?;
+            Ok(true)
+        }
+        None => {
+            check_nothing(connection, account)?;
+            Ok(false)
+        }
+    }
+}
+
+/// Checks that an account without a row of its own has no other. `Damaged` tells that it has one.
+fn check_nothing<S: Alter>(connection: &mut Connection<S>, account: Name) -> Result<(), TableFault>
+    ensures nothing { IfOurTables S.Store connection.old connection.new (λ db.
+        OnOk result (account_at db account ≡ None → HoldsNothing db account)) }
+    ensures damaged { IfOurTables S.Store connection.old connection.new
+        (λ db. result ≡ Err TableFault.Damaged → HoldsNothing db account → ⊥) }
+    ensures reads { ReadsStore S.Store connection.old connection.new result }
+{
+    check_no_job(connection, account)?;
+    check_no_document(connection, account)?;
+    check_no_grant(connection, account)
+}
+
+/// Checks all rows of the account but its own, which gives its next job that number. `Damaged` tells
+/// that the rows of such an account are not sound.
+fn check_room<S: Alter>(
+    alloc: Global,
+    connection: &mut Connection<S>,
+    account: Name,
+    next_job: u32,
+) -> Result<(), TableFault>
+    ensures in_order { IfOurTables S.Store connection.old connection.new
+        (λ db. OnOk result (OthersAreInOrder db account next_job)) }
+    ensures damaged { IfOurTables S.Store connection.old connection.new
+        (λ db. result ≡ Err TableFault.Damaged → AreOfNoRoom db account next_job) }
+    ensures reads { ReadsStore S.Store connection.old connection.new result }
+{
+    check_jobs(alloc, connection, account, next_job)?;
+    count_unfinished(connection, account)?;
+    check_places(alloc, connection, account)?;
+    check_grants(alloc, connection, account)
+}

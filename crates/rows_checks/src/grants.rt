@@ -1,0 +1,71 @@
+//! Whether the grants of an account are in order.
+
+ghost use Rattle.std.specs.Prelude.{◌≡◌, ℤ, Err, None, OnOk, Some};
+ghost use Rattle.rows_checks.specs.Checks.{GrantIsInOrder, GrantsAreInOrder};
+ghost use Rattle.rows_statements.specs.Prelude.{IfOurTables, ReadsStore};
+ghost use Rattle.rows_tables.specs.Accounts.{grant_at, IsSound};
+
+use crate::keys::{Nothing, Numbers, walk_months};
+use account_rules::{FIRST_MONTH, LAST_MONTH, Name};
+use rows_statements::find_grant;
+use rows_tables::TableFault;
+use sqlite::{Alter, Connection};
+use std::alloc::Global;
+
+/// Checks that the account has no grant. `Damaged` tells that it has one.
+pub(crate) fn check_no_grant<S: Alter>(
+    connection: &mut Connection<S>,
+    account: Name,
+) -> Result<(), TableFault>
+    ensures none { IfOurTables S.Store connection.old connection.new
+        (λ db. OnOk result ((month : ℤ) → grant_at db account month ≡ None)) }
+    ensures damaged { IfOurTables S.Store connection.old connection.new
+        (λ db. result ≡ Err TableFault.Damaged
+        → ((month : ℤ) → grant_at db account month ≡ None) → ⊥) }
+    ensures reads { ReadsStore S.Store connection.old connection.new result }
+{
+    let mut nothing = Nothing {};
+    walk_months(connection, account, &mut nothing)
+}
+
+/// Checks each grant of the account. `Damaged` tells that the rows of the account are not sound.
+pub(crate) fn check_grants<S: Alter>(
+    alloc: Global,
+    connection: &mut Connection<S>,
+    account: Name,
+) -> Result<(), TableFault>
+    ensures in_order { IfOurTables S.Store connection.old connection.new
+        (λ db. OnOk result (GrantsAreInOrder db account)) }
+    ensures damaged { IfOurTables S.Store connection.old connection.new
+        (λ db. result ≡ Err TableFault.Damaged → IsSound db account → ⊥) }
+    ensures reads { ReadsStore S.Store connection.old connection.new result }
+{
+    // The connection can read nothing else while the walk is under way.
+    let mut months = Numbers {
+        items: Vec::new(alloc),
+    };
+    walk_months(connection, account, &mut months)?;
+    for month in months.as_slice() {
+        check_grant(connection, account, *month)?;
+    }
+    Ok(())
+}
+
+/// Checks that the grant of the month, if there is one, is in its range. `Damaged` tells that the
+/// rows of the account are not sound.
+fn check_grant<S: Alter>(
+    connection: &mut Connection<S>,
+    account: Name,
+    month: u32,
+) -> Result<(), TableFault>
+    ensures in_order { IfOurTables S.Store connection.old connection.new
+        (λ db. OnOk result (GrantIsInOrder db account month)) }
+    ensures damaged { IfOurTables S.Store connection.old connection.new
+        (λ db. result ≡ Err TableFault.Damaged → IsSound db account → ⊥) }
+    ensures reads { ReadsStore S.Store connection.old connection.new result }
+{
+    match find_grant(connection, account, month)? {
+        Some(_) if month < FIRST_MONTH || month > LAST_MONTH => Err(TableFault::Damaged),
+        _ => Ok(()),
+    }
+}

@@ -1,0 +1,17 @@
+use Rattle.std.proofs.Common.{[], ◌∷◌, sym, subst, refl}
+use Rattle.sqlite_value.specs.declared.value.Value.TheVariants.{Text}
+use Rattle.sqlite.specs.Held.{state}
+use Rattle.rows_tables.specs.Queries.{Means, TakesParams}
+use Rattle.rows_statements.specs.GrantLists.{AreByMonth}
+use Rattle.rows_statements.proofs.WalkLemmas.{told_as}
+use Rattle.rows_statements.proofs.GrantWalk.{granted_names}
+use Rattle.rows_statements.proofs.GrantLists.{by_month_text, by_month_query, by_month_is, by_month_takes, shown_by_month}
+use Rattle.rows_statements.proofs.grant_list.walk_by_month.Goals as goal
+
+pub returns-clause-walks : goal.returns-clause-walks
+returns-clause-walks g c clean has =
+    let old = state g.S.Store c.args.connection.now in
+    let means = subst (λ s. Means s by_month_text by_month_query granted_names 1) (sym has.schema_is) by_month_is in
+    let takes = subst (λ s. TakesParams s by_month_query (Text c.args.account ∷ []) 1) (sym has.schema_is) (by_month_takes c.args.account) in
+    told_as _ _ old _ _ _ _ (AreByMonth old.now c.args.account) (shown_by_month c.args.account old.now has) c.walk.result
+    ((rw c.bytes.ensures.value at (c.walk.ensures.walks clean)) by_month_query granted_names 1 (record { ungrouped = refl; unfolded = refl }) means takes)

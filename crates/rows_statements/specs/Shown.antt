@@ -1,0 +1,45 @@
+-- What the columns that a query shows of a job tell (all this project's own).
+use Rattle.std.specs.Prelude.{◌≡◌, ◌≤◌, [], ◌∷◌, length}
+use Rattle.sqlite_value.specs.declared.value.Value.TheVariants.{Blob}
+use Rattle.sqlite_value.specs.Order.{Row, column}
+use Rattle.account_rules.specs.JobStates.{state_number}
+use Rattle.account_rules.specs.Limits.{longest_job_name, longest_password}
+use Rattle.account_rules.specs.Standings.{IsStanding}
+use Rattle.account_rules.specs.declared.job.Standing.{Standing}
+use Rattle.account_rules.specs.declared.job.Job.{Job}
+use Rattle.rows_tables.specs.Cells.{number, flag, moment, device_text}
+
+-- the cells of a job after its key
+abbrev pub behind_key : Row → Row
+behind_key cells =
+    column cells 2 ∷ column cells 3 ∷ column cells 4 ∷ column cells 5 ∷ column cells 6
+    ∷ column cells 7 ∷ column cells 8 ∷ column cells 9 ∷ column cells 10 ∷ column cells 11
+    ∷ column cells 12 ∷ column cells 13 ∷ column cells 14 ∷ column cells 15 ∷ column cells 16 ∷ []
+
+-- from the third column on, a standing
+pub record ShowsStanding (row : Row) (s : Standing) : Type 0 where
+  pub state : column row 2 ≡ number (state_number s.state)
+  pub is_open : column row 3 ≡ flag s.is_open
+  pub stopping : column row 4 ≡ flag s.stopping
+  pub copies : column row 5 ≡ number s.copies
+  pub impressions : column row 6 ≡ number s.impressions
+  pub reserved : column row 7 ≡ number s.reserved
+  pub charged : column row 8 ≡ number s.charged
+  pub documents : column row 9 ≡ number s.documents
+  pub rate : column row 10 ≡ number s.rate
+  pub device : column row 11 ≡ device_text s.device
+  pub created : column row 12 ≡ number s.created
+  pub started : column row 13 ≡ moment s.started
+  pub ended : column row 14 ≡ moment s.ended
+
+-- its texts first
+pub record ShowsJob (row : Row) (job : Job) : Type 0 where
+  pub name : column row 0 ≡ Blob job.name
+  pub password : column row 1 ≡ Blob job.password
+  pub standing : ShowsStanding row job.standing
+
+-- in the ranges that a job keeps
+pub record IsJob (job : Job) : Type 0 where
+  pub name_fits : length job.name ≤ longest_job_name
+  pub password_fits : length job.password ≤ longest_password
+  pub standing : IsStanding job.standing

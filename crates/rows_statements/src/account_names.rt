@@ -1,0 +1,81 @@
+//! The names of accounts.
+
+ghost use Rattle.std.specs.Prelude.{◌≡◌, ℕ, List, Err, IfOk, IsSome};
+ghost use Rattle.account_reads.specs.Names.{from_name, next_names, AreNames};
+ghost use Rattle.rows_statements.specs.NameLists.{ListsName, ShowsNames, refuses_name};
+ghost use Rattle.rows_statements.specs.Prelude.{IfOurTables, KeepsOpen, ReadsStore, WalksStore};
+ghost use Rattle.rows_statements.specs.SoundRows.{AreNamed};
+ghost use Rattle.rows_tables.specs.Accounts.{account_at};
+ghost use Rattle.sqlite_value.specs.Value.{owned};
+ghost use Rattle.sqlite_value.specs.declared.value.Value.TheVariants.{Text};
+
+use crate::walking::{Gather, walk};
+use account_rules::Name;
+use ipp_coding::List;
+use rows_tables::TableFault;
+use rows_tables::values::name_at;
+use sqlite::{Alter, Connection, Row};
+use sqlite_value::value::ValueRef;
+use std::alloc::Global;
+
+/// The names of accounts that come next behind a name, or first, in the order of their bytes, at most
+/// 100. `Damaged` tells that a row that is there has no name of an account.
+pub fn next_accounts<S: Alter>(
+    alloc: Global,
+    connection: &mut Connection<S>,
+    behind: Option<Name>,
+) -> Result<List<Name>, TableFault>
+    ensures listed { IfOurTables S.Store connection.old connection.new (λ db.
+        (names : List (List ℕ)) → AreNames (λ name. IsSome (account_at db name)) names
+        → IfOk result (λ next. next ≡ next_names behind names)) }
+    ensures damaged { IfOurTables S.Store connection.old connection.new
+        (λ db. result ≡ Err TableFault.Damaged → AreNamed db → ⊥) }
+    ensures reads { ReadsStore S.Store connection.old connection.new result }
+{
+    let mut names = List {
+        items: Vec::new(alloc),
+    };
+    walk_names(connection, &behind, &mut names)?;
+    Ok(names)
+}
+
+fn walk_names<S: Alter>(
+    connection: &mut Connection<S>,
+    behind: &Option<Name>,
+    names: &mut List<Name>,
+) -> Result<(), TableFault>
+    ensures walks { WalksStore ListsName (λ _ row. refuses_name row)
+        S.Store connection.old connection.new (ShowsNames behind.now) names.old names.new result }
+    ensures connection { KeepsOpen S.Store connection.old connection.new result }
+{
+    walk(
+        connection,
+        "SELECT name FROM account WHERE name > ?1 ORDER BY name LIMIT 100",
+        &[start_text(behind)],
+        names,
+    )
+}
+
+/// The name behind which to begin, or the empty text, which is before all names, as a parameter.
+fn start_text(behind: &Option<Name>) -> ValueRef<'_>
+    ensures { owned result ≡ Text (from_name behind.now) }
+{
+    match behind {
+        None => ValueRef::Text(&[]),
+        Some(name) => ValueRef::Text(name.bytes()),
+    }
+}
+
+impl Gather for List<Name> {
+    ghost use Rattle.rows_statements.specs.NameLists.{ListsName, refuses_name};
+
+    ghost step = { λ first row last. ListsName first row last };
+
+    ghost refuses = { λ first row. refuses_name row };
+
+    fn gather(&mut self, row: &Row) -> Result<(), TableFault> {
+        let name = name_at(row, 0)?;
+        self.items.push(name)?;
+        Ok(())
+    }
+}

@@ -1,0 +1,107 @@
+//! The rows of the table `account`.
+
+ghost use Rattle.std.specs.Prelude.{◌≡◌, ◌≢◌, [], ◌∷◌, Some, Err, option_map, IfOk, IfSome};
+ghost use Rattle.rows_statements.specs.Prelude.{Changes, GetsRow, IfOurTables, IsRowOf, KeepsOpen, ReadsStore, SetsRow, WritesInSavepoint, column, number};
+ghost use Rattle.account_rules.specs.declared.account.Account.{Account as AccountValue};
+ghost use Rattle.rows_tables.specs.Tables.{account as account_table};
+ghost use Rattle.rows_tables.specs.Cells.{account_cells};
+ghost use Rattle.rows_tables.specs.Accounts.{account_at, IsAccount};
+ghost use Rattle.rows_statements.specs.Updates.{SetsNextJob};
+
+use account_rules::{Account, LAST_JOB, LAST_MOMENT, Name};
+use rows_tables::values::{number, number_at};
+use rows_tables::{TableFault, find_row, write};
+use sqlite::{Alter, Connection, Error, Row, Savepoint};
+use sqlite_value::value::ValueRef;
+
+/// The account's own row. `Damaged` tells that the row that is there can be none of sound rows.
+pub fn find_account<S: Alter>(
+    connection: &mut Connection<S>,
+    account: Name,
+) -> Result<Option<Account>, TableFault>
+    ensures found { IfOurTables S.Store connection.old connection.new
+        (λ db. IfOk result
+        (λ found. account_at db account ≡ option_map (account_cells account) found)) }
+    ensures in_range { IfOk result (λ found. IfSome found IsAccount) }
+    ensures damaged { IfOurTables S.Store connection.old connection.new (λ db.
+        result ≡ Err TableFault.Damaged
+        → IsRowOf (account_cells account) IsAccount (account_at db account) → ⊥) }
+    ensures reads { ReadsStore S.Store connection.old connection.new result }
+{
+    match account_row(connection, account)? {
+        Some(row) => Ok(Some(account_from(&row)?)),
+        None => Ok(None),
+    }
+}
+
+fn account_row<S: Alter>(
+    connection: &mut Connection<S>,
+    account: Name,
+) -> Result<Option<Row>, Error>
+    ensures gets { GetsRow S.Store connection.old connection.new (λ db. account_at db account)
+        (λ cells. column cells 1 ∷ column cells 2 ∷ []) result }
+    ensures connection { KeepsOpen S.Store connection.old connection.new result }
+{
+    find_row(
+        connection,
+        "SELECT opened, next_job FROM account WHERE name = ?1",
+        &[ValueRef::Text(account.bytes())],
+    )
+}
+
+fn account_from(row: &Row) -> Result<Account, TableFault>
+    ensures read { IfOk result (λ it.
+        (column row.now 0 ≡ number it.opened) × (column row.now 1 ≡ number it.next_job)) }
+    ensures in_range { IfOk result IsAccount }
+    ensures damaged { result ≡ Err TableFault.Damaged → (it : AccountValue) → IsAccount it
+        → column row.now 0 ≡ number it.opened → column row.now 1 ≢ number it.next_job }
+{
+    let opened = number_at(row, 0)?;
+    let next_job = number_at(row, 1)?;
+    if opened > LAST_MOMENT || next_job < 1 || next_job > LAST_JOB as u64 + 1 {
+        return Err(TableFault::Damaged);
+    }
+    Ok(Account {
+        opened,
+        next_job: next_job as u32,
+    })
+}
+
+/// Sets the account's own row, inside a savepoint.
+pub fn set_account<S: Alter>(
+    savepoint: &mut Savepoint<'_, S>,
+    account: Name,
+    row: Account,
+) -> Result<(), Error>
+    requires { IsAccount row }
+    ensures sets { Changes S.Store savepoint.old.conn.now savepoint.new.conn.now result
+        (SetsRow account_table (account_cells account row)) }
+    ensures inside { WritesInSavepoint savepoint.old savepoint.new result }
+{
+    write(
+        savepoint,
+        "INSERT INTO account (name, opened, next_job) VALUES (?1, ?2, ?3) ON CONFLICT (name) DO UPDATE SET opened = excluded.opened, next_job = excluded.next_job",
+        &[
+            ValueRef::Text(account.bytes()),
+            number(row.opened),
+            number(row.next_job as u64),
+        ],
+    )
+}
+
+/// Sets the number of the next job of an account that is there, inside a savepoint.
+pub fn set_next_job<S: Alter>(
+    savepoint: &mut Savepoint<'_, S>,
+    account: Name,
+    next_job: u32,
+) -> Result<(), Error>
+    ensures sets { Changes S.Store savepoint.old.conn.now savepoint.new.conn.now result
+        (SetsNextJob account next_job) }
+    ensures inside { WritesInSavepoint savepoint.old savepoint.new result }
+{
+    write(
+        savepoint,
+        "UPDATE account SET next_job = ?2 WHERE name = ?1",
+        &[ValueRef::Text(account.bytes()), number(next_job as u64)],
+    )
+}

@@ -1,0 +1,96 @@
+//! All devices as a list.
+
+ghost use Rattle.std.specs.Prelude.{◌≡◌, ℕ, Some, Err, IfOk};
+ghost use Rattle.std.specs.FinMap.{values};
+ghost use Rattle.account_rules.specs.Devices.{Devices};
+ghost use Rattle.account_rules.specs.Limits.{IsRate};
+ghost use Rattle.rows_statements.specs.DeviceLists.{HasRate, ListsSwitch, ShowsDevices, refuses_switch, switch_of};
+ghost use Rattle.rows_statements.specs.Prelude.{IfOurTables, KeepsOpen, ReadsStore, WalksStore};
+ghost use Rattle.rows_statements.specs.SoundRows.{CanBeListed};
+ghost use Rattle.rows_tables.specs.Cells.{units_cells};
+ghost use Rattle.rows_tables.specs.Devices.{rate_at, HoldsDevices};
+
+use crate::rates::find_rate;
+use crate::walking::{Gather, walk};
+use account_rules::{Device, Name};
+use ipp_coding::List;
+use rows_tables::TableFault;
+use rows_tables::values::{flag_at, name_at};
+use sqlite::{Alter, Connection, Row};
+use std::alloc::Global;
+
+/// The devices, by name. `Damaged` tells that a row that is there can be none of sound rows.
+pub fn list_devices<S: Alter>(
+    alloc: Global,
+    connection: &mut Connection<S>,
+) -> Result<List<Device>, TableFault>
+    ensures listed { IfOurTables S.Store connection.old connection.new (λ db.
+        (devices : Devices) → HoldsDevices db devices
+        → IfOk result (λ listed. listed ≡ values devices)) }
+    ensures damaged { IfOurTables S.Store connection.old connection.new
+        (λ db. result ≡ Err TableFault.Damaged → CanBeListed db → ⊥) }
+    ensures reads { ReadsStore S.Store connection.old connection.new result }
+{
+    // The connection can read nothing else while the walk is under way.
+    let mut switches = List {
+        items: Vec::new(alloc),
+    };
+    walk_switches(connection, &mut switches)?;
+    let mut items = Vec::new(alloc);
+    for (name, on) in switches.as_slice() {
+        items.push(with_rate(connection, *name, *on)?)?;
+    }
+    Ok(List { items })
+}
+
+fn walk_switches<S: Alter>(
+    connection: &mut Connection<S>,
+    switches: &mut List<(Name, bool)>,
+) -> Result<(), TableFault>
+    ensures walks { WalksStore ListsSwitch (λ _ row. refuses_switch row)
+        S.Store connection.old connection.new ShowsDevices switches.old switches.new result }
+    ensures connection { KeepsOpen S.Store connection.old connection.new result }
+{
+    walk(
+        connection,
+        "SELECT name, accepting FROM device ORDER BY name",
+        &[],
+        switches,
+    )
+}
+
+// Of each device its name, and whether it takes jobs.
+impl Gather for List<(Name, bool)> {
+    ghost use Rattle.rows_statements.specs.DeviceLists.{ListsSwitch, refuses_switch};
+
+    ghost step = { λ first row last. ListsSwitch first row last };
+
+    ghost refuses = { λ first row. refuses_switch row };
+
+    fn gather(&mut self, row: &Row) -> Result<(), TableFault> {
+        let name = name_at(row, 0)?;
+        let on = flag_at(row, 1)?;
+        self.items.push((name, on))?;
+        Ok(())
+    }
+}
+
+/// The device with its rate. `Damaged` tells that it has none.
+fn with_rate<S: Alter>(
+    connection: &mut Connection<S>,
+    name: Name,
+    on: bool,
+) -> Result<Device, TableFault>
+    ensures told { IfOk result (λ device. switch_of device ≡ (name, on)) }
+    ensures rated { IfOurTables S.Store connection.old connection.new
+        (λ db. IfOk result (HasRate db)) }
+    ensures damaged { IfOurTables S.Store connection.old connection.new (λ db.
+        result ≡ Err TableFault.Damaged
+        → (units : ℕ) → IsRate units → rate_at db name ≡ Some (units_cells name units) → ⊥) }
+    ensures reads { ReadsStore S.Store connection.old connection.new result }
+{
+    match find_rate(connection, name)? {
+        Some(rate) => Ok(Device { name, on, rate }),
+        None => Err(TableFault::Damaged),
+    }
+}

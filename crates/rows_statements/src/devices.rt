@@ -1,0 +1,118 @@
+//! The rows of the table `device`.
+
+ghost use Rattle.std.specs.Prelude.{◌≡◌, ◌↔◌, ℕ, Bool, ⊤, List, true, [], ◌∷◌, map, Some, Err, option_map, IfOk, IsTrue, IsPermutation};
+ghost use Rattle.rows_statements.specs.Prelude.{Changes, GetsRow, IfOurTables, IsRowOf, KeepsOpen, ReadsStore, SetsRow, WalksStore, WritesInSavepoint, column};
+ghost use Rattle.account_rules.specs.Devices.{Devices, is_some_on};
+ghost use Rattle.account_rules.specs.Names.{is_name};
+ghost use Rattle.rows_tables.specs.Tables.{device as device_table};
+ghost use Rattle.rows_tables.specs.Cells.{on_cells};
+ghost use Rattle.rows_tables.specs.Devices.{device_at, HoldsDevices};
+ghost use Rattle.rows_statements.specs.Totals.{GathersOn, refuses_flag};
+ghost use Rattle.rows_statements.specs.SoundRows.{device_rows, AreRowsOf};
+
+use crate::walking::{Gather, walk};
+use account_rules::Name;
+use rows_tables::values::{flag, flag_at};
+use rows_tables::{TableFault, find_row, write};
+use sqlite::{Alter, Connection, Error, Row, Savepoint};
+use sqlite_value::value::ValueRef;
+
+/// Whether the device of this name takes jobs now. `None` where there is no such device; `Damaged`
+/// where its row can be none of sound rows.
+pub fn find_device<S: Alter>(
+    connection: &mut Connection<S>,
+    name: Name,
+) -> Result<Option<bool>, TableFault>
+    ensures found { IfOurTables S.Store connection.old connection.new
+        (λ db. IfOk result (λ found. device_at db name ≡ option_map (on_cells name) found)) }
+    ensures damaged { IfOurTables S.Store connection.old connection.new (λ db.
+        result ≡ Err TableFault.Damaged
+        → IsRowOf (on_cells name) (λ _. ⊤) (device_at db name) → ⊥) }
+    ensures reads { ReadsStore S.Store connection.old connection.new result }
+{
+    match device_row(connection, name)? {
+        Some(row) => Ok(Some(flag_at(&row, 0)?)),
+        None => Ok(None),
+    }
+}
+
+fn device_row<S: Alter>(connection: &mut Connection<S>, name: Name) -> Result<Option<Row>, Error>
+    ensures gets { GetsRow S.Store connection.old connection.new (λ db. device_at db name)
+        (λ cells. column cells 1 ∷ []) result }
+    ensures connection { KeepsOpen S.Store connection.old connection.new result }
+{
+    find_row(
+        connection,
+        "SELECT accepting FROM device WHERE name = ?1",
+        &[ValueRef::Text(name.bytes())],
+    )
+}
+
+/// Whether any device takes jobs now. `Damaged` where a row can be none of sound rows.
+pub fn is_device_on<S: Alter>(connection: &mut Connection<S>) -> Result<bool, TableFault>
+    ensures found { IfOurTables S.Store connection.old connection.new (λ db. IfOk result
+        (λ on. IsTrue on ↔ ((name : List ℕ) × (device_at db name ≡ Some (on_cells name true))))) }
+    ensures of_map { IfOurTables S.Store connection.old connection.new (λ db. IfOk result
+        (λ on. (devices : Devices) → HoldsDevices db devices → on ≡ is_some_on devices)) }
+    ensures damaged { IfOurTables S.Store connection.old connection.new (λ db.
+        result ≡ Err TableFault.Damaged
+        → AreRowsOf (λ (it : List ℕ × Bool). on_cells it.0 it.1) (λ _. ⊤) (device_rows db) → ⊥) }
+    ensures reads { ReadsStore S.Store connection.old connection.new result }
+{
+    let mut found = AnyOn { is_on: false };
+    walk_devices(connection, &mut found)?;
+    Ok(found.is_on)
+}
+
+/// Whether one of the devices that were gathered takes jobs.
+#[derive(Drop)]
+struct AnyOn {
+    is_on: bool,
+}
+
+impl Gather for AnyOn {
+    ghost use Rattle.rows_statements.specs.Totals.{GathersOn, refuses_flag};
+
+    ghost step = { λ first row last. GathersOn first.is_on row last.is_on };
+
+    ghost refuses = { λ first row. refuses_flag row };
+
+    fn gather(&mut self, row: &Row) -> Result<(), TableFault> {
+        if flag_at(row, 0)? {
+            self.is_on = true;
+        }
+        Ok(())
+    }
+}
+
+fn walk_devices<S: Alter>(
+    connection: &mut Connection<S>,
+    found: &mut AnyOn,
+) -> Result<(), TableFault>
+    ensures walks { WalksStore
+        (λ first row last. GathersOn first.is_on row last.is_on) (λ first row. refuses_flag row)
+        S.Store connection.old connection.new
+        (λ db. IsPermutation (map (λ row. column row 2 ∷ []) (db.trees device_table.tree)))
+        found.old found.new result }
+    ensures connection { KeepsOpen S.Store connection.old connection.new result }
+{
+    walk(connection, "SELECT accepting FROM device", &[], found)
+}
+
+/// Sets whether the device takes jobs, inside a savepoint.
+pub fn set_device<S: Alter>(
+    savepoint: &mut Savepoint<'_, S>,
+    name: Name,
+    on: bool,
+) -> Result<(), Error>
+    ensures sets { Changes S.Store savepoint.old.conn.now savepoint.new.conn.now result
+        (SetsRow device_table (on_cells name on)) }
+    ensures name { IsTrue (is_name name) }
+    ensures inside { WritesInSavepoint savepoint.old savepoint.new result }
+{
+    write(
+        savepoint,
+        "INSERT INTO device (name, accepting) VALUES (?1, ?2) ON CONFLICT (name) DO UPDATE SET accepting = excluded.accepting",
+        &[ValueRef::Text(name.bytes()), flag(on)],
+    )
+}

@@ -1,0 +1,80 @@
+//! The rows of the table `rates`.
+
+ghost use Rattle.std.specs.Prelude.{◌≡◌, ◌≢◌, ◌≤◌, ℕ, [], ◌∷◌, Err, option_map, IfOk, IfSome, IsTrue};
+ghost use Rattle.rows_statements.specs.Prelude.{Changes, GetsRow, IfOurTables, IsRowOf, KeepsOpen, ReadsStore, SetsRow, WritesInSavepoint, column, number};
+ghost use Rattle.account_rules.specs.Limits.{most_rate, IsRate};
+ghost use Rattle.account_rules.specs.Names.{is_name};
+ghost use Rattle.rows_tables.specs.Tables.{rates as rates_table};
+ghost use Rattle.rows_tables.specs.Cells.{units_cells};
+ghost use Rattle.rows_tables.specs.Devices.{rate_at};
+
+use account_rules::{MOST_RATE, Name};
+use rows_tables::values::{number, number_at};
+use rows_tables::{TableFault, find_row, write};
+use sqlite::{Alter, Connection, Error, Row, Savepoint};
+use sqlite_value::value::ValueRef;
+
+/// The units that an impression counts on the device, 1 to 100, if it has a rate. `Damaged` tells
+/// that the row that is there can be none of sound rows.
+pub fn find_rate<S: Alter>(
+    connection: &mut Connection<S>,
+    name: Name,
+) -> Result<Option<u32>, TableFault>
+    ensures found { IfOurTables S.Store connection.old connection.new
+        (λ db. IfOk result (λ found. rate_at db name ≡ option_map (units_cells name) found)) }
+    ensures in_range { IfOk result
+        (λ found. IfSome found IsRate) }
+    ensures damaged { IfOurTables S.Store connection.old connection.new (λ db.
+        result ≡ Err TableFault.Damaged
+        → IsRowOf (units_cells name) IsRate (rate_at db name)
+        → ⊥) }
+    ensures reads { ReadsStore S.Store connection.old connection.new result }
+{
+    match rate_row(connection, name)? {
+        Some(row) => Ok(Some(units_from(&row)?)),
+        None => Ok(None),
+    }
+}
+
+fn rate_row<S: Alter>(connection: &mut Connection<S>, name: Name) -> Result<Option<Row>, Error>
+    ensures gets { GetsRow S.Store connection.old connection.new (λ db. rate_at db name)
+        (λ cells. column cells 1 ∷ []) result }
+    ensures connection { KeepsOpen S.Store connection.old connection.new result }
+{
+    find_row(
+        connection,
+        "SELECT units FROM rates WHERE device = ?1",
+        &[ValueRef::Text(name.bytes())],
+    )
+}
+
+fn units_from(row: &Row) -> Result<u32, TableFault>
+    ensures read { IfOk result (λ units. column row.now 0 ≡ number units) }
+    ensures in_range { IfOk result IsRate }
+    ensures damaged { result ≡ Err TableFault.Damaged → (units : ℕ) → 1 ≤ units → units ≤ most_rate
+        → column row.now 0 ≢ number units }
+{
+    let units = number_at(row, 0)?;
+    if units < 1 || units > MOST_RATE as u64 {
+        return Err(TableFault::Damaged);
+    }
+    Ok(units as u32)
+}
+
+/// Sets the units that an impression counts on the device, inside a savepoint.
+pub fn set_rate<S: Alter>(
+    savepoint: &mut Savepoint<'_, S>,
+    name: Name,
+    units: u32,
+) -> Result<(), Error>
+    ensures sets { Changes S.Store savepoint.old.conn.now savepoint.new.conn.now result
+        (SetsRow rates_table (units_cells name units)) }
+    ensures name { IsTrue (is_name name) }
+    ensures inside { WritesInSavepoint savepoint.old savepoint.new result }
+{
+    write(
+        savepoint,
+        "INSERT INTO rates (device, units) VALUES (?1, ?2) ON CONFLICT (device) DO UPDATE SET units = excluded.units",
+        &[ValueRef::Text(name.bytes()), number(units as u64)],
+    )
+}

@@ -1,0 +1,43 @@
+//! The survey of one account.
+
+ghost use Rattle.std.specs.Prelude.{◌≡◌, Err, IfOk};
+ghost use Rattle.page_overview.specs.Surveys.{IsInBounds, IsSurvey};
+ghost use Rattle.account_state.specs.Rooms.{RoomValue};
+ghost use Rattle.rows_survey.specs.Reading.{SurveyIsReadable};
+ghost use Rattle.rows_tables.specs.Accounts.{HoldsRoom};
+ghost use Rattle.rows_tables.specs.Calls.{IfOurTables, ReadsStore};
+
+use crate::charges::charges_of;
+use account_rules::Name;
+use page_overview::Survey;
+use rows_statements::{granted_to, summarize, unfinished_jobs};
+use rows_tables::TableFault;
+use sqlite::{Alter, Connection};
+use std::alloc::Global;
+
+/// What the account comes to in the month, by its rows alone. `Damaged` tells that the rows that are
+/// there, one of them or all together, can be none of sound rows.
+pub fn survey<S: Alter>(
+    alloc: Global,
+    connection: &mut Connection<S>,
+    account: Name,
+    month: u32,
+) -> Result<Survey, TableFault>
+    ensures told { IfOurTables S.Store connection.old connection.new (λ db. (room : RoomValue)
+        → HoldsRoom db account room → IfOk result (IsSurvey month room)) }
+    ensures bounds { IfOk result IsInBounds }
+    ensures damaged { IfOurTables S.Store connection.old connection.new
+        (λ db. result ≡ Err TableFault.Damaged → SurveyIsReadable account month db → ⊥) }
+    ensures reads { ReadsStore S.Store connection.old connection.new result }
+{
+    let summary = summarize(connection, account, month)?;
+    let granted = granted_to(connection, account, month)?;
+    let days = charges_of(connection, account, month)?;
+    let unfinished = unfinished_jobs(alloc, connection, account, None)?;
+    Ok(Survey {
+        granted,
+        summary,
+        days,
+        unfinished,
+    })
+}

@@ -1,0 +1,18 @@
+use Rattle.std.proofs.Common.{◌≡◌, subst, rules}
+use Rattle.std.proofs.lemmas.Result.{err_from_is_err_and}
+use Rattle.rows_tables.specs.Calls.{AllOrNothing}
+use Rattle.rows_tables.proofs.SavepointChanges.{ended_whole, unwritten_whole}
+use Rattle.rows_tables.proofs.making.make_tables.Goals as goal
+
+pub returns-in_err-make_all-clause-whole : goal.returns-in_err-make_all-clause-whole
+returns-in_err-make_all-clause-whole g c =
+    let told = err_from_is_err_and c.from_residual-in_err-make_all.result c.from_residual-in_err-make_all.ensures.1 in
+    let same : c.drop-savepoint.new.self.0 ≡ c.connection-in_err-make_all-1.given.0 = search rules in
+    subst (λ h. AllOrNothing g.S.Store c.args.connection.now h c.from_residual-in_err-make_all.result) same
+    (unwritten_whole g.S.Store c.args.connection.now c.drop-savepoint.new.self.0 c.in_ok-savepoint.savepoint c.make_all.new.savepoint c.in_ok-savepoint.ensures.ok c.in_ok-savepoint.ensures.survives c.in_err-make_all.field-0.0 c.in_err-make_all.ensures.inside c.drop-savepoint.ensures.survives c.drop-savepoint.ensures.undone _ _ told.1)
+
+pub returns-clause-whole : goal.returns-clause-whole
+returns-clause-whole g c =
+    let same : c.commit.new.self.0 ≡ c.connection-2-1.given.0 = search rules in
+    subst (λ h. AllOrNothing g.S.Store c.args.connection.now h c.commit.result) same
+    (ended_whole g.S.Store c.args.connection.now c.commit.new.self.0 c.in_ok-savepoint.savepoint c.make_all.new.savepoint c.in_ok-savepoint.ensures.ok c.in_ok-savepoint.ensures.survives _ c.in_ok-make_all.ensures.inside c.commit.ensures.survives c.commit.result c.commit.ensures.ok c.commit.ensures.err)

@@ -1,0 +1,456 @@
+//! Whether the schema of a database is one of ours.
+
+ghost use Rattle.std.specs.Prelude.{◌≡◌, ◌↔◌, ◌+◌, ◌<◌, ◌^◌, [], ◌∷◌, map, drop, true, false, IsTrue};
+ghost use Rattle.sqlite_value.specs.Keys.{plain};
+ghost use Rattle.sqlite_schema.specs.declared.schema.Kind.TheVariants.{Integer, Text as TextKind, Blob as BlobKind};
+ghost use Rattle.rows_tables.specs.Tables.{column_of, keyed, meta, account, job, document, grants, device, rates, no_schema, first_schema, unindexed_schema, job_ended, room_schema};
+ghost use Rattle.rows_tables.specs.ProofForms.{column_formed};
+ghost use Rattle.rows_tables.specs.Making.{IsLaidOut, KeepsVersion};
+
+use sqlite_items::Items;
+use sqlite_schema::code::Terms;
+use sqlite_schema::schema::{Column, Index, Kind, Schema, Table};
+use sqlite_value::keys::{Collation, Order};
+use sqlite_value::value::{Bytes, Value};
+
+/// A column as the tables are made with it: its name and its kind.
+#[derive(Clone, Copy)]
+struct ColumnForm {
+    name: &'static str,
+    kind: Kind,
+}
+
+/// A column of texts.
+fn text(name: &'static str) -> ColumnForm
+    ensures { column_formed result ≡ column_of TextKind name.now }
+{
+    ColumnForm {
+        name,
+        kind: Kind::Text,
+    }
+}
+
+/// A column of integers.
+fn integer(name: &'static str) -> ColumnForm
+    ensures { column_formed result ≡ column_of Integer name.now }
+{
+    ColumnForm {
+        name,
+        kind: Kind::Integer,
+    }
+}
+
+/// A column of blobs.
+fn blob(name: &'static str) -> ColumnForm
+    ensures { column_formed result ≡ column_of BlobKind name.now }
+{
+    ColumnForm {
+        name,
+        kind: Kind::Blob,
+    }
+}
+
+/// How the tables of a database are laid out.
+#[derive(Clone, Copy, PartialEq, Eq)]
+pub(crate) enum Layout {
+    /// As those of version 2.
+    Current,
+    /// As those of version 2, without the index on jobs, which was not made at first.
+    Unindexed,
+    /// As those of version 1.
+    First,
+    /// Otherwise.
+    Other,
+}
+
+pub(crate) fn layout_of(schema: &Schema) -> Layout
+    ensures { IsLaidOut schema.now result }
+{
+    if is_room_schema(schema) {
+        Layout::Current
+    } else if is_unindexed_schema(schema) {
+        Layout::Unindexed
+    } else if is_first_schema(schema) {
+        Layout::First
+    } else {
+        Layout::Other
+    }
+}
+
+/// Whether the first table is that of the version.
+pub(crate) fn keeps_version(schema: &Schema) -> bool
+    ensures { IsTrue result ↔ KeepsVersion schema.now }
+{
+    match schema.tables.as_slice() {
+        [first, ..] => is_meta(first),
+        _ => false,
+    }
+}
+
+/// Whether a schema is that of version 2.
+fn is_room_schema(schema: &Schema) -> bool
+    ensures { IsTrue result ↔ schema.now ≡ room_schema }
+{
+    are_room_tables(schema.tables.as_slice())
+        && are_room_indexes(schema.indexes.as_slice())
+        && schema.views.is_empty()
+}
+
+/// Whether a schema is that of version 2 without its index on jobs.
+fn is_unindexed_schema(schema: &Schema) -> bool
+    ensures { IsTrue result ↔ schema.now ≡ unindexed_schema }
+{
+    are_room_tables(schema.tables.as_slice())
+        && are_key_indexes(schema.indexes.as_slice())
+        && schema.views.is_empty()
+}
+
+/// Whether a schema is that of version 1.
+fn is_first_schema(schema: &Schema) -> bool
+    ensures { IsTrue result ↔ schema.now ≡ first_schema }
+{
+    are_first_tables(schema.tables.as_slice())
+        && are_first_indexes(schema.indexes.as_slice())
+        && schema.views.is_empty()
+}
+
+/// Whether a schema has nothing.
+pub fn is_blank(schema: &Schema) -> bool
+    ensures { IsTrue result ↔ schema.now ≡ no_schema }
+{
+    schema.tables.is_empty() && schema.indexes.is_empty() && schema.views.is_empty()
+}
+
+fn are_room_tables(tables: &[Table]) -> bool
+    ensures { IsTrue result ↔ tables.now ≡ room_schema.tables }
+{
+    match tables {
+        [first @ .., last] => are_first_tables(first) && is_rates(last),
+        _ => false,
+    }
+}
+
+fn are_first_tables(tables: &[Table]) -> bool
+    ensures { IsTrue result ↔ tables.now ≡ first_schema.tables }
+{
+    match tables {
+        [a, b, c, rest @ ..] => is_meta(a) && is_account(b) && is_job(c) && are_later_tables(rest),
+        _ => false,
+    }
+}
+
+fn are_later_tables(tables: &[Table]) -> bool
+    ensures { IsTrue result ↔ tables.now ≡ drop 3 first_schema.tables }
+{
+    match tables {
+        [a, b, c] => is_document(a) && is_grants(b) && is_device(c),
+        _ => false,
+    }
+}
+
+/// Whether it is `meta`, whose row tells the version: the one table whose key is its row number.
+fn is_meta(table: &Table) -> bool
+    ensures { IsTrue result ↔ table.now ≡ meta }
+{
+    table.key == Some(0)
+        && table.uniques.is_empty()
+        && table.orders.is_empty()
+        && is_laid_out(table, "meta", 0, &[0])
+        && are_columns(
+            table.columns.as_slice(),
+            &[integer("id"), integer("version")],
+        )
+}
+
+fn is_account(table: &Table) -> bool
+    ensures { IsTrue result ↔ table.now ≡ account }
+{
+    is_keyed(
+        table,
+        "account",
+        1,
+        &[1],
+        &[text("name"), integer("opened"), integer("next_job")],
+    )
+}
+
+fn is_job(table: &Table) -> bool
+    ensures { IsTrue result ↔ table.now ≡ job }
+{
+    is_keyed(
+        table,
+        "job",
+        3,
+        &[1, 2],
+        &[
+            text("account"),
+            integer("job"),
+            blob("name"),
+            blob("password"),
+            integer("state"),
+            integer("open"),
+            integer("stopping"),
+            integer("copies"),
+            integer("impressions"),
+            integer("reserved"),
+            integer("charged"),
+            integer("documents"),
+            integer("rate"),
+            text("device"),
+            integer("created"),
+            integer("started"),
+            integer("ended"),
+        ],
+    )
+}
+
+fn is_document(table: &Table) -> bool
+    ensures { IsTrue result ↔ table.now ≡ document }
+{
+    is_keyed(
+        table,
+        "document",
+        5,
+        &[1, 2, 3],
+        &[
+            text("account"),
+            integer("job"),
+            integer("number"),
+            text("format"),
+            blob("bytes"),
+        ],
+    )
+}
+
+fn is_grants(table: &Table) -> bool
+    ensures { IsTrue result ↔ table.now ≡ grants }
+{
+    is_keyed(
+        table,
+        "grants",
+        7,
+        &[1, 2],
+        &[text("account"), integer("month"), integer("pages")],
+    )
+}
+
+fn is_device(table: &Table) -> bool
+    ensures { IsTrue result ↔ table.now ≡ device }
+{
+    is_keyed(
+        table,
+        "device",
+        9,
+        &[1],
+        &[text("name"), integer("accepting")],
+    )
+}
+
+fn is_rates(table: &Table) -> bool
+    ensures { IsTrue result ↔ table.now ≡ rates }
+{
+    is_keyed(
+        table,
+        "rates",
+        11,
+        &[1],
+        &[text("device"), integer("units")],
+    )
+}
+
+fn is_keyed(table: &Table, name: &str, tree: u32, key: &[usize], columns: &[ColumnForm]) -> bool
+    ensures { IsTrue result
+        ↔ table.now ≡ keyed name.now tree key.now (map column_formed columns.now) }
+{
+    table.key.is_none()
+        && is_only(&table.uniques, key)
+        && is_plain(&table.orders)
+        && is_laid_out(table, name, tree, key)
+        && are_columns(table.columns.as_slice(), columns)
+}
+
+/// Whether all but the columns and how the key is kept is as asked for. `tree` is the number of the
+/// table's tree in the file.
+fn is_laid_out(table: &Table, name: &str, tree: u32, key: &[usize]) -> bool
+    ensures { IsTrue result ↔ table.now ≡ record (keyed name.now tree key.now table.now.columns) {
+      key = table.now.key;
+      uniques = table.now.uniques;
+      orders = table.now.orders;
+    } }
+{
+    is_name(&table.name, name)
+        && table.tree == tree
+        && are_places(&table.primary, key)
+        && has_no_more(table)
+}
+
+/// Whether a table has no check, reference, computed column, stamp or counter.
+fn has_no_more(table: &Table) -> bool
+    ensures { IsTrue result ↔ table.now ≡ record table.now {
+      checks = [];
+      references = [];
+      computed = [];
+      stamps = record { places = []; terms = []; formats = [] };
+      is_counted = false;
+    } }
+{
+    are_none(&table.checks)
+        && table.references.is_empty()
+        && table.computed.is_empty()
+        && table.stamps.places.is_empty()
+        && are_none(&table.stamps.terms)
+        && table.stamps.formats.is_empty()
+        && !table.is_counted
+}
+
+fn are_columns(columns: &[Column], forms: &[ColumnForm]) -> bool
+    ensures { IsTrue result ↔ columns.now ≡ map column_formed forms.now }
+{
+    match (columns, forms) {
+        ([], []) => true,
+        ([column, columns @ ..], [form, forms @ ..]) => {
+            is_column(column, form) && are_columns(columns, forms)
+        }
+        _ => false,
+    }
+}
+
+fn is_column(column: &Column, form: &ColumnForm) -> bool
+    ensures { IsTrue result ↔ column.now ≡ column_formed form.now }
+{
+    is_name(&column.name, form.name)
+        && column.kind == form.kind
+        && column.is_strict
+        && column.not_null
+        && is_null(&column.default)
+        && column.collation == Collation::Binary
+}
+
+fn are_room_indexes(indexes: &[Index]) -> bool
+    ensures { IsTrue result ↔ indexes.now ≡ room_schema.indexes }
+{
+    match indexes {
+        [rated @ .., last] => are_key_indexes(rated) && is_job_ended(last),
+        _ => false,
+    }
+}
+
+fn is_job_ended(index: &Index) -> bool
+    ensures { IsTrue result ↔ index.now ≡ job_ended }
+{
+    is_name(&index.name, "job_ended")
+        && index.tree == 13
+        && index.table == 3
+        && are_places(&index.columns, &[1, 17, 2])
+        && index.order.digits == 0
+        && !index.is_unique
+}
+
+fn are_key_indexes(indexes: &[Index]) -> bool
+    ensures { IsTrue result ↔ indexes.now ≡ unindexed_schema.indexes }
+{
+    match indexes {
+        [first @ .., last] => {
+            are_first_indexes(first) && is_index(last, "sqlite_autoindex_rates_1", 11, &[1])
+        }
+        _ => false,
+    }
+}
+
+fn are_first_indexes(indexes: &[Index]) -> bool
+    ensures { IsTrue result ↔ indexes.now ≡ first_schema.indexes }
+{
+    match indexes {
+        [a, b, rest @ ..] => {
+            is_index(a, "sqlite_autoindex_account_1", 1, &[1])
+                && is_index(b, "sqlite_autoindex_job_1", 3, &[1, 2])
+                && are_later_indexes(rest)
+        }
+        _ => false,
+    }
+}
+
+fn are_later_indexes(indexes: &[Index]) -> bool
+    ensures { IsTrue result ↔ indexes.now ≡ drop 2 first_schema.indexes }
+{
+    match indexes {
+        [a, rest @ ..] => {
+            is_index(a, "sqlite_autoindex_document_1", 5, &[1, 2, 3]) && are_last_indexes(rest)
+        }
+        _ => false,
+    }
+}
+
+fn are_last_indexes(indexes: &[Index]) -> bool
+    ensures { IsTrue result ↔ indexes.now ≡ drop 3 first_schema.indexes }
+{
+    match indexes {
+        [a, b] => {
+            is_index(a, "sqlite_autoindex_grants_1", 7, &[1, 2])
+                && is_index(b, "sqlite_autoindex_device_1", 9, &[1])
+        }
+        _ => false,
+    }
+}
+
+/// Whether it is the index of a table's key, in the tree after the table's.
+fn is_index(index: &Index, name: &str, table: u32, key: &[usize]) -> bool
+    requires { table < 2 ^ 31 }
+    ensures { IsTrue result ↔ index.now ≡ record {
+      name = name.now;
+      tree = table + 1;
+      table = table;
+      columns = key.now;
+      order = plain;
+      is_unique = true;
+    } }
+{
+    is_name(&index.name, name)
+        && index.tree == table + 1
+        && index.table == table
+        && are_places(&index.columns, key)
+        && index.order.digits == 0
+        && index.is_unique
+}
+
+fn is_name(name: &Bytes, text: &str) -> bool
+    ensures { IsTrue result ↔ name.now ≡ text.now }
+{
+    name.as_slice() == text.as_bytes()
+}
+
+fn is_null(value: &Value) -> bool
+    ensures { IsTrue result ↔ value.now ≡ Value.Null }
+{
+    matches!(value, Value::Null)
+}
+
+fn are_places(places: &Items<usize>, key: &[usize]) -> bool
+    ensures { IsTrue result ↔ places.now ≡ key.now }
+{
+    places.as_slice() == key
+}
+
+fn is_only(uniques: &Items<Items<usize>>, key: &[usize]) -> bool
+    ensures { IsTrue result ↔ uniques.now ≡ key.now ∷ [] }
+{
+    match uniques.as_slice() {
+        [one] => are_places(one, key),
+        _ => false,
+    }
+}
+
+fn is_plain(orders: &Items<Order>) -> bool
+    ensures { IsTrue result ↔ orders.now ≡ plain ∷ [] }
+{
+    match orders.as_slice() {
+        [one] => one.digits == 0,
+        _ => false,
+    }
+}
+
+fn are_none(terms: &Terms) -> bool
+    ensures { IsTrue result ↔ terms.now ≡ [] }
+{
+    terms.roots.is_empty()
+}

@@ -1,0 +1,112 @@
+//! The words of IPP in a line.
+ghost use Rattle.std.specs.Prelude.{◌≡◌, ◌<◌, ◌++◌, OnOk, slice_index};
+ghost use Rattle.serve_log.specs.IppWords.{code_of, code_text, hex_digit, is_successful, job_field, operation_field, operation_text, status_message, status_word, success_word};
+
+use crate::text::put_number;
+use std::alloc::AllocError;
+
+/// Where the text of the status-message stands in the refusals that the rooms answer.
+const MESSAGE_PLACE: usize = 90;
+
+/// Puts the operation that a request asks for: its name, or its operation-id as `0x000a` where it
+/// is none of the profile, or a dash where the request ends before it.
+pub(crate) fn put_operation(output: &mut Vec<u8>, body: &[u8]) -> Result<(), AllocError>
+    ensures { OnOk result (output.new.items ≡ output.old.items ++ operation_field body.now) }
+{
+    if body.len() < 4 {
+        return output.extend_from_slice(b"-");
+    }
+    put_operation_text(output, code_of(body))
+}
+
+fn put_operation_text(output: &mut Vec<u8>, code: u16) -> Result<(), AllocError>
+    ensures { OnOk result (output.new.items ≡ output.old.items ++ operation_text code) }
+{
+    match code {
+        0x0002 => output.extend_from_slice(b"Print-Job"),
+        0x0004 => output.extend_from_slice(b"Validate-Job"),
+        0x0005 => output.extend_from_slice(b"Create-Job"),
+        0x0006 => output.extend_from_slice(b"Send-Document"),
+        0x0008 => output.extend_from_slice(b"Cancel-Job"),
+        0x0009 => output.extend_from_slice(b"Get-Job-Attributes"),
+        0x000a => output.extend_from_slice(b"Get-Jobs"),
+        0x000b => output.extend_from_slice(b"Get-Printer-Attributes"),
+        0x000c => output.extend_from_slice(b"Hold-Job"),
+        0x000d => output.extend_from_slice(b"Release-Job"),
+        _ => put_code(output, code),
+    }
+}
+
+/// Puts the number of a job, or a dash where there is none.
+pub(crate) fn put_job(output: &mut Vec<u8>, job: Option<u32>) -> Result<(), AllocError>
+    ensures { OnOk result (output.new.items ≡ output.old.items ++ job_field job) }
+{
+    match job {
+        Some(job) => put_number(output, u64::from(job)),
+        None => output.extend_from_slice(b"-"),
+    }
+}
+
+/// The operation-id of a request, the status-code of a response.
+pub(crate) fn code_of(message: &[u8]) -> u16
+    ensures { result ≡ code_of message.now }
+{
+    u16::from(byte_at(message, 2)) * 256 + u16::from(byte_at(message, 3))
+}
+
+/// Puts a code of two bytes as `0x000a`.
+pub(crate) fn put_code(output: &mut Vec<u8>, code: u16) -> Result<(), AllocError>
+    ensures { OnOk result (output.new.items ≡ output.old.items ++ code_text code) }
+{
+    output.extend_from_slice(b"0x")?;
+    output.push(hex_digit((code / 4096 % 16) as u8))?;
+    output.push(hex_digit((code / 256 % 16) as u8))?;
+    output.push(hex_digit((code / 16 % 16) as u8))?;
+    output.push(hex_digit((code % 16) as u8))?;
+    Ok(())
+}
+
+fn hex_digit(digit: u8) -> u8
+    requires { digit < 16 }
+    ensures { result ≡ hex_digit digit }
+{
+    if digit < 10 { 48 + digit } else { 87 + digit }
+}
+
+/// The word of a response's status: its keyword where it is a success, else the text of its
+/// status-message, which is the word of the refusal.
+pub(crate) fn status_word(answer: &[u8]) -> &[u8]
+    ensures { result.now ≡ status_word answer.now }
+{
+    if byte_at(answer, 2) == 0 {
+        success_word(code_of(answer))
+    } else {
+        status_message(answer)
+    }
+}
+
+fn success_word(code: u16) -> &'static [u8]
+    ensures { result.now ≡ success_word code }
+{
+    match code {
+        0 => b"successful-ok",
+        1 => b"successful-ok-ignored-or-substituted-attributes",
+        2 => b"successful-ok-conflicting-attributes",
+        _ => b"successful",
+    }
+}
+
+fn status_message(answer: &[u8]) -> &[u8]
+    ensures { result.now ≡ status_message answer.now }
+{
+    let length = usize::from(byte_at(answer, 88)) * 256 + usize::from(byte_at(answer, 89));
+    let behind = &answer[MESSAGE_PLACE.min(answer.len())..];
+    &behind[..length.min(behind.len())]
+}
+
+/// The byte at a place, and 0 where there is none.
+fn byte_at(bytes: &[u8], place: usize) -> u8
+    ensures { result ≡ slice_index bytes.now place }
+{
+    bytes.get(place).copied().unwrap_or(0)
+}

@@ -1,0 +1,104 @@
+-- What a backup's lines ask for, and what is done for it, of what is served (all this project's own).
+use Rattle.std.specs.Prelude.{◌≡◌, ◌⊎◌, ◌++◌, ℕ, Bool, false, true, List, [], ◌∷◌, Option, None, Some}
+use Rattle.sqlite_trees.specs.declared.store.Store.{Ghosts}
+use Rattle.input_lines.specs.declared.backup.BackupLine.{BackupLine}
+use Rattle.serve_peers.specs.Backups.{AsksBackup}
+use Rattle.serve_peers.specs.Copies.{CopiesOn, IsNewCopy}
+use Rattle.serve_peers.specs.Journals.{applied, moment_of, open_of, rounds_of, shares_of, store_of}
+use Rattle.serve_peers.specs.Turns.{Continues}
+use Rattle.serve_peers.specs.Watching.{seen_by}
+use Rattle.serve_peers.specs.declared.backup.Backup.{Backup}
+use Rattle.serve_peers.specs.declared.backup.BackupTold.{BackupTold}
+use Rattle.serve_peers.specs.declared.backup.Stage.{Stage}
+use Rattle.serve_peers.specs.declared.backup.Stage.TheVariants.{Begun, Failed, Ready, Wanted, Whole}
+use Rattle.serve_peers.specs.declared.copies.Copied.{Copied}
+use Rattle.serve_peers.specs.declared.copies.Done.{Done}
+use Rattle.serve_peers.specs.declared.copies.Done.TheVariants as done
+use Rattle.serve_peers.specs.declared.served.Served.{Served}
+use Rattle.serve_peers.specs.declared.watch.Watch.{Watch}
+
+-- the backup that was asked for last
+abbrev pub backup_of : {S : Type 0} → Served S → Option Backup
+backup_of served = served.backup
+
+abbrev pub stage_in : Option Backup → Option Stage
+stage_in None = None
+stage_in (Some backup) = Some backup.stage
+
+abbrev pub stage_of : {S : Type 0} → Served S → Option Stage
+stage_of served = stage_in (backup_of served)
+
+-- the account that a backup has under way
+abbrev pub watch_of : {S : Type 0} → Served S → Watch
+watch_of served = served.journal.watch
+
+abbrev pub is_begun : Option Stage → Bool
+is_begun (Some Begun) = true
+is_begun _ = false
+
+abbrev pub is_wanted : Option Stage → Bool
+is_wanted (Some Wanted) = true
+is_wanted _ = false
+
+-- its stage is another
+abbrev pub at_stage : Option Backup → Stage → Option Backup
+at_stage None stage = None
+at_stage (Some backup) stage = Some (record backup { stage = stage })
+
+-- a line of a backup was taken
+pub record AsksNext {S : Type 0} (line : BackupLine) (told : BackupTold) (old new : Served S)
+    : Type 0 where
+  pub asks : AsksBackup line (moment_of old) told (backup_of old) (backup_of new)
+  pub same : new ≡ record old { backup = backup_of new }
+
+-- the copy's file was made, or it could not be
+pub record MakesCopy {S T : Type 0} (copy_store : Ghosts T) (old new : Served S)
+    (now : Option (Copied T)) : Type 0 where
+  pub stage : Stage
+  pub made : ((stage ≡ Ready) × IsNewCopy copy_store now) ⊎ ((stage ≡ Failed) × (now ≡ None))
+  pub same : new ≡ record old { backup = at_stage (backup_of old) stage }
+
+-- what a slice has come to is told when the next one is asked for
+abbrev pub stage_behind : Done → Stage
+stage_behind (done.Part account) = Ready
+stage_behind done.Whole = Whole
+stage_behind done.Failed = Failed
+
+-- the account that is watched from then on
+abbrev pub account_behind : Done → Option (List ℕ)
+account_behind (done.Part account) = account
+account_behind done.Whole = None
+account_behind done.Failed = None
+
+module _ {S T : Type 0} (store : Ghosts S) (copy_store : Ghosts T) where
+  -- a slice was done, or it failed; of the rooms it is an empty round, as a question is
+  pub record DoesSlice (old new : Served S) (was now : Option (Copied T)) : Type 0 where
+    pub alone : shares_of old ≡ false
+    pub done : Done
+    pub copies : CopiesOn store copy_store (watch_of old).touched (store_of old) (store_of new)
+        done was now
+    pub over : rounds_of new ≡ rounds_of old ++ ([], false) ∷ []
+    pub none_more : open_of new ≡ open_of old
+    pub account : (watch_of new).account ≡ account_behind done
+    pub seen : seen_by (watch_of new) ≡ rounds_of new
+    pub same : new ≡ record old {
+      rounds = store_of new;
+      journal = new.journal;
+      backup = at_stage (backup_of old) (stage_behind done);
+    }
+
+  -- in a round, and where nothing is asked for, nothing is done
+  abbrev pub KeepsBy : (shares begun wanted : Bool) (old new : Served S) (was now : Option (Copied T))
+      → Type 0
+  KeepsBy true begun wanted old new was now = (new ≡ old) × (now ≡ was)
+  KeepsBy false true wanted old new was now = MakesCopy copy_store old new now
+  KeepsBy false false true old new was now = DoesSlice old new was now
+  KeepsBy false false false old new was now = (new ≡ old) × (now ≡ was)
+
+  abbrev pub KeepsBackup : (old new : Served S) (was now : Option (Copied T)) → Type 0
+  KeepsBackup old new was now = KeepsBy (shares_of old) (is_begun (stage_of old))
+      (is_wanted (stage_of old)) old new was now
+
+-- nothing was applied, and nothing became of the tables
+abbrev pub OnlyKeeps : {S : Type 0} (store : Ghosts S) (old new : Served S) → Type 0
+OnlyKeeps store old new = (on : Continues store old new) × (applied on.more ≡ [])

@@ -1,0 +1,73 @@
+-- What a connection of lines has taken and told (all this project's own).
+use Rattle.std.specs.Prelude.{◌≡◌, ◌≢◌, ◌⊎◌, ℕ, Bool, List, [], ◌∷◌, ◌++◌, None, IsTrue}
+use Rattle.std.specs.List.{flat_map}
+use Rattle.sqlite_trees.specs.declared.store.Store.{Ghosts}
+use Rattle.serve_peers.specs.Lines.{IsTold, input_of, line_end, output_of, received_of, sent_of, side_of}
+use Rattle.serve_peers.specs.declared.line_connection.LineConnection.{LineConnection}
+use Rattle.serve_peers.specs.declared.line_connection.Side.{Side}
+use Rattle.serve_peers.specs.declared.served.Served.{Served}
+use Rattle.serve_peers.specs.declared.line_peer.LinePeer.{LinePeer}
+use Rattle.serve_peers.specs.declared.patience.Patience.{Patience}
+use Rattle.serve_peers.specs.declared.step.Next.{Next}
+use Rattle.serve_peers.specs.declared.step.Next.TheVariants.{Close}
+use Rattle.serve_peers.specs.Streams.{Carry, Ends}
+
+abbrev pub lines_of : LinePeer → LineConnection
+lines_of peer = peer.connection
+
+abbrev pub patience_of : LinePeer → Patience
+patience_of peer = peer.progress.patience
+
+-- all was said, and what still comes is dropped
+abbrev pub has_parted : LinePeer → Bool
+has_parted peer = peer.progress.parts
+
+-- a line as it came, with what ended it, and what was told
+abbrev pub LineCall : Type 0
+LineCall = List ℕ × List ℕ
+
+abbrev pub taken : List LineCall → List ℕ
+taken calls = flat_map (λ (call : LineCall). call.0) calls
+
+abbrev pub bytes_told : List LineCall → List ℕ
+bytes_told calls = flat_map (λ (call : LineCall). call.1) calls
+
+module _ {S : Type 0} (store : Ghosts S) (side : Side) where
+  -- what each line says is applied, once, and told, or it asks a question, which is answered, or it is
+  -- refused, which changes nothing, and is told of
+  abbrev pub Chain : Served S → List LineCall → Served S → Type 0
+  Chain old [] new = new ≡ old
+  Chain old (call ∷ calls) new = (next : Served S)
+      × IsTold store side call.0 old call.1 next × Chain next calls new
+
+module _ {S : Type 0} (store : Ghosts S) where
+  -- Bytes came, and the lines in them were taken in order; what was told of each goes after the
+  -- others, in order, as far as it does not wait.
+  pub record TakesLines (ends ends2 : Ends) (before after : LineConnection) (waits : List ℕ)
+      (old new : Served S) : Type 0 where
+    pub came : List ℕ
+    pub calls : List LineCall
+    pub went : List ℕ
+    pub carry : Carry ends ends2 came went
+    pub input : input_of before ++ came ≡ taken calls ++ input_of after
+    pub output : output_of before ++ bytes_told calls ≡ went ++ waits
+    pub chain : Chain store (side_of before) old calls new
+    pub side : side_of after ≡ side_of before
+    pub received : received_of after ≡ received_of before ++ came
+    pub sent : sent_of after ≡ sent_of before ++ went
+
+  -- what still comes where all was said is dropped
+  abbrev pub DropsBytes : (ends ends2 : Ends) (before after : LinePeer) (old new : Served S) → Type 0
+  DropsBytes ends ends2 before after old new = (came : List ℕ) × IsTrue (has_parted before)
+      × Carry ends ends2 came [] × (lines_of after ≡ lines_of before) × (new ≡ old)
+
+  -- what a turn comes to; a connection that is over may lose what waits to go, and nothing else
+  abbrev pub TakesTurn : (ends ends2 : Ends) (next : Next) (before after : LinePeer)
+      (old new : Served S) → Type 0
+  TakesTurn ends ends2 next before after old new = DropsBytes ends ends2 before after old new
+      ⊎ ((waits : List ℕ) × TakesLines ends ends2 (lines_of before) (lines_of after) waits old new
+      × (next ≢ Close → waits ≡ output_of (lines_of after)))
+
+-- each line that came was taken, unless what was told before waits to go
+abbrev pub HasTaken : LineConnection → Type 0
+HasTaken connection = (output_of connection ≢ []) ⊎ (line_end (input_of connection) ≡ None)

@@ -1,0 +1,217 @@
+//! Between the turns of peers what a backup's lines ask for is done.
+ghost use Rattle.std.specs.Prelude.{◌≡◌, ◌⊎◌, IsFalse, IsTrue, None, Some};
+ghost use Rattle.serve_peers.specs.Copies.{CopiesOn, IsNewCopy, SlicesOn};
+ghost use Rattle.serve_peers.specs.Copies.{anew_left, begun_anew, most_at, under_way};
+
+use account_rules::Name;
+use room_store::{Refused, Rounds, Store};
+use rows_tables::TableFault;
+use sqlite::{Alter, Connection};
+use std::alloc::Global;
+use store_copy::{CopyMaker, Progress, copy_slice, start_again};
+
+/// How many jobs of an account a slice copies at most.
+const MOST_JOBS: u32 = 32;
+
+/// How often an account begins anew, since it was changed while it was copied. Then it is copied at
+/// once, so that a backup ends whoever goes on to print.
+const MOST_ANEW: u32 = 3;
+
+/// A copy that is under way, and how far it has come.
+#[derive(Drop)]
+pub struct Copied<T: Alter> {
+    pub(crate) rows: Connection<T>,
+    pub(crate) progress: Progress,
+    /// How often the account that is under way has begun anew.
+    pub(crate) anew: u32,
+}
+
+/// Who makes the files of copies, and the copy that is under way.
+pub struct Copies<T: Alter, K> {
+    pub(crate) maker: K,
+    pub(crate) copy: Option<Copied<T>>,
+}
+
+// In the place of `#[derive(Drop)]`, so that no caller proves again how each part is dropped.
+impl<T: Alter + Drop, K: Drop> Drop for Copies<T, K> {
+    fn drop(self) {
+        let Copies { maker: _, copy: _ } = self;
+    }
+}
+
+/// What a slice has come to.
+pub(crate) enum Done {
+    /// More slices are to come. This account is under way.
+    Part(Option<Name>),
+    Whole,
+    Failed,
+}
+
+impl<T: Alter, K: CopyMaker<Rows = Connection<T>>> Copies<T, K> {
+    ghost use Rattle.serve_peers.specs.Copies.{copy_in};
+
+    /// No copy is under way.
+    pub fn new(maker: K) -> Copies<T, K>
+        ensures { copy_in result ≡ None }
+    {
+        Copies { maker, copy: None }
+    }
+
+    /// Makes the file of a copy, with tables that have no row, and answers whether it could. The copy
+    /// that was under way is given up.
+    pub(crate) fn make(&mut self, file: &[u8]) -> bool
+        ensures made { IsTrue result → IsNewCopy T.Store (copy_in self.new) }
+        ensures none { IsFalse result → copy_in self.new ≡ None }
+    {
+        if let Some(older) = self.copy.take() {
+            self.maker.give_up(older.rows);
+        }
+        match self.maker.make(file) {
+            Some(rows) => self.begin(rows),
+            None => false,
+        }
+    }
+
+    fn begin(&mut self, rows: Connection<T>) -> bool
+        requires { copy_in self.old ≡ None }
+        ensures made { IsTrue result → IsNewCopy T.Store (copy_in self.new) }
+        ensures none { IsFalse result → copy_in self.new ≡ None }
+    {
+        match Store::create(rows) {
+            Ok(store) => {
+                self.put(Copied {
+                    rows: store.close(),
+                    progress: Progress::UpTo(None),
+                    anew: 0,
+                });
+                true
+            }
+            Err(Refused { connection, .. }) => {
+                self.maker.give_up(connection);
+                false
+            }
+        }
+    }
+
+    fn put(&mut self, copied: Copied<T>)
+        ensures { copy_in self.new ≡ Some copied }
+    {
+        if let Some(older) = self.copy.replace(copied) {
+            self.maker.give_up(older.rows);
+        }
+    }
+
+    /// Does the next slice of the copy. Where the account under way was `touched` since the last one
+    /// it begins anew. No round is under way.
+    pub(crate) fn slice<S: Alter>(
+        &mut self,
+        alloc: Global,
+        source: &mut Rounds<S>,
+        touched: bool,
+    ) -> Done
+        ensures { CopiesOn S.Store T.Store touched source.old source.new
+            result (copy_in self.old) (copy_in self.new) }
+    {
+        let Some(copied) = self.copy.take() else {
+            return Done::Failed;
+        };
+        let Copied {
+            mut rows,
+            progress,
+            anew,
+        } = copied;
+        let anew = begun_anew(touched, anew);
+        match slice_on(alloc, source, &mut rows, progress, touched, most_at(anew)) {
+            Ok(Some(progress)) => {
+                let account = under_way(&progress);
+                let anew = anew_left(&progress, anew);
+                self.put(Copied {
+                    rows,
+                    progress,
+                    anew,
+                });
+                Done::Part(account)
+            }
+            Ok(None) => self.close(rows),
+            Err(_) => {
+                self.maker.give_up(rows);
+                Done::Failed
+            }
+        }
+    }
+
+    /// Closes a copy that is whole.
+    fn close(&mut self, rows: Connection<T>) -> Done
+        ensures done { (result ≡ Done.Whole) ⊎ (result ≡ Done.Failed) }
+        ensures same { copy_in self.new ≡ copy_in self.old }
+    {
+        if self.maker.close(rows) {
+            Done::Whole
+        } else {
+            Done::Failed
+        }
+    }
+}
+
+/// How often the account under way has begun anew: once more, where it was touched.
+fn begun_anew(touched: bool, anew: u32) -> u32
+    ensures { result ≡ begun_anew touched anew }
+{
+    if touched {
+        return anew.saturating_add(1);
+    }
+    anew
+}
+
+/// How often the account that is under way now has begun anew.
+fn anew_left(progress: &Progress, anew: u32) -> u32
+    ensures { result ≡ anew_left progress.now anew }
+{
+    match progress {
+        Progress::Within { .. } => anew,
+        _ => 0,
+    }
+}
+
+/// How many jobs a slice copies of an account that has begun anew so often; `None` for all of them.
+fn most_at(anew: u32) -> Option<u32>
+    ensures { result ≡ most_at anew }
+{
+    if anew < MOST_ANEW {
+        return Some(MOST_JOBS);
+    }
+    None
+}
+
+/// The account of which a part is copied.
+fn under_way(progress: &Progress) -> Option<Name>
+    ensures { result ≡ under_way progress.now }
+{
+    match progress {
+        Progress::Within { account, .. } => Some(*account),
+        _ => None,
+    }
+}
+
+/// Does the next slice, and answers how far the copy has come then, or `None` where it is whole.
+fn slice_on<S: Alter, T: Alter>(
+    alloc: Global,
+    source: &mut Rounds<S>,
+    rows: &mut Connection<T>,
+    progress: Progress,
+    touched: bool,
+    most: Option<u32>,
+) -> Result<Option<Progress>, TableFault>
+    ensures { SlicesOn S.Store T.Store touched progress most source.old source.new
+        result rows.old rows.new }
+{
+    if source.is_under_way() {
+        return Err(TableFault::Storage);
+    }
+    let from = if touched {
+        start_again(rows, &progress)?
+    } else {
+        progress
+    };
+    copy_slice(alloc, source, rows, &from, most)
+}

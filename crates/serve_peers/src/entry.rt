@@ -1,0 +1,129 @@
+//! What came, and the moment at which it counts as done.
+ghost use Rattle.std.specs.Prelude.{◌≡◌, IsTrue};
+ghost use Rattle.account_machine.specs.Events.{plain_event};
+ghost use Rattle.account_machine.specs.Fits.{fits};
+ghost use Rattle.room_serve.specs.Own.{is_of};
+ghost use Rattle.serve_peers.specs.Entries.{event_of_entry, moment_at};
+ghost use Rattle.serve_peers.specs.Logged.{door_for, door_of};
+ghost use Rattle.serve_peers.specs.Space.{entry_needs_space, length_of_entry};
+
+use crate::request::{cancels, needs_space};
+use account_machine::{Event, Name};
+use bytes::Bytes;
+use input_lines::{Action, Line};
+use serve_log::Door;
+
+/// What a connection asked of the rooms or the devices, at a moment in seconds since
+/// 1970-01-01T00:00:00Z.
+pub enum Entry {
+    /// A message of IPP for the queue of an account.
+    Message {
+        moment: u64,
+        account: Name,
+        body: Bytes,
+    },
+    /// A line of a station or an operator.
+    Line(Line),
+}
+
+// In the place of `#[derive(Drop)]`, so that no caller proves again how each part is dropped.
+impl Drop for Entry {
+    fn drop(self) {
+        match self {
+            Entry::Message {
+                moment: _,
+                account: _,
+                body: _,
+            } => {}
+            Entry::Line(_) => {}
+        }
+    }
+}
+
+impl Entry {
+    pub(crate) fn moment(&self) -> u64
+        ensures { result ≡ moment_at self.now }
+    {
+        match self {
+            Entry::Message { moment, .. } => *moment,
+            Entry::Line(line) => line.moment,
+        }
+    }
+
+    /// The door by which it came in.
+    pub(crate) fn door(&self) -> Door
+        ensures { result ≡ door_of self.now }
+    {
+        match self {
+            Entry::Message { .. } => Door::Clients,
+            Entry::Line(line) => door_of(&line.action),
+        }
+    }
+
+    /// Whether it brings a job or a document, for which the disk has to have space.
+    pub(crate) fn needs_space(&self) -> bool
+        ensures { result ≡ entry_needs_space self.now }
+    {
+        match self {
+            Entry::Message { body, .. } => needs_space(body.as_slice()),
+            Entry::Line(_) => false,
+        }
+    }
+
+    /// The bytes of the message, and of a line none.
+    pub(crate) fn length(&self) -> usize
+        ensures { result ≡ length_of_entry self.now }
+    {
+        match self {
+            Entry::Message { body, .. } => body.len(),
+            Entry::Line(_) => 0,
+        }
+    }
+
+    /// Whether a job ends where it goes through, or is to.
+    pub(crate) fn ends_job(&self) -> bool {
+        match self.event() {
+            Event::Ipp { body, .. } => cancels(body),
+            Event::Settle { .. } => true,
+            _ => false,
+        }
+    }
+
+    /// Whether it is of the account.
+    pub(crate) fn is_of(&self, name: Name) -> bool
+        ensures { result ≡ is_of name (event_of_entry self.now) }
+    {
+        match self.event() {
+            Event::Open { account }
+            | Event::Ipp { account, .. }
+            | Event::Release { account, .. }
+            | Event::Start { account, .. }
+            | Event::Settle { account, .. }
+            | Event::Grant { account, .. } => account == name,
+            Event::Device { .. } | Event::Rate { .. } => false,
+        }
+    }
+
+    pub(crate) fn event(&self) -> Event<'_>
+        ensures fit { IsTrue (fits (plain_event result)) }
+        ensures same { plain_event result ≡ event_of_entry self.now }
+    {
+        match self {
+            Entry::Message { account, body, .. } => Event::Ipp {
+                account: *account,
+                body: body.as_slice(),
+            },
+            Entry::Line(line) => line.event(),
+        }
+    }
+}
+
+/// The door of those who may ask for the action.
+fn door_of(action: &Action) -> Door
+    ensures { result ≡ door_for action.now }
+{
+    match action {
+        Action::Release { .. } | Action::Start { .. } | Action::Settle { .. } => Door::Stations,
+        _ => Door::Operators,
+    }
+}

@@ -1,0 +1,227 @@
+//! A connection of HTTP: where it stands, how long it may take, and how much it holds.
+
+ghost use Rattle.std.specs.Prelude.{◌≡◌, ◌≢◌, ◌+◌, ◌<◌, ◌↔◌, length, nat_lt, IsFalse, IsTrue, Some};
+ghost use Rattle.input_http.specs.Limits.{longest_body, longest_head};
+ghost use Rattle.http_server.specs.Connection.{config_of, history};
+ghost use Rattle.http_server.specs.History.{new_history};
+ghost use Rattle.serve_peers.specs.Turns.{Continues};
+
+use crate::load::{LARGE, Load};
+use crate::patience::Patience;
+use crate::progress::Progress;
+use crate::room_service::RoomService;
+use crate::step::{Next, STEPS, Turn, after, drain};
+use crate::{answer_requests, connection_config};
+use http_server::{Connection, Reason, State};
+use input_http::HEAD_LIMIT;
+use std::alloc::Global;
+use std::hash::RandomState;
+use std::io::{Read, Write};
+
+/// What begins the text that asks a client for the body of its request.
+const INVITATION: &[u8] = b"HTTP/1.1 100 ";
+
+/// A peer that speaks HTTP.
+pub struct HttpPeer {
+    connection: Connection,
+    progress: Progress,
+    load: Load,
+}
+
+// In the place of `#[derive(Drop)]`, so that no caller proves again how each part is dropped.
+impl Drop for HttpPeer {
+    fn drop(self) {
+        let HttpPeer {
+            connection: _,
+            progress: _,
+            load: _,
+        } = self;
+    }
+}
+
+impl HttpPeer {
+    ghost use Rattle.serve_peers.specs.HttpPeers.{CallsService, GoesOn, IsAtRest, IsLater, IsStill, KeepsLimits, calls_of, came_of, connection_of, patience_of};
+    ghost use Rattle.serve_peers.specs.ProofHttpSteps.{ReadsBytes, WritesBytes};
+
+    /// A peer that came just now. It takes no memory.
+    pub fn new(alloc: Global, keys: RandomState, ticks: u64) -> HttpPeer
+        ensures history { history (connection_of result) ≡ new_history }
+        ensures head { (config_of (connection_of result)).limits.max_head_len ≡ longest_head }
+        ensures body { (config_of (connection_of result)).max_body_len ≡ longest_body }
+        ensures pending { (config_of (connection_of result)).max_pending ≡ 0 }
+    {
+        HttpPeer {
+            connection: Connection::new(alloc, keys, connection_config()),
+            progress: Progress::new(ticks),
+            load: Load::new(),
+        }
+    }
+
+    /// One turn: answers what came, each request by one call of the service, reads and writes, in
+    /// at most `STEPS` steps. Answers what the peer goes on with (`Next`): `Again` too where a long
+    /// request has come and the round is shared, since that is to commit alone, and `Wait` only
+    /// where each request that came has its call. Of a peer that was told of the end it only drops
+    /// what still comes.
+    pub fn drive<V: RoomService, R: Read, W: Write>(
+        &mut self,
+        reader: &mut R,
+        writer: &mut W,
+        service: &mut V,
+        turn: Turn,
+    ) -> Next
+        ensures calls { CallsService V.answers self.old self.new service.old service.new }
+        ensures later { IsLater (R.remaining reader.old, W.contents writer.old)
+            (R.remaining reader.new, W.contents writer.new) self.old self.new }
+        ensures continues { Continues V.Kept.Store (V.rooms service.old) (V.rooms service.new) }
+        ensures rests { result ≡ Next.Wait → IsAtRest self.new }
+        ensures holds { result ≡ Next.HeldBack → IsFalse turn.has_room }
+        ensures limits { KeepsLimits self.old self.new }
+    {
+        if self.progress.parts {
+            return drain(reader);
+        }
+        self.progress.begin_turn(turn);
+        for _ in 0..STEPS {
+            if service.is_shared() && self.load.is_long() {
+                return Next::Again;
+            }
+            answer_requests(&mut self.connection, service);
+            if let Some(next) = self.step(reader, writer, turn) {
+                return next;
+            }
+        }
+        Next::Again
+    }
+
+    /// One read or one write. Answers what to wait for, where it can't go on.
+    fn step<R: Read, W: Write>(
+        &mut self,
+        reader: &mut R,
+        writer: &mut W,
+        turn: Turn,
+    ) -> Option<Next>
+        ensures calls { calls_of self.new ≡ calls_of self.old }
+        ensures later { GoesOn (R.remaining reader.old, W.contents writer.old)
+            (R.remaining reader.new, W.contents writer.new)
+            (history (connection_of self.old)) (history (connection_of self.new)) }
+        ensures waits { result ≡ Some Next.Wait → IsStill self.old self.new }
+        ensures holds { result ≡ Some Next.HeldBack → IsFalse turn.has_room }
+        ensures limits { KeepsLimits self.old self.new }
+    {
+        if self.connection.is_done() {
+            return Some(self.finish(turn.ticks));
+        }
+        if self.connection.wants_write() {
+            return self.send(writer, turn.ticks);
+        }
+        if self.load.is_large() && !turn.has_room {
+            return Some(self.progress.hold_back(turn.ticks));
+        }
+        if self.progress.has_all {
+            return Some(Next::Wait);
+        }
+        if !turn.reads {
+            return Some(Next::Again);
+        }
+        self.progress.patience.let_on(turn.ticks);
+        self.receive(reader, turn)
+    }
+
+    fn send<W: Write>(&mut self, writer: &mut W, ticks: u64) -> Option<Next>
+        ensures calls { calls_of self.new ≡ calls_of self.old }
+        ensures sends { WritesBytes (W.contents writer.old) (W.contents writer.new)
+            (history (connection_of self.old)) (history (connection_of self.new)) }
+        ensures waits { result ≡ Some Next.Wait → IsStill self.old self.new }
+        ensures moves { result ≢ Some Next.HeldBack }
+        ensures limits { KeepsLimits self.old self.new }
+    {
+        self.load.answered();
+        // The body of what was begun is to come.
+        let invites = self.connection.output().starts_with(INVITATION);
+        match self.connection.write_to(writer) {
+            Ok(0) => Some(Next::Close),
+            Ok(count) => {
+                self.progress.patience.moved(count, ticks);
+                if !self.connection.wants_write() {
+                    self.progress.sent_all(invites, ticks);
+                }
+                None
+            }
+            Err(error) => after(&error),
+        }
+    }
+
+    fn receive<R: Read>(&mut self, reader: &mut R, turn: Turn) -> Option<Next>
+        ensures calls { calls_of self.new ≡ calls_of self.old }
+        ensures receives { ReadsBytes (R.remaining reader.old) (R.remaining reader.new)
+            (history (connection_of self.old)) (history (connection_of self.new)) }
+        ensures waits { result ≡ Some Next.Wait → IsStill self.old self.new }
+        ensures moves { result ≢ Some Next.HeldBack }
+        ensures limits { KeepsLimits self.old self.new }
+    {
+        match self.connection.read_from(reader) {
+            Ok(count) => {
+                self.load.came(count);
+                self.progress.received(count, turn);
+                None
+            }
+            Err(error) => after(&error),
+        }
+    }
+
+    /// Ends what is sent. Where the peer has ended too, or memory ran out, nothing is waited for.
+    fn finish(&mut self, ticks: u64) -> Next
+        ensures connection { connection_of self.new ≡ connection_of self.old }
+        ensures ends { result ≢ Next.Wait }
+        ensures moves { result ≢ Next.HeldBack }
+    {
+        match self.connection.state() {
+            State::Closing(Reason::EndOfInput) | State::Aborted => Next::Close,
+            _ => self.progress.part(ticks),
+        }
+    }
+
+    /// How long it may take still.
+    pub fn patience(&self) -> Patience
+        ensures { result ≡ patience_of self.now }
+    {
+        self.progress.patience
+    }
+
+    /// The bytes for which it has room. The buffer of an answer grows to twice what it has to hold,
+    /// as that of a request.
+    pub fn bytes_held(&self) -> usize {
+        let waiting = self.connection.output().len();
+        self.load
+            .bytes_held()
+            .saturating_add(waiting.saturating_mul(2))
+    }
+
+    /// Whether an answer waits to go.
+    pub fn has_output(&self) -> bool
+        ensures { IsTrue result ↔ (0 < length (history (connection_of self.now)).pending) }
+    {
+        self.connection.wants_write()
+    }
+
+    /// Whether a large answer waits to go.
+    pub fn has_large_answer(&self) -> bool {
+        self.connection.output().len() > LARGE
+    }
+
+    /// Whether a large request is coming that is longer than this, in bytes of its body, while no
+    /// answer waits to go.
+    pub fn outgrows(&self, most: usize) -> bool
+        ensures { IsTrue result → most + longest_head < came_of self.now }
+    {
+        let longest = most.saturating_add(HEAD_LIMIT);
+        self.load.is_large() && self.load.came_so_far() > longest && !self.has_output()
+    }
+
+    /// Whether a large request is coming.
+    pub fn is_large(&self) -> bool
+        ensures { result ≡ nat_lt LARGE (came_of self.now) }
+    {
+        self.load.is_large()
+    }
+}

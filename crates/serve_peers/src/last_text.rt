@@ -1,0 +1,65 @@
+//! What is sent last on a connection whose round was lost.
+ghost use Rattle.std.specs.Prelude.{◌≡◌, ◌++◌, OnOk};
+ghost use Rattle.serve_peers.specs.LastTexts.{answer_to, last_text, response_text};
+
+use crate::entry::Entry;
+use crate::line_text::put_told;
+use crate::shared::shared;
+use account_machine::{Reply, internal_error};
+use bytes::BufMut;
+use http_server::Rope;
+use input_http::{Refusal, last_answer_head, refusal_text};
+use ipp_coding::{HEADER_LENGTH, Header, header_in};
+use room_store::StoreFault;
+use std::alloc::{AllocError, Global};
+
+/// Puts what an entry came to by itself, where its round was lost, and the end of the connection.
+pub(crate) fn put_last(
+    alloc: Global,
+    output: &mut Rope,
+    asked: &Entry,
+    told: Result<Reply, StoreFault>,
+) -> Result<(), AllocError>
+    ensures { OnOk result (output.new.items ≡ output.old.items ++ last_text asked.now told) }
+{
+    match asked {
+        Entry::Message { body, .. } => put_answer(output, body.as_slice(), told),
+        Entry::Line(_) => put_told(alloc, output, told),
+    }
+}
+
+/// Puts the whole response to a request of HTTP.
+fn put_answer(
+    output: &mut Rope,
+    body: &[u8],
+    told: Result<Reply, StoreFault>,
+) -> Result<(), AllocError>
+    ensures { OnOk result (output.new.items ≡ output.old.items ++ answer_to body.now told) }
+{
+    if body.len() < HEADER_LENGTH {
+        return output.put_slice(refusal_text(Refusal::BadRequest).as_slice());
+    }
+    put_response(output, header_in(body), told)
+}
+
+/// The same of a message that has a header.
+fn put_response(
+    output: &mut Rope,
+    header: Header,
+    told: Result<Reply, StoreFault>,
+) -> Result<(), AllocError>
+    ensures { OnOk result (output.new.items ≡ output.old.items ++ response_text header told) }
+{
+    match told {
+        Ok(Reply::Ipp(answer)) => {
+            output.put_slice(last_answer_head(answer.items.len()).as_slice())?;
+            output.push(shared(answer.items)?)
+        }
+        Ok(Reply::NoAccount) => output.put_slice(refusal_text(Refusal::NotFound).as_slice()),
+        _ => {
+            let text = internal_error(header);
+            output.put_slice(last_answer_head(text.len()).as_slice())?;
+            output.put_slice(&text)
+        }
+    }
+}

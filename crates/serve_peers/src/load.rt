@@ -1,0 +1,76 @@
+//! How much a connection holds.
+
+ghost use Rattle.std.specs.Prelude.{◌≡◌, nat_lt};
+
+use input_http::{BODY_LIMIT, HEAD_LIMIT};
+
+/// A request, or an answer, of more bytes is a large one.
+pub const LARGE: usize = 65_536;
+
+/// A request of which more bytes came shares no commit.
+const LONG: usize = 262_144;
+
+/// The most bytes of one request, with its head.
+pub const LONGEST: usize = HEAD_LIMIT + BODY_LIMIT;
+
+/// The bytes that a connection holds of what came. Its buffer keeps the room that it ever had,
+/// until it is closed.
+#[derive(Clone, Copy, Debug, PartialEq, Eq)]
+pub(crate) struct Load {
+    /// What came since the last answer, and the last piece of it.
+    coming: usize,
+    last: usize,
+    /// What may have come after the request that was answered last, with its last piece.
+    before: usize,
+    most: usize,
+}
+
+impl Load {
+    /// Nothing came yet.
+    pub(crate) fn new() -> Load {
+        Load {
+            coming: 0,
+            last: 0,
+            before: 0,
+            most: 0,
+        }
+    }
+
+    /// So many bytes came.
+    pub(crate) fn came(&mut self, count: usize) {
+        self.coming = self.coming.saturating_add(count);
+        self.last = count;
+        self.most = self.most.max(self.before.saturating_add(self.coming));
+    }
+
+    /// What had come was answered.
+    pub(crate) fn answered(&mut self) {
+        self.before = self.last;
+        self.coming = 0;
+    }
+
+    /// The bytes for which there is room: the buffer grows to twice what it has to hold, or to the
+    /// longest request.
+    pub(crate) fn bytes_held(&self) -> usize {
+        self.most.saturating_mul(2).min(LONGEST).max(self.most)
+    }
+
+    /// How many bytes came since the last answer.
+    pub(crate) fn came_so_far(&self) -> usize
+        ensures { result ≡ self.now.coming }
+    {
+        self.coming
+    }
+
+    /// Whether a large request is coming.
+    pub(crate) fn is_large(&self) -> bool
+        ensures { result ≡ nat_lt LARGE self.now.coming }
+    {
+        self.coming > LARGE
+    }
+
+    /// Whether so much of a request came that it is applied by itself.
+    pub(crate) fn is_long(&self) -> bool {
+        self.coming > LONG
+    }
+}

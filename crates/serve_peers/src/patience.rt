@@ -1,0 +1,161 @@
+//! How long a connection may take.
+ghost use Rattle.std.specs.Prelude.{◌≡◌, ◌↔◌, IsTrue};
+ghost use Rattle.serve_peers.specs.Patience.{after_holding, after_letting_on, after_moving, doing_of, is_over, is_slow, moving, since_of};
+ghost use Rattle.serve_peers.specs.declared.patience.Doing.TheVariants.{Holds, Parts, Rests};
+
+/// How many milliseconds a connection may rest, with no request under way.
+const MOST_REST: u64 = 60_000;
+
+/// How many milliseconds what was begun may take, or a piece of it.
+const MOST_MOVE: u64 = 10_000;
+
+/// So many bytes in that time, 16 KiB a second, give it that time anew.
+const PIECE: u64 = 163_840;
+
+/// How many milliseconds a request that was begun waits for room.
+const MOST_HOLD: u64 = 60_000;
+
+/// How many milliseconds a peer has, from the last that it was sent, to end the connection too.
+const MOST_PARTING: u64 = 10_000;
+
+/// After how many milliseconds without a piece a connection is a slow one.
+const MOST_PAUSE: u64 = 250;
+
+/// What a connection is at.
+#[derive(Clone, Copy, Debug, PartialEq, Eq)]
+pub enum Doing {
+    /// No request is under way.
+    Rests,
+    /// A request comes, or its answer goes; so many bytes of the piece did.
+    Moves(u64),
+    /// A large request waits for room.
+    Holds,
+    /// All was said.
+    Parts,
+}
+
+/// How long a connection may take still. Ticks are milliseconds since any start that all of them
+/// share.
+#[derive(Clone, Copy, Debug, PartialEq, Eq)]
+pub struct Patience {
+    // When `doing` began, or its last whole piece had moved.
+    since: u64,
+    doing: Doing,
+}
+
+impl Patience {
+    /// For a connection that came just now.
+    pub fn new(ticks: u64) -> Patience
+        ensures doing { doing_of result ≡ Rests }
+        ensures since { since_of result ≡ ticks }
+    {
+        Patience {
+            since: ticks,
+            doing: Doing::Rests,
+        }
+    }
+
+    /// So many bytes came or went.
+    pub fn moved(&mut self, count: usize, ticks: u64)
+        ensures { self.new ≡ after_moving self.old count ticks }
+    {
+        match self.doing {
+            Doing::Rests | Doing::Holds => *self = moving(ticks, count as u64, ticks),
+            Doing::Moves(before) => {
+                *self = moving(self.since, before.saturating_add(count as u64), ticks);
+            }
+            Doing::Parts => {}
+        }
+    }
+
+    /// All that was asked was answered, and its answer went.
+    pub fn rested(&mut self, ticks: u64)
+        ensures doing { doing_of self.new ≡ Rests }
+        ensures since { since_of self.new ≡ ticks }
+    {
+        *self = Patience::new(ticks);
+    }
+
+    /// What was begun has to wait for room.
+    pub fn held_back(&mut self, ticks: u64)
+        ensures { self.new ≡ after_holding self.old ticks }
+    {
+        if !self.is_held_back() {
+            *self = Patience {
+                since: ticks,
+                doing: Doing::Holds,
+            };
+        }
+    }
+
+    /// What had to wait for room goes on, and has its time anew.
+    pub fn let_on(&mut self, ticks: u64)
+        ensures { self.new ≡ after_letting_on self.old ticks }
+    {
+        if self.is_held_back() {
+            *self = moving(ticks, 0, ticks);
+        }
+    }
+
+    /// All was said: from now on the peer has `MOST_PARTING` to end the connection too.
+    pub fn parted(&mut self, ticks: u64)
+        ensures doing { doing_of self.new ≡ Parts }
+        ensures since { since_of self.new ≡ ticks }
+    {
+        *self = Patience {
+            since: ticks,
+            doing: Doing::Parts,
+        };
+    }
+
+    /// Whether no request is under way.
+    pub fn is_at_rest(&self) -> bool
+        ensures { IsTrue result ↔ (doing_of self.now ≡ Rests) }
+    {
+        matches!(self.doing, Doing::Rests)
+    }
+
+    /// Whether what was begun waits for room.
+    pub fn is_held_back(&self) -> bool
+        ensures { IsTrue result ↔ (doing_of self.now ≡ Holds) }
+    {
+        matches!(self.doing, Doing::Holds)
+    }
+
+    /// Whether it took too long.
+    pub fn is_over(&self, ticks: u64) -> bool
+        ensures { result ≡ is_over self.now ticks }
+    {
+        let most = match self.doing {
+            Doing::Rests => MOST_REST,
+            Doing::Moves(_) => MOST_MOVE,
+            Doing::Holds => MOST_HOLD,
+            Doing::Parts => MOST_PARTING,
+        };
+        ticks.saturating_sub(self.since) > most
+    }
+
+    /// Whether more than a quarter of a second has passed since it came to what it is at, or since
+    /// its last whole piece.
+    pub fn is_slow(&self, ticks: u64) -> bool
+        ensures { result ≡ is_slow self.now ticks }
+    {
+        ticks.saturating_sub(self.since) > MOST_PAUSE
+    }
+}
+
+/// So many bytes of a piece have moved. A whole piece begins the next one, at `ticks`.
+fn moving(since: u64, moved: u64, ticks: u64) -> Patience
+    ensures { result ≡ moving since moved ticks }
+{
+    if moved < PIECE {
+        return Patience {
+            since,
+            doing: Doing::Moves(moved),
+        };
+    }
+    Patience {
+        since: ticks,
+        doing: Doing::Moves(0),
+    }
+}

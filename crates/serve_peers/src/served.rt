@@ -1,0 +1,706 @@
+//! The rooms as one process serves them to everybody.
+ghost use Rattle.std.specs.Prelude.{◌≡◌, ◌≢◌, ◌+◌, ◌≤◌, ◌⊎◌, ◌++◌, ℕ, List, [], true, false, IsTrue, None, Some, Err, IfOk, OnErr, OnOk};
+ghost use Rattle.serve_log.specs.Waits.{drafts_of, logged_of};
+ghost use Rattle.serve_peers.specs.Journals.{asked_of, ends_of, is_full_of, is_lost_of, log_lags_of, moment_of, needs_password_of, open_of, rounds_of, shares_of, store_of};
+ghost use Rattle.serve_peers.specs.Applying.{AppliesAlone, AppliesEntry};
+ghost use Rattle.serve_peers.specs.Again.{IsOneMore, told_at_last};
+ghost use Rattle.serve_peers.specs.Space.{entry_needs_space, lacks_space, length_of_entry, spare_of};
+ghost use Rattle.serve_space.specs.Spares.{any_length, held_of, kept_back, kept_beside, takes_of};
+ghost use Rattle.serve_peers.specs.Copies.{copy_in};
+ghost use Rattle.page_overview.specs.Pages.{IsPage};
+ghost use Rattle.serve_peers.specs.Gathering.{asked_at, gathers};
+ghost use Rattle.serve_peers.specs.Overviews.{Gathers, GathersOn, gathered_of, shown_of};
+ghost use Rattle.serve_peers.specs.Keeping.{AsksNext, DoesSlice, KeepsBackup, MakesCopy, OnlyKeeps, backup_of, is_begun, is_wanted, stage_of};
+ghost use Rattle.serve_peers.specs.Turns.{AnswersNext, AppliesNext};
+ghost use Rattle.serve_peers.specs.Rounds.{IsBegun, IsNotBegun, IsSettled};
+
+use crate::backup::{Backup, BackupTold, Stage, ask_slice, begin_backup};
+use crate::copies::{Copies, Done};
+use crate::entry::Entry;
+use crate::gathering::{Gathered, Gathering};
+use crate::journal::Journal;
+use crate::request::needs_space;
+use account_machine::{Name, Part, Reply};
+use account_questions::Question;
+use bytes::Bytes;
+use http::Request;
+use input_http::Refusal;
+use input_lines::BackupLine;
+use room_store::{Rounds, Store, StoreFault};
+use serve_log::{Door, EventLog, LineRefusal};
+use serve_space::Spare;
+use sqlite::{Alter, Connection};
+use std::alloc::{AllocError, Global};
+use std::fs::{File, Files};
+use store_copy::CopyMaker;
+
+/// A round is full once more bytes than this were told in it.
+const MOST_TOLD: usize = 8_388_608;
+
+/// The bytes that a small change is given first where the disk is full. The log grows by 256 KiB at
+/// once.
+const FIRST_PIECE: usize = 524_288;
+
+/// The bytes that the log is given where the disk is full: the most that waits for it, and a block.
+const LOG_PIECE: usize = 1_052_672;
+
+/// The shared tables, the clock's moment, and a journal of all that was applied to them.
+pub struct Served<S: Alter> {
+    pub(crate) alloc: Global,
+    pub(crate) rounds: Rounds<S>,
+    pub(crate) moment: u64,
+    /// All that was applied to them, of whichever connection, and the log of it.
+    pub(crate) journal: Journal,
+    /// Whether what is applied shares a commit.
+    pub(crate) shares: bool,
+    /// Whether the round that was settled last was lost.
+    pub(crate) is_lost: bool,
+    /// What the peer whose turn it is has asked in the round.
+    pub(crate) asked: Option<Entry>,
+    /// How many bytes were told in the round.
+    pub(crate) bytes_told: usize,
+    /// The space that is kept for a full disk.
+    pub(crate) spare: Spare,
+    /// Whether an operator asked that serving ends.
+    pub(crate) ends: bool,
+    /// The backup that an operator asked for last.
+    pub(crate) backup: Option<Backup>,
+    /// What the print room's page shows.
+    pub(crate) gathered: Gathered,
+    /// Whether the pages take no file without a password.
+    pub(crate) needs_password: bool,
+}
+
+// In the place of `#[derive(Drop)]`, so that no caller proves again how each part is dropped.
+impl<S: Alter + Drop> Drop for Served<S> {
+    fn drop(self) {
+        let Served {
+            alloc: _,
+            rounds: _,
+            moment: _,
+            journal: _,
+            shares: _,
+            is_lost: _,
+            asked: _,
+            bytes_told: _,
+            spare: _,
+            ends: _,
+            backup: _,
+            gathered: _,
+            needs_password: _,
+        } = self;
+    }
+}
+
+impl<S: Alter> Served<S> {
+    /// Serves a store, from the moment on, in seconds since 1970-01-01T00:00:00Z. No round is under
+    /// way, and no space is kept. It takes no memory.
+    pub fn new(alloc: Global, store: Store<S>, moment: u64) -> Served<S>
+        ensures store { store_of result ≡ store }
+        ensures moment { moment_of result ≡ moment }
+        ensures empty { rounds_of result ≡ [] }
+        ensures none_open { open_of result ≡ [] }
+        ensures alone { shares_of result ≡ false }
+        ensures asked { asked_of result ≡ [] }
+        ensures no_space { held_of (spare_of result) ≡ 0 }
+        ensures takes_all { takes_of (spare_of result) ≡ any_length }
+        ensures goes_on { ends_of result ≡ false }
+        ensures no_backup { backup_of result ≡ None }
+        ensures takes_without_password { needs_password_of result ≡ false }
+    {
+        Served {
+            alloc,
+            rounds: Rounds::over(store),
+            moment,
+            journal: Journal::new(),
+            shares: false,
+            is_lost: false,
+            asked: None,
+            bytes_told: 0,
+            spare: Spare::none(),
+            ends: false,
+            backup: None,
+            gathered: Gathered::nothing(alloc, moment),
+            needs_password: false,
+        }
+    }
+
+    /// From now on this space is kept for a full disk.
+    pub fn set_spare(&mut self, spare: Spare)
+        ensures { self.new ≡ record self.old { spare = spare } }
+    {
+        self.spare = spare;
+    }
+
+    /// From now on the pages take no file without a password, or take one.
+    pub fn set_needs_password(&mut self, needs_password: bool)
+        ensures { self.new ≡ record self.old { needs_password = needs_password } }
+    {
+        self.needs_password = needs_password;
+    }
+
+    /// Whether the pages take no file without a password.
+    pub fn needs_password(&self) -> bool
+        ensures { result ≡ needs_password_of self.now }
+    {
+        self.needs_password
+    }
+
+    /// From now on what is applied is logged there. Nothing was asked yet.
+    pub fn set_log(&mut self, log: EventLog)
+        requires rounds { rounds_of self.old ≡ [] }
+        requires none_open { open_of self.old ≡ [] }
+        requires logged { logged_of log ≡ [] }
+        requires drafts { drafts_of log ≡ [] }
+        ensures rounds { rounds_of self.new ≡ [] }
+        ensures none_open { open_of self.new ≡ [] }
+        ensures same { self.new ≡ record self.old { journal = self.new.journal } }
+    {
+        self.journal.set_log(log);
+    }
+
+    /// Has the log open its file anew where that was moved away, at most once a moment.
+    pub fn look_at_log<R: Files<File = File>>(&mut self, files: &R, moment: Option<u64>)
+        ensures { self.new ≡ self.old }
+    {
+        self.journal.look(files, moment);
+    }
+
+    /// Has the log tell that a door refused a line, and why.
+    pub(crate) fn log_refused_line(&mut self, door: Door, why: LineRefusal)
+        ensures { self.new ≡ self.old }
+    {
+        self.journal.refuse_line(self.moment, door, why);
+    }
+
+    /// Has the log tell that a request with the path was refused.
+    pub fn log_refusal(&mut self, refusal: Refusal, path: &[u8])
+        ensures { self.new ≡ self.old }
+    {
+        self.log_status(refusal.status().as_u16(), path);
+    }
+
+    /// Has the log tell that a request with the path was refused with the status.
+    pub fn log_status(&mut self, status: u16, path: &[u8])
+        ensures { self.new ≡ self.old }
+    {
+        self.journal.refuse_request(self.moment, status, path);
+    }
+
+    /// Whether lines wait that the file of the log has not taken.
+    pub fn log_lags(&self) -> bool
+        ensures { result ≡ log_lags_of self.now }
+    {
+        self.journal.log_lags()
+    }
+
+    /// Takes a piece of the space that is kept where it is not whole.
+    pub fn mend_space(&mut self)
+        ensures same { self.new ≡ record self.old { spare = spare_of self.new } }
+        ensures grows { held_of (spare_of self.old) ≤ held_of (spare_of self.new) }
+        ensures takes { takes_of (spare_of self.old) ≤ takes_of (spare_of self.new) }
+    {
+        self.spare.mend();
+    }
+
+    /// The longest request, in bytes of its body, for which there is space.
+    pub fn takes(&self) -> usize
+        ensures { result ≡ takes_of (spare_of self.now) }
+    {
+        self.spare.takes()
+    }
+
+    /// Whether the disk lacks the space for what the request brings.
+    pub(crate) fn lacks_space(&self, request: &Request<Bytes>) -> bool
+        ensures { result ≡ lacks_space self.now request.now }
+    {
+        let body = request.body().as_slice();
+        needs_space(body) && self.spare.takes() < body.len()
+    }
+
+    /// The moment at which what comes now counts as done.
+    pub fn moment(&self) -> u64
+        ensures { result ≡ moment_of self.now }
+    {
+        self.moment
+    }
+
+    /// The moment at which what comes from now on counts as done.
+    pub fn set_moment(&mut self, moment: u64)
+        ensures { self.new ≡ record self.old { moment = moment } }
+    {
+        self.moment = moment;
+    }
+
+    /// Begins a round: until it is settled what is applied shares a commit. Where none can begin,
+    /// each is applied by itself.
+    pub fn begin(&mut self)
+        ensures under_way { IsTrue (shares_of self.old) → self.new ≡ self.old }
+        ensures begins { shares_of self.old ≡ false
+            → IsBegun S.Store self.old self.new ⊎ IsNotBegun S.Store self.old self.new }
+    {
+        if self.shares {
+            return;
+        }
+        match self.rounds.begin() {
+            Ok(()) => self.shares = true,
+            Err(_) => self.journal.add_nothing(),
+        }
+    }
+
+    /// Ends the round, if one is under way: what was applied in it is on the disk, or it is lost,
+    /// which `is_lost` tells, and nothing of it was applied.
+    pub fn settle(&mut self)
+        ensures alone { shares_of self.old ≡ false → self.new ≡ self.old }
+        ensures settles { IsTrue (shares_of self.old) → IsSettled S.Store self.old self.new }
+    {
+        if !self.shares {
+            return;
+        }
+        self.settle_round();
+        self.log_from_space();
+    }
+
+    fn settle_round(&mut self)
+        requires { IsTrue (shares_of self.old) }
+        ensures { IsSettled S.Store self.old self.new }
+    {
+        let kept = self.rounds.commit().is_ok();
+        self.journal.settle(kept);
+        self.shares = false;
+        self.is_lost = !kept;
+        self.bytes_told = 0;
+    }
+
+    /// Whether what is applied shares a commit.
+    pub fn is_shared(&self) -> bool
+        ensures { result ≡ shares_of self.now }
+    {
+        self.shares
+    }
+
+    /// Whether so much was told in the round that nothing more is to be asked in it: all of it waits
+    /// for the commit.
+    pub fn is_full(&self) -> bool
+        ensures { result ≡ is_full_of self.now }
+    {
+        self.bytes_told > MOST_TOLD
+    }
+
+    /// Whether the round that was settled last was lost.
+    pub fn is_lost(&self) -> bool
+        ensures { result ≡ is_lost_of self.now }
+    {
+        self.is_lost
+    }
+
+    /// Whether an operator asked that serving ends.
+    pub fn has_to_end(&self) -> bool
+        ensures { result ≡ ends_of self.now }
+    {
+        self.ends
+    }
+
+    /// A peer's turn begins that has asked this in the round.
+    pub fn set_asked(&mut self, asked: Option<Entry>)
+        ensures { self.new ≡ record self.old { asked = asked } }
+    {
+        self.asked = asked;
+    }
+
+    /// What the peer whose turn it was has asked in the round.
+    pub fn take_asked(&mut self) -> Option<Entry>
+        ensures asked { result ≡ self.old.asked }
+        ensures same { self.new ≡ record self.old { asked = None } }
+    {
+        self.asked.take()
+    }
+
+    /// Applies what came, once, and answers what that came to. In a round a peer can ask one thing
+    /// before that is settled; another is not applied, as if there were no memory for it.
+    pub fn apply(&mut self, entry: Entry) -> Result<Result<Reply, StoreFault>, AllocError>
+        ensures applies { IfOk result (λ told. AppliesNext S.Store entry told self.old self.new) }
+        ensures unchanged { OnErr result (self.new ≡ self.old) }
+        ensures second { OnErr result
+            (IsTrue (shares_of self.old) × (asked_of self.old ≢ [])) }
+    {
+        if self.shares {
+            return self.apply_shared(entry);
+        }
+        Ok(self.apply_alone(&entry))
+    }
+
+    pub(crate) fn apply_alone(&mut self, entry: &Entry) -> Result<Reply, StoreFault>
+        requires { shares_of self.old ≡ false }
+        ensures { AppliesNext S.Store entry.now result self.old self.new }
+    {
+        let told = self.apply_with_spare(entry);
+        self.note_space(entry, &told);
+        self.tell_beyond(entry, &told);
+        self.journal.add_alone(entry, &told);
+        self.log_from_space();
+        told
+    }
+
+    /// Has the log tell what a settlement charged beyond what its job had reserved.
+    fn tell_beyond(&mut self, entry: &Entry, told: &Result<Reply, StoreFault>)
+        ensures { self.new ≡ self.old }
+    {
+        let units = self.rounds.take_beyond();
+        if units > 0 && is_done(told) {
+            self.journal.tell_beyond(entry, units);
+        }
+    }
+
+    /// Where lines wait for the log's file it is given a piece of the space that is kept, and what that
+    /// leaves is taken back.
+    fn log_from_space(&mut self)
+        ensures rounds { rounds_of self.new ≡ rounds_of self.old }
+        ensures none_more { open_of self.new ≡ open_of self.old }
+        ensures same { self.new ≡ record self.old {
+          journal = self.new.journal;
+          spare = spare_of self.new;
+        } }
+    {
+        if self.journal.log_lags() && self.spare.give_up(LOG_PIECE) {
+            self.journal.push_out();
+            self.spare.fill();
+        }
+    }
+
+    /// Applies what came. Where the storage fails it is applied once more from the space that is kept,
+    /// with a piece of that, and then with all of it.
+    fn apply_with_spare(&mut self, entry: &Entry) -> Result<Reply, StoreFault>
+        ensures applies { AppliesAlone S.Store entry.now
+            (store_of self.old) (store_of self.new) result }
+        ensures same { self.new ≡ record self.old {
+          rounds = store_of self.new;
+          spare = spare_of self.new;
+        } }
+    {
+        let told = self.apply_once(entry);
+        let told = self.apply_from_space(entry, told, FIRST_PIECE);
+        self.apply_from_space(entry, told, usize::MAX)
+    }
+
+    /// Applies what failed once more, if space could be given up for it. What it leaves of that is
+    /// taken back at once, before somebody else's file takes it.
+    fn apply_from_space(
+        &mut self,
+        entry: &Entry,
+        told: Result<Reply, StoreFault>,
+        most: usize,
+    ) -> Result<Reply, StoreFault>
+        ensures again { IsOneMore S.Store entry.now
+            (store_of self.old) told (store_of self.new) result }
+        ensures same { self.new ≡ record self.old {
+          rounds = store_of self.new;
+          spare = spare_of self.new;
+        } }
+    {
+        if !self.frees_space(entry, &told, most) {
+            return told;
+        }
+        let told = told_at_last(self.apply_once(entry));
+        self.spare.fill();
+        told
+    }
+
+    /// Gives up space that is kept where the storage failed: for what brings no job or document so
+    /// many bytes at most, and else what is lent for it. Answers whether there was some.
+    fn frees_space(&mut self, entry: &Entry, told: &Result<Reply, StoreFault>, most: usize) -> bool
+        ensures failed { IsTrue result → told.now ≡ Err StoreFault.Storage }
+        ensures left { IsTrue result → IsTrue (entry_needs_space entry.now)
+            → length_of_entry entry.now + (kept_back + kept_beside) ≤ held_of (spare_of self.new) }
+        ensures same { self.new ≡ record self.old { spare = spare_of self.new } }
+    {
+        match told {
+            Err(StoreFault::Storage) => self.gives_up_for(entry, most),
+            _ => false,
+        }
+    }
+
+    fn gives_up_for(&mut self, entry: &Entry, most: usize) -> bool
+        ensures left { IsTrue result → IsTrue (entry_needs_space entry.now)
+            → length_of_entry entry.now + (kept_back + kept_beside) ≤ held_of (spare_of self.new) }
+        ensures same { self.new ≡ record self.old { spare = spare_of self.new } }
+    {
+        if entry.needs_space() {
+            let length = entry.length();
+            self.spare.lend(length, most.saturating_add(length))
+        } else {
+            self.spare.give_up(most)
+        }
+    }
+
+    /// Notes for the space that is kept whether a job ended, or a job or a document came.
+    fn note_space(&mut self, entry: &Entry, told: &Result<Reply, StoreFault>)
+        ensures { self.new ≡ record self.old { spare = spare_of self.new } }
+    {
+        if !is_done(told) {
+            return;
+        }
+        if entry.needs_space() {
+            self.spare.took();
+        } else if entry.ends_job() {
+            self.spare.ended();
+        }
+    }
+
+    fn apply_once(&mut self, entry: &Entry) -> Result<Reply, StoreFault>
+        ensures applies { AppliesAlone S.Store entry.now
+            (store_of self.old) (store_of self.new) result }
+        ensures same { self.new ≡ record self.old { rounds = store_of self.new } }
+    {
+        self.rounds
+            .apply_alone(self.alloc, entry.moment(), &entry.event())
+    }
+
+    fn apply_shared(&mut self, entry: Entry) -> Result<Result<Reply, StoreFault>, AllocError>
+        requires { IsTrue (shares_of self.old) }
+        ensures applies { IfOk result (λ told. AppliesNext S.Store entry told self.old self.new) }
+        ensures unchanged { OnErr result (self.new ≡ self.old) }
+        ensures second { OnErr result
+            (IsTrue (shares_of self.old) × (asked_of self.old ≢ [])) }
+    {
+        if self.asked.is_some() {
+            return Err(AllocError);
+        }
+        let told = self.apply_in_round(&entry);
+        self.note_space(&entry, &told);
+        self.bytes_told = self.bytes_told.saturating_add(size_of(&told));
+        self.tell_beyond(&entry, &told);
+        self.journal.add_shared(&entry, &told);
+        self.asked = Some(entry);
+        Ok(told)
+    }
+
+    /// Once the round is lost nothing is applied in it.
+    fn apply_in_round(&mut self, entry: &Entry) -> Result<Reply, StoreFault>
+        ensures applies { AppliesEntry S.Store true entry.now
+            (store_of self.old) (store_of self.new) result }
+        ensures same { self.new ≡ record self.old { rounds = store_of self.new } }
+    {
+        if !self.rounds.is_under_way() {
+            return Err(StoreFault::Storage);
+        }
+        self.rounds
+            .apply(self.alloc, entry.moment(), &entry.event())
+    }
+
+    /// Answers a question by the tables as they are. No round is under way: what one has changed may
+    /// still be lost.
+    pub fn answer_question(&mut self, question: Question) -> Result<Reply, StoreFault>
+        requires { shares_of self.old ≡ false }
+        ensures { AnswersNext S.Store question result self.old self.new }
+    {
+        let ends = question.asks_end();
+        let told = self.rounds.answer(self.alloc, question);
+        self.journal.add_nothing();
+        self.ends = self.ends || ends;
+        told
+    }
+
+    /// Takes a line of a backup, and answers what it is told.
+    pub(crate) fn ask_backup(&mut self, line: BackupLine<'_>) -> Result<BackupTold, AllocError>
+        ensures asks { IfOk result (λ told. AsksNext line.entry told self.old self.new) }
+        ensures unchanged { OnErr result (self.new ≡ self.old) }
+    {
+        let moment = self.moment;
+        match line {
+            BackupLine::Begin { file } => {
+                begin_backup(self.alloc, &mut self.backup, file, moment)
+            }
+            BackupLine::Slice { file } => Ok(ask_slice(&mut self.backup, file, moment)),
+        }
+    }
+
+    /// Does what the lines of a backup ask for: makes the copy's file, or does one slice, where no
+    /// round is under way.
+    pub fn keep_backup<T: Alter, K: CopyMaker<Rows = Connection<T>>>(
+        &mut self,
+        copies: &mut Copies<T, K>,
+    )
+        ensures keeps { KeepsBackup S.Store T.Store self.old self.new
+            (copy_in copies.old) (copy_in copies.new) }
+        ensures nothing { OnlyKeeps S.Store self.old self.new }
+    {
+        if self.shares {
+            return;
+        }
+        let stage = self.backup_stage();
+        if is_begun(stage) {
+            self.make_copy(copies);
+        } else if is_wanted(stage) {
+            self.do_slice(copies);
+        }
+    }
+
+    fn backup_stage(&self) -> Option<Stage>
+        ensures { result ≡ stage_of self.now }
+    {
+        match &self.backup {
+            Some(backup) => Some(backup.stage),
+            None => None,
+        }
+    }
+
+    fn make_copy<T: Alter, K: CopyMaker<Rows = Connection<T>>>(&mut self, copies: &mut Copies<T, K>)
+        requires { IsTrue (is_begun (stage_of self.old)) }
+        ensures { MakesCopy T.Store self.old self.new (copy_in copies.new) }
+    {
+        if let Some(backup) = &mut self.backup {
+            backup.stage = if copies.make(backup.file.as_slice()) {
+                Stage::Ready
+            } else {
+                Stage::Failed
+            };
+        }
+    }
+
+    fn do_slice<T: Alter, K: CopyMaker<Rows = Connection<T>>>(&mut self, copies: &mut Copies<T, K>)
+        requires { shares_of self.old ≡ false }
+        ensures { DoesSlice S.Store T.Store self.old self.new
+            (copy_in copies.old) (copy_in copies.new) }
+    {
+        let touched = self.journal.is_touched();
+        let (stage, account) = match copies.slice(self.alloc, &mut self.rounds, touched) {
+            Done::Part(account) => (Stage::Ready, account),
+            Done::Whole => (Stage::Whole, None),
+            Done::Failed => (Stage::Failed, None),
+        };
+        self.journal.add_slice(account);
+        if let Some(backup) = &mut self.backup {
+            backup.stage = stage;
+        }
+    }
+
+    /// Somebody asks for the print room's page: all accounts are gathered for it, if what it shows is
+    /// not of the last seconds.
+    pub fn ask_overview(&mut self)
+        ensures { self.new ≡ record self.old {
+          gathered = asked_at (moment_of self.old) (gathered_of self.old);
+        } }
+    {
+        self.gathered.ask(self.moment);
+    }
+
+    /// Whether accounts are being gathered for the print room's page.
+    pub fn gathers(&self) -> bool
+        ensures { result ≡ gathers (gathered_of self.now) }
+    {
+        self.gathered.under_way.is_some()
+    }
+
+    /// Appends the print room's page, by what was gathered last. Of the accounts it lists those whose
+    /// names begin so and come behind a name.
+    pub fn put_overview_page(
+        &self,
+        out: &mut Vec<u8>,
+        front: Option<Name>,
+        behind: Option<Name>,
+    ) -> Result<(), AllocError>
+        ensures { OnOk result ((page : List ℕ)
+            × IsPage (shown_of self.now) (gathers (gathered_of self.now)) front behind page
+            × (out.new.items ≡ out.old.items ++ page)) }
+    {
+        self.gathered
+            .shown
+            .put_page(out, self.gathers(), front, behind)
+    }
+
+    /// Goes on with what is gathered for the print room's page: one account is read at most, where no
+    /// round is under way.
+    pub fn gather(&mut self)
+        ensures gathers { Gathers S.Store self.old self.new }
+        ensures nothing { OnlyKeeps S.Store self.old self.new }
+    {
+        if self.shares {
+            return;
+        }
+        if let Some(gathering) = self.gathered.under_way.take() {
+            self.go_on(gathering);
+        }
+    }
+
+    fn go_on(&mut self, gathering: Gathering)
+        requires { shares_of self.old ≡ false }
+        ensures { GathersOn S.Store gathering self.old self.new }
+    {
+        let stepped = gathering.step(self.alloc, &mut self.rounds);
+        self.journal.add_nothing();
+        self.gathered.keep(stepped);
+    }
+
+    /// The connection to the tables as they are. What a round that is under way has changed is on the
+    /// disk only once it is settled. It takes no memory.
+    pub fn close(self) -> Connection<S>
+        ensures { result ≡ store_of self }
+    {
+        let Served {
+            alloc: _,
+            rounds,
+            moment: _,
+            journal: _,
+            shares: _,
+            is_lost: _,
+            asked: _,
+            bytes_told: _,
+            spare: _,
+            ends: _,
+            backup: _,
+            gathered: _,
+            needs_password: _,
+        } = self;
+        rounds.close()
+    }
+}
+
+fn is_begun(stage: Option<Stage>) -> bool
+    ensures { result ≡ is_begun stage }
+{
+    matches!(stage, Some(Stage::Begun))
+}
+
+fn is_wanted(stage: Option<Stage>) -> bool
+    ensures { result ≡ is_wanted stage }
+{
+    matches!(stage, Some(Stage::Wanted))
+}
+
+/// What is told of an event that was applied once more: rows that were found damaged only then are
+/// a failure of the storage, as it was at first.
+fn told_at_last(told: Result<Reply, StoreFault>) -> Result<Reply, StoreFault>
+    ensures { result ≡ told_at_last told }
+{
+    match told {
+        Err(StoreFault::Damaged) => Err(StoreFault::Storage),
+        told => told,
+    }
+}
+
+/// Whether what was asked was done: of an answer of IPP, by the first byte of its status.
+fn is_done(told: &Result<Reply, StoreFault>) -> bool {
+    match told {
+        Ok(Reply::Ipp(answer)) => answer.items.get(2) == Some(&0),
+        Ok(Reply::Line(text)) => text.items.starts_with(b"ok"),
+        _ => false,
+    }
+}
+
+/// About how many bytes it takes to tell the outcome.
+fn size_of(told: &Result<Reply, StoreFault>) -> usize {
+    match told {
+        Ok(Reply::Ipp(answer)) => answer.items.len(),
+        Ok(Reply::Documents(parts)) => size_of_parts(parts.items.as_slice()),
+        _ => 0,
+    }
+}
+
+fn size_of_parts(parts: &[Part]) -> usize {
+    let mut size: usize = 0;
+    for part in parts {
+        size = size.saturating_add(part.bytes.items.len());
+    }
+    size
+}

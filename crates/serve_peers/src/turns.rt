@@ -1,0 +1,23 @@
+//! One connection goes on, and all others stay.
+ghost use Rattle.std.specs.Prelude.{◌≡◌};
+ghost use Rattle.http_server.specs.Connection.{config_of, history};
+ghost use Rattle.http_server.specs.Exchange.{Calls};
+ghost use Rattle.http_server.specs.History.{IsQuiet, IsServed, Rests};
+ghost use Rattle.serve_peers.specs.Turns.{Continues};
+
+use crate::room_service::RoomService;
+use http_server::Connection;
+
+/// Answers what came on a connection of HTTP, at the moment of what is served. Each request is one
+/// call of the service.
+pub fn answer_requests<V: RoomService>(connection: &mut Connection, service: &mut V)
+    ensures calls { Calls V.answers service.old service.new
+        (history connection.old).calls (history connection.new).calls }
+    ensures continues { Continues V.Kept.Store (V.rooms service.old) (V.rooms service.new) }
+    ensures served { ∥ IsServed (config_of connection.new) (history connection.new) ∥₁ }
+    ensures rests { Rests (config_of connection.new) (history connection.new) }
+    ensures quiet { IsQuiet (history connection.old) (history connection.new) }
+    ensures config { config_of connection.new ≡ config_of connection.old }
+{
+    connection.advance(service);
+}

@@ -1,0 +1,5 @@
+use Rattle.serve_sockets.specs.Halls.{GoesOn, guests_of}
+use Rattle.serve_sockets.proofs.hall.Hall.run.Given as goal
+
+abbrev pub invariant-loop : goal.invariant-loop
+invariant-loop g l = GoesOn g.S.Store (guests_of l.fn.self) (guests_of l.self) l.fn.served l.served

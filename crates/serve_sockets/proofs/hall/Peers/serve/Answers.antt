@@ -1,0 +1,25 @@
+use Rattle.std.proofs.Common.{Option, IsSome, ap, refl, subst, sym, ◌∙◌}
+use Rattle.slab.proofs.SlabLemmas.{Updates-with_value}
+use Rattle.slab.specs.Slab.{Slab, get}
+use Rattle.serve_peers.specs.Space.{spare_of}
+use Rattle.serve_peers.specs.declared.served.Served.{Served}
+use Rattle.serve_sockets.proofs.HallSteps.{had_turn, let_go}
+use Rattle.serve_sockets.specs.Halls.{StaysAfter}
+use Rattle.serve_sockets.specs.declared.guest.Guest.{Guest}
+use Rattle.serve_sockets.proofs.hall.Peers.serve.Goals as goal
+
+pub returns-in_default-clause-serves : goal.returns-in_default-clause-serves
+returns-in_default-clause-serves g c = let_go g.S.Store _ _ _ c.close.ensures.gone
+
+pub returns-clause-serves : goal.returns-clause-serves
+returns-clause-serves g c =
+    let written = Updates-with_value c.ticks.new.self.guests c.args.key c.drive-next.new.self (subst (λ (slot : Option Guest). IsSome slot) c.in-Some.ensures.value refl) in
+    had_turn g.S.Store _ _ c.in-Some.guest.now _ _ (ap (λ (guests : Slab Guest). get guests c.args.key) (sym c.ticks.ensures) ∙ sym c.in-Some.ensures.value) (record {
+      begun = c.mend_space.new.self;
+      moment = (c.in-Some-Ok.moment, c.mend_space.ensures.same ∙ ap (λ (served : Served g.row.S.Denot). record served { spare = spare_of c.mend_space.new.self }) c.set_moment.ensures);
+      turn = record { ticks = c.in-Some-Ok.ticks; has_room = c.has_room.result; is_last = c.args.is_last; reads = c.may_read.result };
+      next = c.drive-next.result;
+      left = c.drive-next.new.self;
+      driven = c.drive-next.ensures;
+      stays = subst (λ (slot : Option Guest). StaysAfter c.drive-next.result slot (get c.after_turn.new.self.guests c.args.key)) written.changed c.after_turn.ensures.stays;
+    })

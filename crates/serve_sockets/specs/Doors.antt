@@ -1,0 +1,11 @@
+-- The doors of a hall (this project's own).
+use Rattle.std.specs.Prelude.{ℕ}
+use Rattle.serve_sockets.specs.declared.doors.Entrance.{Entrance}
+use Rattle.serve_sockets.specs.declared.doors.Kind.{Kind}
+
+abbrev pub kind_of : Entrance → Kind
+kind_of entrance = entrance.kind
+
+-- the most peers who came in by it and are there
+abbrev pub most_of : Entrance → ℕ
+most_of entrance = (kind_of entrance).most

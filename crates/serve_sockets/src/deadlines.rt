@@ -1,0 +1,39 @@
+//! Whom a hall drops since it took too long.
+ghost use Rattle.serve_sockets.specs.Halls.{OnlyLeave};
+
+use crate::hall::Peers;
+
+/// How often, in milliseconds, the deadlines are looked at, and a door where somebody may wait.
+pub(crate) const TICK: u64 = 250;
+
+impl Peers {
+    /// From time to time drops who took too long, where others wait for room who rests on it, and
+    /// where too much is held who hardly reads what it asked for.
+    pub(crate) fn drop_late(&mut self, ticks: u64)
+        ensures { OnlyLeave self.old.guests self.new.guests }
+    {
+        if ticks.saturating_sub(self.dropped_late_at) < TICK {
+            return;
+        }
+        self.dropped_late_at = ticks;
+        for key in 0..self.most_guests {
+            self.drop_if_late(key, ticks);
+        }
+    }
+
+    fn drop_if_late(&mut self, key: usize, ticks: u64)
+        ensures { OnlyLeave self.old.guests self.new.guests }
+    {
+        if self.has_to_go(key, ticks) {
+            self.close(key);
+        }
+    }
+
+    fn has_to_go(&self, key: usize, ticks: u64) -> bool {
+        self.guests.get(key).is_some_and(|guest| {
+            guest.is_late(ticks)
+                || self.stock.holds_back() && guest.rests_on_room()
+                || self.stock.is_over() && guest.reads_slowly(ticks)
+        })
+    }
+}

@@ -1,0 +1,203 @@
+//! The doors of a hall, and who comes in by them.
+
+ghost use Rattle.std.specs.Prelude.{◌≡◌, ◌≤◌, IfSome, map, sum};
+ghost use Rattle.serve_sockets.specs.Doors.{kind_of, most_of};
+ghost use Rattle.serve_sockets.specs.Halls.{OnlyEnter};
+
+use crate::door::Door;
+use crate::guest::{Guest, Peer};
+use crate::hall::Peers;
+use crate::stream::Stream;
+use serve_peers::{HttpPeer, LinePeer, Side};
+use std::alloc::Global;
+use std::hash::RandomState;
+use std::io::ErrorKind;
+
+/// The most peers of all doors together.
+pub(crate) const MOST_GUESTS: usize = 4_096;
+
+/// What is spoken by whoever comes in by a door.
+#[derive(Clone, Copy, Debug, PartialEq, Eq)]
+pub enum Speech {
+    /// HTTP, with the service of the queues.
+    Http,
+    /// HTTP, with the service of pages.
+    Pages,
+    /// Lines of a side.
+    Lines(Side),
+}
+
+impl Speech {
+    ghost use Rattle.serve_sockets.specs.Guests.{CameBy};
+
+    /// Who came in just now.
+    fn peer(self, alloc: Global, keys: RandomState, ticks: u64) -> Peer
+        ensures { CameBy self result }
+    {
+        match self {
+            Speech::Http => Peer::Http(HttpPeer::new(alloc, keys, ticks)),
+            Speech::Pages => Peer::Pages(HttpPeer::new(alloc, keys, ticks)),
+            Speech::Lines(side) => Peer::Lines(LinePeer::new(alloc, side, ticks)),
+        }
+    }
+}
+
+/// What a door is for.
+#[derive(Clone, Copy, Debug, PartialEq, Eq)]
+pub struct Kind {
+    pub speech: Speech,
+    /// The most peers who came in by the door and are there. So those of one door never keep out
+    /// those of another.
+    pub most: usize,
+}
+
+impl Kind {
+    /// Clients, at the queues.
+    pub const CLIENTS: Kind = Kind {
+        speech: Speech::Http,
+        most: 768,
+    };
+
+    /// Browsers, at the pages.
+    pub const PAGES: Kind = Kind {
+        speech: Speech::Pages,
+        most: 256,
+    };
+
+    pub const STATIONS: Kind = Kind {
+        speech: Speech::Lines(Side::Station),
+        most: 192,
+    };
+
+    pub const OPERATORS: Kind = Kind {
+        speech: Speech::Lines(Side::Operator),
+        most: 64,
+    };
+
+    /// Stations, for the devices alone whose names these are, parted by commas. It lets in few, so
+    /// that a hall has room for many such doors.
+    pub fn station(devices: &'static [u8]) -> Kind
+        ensures { result.speech ≡ Speech.Lines (Side.Bound devices.entry) }
+    {
+        Kind {
+            speech: Speech::Lines(Side::Bound(devices)),
+            most: 16,
+        }
+    }
+}
+
+/// A door of a kind, and how many peers that came in by it are there.
+#[derive(Drop)]
+pub struct Entrance {
+    pub(crate) door: Door,
+    pub(crate) kind: Kind,
+    pub(crate) guests: usize,
+    /// Somebody may wait, of whom the system will not tell again.
+    pub(crate) waits: bool,
+}
+
+impl Entrance {
+    /// A door by which nobody came in yet.
+    pub fn new(door: Door, kind: Kind) -> Entrance
+        ensures { kind_of result ≡ kind }
+    {
+        Entrance {
+            door,
+            kind,
+            guests: 0,
+            waits: false,
+        }
+    }
+
+    /// The port on which it listens, if it does on one.
+    pub fn port(&self) -> Option<u16> {
+        self.door.port()
+    }
+
+    fn is_full(&self) -> bool {
+        self.guests >= self.kind.most
+    }
+}
+
+/// How many peers the doors let in together, where that is no more than `MOST_GUESTS`.
+pub(crate) fn most_guests(doors: &[Entrance]) -> Option<usize>
+    ensures { IfSome result (λ most. (most ≡ sum (map most_of doors.now)) × (most ≤ MOST_GUESTS)) }
+{
+    let mut most = 0;
+    for entrance in doors {
+        if entrance.kind.most > MOST_GUESTS - most {
+            return None;
+        }
+        most += entrance.kind.most;
+    }
+    Some(most)
+}
+
+impl Peers {
+    /// Somebody may wait at the door.
+    pub(crate) fn note_waiting(&mut self, place: usize)
+        ensures { self.new.guests ≡ self.old.guests }
+    {
+        if let Some(entrance) = self.entrances.get_mut(place) {
+            entrance.waits = true;
+        }
+    }
+
+    /// Lets in who waits at the doors, unless nothing more is received.
+    pub(crate) fn admit_all(&mut self, ticks: u64)
+        ensures { OnlyEnter self.old.guests self.new.guests }
+    {
+        if !self.receives {
+            return;
+        }
+        for place in 0..self.entrances.len() {
+            self.admit(place, ticks);
+        }
+    }
+
+    /// Lets in who waits at a door, while it has room.
+    fn admit(&mut self, place: usize, ticks: u64)
+        ensures { OnlyEnter self.old.guests self.new.guests }
+    {
+        for _ in 0..self.most_guests {
+            let Some(entrance) = self.entrances.get_mut(place) else {
+                return;
+            };
+            if !entrance.waits || entrance.is_full() {
+                return;
+            }
+            match entrance.door.accept() {
+                Ok(stream) => {
+                    let speech = entrance.kind.speech;
+                    self.take_in(stream, speech, place, ticks);
+                }
+                Err(error) => {
+                    // Where it is for lack of descriptors, say, the next tick tries again.
+                    entrance.waits = error.kind() != ErrorKind::WouldBlock;
+                    return;
+                }
+            }
+        }
+    }
+
+    /// Takes in a peer who came by the door in this place, or drops it where the system or the
+    /// memory has no room.
+    fn take_in(&mut self, stream: Stream, speech: Speech, place: usize, ticks: u64)
+        ensures { OnlyEnter self.old.guests self.new.guests }
+    {
+        let peer = speech.peer(self.alloc, self.keys, ticks);
+        let mut guest = Guest::new(stream, peer, place);
+        let key = self.guests.vacant_key();
+        if guest
+            .register(self.poll.registry(), Peers::token_of(key))
+            .is_err()
+        {
+            return;
+        }
+        if self.guests.insert(guest).is_ok() {
+            if let Some(entrance) = self.entrances.get_mut(place) {
+                entrance.guests = entrance.guests.saturating_add(1);
+            }
+        }
+    }
+}

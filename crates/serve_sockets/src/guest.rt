@@ -1,0 +1,303 @@
+//! A peer that came in: its socket, and what it speaks.
+
+ghost use Rattle.std.specs.Prelude.{◌≡◌, [], false, IsFalse, IsTrue};
+ghost use Rattle.serve_peers.specs.Journals.{is_lost_of, shares_of};
+ghost use Rattle.serve_peers.specs.Space.{spare_of};
+ghost use Rattle.serve_peers.specs.Turns.{Continues};
+ghost use Rattle.serve_space.specs.Spares.{takes_of};
+ghost use Rattle.serve_sockets.specs.Guests.{AsksAgain, AsksTurn, HasSentMore, HasTurn, IsAtRest, StaysOrTurnsAway, TakesTurn, Turns, asked_in, peer_of, turns_of};
+
+use crate::stream::{Stream, Unsent};
+use http_server::Log;
+use input_http::Refusal;
+use mio::{Interest, Registry, Token};
+use serve_peers::{Entry, HttpPeer, LARGE, LastPeer, LinePeer, Next, Patience, Served, Turn};
+use serve_web::drive_pages;
+use sqlite::Alter;
+use std::alloc::Global;
+use std::io;
+use std::io::{Read, Write};
+
+/// What a peer speaks.
+pub(crate) enum Peer {
+    /// A client of the queues.
+    Http(HttpPeer),
+    /// A browser at the pages.
+    Pages(HttpPeer),
+    Lines(LinePeer),
+    /// Its round was lost: it is told what it asked in it came to, and nothing more.
+    Last(LastPeer),
+}
+
+// In the place of `#[derive(Drop)]`, so that no caller proves again how each part is dropped.
+impl Drop for Peer {
+    fn drop(self) {
+        match self {
+            Peer::Http(_) => {}
+            Peer::Pages(_) => {}
+            Peer::Lines(_) => {}
+            Peer::Last(_) => {}
+        }
+    }
+}
+
+impl Peer {
+    /// Reads, answers and writes as far as it goes now, but a few steps at most.
+    fn drive<S: Alter, R: Read, W: Write>(
+        &mut self,
+        reader: &mut R,
+        writer: &mut W,
+        served: &mut Served<S>,
+        turn: Turn,
+    ) -> Next
+        ensures takes { TakesTurn S.Store (R.remaining reader.old, W.contents writer.old)
+            (R.remaining reader.new, W.contents writer.new) result self.old self.new
+            served.old served.new }
+        ensures continues { Continues S.Store served.old served.new }
+        ensures rests { result ≡ Next.Wait → IsAtRest self.new }
+        ensures holds { result ≡ Next.HeldBack → IsFalse turn.has_room }
+    {
+        match self {
+            Peer::Http(peer) => peer.drive(reader, writer, served, turn),
+            Peer::Pages(peer) => drive_pages(peer, reader, writer, served, turn),
+            Peer::Lines(peer) => peer.drive(reader, writer, served, turn),
+            Peer::Last(peer) => peer.drive(reader, writer, turn),
+        }
+    }
+}
+
+/// A peer that came in by a door.
+pub(crate) struct Guest {
+    stream: Stream,
+    peer: Peer,
+    /// The place among the doors of that by which it came in.
+    door: usize,
+    /// What it asked in a round, until it has another turn once that is settled.
+    asked: Option<Entry>,
+    /// Its turns so far, each with what came of it. They take no memory: only proofs read them.
+    turns: Log<Turn, Next>,
+}
+
+// In the place of `#[derive(Drop)]`, so that no caller proves again how each part is dropped.
+impl Drop for Guest {
+    fn drop(self) {
+        let Guest {
+            stream: _,
+            peer: _,
+            door: _,
+            asked: _,
+            turns: _,
+        } = self;
+    }
+}
+
+impl Guest {
+    pub(crate) fn new(stream: Stream, peer: Peer, door: usize) -> Guest
+        ensures peer { peer_of result ≡ peer }
+        ensures turns { turns_of result ≡ [] }
+        ensures asked { asked_in result ≡ [] }
+    {
+        Guest {
+            stream,
+            peer,
+            door,
+            asked: None,
+            turns: Log::new(),
+        }
+    }
+
+    pub(crate) fn door(&self) -> usize {
+        self.door
+    }
+
+    /// Has a turn: what came by its socket is taken. In a round nothing is written to it; otherwise
+    /// what it is told is, and where the round in which it asked was lost that is asked again
+    /// first.
+    pub(crate) fn drive<S: Alter>(
+        &mut self,
+        alloc: Global,
+        served: &mut Served<S>,
+        turn: Turn,
+    ) -> Next
+        ensures { Turns S.Store (shares_of served.old) turn result
+            self.old self.new served.old served.new }
+    {
+        if served.is_shared() {
+            self.ask(served, turn)
+        } else {
+            self.go_on(alloc, served, turn)
+        }
+    }
+
+    /// A turn in a round. What it asks is kept for its turn once the round is settled.
+    fn ask<S: Alter>(&mut self, served: &mut Served<S>, turn: Turn) -> Next
+        ensures { AsksTurn S.Store turn result self.old self.new served.old served.new }
+    {
+        served.set_asked(self.asked.take());
+        let mut stream = &self.stream;
+        let next = self.peer.drive(&mut stream, &mut Unsent, served, turn);
+        self.asked = served.take_asked();
+        self.turns = self.turns.and(&turn, &next);
+        next
+    }
+
+    /// A turn outside a round. Who hears now what it asked in one reads nothing more.
+    fn go_on<S: Alter>(&mut self, alloc: Global, served: &mut Served<S>, turn: Turn) -> Next
+        requires { shares_of served.old ≡ false }
+        ensures { HasTurn S.Store turn result self.old self.new served.old served.new }
+    {
+        let hears = Turn {
+            reads: turn.reads && self.asked.is_none(),
+            ..turn
+        };
+        self.ask_again(alloc, served, turn.ticks);
+        let mut stream = &self.stream;
+        let mut sink = stream.sink(served);
+        let next = self.peer.drive(&mut stream, &mut sink, served, hears);
+        self.turns = self.turns.and(&turn, &next);
+        next
+    }
+
+    /// Where the round was lost, what it asked in it is asked again, by itself. From then on it
+    /// only hears what that came to, whatever it spoke. A client of whose request more has come than
+    /// there is space for is turned away.
+    fn ask_again<S: Alter>(&mut self, alloc: Global, served: &mut Served<S>, ticks: u64)
+        requires { shares_of served.old ≡ false }
+        ensures again { AsksAgain S.Store (is_lost_of served.old) (asked_in self.old)
+            (peer_of self.old) (peer_of self.new) served.old served.new }
+        ensures asked { asked_in self.new ≡ [] }
+        ensures turns { turns_of self.new ≡ turns_of self.old }
+        ensures alone { shares_of served.new ≡ false }
+    {
+        let Some(asked) = self.asked.take() else {
+            return self.turn_away(alloc, served, ticks);
+        };
+        if served.is_lost() {
+            let peer = LastPeer::told_again(alloc, &asked, served, ticks);
+            self.peer = Peer::Last(peer);
+        }
+    }
+
+    /// Turns it away where it is a client of whose request more has come than there is space for,
+    /// and has the log tell it. The path may not have come yet.
+    fn turn_away<S: Alter>(&mut self, alloc: Global, served: &mut Served<S>, ticks: u64)
+        ensures turned { StaysOrTurnsAway (takes_of (spare_of served.old))
+            (peer_of self.old) (peer_of self.new) }
+        ensures same { served.new ≡ served.old }
+        ensures asked { asked_in self.new ≡ asked_in self.old }
+        ensures turns { turns_of self.new ≡ turns_of self.old }
+    {
+        if self.outgrows(served.takes()) {
+            served.log_refusal(Refusal::NoSpace, b"-");
+            self.peer = Peer::Last(LastPeer::turned_away(alloc, Refusal::NoSpace, ticks));
+        }
+    }
+
+    /// Whether it is a client of whose request more has come than this.
+    fn outgrows(&self, most: usize) -> bool
+        ensures { IsTrue result → HasSentMore most (peer_of self.now) }
+    {
+        match &self.peer {
+            Peer::Http(peer) => peer.outgrows(most),
+            Peer::Pages(peer) => peer.outgrows(most),
+            Peer::Lines(_) | Peer::Last(_) => false,
+        }
+    }
+
+    /// Whether it has no turn in a round: pages are shown as the tables are between rounds.
+    pub(crate) fn asks_alone(&self) -> bool {
+        matches!(self.peer, Peer::Pages(_))
+    }
+
+    /// Tells the peer that nothing more comes.
+    pub(crate) fn end(&self) -> io::Result<()> {
+        self.stream.end()
+    }
+
+    pub(crate) fn register(&mut self, registry: &Registry, token: Token) -> io::Result<()>
+        ensures { self.new ≡ self.old }
+    {
+        registry.register(&mut self.stream, token, both())
+    }
+
+    /// Has the system tell again what is ready.
+    pub(crate) fn rearm(&mut self, registry: &Registry, token: Token) -> io::Result<()>
+        ensures { self.new ≡ self.old }
+    {
+        registry.reregister(&mut self.stream, token, both())
+    }
+
+    /// Whether a large request of it waits for room.
+    pub(crate) fn is_held_back(&self) -> bool {
+        self.patience().is_held_back()
+    }
+
+    fn patience(&self) -> Patience {
+        match &self.peer {
+            Peer::Http(peer) => peer.patience(),
+            Peer::Pages(peer) => peer.patience(),
+            Peer::Lines(peer) => peer.patience(),
+            Peer::Last(peer) => peer.patience(),
+        }
+    }
+
+    /// How many bytes it holds.
+    pub(crate) fn bytes_held(&self) -> usize {
+        match &self.peer {
+            Peer::Http(peer) => peer.bytes_held(),
+            Peer::Pages(peer) => peer.bytes_held(),
+            Peer::Lines(peer) => peer.bytes_held(),
+            Peer::Last(peer) => peer.bytes_held(),
+        }
+    }
+
+    /// Whether something that it was told is still to go.
+    pub(crate) fn has_output(&self) -> bool {
+        match &self.peer {
+            Peer::Http(peer) => peer.has_output(),
+            Peer::Pages(peer) => peer.has_output(),
+            Peer::Lines(peer) => peer.has_output(),
+            Peer::Last(peer) => peer.bytes_held() > 0,
+        }
+    }
+
+    /// Whether a large request of it is coming, or a large answer is going.
+    pub(crate) fn is_large(&self) -> bool {
+        match &self.peer {
+            Peer::Http(peer) => peer.is_large(),
+            Peer::Pages(peer) => peer.is_large(),
+            Peer::Lines(peer) => peer.bytes_held() > LARGE,
+            Peer::Last(peer) => peer.bytes_held() > LARGE,
+        }
+    }
+
+    /// Whether it took too long.
+    pub(crate) fn is_late(&self, ticks: u64) -> bool {
+        self.patience().is_over(ticks)
+    }
+
+    /// Whether a large answer waits to go that can be asked for again. None is on a connection of
+    /// lines: a start's documents are sent once. Nor does one go last.
+    pub(crate) fn has_large_answer(&self) -> bool {
+        match &self.peer {
+            Peer::Http(peer) => peer.has_large_answer(),
+            Peer::Pages(peer) => peer.has_large_answer(),
+            Peer::Lines(_) | Peer::Last(_) => false,
+        }
+    }
+
+    /// Whether a large answer waits, and no whole piece of it, or of its request, has moved for a
+    /// quarter of a second. It may be let go where too much is held.
+    pub(crate) fn reads_slowly(&self, ticks: u64) -> bool {
+        self.has_large_answer() && self.patience().is_slow(ticks)
+    }
+
+    /// Whether nothing was begun on it, and it keeps the room of a large request.
+    pub(crate) fn rests_on_room(&self) -> bool {
+        self.patience().is_at_rest() && self.bytes_held() > LARGE
+    }
+}
+
+fn both() -> Interest {
+    Interest::READABLE | Interest::WRITABLE
+}

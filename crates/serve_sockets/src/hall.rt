@@ -1,0 +1,478 @@
+//! The peers of all doors, and the loop that waits for them.
+
+ghost use Rattle.std.specs.Prelude.{◌≡◌, ◌≢◌, ◌≤◌, [], ◌∷◌, false, IfOk, OnOk, None, Some, IsFalse, IsTrue, map, sum, vec_len};
+ghost use Rattle.std.specs.IoError.{error_kind};
+ghost use Rattle.mio.specs.Events.{items};
+ghost use Rattle.slab.specs.Slab.{SameValues, get};
+ghost use Rattle.serve_peers.specs.Journals.{open_of, shares_of};
+ghost use Rattle.serve_peers.specs.Rounds.{Follows};
+ghost use Rattle.serve_sockets.specs.Doors.{most_of};
+ghost use Rattle.serve_sockets.specs.Guests.{NobodyWaits};
+
+use crate::clock::{moment, ticks};
+use crate::deadlines::TICK;
+use crate::doors::{Entrance, MOST_GUESTS, most_guests};
+use crate::guest::Guest;
+use crate::pace::Pace;
+use crate::stock::Stock;
+use mio::event::Event;
+use mio::{Events, Interest, Poll, Token};
+use serve_peers::{Copies, Next, Served, Turn};
+use slab::Slab;
+use sqlite::{Alter, Connection};
+use std::alloc::Global;
+use std::fs::{File, Files};
+use std::hash::RandomState;
+use std::io;
+use std::io::{Eprint, ErrorKind};
+use std::net::Net;
+use std::time::{Clock, Duration};
+use store_copy::CopyMaker;
+
+/// How many events are taken from the system at once. So many peers at most share a commit.
+const MOST_EVENTS: usize = 64;
+
+/// How many milliseconds answers have to go once serving ends.
+const LAST_TICKS: u64 = 5_000;
+
+/// The most doors of a hall. They have the tokens below this, and guests those from here on.
+pub(crate) const MOST_DOORS: usize = 64;
+
+/// The peers of all doors, and what the system told of them last.
+#[derive(Drop)]
+pub struct Hall {
+    peers: Peers,
+    events: Events,
+    /// Whether lines wait that the file of the log has not taken.
+    log_lags: bool,
+    // Whoever asked in a round heard of it, or is gone.
+    ghost told: { NobodyWaits peers.guests },
+}
+
+/// The peers of all doors, and what it takes to serve them.
+pub(crate) struct Peers {
+    pub(crate) alloc: Global,
+    pub(crate) keys: RandomState,
+    pub(crate) poll: Poll,
+    pub(crate) entrances: Vec<Entrance>,
+    pub(crate) guests: Slab<Guest>,
+    /// How many the doors let in together. The keys of guests are below this.
+    pub(crate) most_guests: usize,
+    pub(crate) stock: Stock,
+    pace: Pace,
+    /// When the deadlines were looked at last.
+    pub(crate) dropped_late_at: u64,
+    /// Whether who waits is let in, and what comes is read.
+    pub(crate) receives: bool,
+    /// The browser whose turn it is in the pass. What others ask waits for the next, so that nobody
+    /// who prints waits for more than one page.
+    chosen: Option<usize>,
+    /// How many passes there were.
+    passes: u64,
+    /// Of each key, the pass in which a browser of that key was chosen last.
+    chosen_at: Vec<u64>,
+}
+
+// In the place of `#[derive(Drop)]`, so that no caller proves again how each part is dropped.
+impl Drop for Peers {
+    fn drop(self) {
+        let Peers {
+            alloc: _,
+            keys: _,
+            poll: _,
+            entrances: _,
+            guests: _,
+            most_guests: _,
+            stock: _,
+            pace: _,
+            dropped_late_at: _,
+            receives: _,
+            chosen: _,
+            passes: _,
+            chosen_at: _,
+        } = self;
+    }
+}
+
+impl Hall {
+    ghost use Rattle.serve_sockets.specs.EndToEnd.{IsFresh, IsWhole};
+    ghost use Rattle.serve_sockets.specs.Halls.{GoesOn, IsEmpty, ServesThose, guests_of, told_by};
+
+    /// A hall behind these doors, with nobody in it. `keys` are secret, since peers choose the
+    /// names of fields. `InvalidInput` where there are more doors than a hall has, or they let in
+    /// more peers together.
+    pub fn open<R: Net + Clock + Alloc<A = Global>>(
+        rt: &R,
+        doors: Vec<Entrance>,
+        keys: RandomState,
+    ) -> io::Result<Hall>
+        ensures empty { IfOk result IsEmpty }
+        ensures doors { OnOk result (vec_len doors ≤ MOST_DOORS) }
+        ensures guests { OnOk result (sum (map most_of doors.items) ≤ MOST_GUESTS) }
+    {
+        if doors.len() > MOST_DOORS {
+            return Err(too_many("a hall has 64 doors at most"));
+        }
+        match most_guests(doors.as_slice()) {
+            Some(most) => Hall::open_for(rt, doors, most, keys),
+            None => Err(too_many("a hall has 4096 peers at most")),
+        }
+    }
+
+    /// A hall behind these doors, which let in so many peers.
+    fn open_for<R: Net + Clock + Alloc<A = Global>>(
+        rt: &R,
+        mut doors: Vec<Entrance>,
+        most_guests: usize,
+        keys: RandomState,
+    ) -> io::Result<Hall>
+        ensures { IfOk result IsEmpty }
+    {
+        let alloc = rt.alloc();
+        let poll = Poll::new(rt)?;
+        for (place, entrance) in doors.iter_mut().enumerate() {
+            poll.registry()
+                .register(&mut entrance.door, Token(place), Interest::READABLE)?;
+        }
+        let events = Events::with_capacity(alloc, MOST_EVENTS)?;
+        let mut chosen_at = Vec::new(alloc);
+        chosen_at.resize(most_guests, 0)?;
+        let peers = Peers {
+            alloc,
+            keys,
+            poll,
+            entrances: doors,
+            guests: Slab::with_capacity(alloc, most_guests)?,
+            most_guests,
+            stock: Stock::new(),
+            pace: Pace::new(ticks(rt)?),
+            dropped_late_at: 0,
+            receives: true,
+            chosen: None,
+            passes: 0,
+            chosen_at,
+        };
+        Ok(Hall {
+            peers,
+            events,
+            log_lags: false,
+        })
+    }
+
+    /// Serves whoever comes, pass after pass, until an operator asks it to end. Then what was told
+    /// has some seconds to go. It ends with the first pass that fails.
+    pub fn run<
+        S: Alter,
+        T: Alter,
+        K: CopyMaker<Rows = Connection<T>>,
+        R: Clock + Files<File = File> + Eprint,
+    >(&mut self, rt: &R, served: &mut Served<S>, copies: &mut Copies<T, K>) -> io::Result<()>
+        ensures goes_on { GoesOn S.Store (guests_of self.old) (guests_of self.new)
+            served.old served.new }
+        ensures follows { shares_of served.old ≡ false → open_of served.old ≡ []
+            → Follows S.Store served.old served.new }
+        ensures whole { IsEmpty self.old → IsFresh served.old
+            → IsWhole S.Store (guests_of self.new) served.old served.new }
+    {
+        for _ in 0..u64::MAX {
+            if served.has_to_end() {
+                break;
+            }
+            self.pass(rt, served, copies)?;
+        }
+        self.finish(rt, served, copies)
+    }
+
+    /// Sends what was told, as far as peers take it in time.
+    fn finish<
+        S: Alter,
+        T: Alter,
+        K: CopyMaker<Rows = Connection<T>>,
+        R: Clock + Files<File = File> + Eprint,
+    >(&mut self, rt: &R, served: &mut Served<S>, copies: &mut Copies<T, K>) -> io::Result<()>
+        ensures goes_on { GoesOn S.Store (guests_of self.old) (guests_of self.new)
+            served.old served.new }
+        ensures follows { shares_of served.old ≡ false → open_of served.old ≡ []
+            → Follows S.Store served.old served.new }
+    {
+        self.peers.receives = false;
+        let last = self.peers.ticks(rt)?.saturating_add(LAST_TICKS);
+        for _ in 0..u64::MAX {
+            if !self.peers.has_output() || self.peers.ticks(rt)? > last {
+                break;
+            }
+            self.pass(rt, served, copies)?;
+        }
+        Ok(())
+    }
+
+    /// Waits until something comes, or a tick is over. What the lines of a backup have asked for is
+    /// done, at most a slice of it. Where accounts are gathered for the print room's page nothing is
+    /// waited for, and one of them is read. Then each of whom the system told is served; where it told
+    /// of several, what they ask shares a commit, and nobody is answered before it.
+    /// Who waits at a door is let in, who was held back goes on where there is room, and who took
+    /// too long is dropped. A log whose file was moved away goes on in a new one, and one that can't be
+    /// written is told once on standard error. It fails where the system can't wait, or has no clock.
+    pub fn pass<
+        S: Alter,
+        T: Alter,
+        K: CopyMaker<Rows = Connection<T>>,
+        R: Clock + Files<File = File> + Eprint,
+    >(&mut self, rt: &R, served: &mut Served<S>, copies: &mut Copies<T, K>) -> io::Result<()>
+        ensures goes_on { GoesOn S.Store (guests_of self.old) (guests_of self.new)
+            served.old served.new }
+        ensures follows { shares_of served.old ≡ false → open_of served.old ≡ []
+            → Follows S.Store served.old served.new }
+        ensures serves { ServesThose S.Store (told_by self.new)
+            (guests_of self.old) (guests_of self.new) served.old served.new }
+    {
+        let timeout = self.peers.timeout(served.gathers());
+        self.peers.poll.poll(&mut self.events, timeout)?;
+        served.look_at_log(rt, moment(rt));
+        served.keep_backup(copies);
+        served.gather();
+        let ended = self.turn(rt, served);
+        self.log_lags = tell_failure(rt, self.log_lags, served.log_lags());
+        ended
+    }
+
+    /// What follows what the system told.
+    fn turn<S: Alter>(&mut self, clock: &impl Clock, served: &mut Served<S>) -> io::Result<()>
+        ensures goes_on { GoesOn S.Store (guests_of self.old) (guests_of self.new)
+            served.old served.new }
+        ensures follows { shares_of served.old ≡ false → open_of served.old ≡ []
+            → Follows S.Store served.old served.new }
+        ensures serves { ServesThose S.Store (told_by self.new)
+            (guests_of self.old) (guests_of self.new) served.old served.new }
+    {
+        self.peers.choose_browser(&self.events);
+        self.peers.share(&self.events, clock, served);
+        self.peers.serve_all(&self.events, clock, served);
+        let ticks = self.peers.ticks(clock)?;
+        self.peers.admit_all(ticks);
+        self.peers.resume_held_back();
+        self.peers.drop_late(ticks);
+        Ok(())
+    }
+}
+
+/// Tells once that the log can't be written, and answers whether it can't.
+fn tell_failure<R: Eprint>(rt: &R, failed: bool, fails: bool) -> bool {
+    if fails && !failed {
+        // Where this can't be written either, nothing is left to tell it by.
+        let _ = rt.eprintln("ipp-room: the log can't be written");
+    }
+    fails
+}
+
+fn too_many(words: &str) -> io::Error
+    ensures { error_kind result ≡ ErrorKind.InvalidInput }
+{
+    io::Error::new(ErrorKind::InvalidInput, words)
+}
+
+impl Peers {
+    ghost use Rattle.serve_sockets.specs.Halls.{AreOthersKept, MayLeave, Serves, ServesEach, StaysAfter, key_of, keys_told};
+
+    /// The ticks that deadlines go by.
+    pub(crate) fn ticks(&mut self, clock: &impl Clock) -> io::Result<u64>
+        ensures { self.new.guests ≡ self.old.guests }
+    {
+        Ok(self.pace.look(ticks(clock)?))
+    }
+
+    /// Where nobody is there, nothing but what comes is waited for, and where there is something to go
+    /// on with, nothing is.
+    fn timeout(&self, goes_on: bool) -> Option<Duration> {
+        if goes_on {
+            return Some(Duration::ZERO);
+        }
+        let waits = self.entrances.iter().any(|entrance| entrance.waits);
+        if self.guests.is_empty() && !waits {
+            return None;
+        }
+        Some(Duration::from_millis(TICK))
+    }
+
+    /// Chooses the browser whose turn it is in the pass: of those of whom the system told, the one that
+    /// was chosen longest ago. In the system's order one that asks again at once would always be first.
+    fn choose_browser(&mut self, events: &Events)
+        ensures { self.new.guests ≡ self.old.guests }
+    {
+        self.passes = self.passes.saturating_add(1);
+        self.chosen = self.longest_waiting(events);
+        if let Some(key) = self.chosen {
+            if let Some(pass) = self.chosen_at.get_mut(key) {
+                *pass = self.passes;
+            }
+        }
+    }
+
+    fn longest_waiting(&self, events: &Events) -> Option<usize> {
+        let mut longest = None;
+        let mut since = u64::MAX;
+        for event in events {
+            let Some(key) = event.token().0.checked_sub(MOST_DOORS) else {
+                continue;
+            };
+            let pass = self.chosen_at.get(key).copied().unwrap_or(0);
+            if self.asks_alone(key) && pass < since {
+                longest = Some(key);
+                since = pass;
+            }
+        }
+        longest
+    }
+
+    /// Serves each of whom the system told.
+    fn serve_all<S: Alter>(&mut self, events: &Events, clock: &impl Clock, served: &mut Served<S>)
+        ensures { ServesEach S.Store (keys_told (items events.now))
+            self.old.guests self.new.guests served.old served.new }
+    {
+        for event in events {
+            self.serve_event(clock, event, served);
+        }
+    }
+
+    fn serve_event<S: Alter>(&mut self, clock: &impl Clock, event: &Event, served: &mut Served<S>)
+        ensures { ServesEach S.Store (keys_told (event.now ∷ []))
+            self.old.guests self.new.guests served.old served.new }
+    {
+        let token = event.token().0;
+        match token.checked_sub(MOST_DOORS) {
+            Some(key) => {
+                self.serve(clock, key, served, event.is_read_closed());
+                self.free_memory(clock, served);
+            }
+            None => self.note_waiting(token),
+        }
+    }
+
+    /// Lets a peer go on, at the clock's moment, and drops it where it is over. All other peers
+    /// stay as they are. A piece of the space that is kept is taken where it is not whole.
+    /// `is_last`: the system may have told that the peer sends no more.
+    pub(crate) fn serve<S: Alter>(
+        &mut self,
+        clock: &impl Clock,
+        key: usize,
+        served: &mut Served<S>,
+        is_last: bool,
+    )
+        ensures serves { Serves S.Store (get self.old.guests key) (get self.new.guests key)
+            served.old served.new }
+        ensures others { AreOthersKept key self.old.guests self.new.guests }
+    {
+        let (Some(moment), Ok(ticks)) = (moment(clock), self.ticks(clock)) else {
+            self.close(key);
+            return;
+        };
+        served.set_moment(moment);
+        served.mend_space();
+        let rests = self.has_to_rest(key);
+        let turn = Turn {
+            ticks,
+            has_room: self.stock.has_room(key),
+            is_last,
+            reads: self.may_read(rests),
+        };
+        let alloc = self.alloc;
+        let shares = served.is_shared();
+        let Some(guest) = self.guests.get_mut(key) else {
+            return;
+        };
+        let before = guest.bytes_held();
+        let next = guest.drive(alloc, served, turn);
+        self.stock
+            .changed(key, before, guest.bytes_held(), guest.is_large());
+        self.after_turn(key, next, shares, rests);
+    }
+
+    /// Whether it is a browser, and another has its turn in the pass.
+    fn has_to_rest(&self, key: usize) -> bool {
+        self.chosen != Some(key) && self.asks_alone(key)
+    }
+
+    /// Whether what a peer sends is read in its turn.
+    fn may_read(&self, rests: bool) -> bool {
+        self.receives && !rests
+    }
+
+    /// Whether something that was told is still to go.
+    fn has_output(&self) -> bool {
+        self.guests.iter().any(|(_, guest)| guest.has_output())
+    }
+
+    /// What a turn came to: the peer stays, or is let go.
+    fn after_turn(&mut self, key: usize, next: Next, shares: bool, rests: bool)
+        ensures stays { StaysAfter next
+            (get self.old.guests key) (get self.new.guests key) }
+        ensures others { AreOthersKept key self.old.guests self.new.guests }
+    {
+        if !self.goes_on_after(key, next, shares, rests) {
+            self.close(key);
+        }
+    }
+
+    /// Whether the peer stays after a turn. A turn in a round is followed by another, so the system
+    /// need not tell again. Of a browser that rested in its turn it has to, since what it asks is
+    /// still to be read.
+    fn goes_on_after(&mut self, key: usize, next: Next, shares: bool, rests: bool) -> bool
+        ensures same { SameValues self.old.guests self.new.guests }
+        ensures goes { IsFalse result → MayLeave next }
+        ensures stays { IsTrue result → next ≢ Next.Close }
+    {
+        match next {
+            Next::Wait | Next::Parted => {
+                if rests {
+                    self.rearm(key);
+                }
+                true
+            }
+            Next::Again => shares || self.rearm(key),
+            Next::HeldBack => {
+                self.stock.hold_back();
+                true
+            }
+            Next::Part => self.end(key) && self.rearm(key),
+            Next::Close => false,
+        }
+    }
+
+    /// Has the system tell again what is ready, and answers whether it will.
+    pub(crate) fn rearm(&mut self, key: usize) -> bool
+        ensures { SameValues self.old.guests self.new.guests }
+    {
+        match self.guests.get_mut(key) {
+            Some(guest) => guest
+                .rearm(self.poll.registry(), Peers::token_of(key))
+                .is_ok(),
+            None => false,
+        }
+    }
+
+    fn end(&self, key: usize) -> bool {
+        match self.guests.get(key) {
+            Some(guest) => guest.end().is_ok(),
+            None => false,
+        }
+    }
+
+    pub(crate) fn close(&mut self, key: usize)
+        ensures gone { get self.new.guests key ≡ None }
+        ensures others { AreOthersKept key self.old.guests self.new.guests }
+    {
+        if let Some(guest) = self.guests.try_remove(key) {
+            self.stock.left(key, guest.bytes_held());
+            if let Some(entrance) = self.entrances.get_mut(guest.door()) {
+                entrance.guests = entrance.guests.saturating_sub(1);
+            }
+        }
+    }
+
+    /// The token by which the system tells of the peer of the key.
+    pub(crate) fn token_of(key: usize) -> Token
+        ensures { key ≤ MOST_GUESTS → key_of result ≡ Some key }
+    {
+        Token(key.saturating_add(MOST_DOORS))
+    }
+}

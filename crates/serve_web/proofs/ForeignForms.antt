@@ -1,0 +1,66 @@
+-- A form that another site may have sent does nothing.
+use Rattle.std.proofs.Common.{◌≡◌, ◌&&◌, ℕ, Bool, true, false, not, if◌then◌else◌, List, Option, None, Some, Result, Err, refl, ap, subst, ◌∙◌}
+use Rattle.http.specs.Request.{head_of}
+use Rattle.http.specs.declared.request.Request.{Request}
+use Rattle.http_header.specs.FieldValue.{FieldValue}
+use Rattle.http_server.specs.declared.response.Response.{Response}
+use Rattle.http_uri.specs.Uri.{uri_path}
+use Rattle.sqlite_trees.specs.declared.store.Store.{Ghosts}
+use Rattle.std.specs.Prelude.{codes}
+use Rattle.serve_peers.specs.Journals.{shares_of}
+use Rattle.serve_peers.specs.declared.served.Served.{Served}
+use Rattle.serve_web.specs.Answers.{AnswersIf, Gives}
+use Rattle.serve_web.specs.Laws.{ForeignFormsDoNothing, HasNoOrigin, WithoutOriginNothingIsApplied}
+use Rattle.input_http.specs.Origins.{is_foreign, is_own, is_told_own, value_in}
+use Rattle.serve_web.specs.Places.{place_of}
+use Rattle.serve_web.specs.Requests.{asked, asked_if, body_refusal, foreign_or, judged_if, other_method, takes, unless, wish}
+use Rattle.serve_web.specs.declared.asked.Asked.{Asked}
+use Rattle.serve_web.specs.declared.place.Place.{Place}
+use Rattle.page_pages.specs.declared.refusal.Refusal.{Refusal}
+use Rattle.page_pages.specs.declared.refusal.Refusal.TheVariants.{BadRequest, Forbidden, NotFound}
+
+-- ---- it is refused
+
+abbrev IsRefused : Result Asked Refusal → Type 0
+IsRefused wants = (why : Refusal) × (wants ≡ Err why)
+
+module _ (request : Request (List ℕ)) (foreign : is_foreign request ≡ true) where
+  wished : (asks : Option Asked) → IsRefused (judged_if request asks)
+  wished None = (BadRequest, refl)
+  wished (Some asks) = (Forbidden, ap (λ (b : Bool). if b then Err Forbidden else unless (body_refusal request asks) asks) foreign)
+
+  at_place : (fits : Bool) (place : Place) (asks : Option Asked) → IsRefused (if fits then judged_if request asks else Err (foreign_or request (other_method place)))
+  at_place true place asks = wished asks
+  at_place false place asks = (foreign_or request (other_method place), refl)
+
+  placed : (place : Option Place) → IsRefused (asked_if request place)
+  placed None = (foreign_or request NotFound, refl)
+  placed (Some place) = at_place (takes place (head_of request).method) place (wish request place)
+
+  pub refused : IsRefused (asked request)
+  refused = placed (place_of (uri_path (head_of request).uri))
+
+-- ---- so nothing is applied
+
+module _ {S : Type 0} (store : Ghosts S) where
+  by_shares : (shares : Bool) (old new : Served S) (request : Request (List ℕ)) (response : Response) → is_foreign request ≡ true →
+      AnswersIf store shares old request response new → new ≡ old
+  by_shares true old new request response foreign is = is.1
+  by_shares false old new request response foreign is =
+      let never = refused request foreign in
+      let gives : Gives store (Err never.0) old request response new = subst (λ (wants : Result Asked Refusal). Gives store wants old request response new) never.1 is in
+      gives.1
+
+  pub foreign_forms_do_nothing : ForeignFormsDoNothing store
+  foreign_forms_do_nothing old new request response foreign is = by_shares (shares_of old) old new request response foreign is
+
+  no_origin : (request : Request (List ℕ)) → HasNoOrigin request → is_foreign request ≡ true
+  no_origin request has =
+      let host = value_in request (codes "host") in
+      let site : is_own request ≡ is_told_own None (value_in request (codes "origin")) host = ap (λ (site : Option FieldValue). is_told_own site (value_in request (codes "origin")) host) has.no_site in
+      let origin : is_told_own None (value_in request (codes "origin")) host ≡ false = ap (λ (origin : Option FieldValue). is_told_own None origin host) has.no_origin in
+      let own : is_own request ≡ false = site ∙ origin in
+      ap (λ (post : Bool). post && not (is_own request)) has.post ∙ ap (λ (b : Bool). not b) own
+
+  pub without_origin_nothing_is_applied : WithoutOriginNothingIsApplied store
+  without_origin_nothing_is_applied old new request response has is = foreign_forms_do_nothing old new request response (no_origin request has) is

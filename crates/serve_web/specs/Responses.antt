@@ -1,0 +1,66 @@
+-- The responses to browsers (all this project's own, where no standard is named).
+use Rattle.std.specs.Prelude.{ℕ, Bool, true, false, List, [], ◌∷◌, ◌++◌, codes, bytes_eq, Result, Ok, Err}
+use Rattle.http_server.specs.Response.{IsResponse}
+use Rattle.http_server.specs.declared.response.Response.{Response}
+use Rattle.account_machine.specs.declared.event.Reply.{Reply}
+use Rattle.account_machine.specs.declared.event.Reply.TheVariants as reply_is
+use Rattle.page_pages.specs.declared.outcome.Act.{Act}
+use Rattle.page_pages.specs.Refusals.{refusal_page}
+use Rattle.page_pages.specs.declared.outcome.Outcome.{Outcome}
+use Rattle.room_store.specs.declared.fault.StoreFault.{StoreFault}
+use Rattle.serve_web.specs.Came.{outcome_text}
+use Rattle.serve_web.specs.Fields.{common_fields, more_fields, page_fields}
+use Rattle.serve_web.specs.Refusals.{status_of}
+use Rattle.serve_web.specs.Told.{outcome_told}
+use Rattle.page_pages.specs.declared.refusal.Refusal.{Refusal}
+use Rattle.page_pages.specs.declared.refusal.Refusal.TheVariants.{Failed, NotFound}
+
+-- the page of it, with its status
+abbrev pub IsRefusal : (why : Refusal) (closes : Bool) → Response → Type 0
+IsRefusal why closes =
+    IsResponse (status_of why) (more_fields why ++ page_fields closes) (refusal_page why)
+
+-- there was no memory for what there was to tell
+abbrev pub IsLost : Response → Type 0
+IsLost = IsResponse 500 [] []
+
+-- the word by which a question is answered whose account is not open
+abbrev pub is_no_account : (text : List ℕ) → Bool
+is_no_account text = bytes_eq text (codes "no-account")
+
+abbrev pub IsPageIf : (is_none : Bool) (closes : Bool) (text : List ℕ) → Response → Type 0
+IsPageIf true closes text = IsRefusal NotFound closes
+IsPageIf false closes text = IsResponse 200 (page_fields closes) text
+
+-- the page, or 404
+abbrev pub IsPage : (closes : Bool) (text : List ℕ) → Response → Type 0
+IsPage closes text = IsPageIf (is_no_account text) closes text
+
+-- the page that a question was answered with, and 500 for any fault of the store
+abbrev pub IsShown : (closes : Bool) → Result Reply StoreFault → Response → Type 0
+IsShown closes (Ok (reply_is.Line text)) = IsPage closes text
+IsShown closes (Ok other) = IsRefusal Failed closes
+IsShown closes (Err fault) = IsRefusal Failed closes
+
+-- the owner's page, with what came of an act in its query
+unfoldable pub location : (account : List ℕ) → Outcome → List ℕ
+location account outcome = codes "/" ++ (account ++ (codes "?" ++ outcome_text outcome))
+
+-- the browser is sent to another page (RFC 9110 section 15.4.4)
+abbrev pub IsRedirect : (place : List ℕ) (closes : Bool) → Response → Type 0
+IsRedirect place closes =
+    IsResponse 303 ((codes "location", place) ∷ common_fields closes) []
+
+abbrev pub is_not_open : Result Reply StoreFault → Bool
+is_not_open (Ok reply_is.NoAccount) = true
+is_not_open _ = false
+
+abbrev pub IsDoneIf : (is_none : Bool) (place : List ℕ) (closes : Bool) → Response → Type 0
+IsDoneIf true place closes = IsRefusal NotFound closes
+IsDoneIf false place closes = IsRedirect place closes
+
+-- what came of an act: the owner's page tells it; or 404 where the account is not open
+abbrev pub IsDone : (account : List ℕ) (act : Act) (job : ℕ) (closes : Bool)
+    → Result Reply StoreFault → Response → Type 0
+IsDone account act job closes told =
+    IsDoneIf (is_not_open told) (location account (outcome_told act job told)) closes

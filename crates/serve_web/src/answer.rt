@@ -1,0 +1,203 @@
+//! The answers to browsers.
+ghost use Rattle.std.specs.Prelude.{◌≡◌, ◌⊎◌, IfOk, IsTrue, OnOk};
+ghost use Rattle.http_header.specs.FieldValue.{is_visible_text};
+ghost use Rattle.http_server.specs.Response.{IsBlank, IsResponse};
+ghost use Rattle.serve_web.specs.Responses.{IsDone, IsLost, IsPage, IsRedirect, IsRefusal, IsShown, is_no_account, is_not_open, location};
+ghost use Rattle.serve_web.specs.Fields.{sheet_fields};
+
+use crate::came::put_outcome;
+use crate::fields::{put_common_fields, put_more_fields, put_page_fields, put_sheet_fields};
+use crate::refusal::status_of;
+use crate::told::outcome_told;
+use account_machine::Reply;
+use account_rules::Name;
+use bytes::Bytes;
+use http::{HeaderValue, StatusCode, header};
+use http_server::Response;
+use page_pages::{Act, Outcome, Refusal, put_refusal_page};
+use room_store::StoreFault;
+use std::alloc::{AllocError, Global};
+
+/// A refusal, with the page of it.
+pub(crate) fn refuse(
+    response: &mut Response,
+    refusal: Refusal,
+    closes: bool,
+) -> Result<(), AllocError>
+    requires { IsBlank response.old }
+    ensures { OnOk result (IsRefusal refusal closes response.new) }
+{
+    let mut text = Vec::new(*response.headers.allocator());
+    put_refusal_page(&mut text, refusal)?;
+    response.status = status_of(refusal);
+    put_more_fields(response, refusal)?;
+    put_page_fields(response, closes)?;
+    response.body.push(shared(text)?)?;
+    Ok(())
+}
+
+/// The style sheet or the script, which is not copied.
+pub(crate) fn put_sheet(
+    response: &mut Response,
+    kind: &'static str,
+    text: &'static str,
+    closes: bool,
+) -> Result<(), AllocError>
+    requires blank { IsBlank response.old }
+    requires kind { IsTrue (is_visible_text kind.now) }
+    ensures { OnOk result
+        (IsResponse 200 (sheet_fields kind.now closes) text.now response.new) }
+{
+    put_sheet_fields(response, kind, closes)?;
+    response.body.push(Bytes::from_static(text.as_bytes()))
+}
+
+/// The page that a question was answered with, or `500 Internal Server Error` where there is no
+/// memory for it.
+pub(crate) fn show(response: &mut Response, told: Result<Reply, StoreFault>, closes: bool)
+    requires { IsBlank response.old }
+    ensures { IsShown closes told response.new ⊎ IsLost response.new }
+{
+    if put_shown(response, told, closes).is_err() {
+        lose(response);
+    }
+}
+
+fn put_shown(
+    response: &mut Response,
+    told: Result<Reply, StoreFault>,
+    closes: bool,
+) -> Result<(), AllocError>
+    requires { IsBlank response.old }
+    ensures { OnOk result (IsShown closes told response.new) }
+{
+    match told {
+        Ok(Reply::Line(text)) => put_page(response, text.items, closes),
+        Ok(Reply::Ipp(_)) => refuse(response, Refusal::Failed, closes),
+        Ok(Reply::NoAccount) => refuse(response, Refusal::Failed, closes),
+        Ok(Reply::Documents(_)) => refuse(response, Refusal::Failed, closes),
+        Ok(Reply::Short) => refuse(response, Refusal::Failed, closes),
+        Err(_) => refuse(response, Refusal::Failed, closes),
+    }
+}
+
+/// The page, which is moved and not copied. Of an account that is not open there is none.
+fn put_page(response: &mut Response, text: Vec<u8>, closes: bool) -> Result<(), AllocError>
+    requires { IsBlank response.old }
+    ensures { OnOk result (IsPage closes text.items response.new) }
+{
+    if is_no_account(text.as_slice()) {
+        refuse(response, Refusal::NotFound, closes)?;
+        return Ok(());
+    }
+    put_page_fields(response, closes)?;
+    response.body.push(shared(text)?)?;
+    Ok(())
+}
+
+/// Whether it is the word that tells of an account that is not open.
+fn is_no_account(text: &[u8]) -> bool
+    ensures { result ≡ is_no_account text.now }
+{
+    text == b"no-account".as_slice()
+}
+
+/// The bytes, which are not copied.
+pub(crate) fn shared(bytes: Vec<u8>) -> Result<Bytes, AllocError>
+    ensures { IfOk result (λ shared. shared ≡ bytes.items) }
+{
+    match Bytes::from_vec(bytes) {
+        Ok(shared) => Ok(shared),
+        Err(_) => Err(AllocError),
+    }
+}
+
+/// Sends the browser to the owner's page with what came of an act, or tells `500 Internal Server
+/// Error` where there is no memory for it.
+pub(crate) fn tell(
+    response: &mut Response,
+    account: Name,
+    act: Act,
+    job: u32,
+    told: Result<Reply, StoreFault>,
+    closes: bool,
+)
+    requires { IsBlank response.old }
+    ensures { IsDone account act job closes told response.new ⊎ IsLost response.new }
+{
+    if put_told(response, account, act, job, &told, closes).is_err() {
+        lose(response);
+    }
+}
+
+fn put_told(
+    response: &mut Response,
+    account: Name,
+    act: Act,
+    job: u32,
+    told: &Result<Reply, StoreFault>,
+    closes: bool,
+) -> Result<(), AllocError>
+    requires { IsBlank response.old }
+    ensures { OnOk result (IsDone account act job closes told.now response.new) }
+{
+    if is_not_open(told) {
+        return refuse(response, Refusal::NotFound, closes);
+    }
+    let outcome = outcome_told(*response.headers.allocator(), act, job, told)?;
+    redirect(response, account, &outcome, closes)
+}
+
+fn is_not_open(told: &Result<Reply, StoreFault>) -> bool
+    ensures { result ≡ is_not_open told.now }
+{
+    matches!(told, Ok(Reply::NoAccount))
+}
+
+/// `303 See Other`: the owner's page (RFC 9110 section 15.4.4).
+fn redirect(
+    response: &mut Response,
+    account: Name,
+    outcome: &Outcome,
+    closes: bool,
+) -> Result<(), AllocError>
+    requires { IsBlank response.old }
+    ensures { OnOk result
+        (IsRedirect (location account outcome.now) closes response.new) }
+{
+    let place = location(*response.headers.allocator(), account, outcome)?;
+    response.status = StatusCode::SEE_OTHER;
+    response.add_header(header::LOCATION, value_of(place)?)?;
+    put_common_fields(response, closes)
+}
+
+/// The owner's page, with what came of an act in its query.
+#[tactic(auto, using(std::proofs::Common::append_assoc), unfolding(crate::specs::Responses::location))]
+fn location(alloc: Global, account: Name, outcome: &Outcome) -> Result<Vec<u8>, AllocError>
+    ensures { IfOk result (λ place. place.items ≡ location account outcome.now) }
+{
+    let mut place = Vec::new(alloc);
+    place.push(b'/')?;
+    place.extend_from_slice(account.bytes())?;
+    place.push(b'?')?;
+    put_outcome(&mut place, outcome)?;
+    Ok(place)
+}
+
+/// The value of a field. All its bytes may stand in one.
+fn value_of(text: Vec<u8>) -> Result<HeaderValue, AllocError>
+    ensures { IfOk result (λ value. value.bytes ≡ text.items) }
+{
+    match HeaderValue::from_vec(text) {
+        Ok(value) => Ok(value),
+        Err(_) => Err(AllocError),
+    }
+}
+
+/// There was no memory for what there was to tell.
+fn lose(response: &mut Response)
+    ensures { IsLost response.new }
+{
+    response.clear();
+    response.status = StatusCode::INTERNAL_SERVER_ERROR;
+}

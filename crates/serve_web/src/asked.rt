@@ -1,0 +1,198 @@
+//! What a request of a browser asks for.
+ghost use Rattle.std.specs.Prelude.{◌≡◌, option_copied};
+ghost use Rattle.serve_web.specs.Requests.{asked, asked_at, body_refusal, file_refusal, foreign_or, form_refusal, has_type, is_type, is_type_value, judged, other_method, query_of, takes, wish};
+
+use crate::place::{Place, place_of};
+use crate::query::{act_asked, owner_asked, print_asked, room_asked, statement_asked};
+use account_rules::{LONGEST_DOCUMENT, Name};
+use bytes::Bytes;
+use client_owner::JobAct;
+use http::{HeaderValue, Request};
+use input_http::{before, is_foreign, is_post, without_margin};
+use page_pages::{Outcome, Refusal};
+
+/// What a request of a browser asks for.
+#[derive(Clone, Copy)]
+pub(crate) enum Asked {
+    /// The style sheet.
+    Style,
+    /// The script of the form to print.
+    Script,
+    /// The print room's page, with accounts whose names begin so, behind a name.
+    Room {
+        front: Option<Name>,
+        behind: Option<Name>,
+    },
+    /// The page of an account's owner, with what came of an act, which stays as it is or loads
+    /// itself anew.
+    Owner {
+        account: Name,
+        came: Option<Outcome>,
+        stays: bool,
+    },
+    /// A statement of a month, or of the one that it is.
+    Statement {
+        account: Name,
+        month: Option<u32>,
+    },
+    /// To do something with a job.
+    Act {
+        account: Name,
+        act: JobAct,
+        job: u32,
+    },
+    /// To print the file that is the body, in so many copies, each of so many pages, if that is
+    /// known.
+    Print {
+        account: Name,
+        copies: u32,
+        pages: Option<u32>,
+    },
+}
+
+/// What the request asks for, or the first refusal that applies: `BadRequest`, `Forbidden`,
+/// `NotFound`, `OnlyRead` or `OnlyPost`, `TooLarge`, `WrongType`.
+pub(crate) fn asked_by(request: &Request<Bytes>) -> Result<Asked, Refusal>
+    ensures { result ≡ asked request.now }
+{
+    match place_of(request.uri().path().as_bytes()) {
+        Some(place) => asked_at(request, &place),
+        None => Err(foreign_or(request, Refusal::NotFound)),
+    }
+}
+
+fn asked_at(request: &Request<Bytes>, place: &Place) -> Result<Asked, Refusal>
+    ensures { result ≡ asked_at request.now place.now }
+{
+    if !takes(place, request.method().as_str().as_bytes()) {
+        return Err(foreign_or(request, other_method(place)));
+    }
+    match wish(request, place) {
+        Some(asked) => judged(request, asked),
+        None => Err(Refusal::BadRequest),
+    }
+}
+
+fn judged(request: &Request<Bytes>, asked: Asked) -> Result<Asked, Refusal>
+    ensures { result ≡ judged request.now asked }
+{
+    if is_foreign(request) {
+        return Err(Refusal::Forbidden);
+    }
+    match body_refusal(request, &asked) {
+        Some(refusal) => Err(refusal),
+        None => Ok(asked),
+    }
+}
+
+fn foreign_or(request: &Request<Bytes>, refusal: Refusal) -> Refusal
+    ensures { result ≡ foreign_or request.now refusal }
+{
+    if is_foreign(request) {
+        Refusal::Forbidden
+    } else {
+        refusal
+    }
+}
+
+/// Whether the place takes the method: POST where something is to be done, else GET and HEAD.
+fn takes(place: &Place, method: &[u8]) -> bool
+    ensures { result ≡ takes place.now method.now }
+{
+    match place {
+        Place::Print(_) | Place::Job { .. } => is_post(method),
+        _ => method == b"GET".as_slice() || method == b"HEAD".as_slice(),
+    }
+}
+
+fn other_method(place: &Place) -> Refusal
+    ensures { result ≡ other_method place.now }
+{
+    match place {
+        Place::Print(_) | Place::Job { .. } => Refusal::OnlyPost,
+        _ => Refusal::OnlyRead,
+    }
+}
+
+/// What is asked for there, or `None` where the query or the form is none of the place.
+fn wish(request: &Request<Bytes>, place: &Place) -> Option<Asked>
+    ensures { result ≡ wish request.now place.now }
+{
+    match place {
+        Place::Room => Some(room_asked(query_of(request))),
+        Place::Style => Some(Asked::Style),
+        Place::Script => Some(Asked::Script),
+        Place::Owner(account) => Some(owner_asked(*account, query_of(request))),
+        Place::Statement(account) => statement_asked(*account, query_of(request)),
+        Place::Print(account) => print_asked(*account, query_of(request)),
+        Place::Job { account, job } => act_asked(*account, *job, request.body().as_slice()),
+    }
+}
+
+pub(crate) fn query_of(request: &Request<Bytes>) -> &[u8]
+    ensures { result.now ≡ query_of request.now }
+{
+    match request.uri().query() {
+        Some(query) => query.as_bytes(),
+        None => b"",
+    }
+}
+
+/// Why the body of what is asked is refused, if it is.
+fn body_refusal(request: &Request<Bytes>, asked: &Asked) -> Option<Refusal>
+    ensures { result ≡ body_refusal request.now asked.now }
+{
+    match asked {
+        Asked::Act { .. } => form_refusal(request),
+        Asked::Print { .. } => file_refusal(request),
+        _ => None,
+    }
+}
+
+fn form_refusal(request: &Request<Bytes>) -> Option<Refusal>
+    ensures { result ≡ form_refusal request.now }
+{
+    if has_type(request, b"application/x-www-form-urlencoded") {
+        None
+    } else {
+        Some(Refusal::WrongType)
+    }
+}
+
+/// A file may be of any type but those of forms, which would send it with more around it.
+fn file_refusal(request: &Request<Bytes>) -> Option<Refusal>
+    ensures { result ≡ file_refusal request.now }
+{
+    if request.body().len() > LONGEST_DOCUMENT {
+        return Some(Refusal::TooLarge);
+    }
+    if has_type(request, b"application/x-www-form-urlencoded")
+        || has_type(request, b"multipart/form-data")
+    {
+        return Some(Refusal::WrongType);
+    }
+    None
+}
+
+fn has_type(request: &Request<Bytes>, name: &[u8]) -> bool
+    ensures { result ≡ has_type request.now name.now }
+{
+    is_type_value(request.headers().get("content-type"), name)
+}
+
+fn is_type_value(value: Option<&HeaderValue>, name: &[u8]) -> bool
+    ensures { result ≡ is_type_value (option_copied value.entry) name.now }
+{
+    match value {
+        None => false,
+        Some(value) => is_type(value.as_bytes(), name),
+    }
+}
+
+/// Whether a value of Content-Type is this type, whatever stands after a `;` (RFC 9110 section
+/// 8.3.1).
+fn is_type(value: &[u8], name: &[u8]) -> bool
+    ensures { result ≡ is_type value.now name.now }
+{
+    without_margin(b" ", before(b';', value)).eq_ignore_ascii_case(name)
+}

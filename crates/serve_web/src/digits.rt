@@ -1,0 +1,34 @@
+//! Numbers in digits.
+ghost use Rattle.std.specs.Prelude.{◌≡◌, ◌<◌, IfSome};
+ghost use Rattle.serve_web.specs.Numbers.{is_number, large_said, number_said};
+
+use input_http::{are_digits, number_of};
+
+/// The number that 1 to 8 digits write, and `None` of anything else.
+pub(crate) fn number(digits: &[u8]) -> Option<u32>
+    ensures { result ≡ number_said digits.now }
+{
+    if is_number(8, digits) {
+        Some(number_of(digits) as u32)
+    } else {
+        None
+    }
+}
+
+/// The number that 1 to 18 digits write.
+pub(crate) fn large_number(digits: &[u8]) -> Option<u64>
+    ensures said { result ≡ large_said digits.now }
+    ensures within { IfSome result (λ number. number < 1000000000000000000) }
+{
+    if is_number(18, digits) {
+        Some(number_of(digits))
+    } else {
+        None
+    }
+}
+
+fn is_number(most: usize, digits: &[u8]) -> bool
+    ensures { result ≡ is_number most digits.now }
+{
+    !digits.is_empty() && digits.len() <= most && are_digits(digits)
+}

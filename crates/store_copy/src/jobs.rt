@@ -1,0 +1,108 @@
+//! Jobs of an account are copied.
+
+ghost use Rattle.std.specs.Prelude.{◌≡◌, ◌<◌, Err, IfOk, IfSome, None, false};
+ghost use Rattle.store_copy.specs.Parts.{AddsJobs};
+ghost use Rattle.store_copy.specs.ProofParts.{CopiesMore, HasWholeJob};
+ghost use Rattle.store_copy.specs.ProofSavepoints.{KeepsSavepoint};
+ghost use Rattle.store_copy.specs.Slices.{AreAtMost};
+ghost use Rattle.store_copy.specs.Sources.{LeavesSource};
+ghost use Rattle.account_rules.specs.Standings.{IsStanding};
+ghost use Rattle.rows_statements.specs.SoundRows.{AccountsRead};
+ghost use Rattle.rows_tables.specs.Calls.{Changes, IfOurTables, ReadsStore, WritesInSavepoint};
+ghost use Rattle.rows_tables.specs.Cells.{job_cells};
+ghost use Rattle.rows_tables.specs.Keyed.{SetsRow};
+ghost use Rattle.rows_tables.specs.Tables.{job as job_table};
+ghost use Rattle.rows_tables.specs.declared.fault.TableFault.TheVariants.{Damaged};
+
+use crate::documents::copy_documents;
+use account_rules::{Job, Name};
+use room_store::{Rounds, find_job};
+use rows_statements::{TableFault, add_job};
+use sqlite::{Alter, Savepoint};
+use std::alloc::Global;
+
+/// Copies the jobs of the account from the number `first` on that come before `next`, so many at most
+/// and none behind one with documents, inside a savepoint. It answers the number that comes next.
+pub(crate) fn copy_jobs<S: Alter, T: Alter>(
+    alloc: Global,
+    source: &mut Rounds<S>,
+    savepoint: &mut Savepoint<'_, T>,
+    account: Name,
+    first: u32,
+    next: u32,
+    most: Option<u32>,
+) -> Result<u32, TableFault>
+    ensures copies { Changes T.Store savepoint.old.conn.now savepoint.new.conn.now result
+        (λ before after. IfOurTables S.Store source.old source.new
+        (λ db. IfOk result (λ further. AddsJobs account first further db before after))) }
+    ensures further { IfOk result (λ further. further < next → first < further) }
+    ensures whole { most ≡ None → IfOk result (λ further. further ≡ next) }
+    ensures at_most { IfOk result (AreAtMost most first) }
+    ensures inside { KeepsSavepoint savepoint.old savepoint.new result }
+    ensures damaged { IfOurTables S.Store source.old source.new
+        (λ db. result ≡ Err Damaged → AccountsRead db account → ⊥) }
+    ensures source { LeavesSource S.Store source.old source.new result }
+{
+    for number in first..next {
+        let has_documents = copy_job(alloc, source, savepoint, account, number)?;
+        if is_enough(most, number + 1 - first, has_documents) {
+            return Ok(number + 1);
+        }
+    }
+    Ok(next)
+}
+
+/// Whether a slice ends behind so many jobs, the last of which has documents or has none.
+fn is_enough(most: Option<u32>, jobs: u32, has_documents: bool) -> bool
+    ensures whole { most ≡ None → result ≡ false }
+    ensures enough { result ≡ false → IfSome most (λ most. jobs < most) }
+{
+    match most {
+        Some(most) => has_documents || jobs >= most,
+        None => false,
+    }
+}
+
+/// Copies the job of the account with the number, if there is one, with its documents, inside a
+/// savepoint. It answers whether it has documents.
+fn copy_job<S: Alter, T: Alter>(
+    alloc: Global,
+    source: &mut Rounds<S>,
+    savepoint: &mut Savepoint<'_, T>,
+    account: Name,
+    number: u32,
+) -> Result<bool, TableFault>
+    ensures copies { Changes T.Store savepoint.old.conn.now savepoint.new.conn.now result
+        (λ before after. IfOurTables S.Store source.old source.new
+        (λ db. CopiesMore account (HasWholeJob number) db before after)) }
+    ensures inside { KeepsSavepoint savepoint.old savepoint.new result }
+    ensures damaged { IfOurTables S.Store source.old source.new
+        (λ db. result ≡ Err Damaged → AccountsRead db account → ⊥) }
+    ensures reads { ReadsStore S.Store source.old source.new result }
+{
+    let Some(job) = find_job(source, account, number)? else {
+        return Ok(false);
+    };
+    put_job(savepoint, account, &job)?;
+    copy_documents(alloc, source, savepoint, account, number)
+}
+
+/// Puts a job in, inside a savepoint. A job of its number that is there already is `Storage`:
+/// `Damaged` is told of the source alone.
+fn put_job<T: Alter>(
+    savepoint: &mut Savepoint<'_, T>,
+    account: Name,
+    job: &Job,
+) -> Result<(), TableFault>
+    requires { IsStanding job.now.standing }
+    ensures sets { Changes T.Store savepoint.old.conn.now savepoint.new.conn.now result
+        (SetsRow job_table (job_cells account job.now)) }
+    ensures undamaged { result ≡ Err Damaged → ⊥ }
+    ensures inside { WritesInSavepoint savepoint.old savepoint.new result }
+{
+    let put = add_job(savepoint, account, job);
+    match put {
+        Err(TableFault::Damaged) => Err(TableFault::Storage),
+        _ => put,
+    }
+}
