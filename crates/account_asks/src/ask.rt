@@ -51,7 +51,7 @@ pub enum Which {
 }
 
 /// Why a body asks nothing of the account.
-#[derive(Debug, Drop)]
+#[derive(Drop)]
 pub enum AskFault<'a> {
     /// The first check that failed. From check 17 on the job template attributes that are not
     /// supported go with it.

@@ -4,8 +4,8 @@ use Rattle.std.specs.FinMap.{values}
 use Rattle.page_pages.specs.declared.outcome.Outcome.{Outcome}
 use Rattle.page_pages.specs.declared.owner.Owner.{Owner}
 use Rattle.page_pages.specs.declared.statement.Statement.{Statement}
-use Rattle.account_reads.specs.Summaries.{summary_of}
-use Rattle.account_reads.specs.declared.summary.Summary.{Summary}
+use Rattle.account_state.specs.Summaries.{summary_of}
+use Rattle.account_state.specs.declared.summary.Summary.{Summary}
 use Rattle.account_rules.specs.Devices.{Devices}
 use Rattle.account_rules.specs.declared.job.Job.{Job}
 use Rattle.account_state.specs.Queues.{at_most, completed, not_completed}

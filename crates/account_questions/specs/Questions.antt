@@ -13,9 +13,9 @@ use Rattle.account_questions.specs.declared.question.About.TheVariants.{Left, St
 use Rattle.account_questions.specs.declared.question.Question.{Question}
 use Rattle.account_questions.specs.declared.question.Question.TheVariants.{Ping, End, Devices, Accounts, Check, Account}
 use Rattle.account_questions.specs.Stations.{again_told, waiting_told}
-use Rattle.account_reads.specs.Grants.{grant_of}
-use Rattle.account_reads.specs.Names.{next_names}
-use Rattle.account_reads.specs.Summaries.{summary_of}
+use Rattle.account_state.specs.Grants.{grant_of}
+use Rattle.account_state.specs.Names.{next_names}
+use Rattle.account_state.specs.Summaries.{summary_of}
 use Rattle.account_replies.specs.Words.{word_text}
 use Rattle.account_rules.specs.Devices.{Devices as DeviceMap}
 use Rattle.account_rules.specs.declared.refusal.Word.TheVariants.{NoAccount}

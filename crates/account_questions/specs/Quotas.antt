@@ -1,7 +1,7 @@
 -- How a quota and a statement are told (all this project's own).
 use Rattle.std.specs.Prelude.{ℕ, pos, List, ◌++◌, codes}
 use Rattle.std.specs.Fmt.{decimal, signed_decimal}
-use Rattle.account_reads.specs.declared.summary.Summary.{Summary}
+use Rattle.account_state.specs.declared.summary.Summary.{Summary}
 use Rattle.account_rules.specs.Quota.{left_of}
 
 -- what was granted, what jobs reserve, what they were charged, and what that leaves

@@ -10,7 +10,7 @@ mod question;
 mod station;
 mod text;
 
-pub use account_reads::Summary;
+pub use account_state::Summary;
 pub use lists::{accounts_lines, devices_lines, grants_lines, jobs_lines};
 pub use page_pages::{Act, Outcome};
 pub use pages::{MOST_SHOWN, owner_page, statement_page, statement_with};

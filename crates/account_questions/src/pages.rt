@@ -6,8 +6,8 @@ ghost use Rattle.page_pages.specs.Statements.{statement_page};
 ghost use Rattle.account_questions.specs.Pages.{statement_with};
 ghost use Rattle.account_rules.specs.Limits.{most_units};
 
-use account_reads::Summary;
 use account_rules::{Job, Name};
+use account_state::Summary;
 use ipp_coding::List;
 use page_pages::{Owner, Statement, put_owner_page, put_statement};
 use std::alloc::{AllocError, Global};

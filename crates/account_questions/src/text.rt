@@ -5,8 +5,8 @@ ghost use Rattle.account_questions.specs.Questions.{check_text};
 ghost use Rattle.account_questions.specs.Quotas.{month_text, quota_text, statement_text};
 ghost use Rattle.account_rules.specs.Limits.{most_units};
 
-use account_reads::Summary;
 use account_rules::left;
+use account_state::Summary;
 use ipp_coding::List;
 use std::alloc::{AllocError, Global};
 

@@ -9,7 +9,7 @@ use crate::fault::CoreFault;
 use crate::name::Name;
 
 /// A device that prints released jobs.
-#[derive(Clone, Copy, Debug, PartialEq, Eq)]
+#[derive(Clone, Copy, PartialEq, Eq)]
 pub struct Device {
     pub name: Name,
     /// Whether it takes jobs now.

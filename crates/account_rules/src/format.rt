@@ -5,7 +5,7 @@ ghost use Rattle.account_rules.specs.Formats.{format_named, formats, names_forma
 ghost use Rattle.account_rules.specs.declared.format.Format.{Format as FormatValue};
 
 /// A document format (RFC 8011 section 5.4.22).
-#[derive(Clone, Copy, Debug, PartialEq, Eq)]
+#[derive(Clone, Copy, PartialEq, Eq)]
 pub enum Format {
     OctetStream,
     Pdf,

@@ -13,7 +13,7 @@ use crate::name::Name;
 use ipp_coding::List;
 
 /// The state of a job (RFC 8011 section 5.3.7).
-#[derive(Clone, Copy, Debug, PartialEq, Eq)]
+#[derive(Clone, Copy, PartialEq, Eq)]
 pub enum JobState {
     /// pending-held: it waits to be released.
     Held,
@@ -86,7 +86,7 @@ impl JobState {
 }
 
 /// All of a job but its number, its texts and its documents.
-#[derive(Clone, Copy, Debug, PartialEq, Eq)]
+#[derive(Clone, Copy, PartialEq, Eq)]
 pub struct Standing {
     pub state: JobState,
     /// Whether it still takes documents.
@@ -114,7 +114,7 @@ pub struct Standing {
 }
 
 /// A job. Its texts are kept as bytes.
-#[derive(Debug, Drop)]
+#[derive(Drop)]
 pub struct Job {
     /// Its number in its account, 1 to 999999.
     pub job: u32,
@@ -125,7 +125,7 @@ pub struct Job {
 }
 
 /// A document of a job.
-#[derive(Debug, Drop)]
+#[derive(Drop)]
 pub struct Document {
     pub job: u32,
     /// Its number in its job, 1 to 8.

@@ -8,7 +8,7 @@ use std::marker::Model;
 
 /// A moment that the rules know: whole seconds since 1970-01-01T00:00:00Z, up to `LAST_MOMENT`.
 /// Contracts see it as that number.
-#[derive(Clone, Copy, Debug, PartialEq, Eq, PartialOrd, Ord)]
+#[derive(Clone, Copy, PartialEq, Eq, PartialOrd, Ord)]
 pub struct Moment {
     seconds: u64,
 }

@@ -9,7 +9,7 @@ use std::marker::Model;
 
 /// The name of an account or a device: 1 to 32 bytes of `a` to `z`, `0` to `9` and `-`, the first
 /// of them a letter.
-#[derive(Clone, Copy, Debug, PartialEq, Eq, PartialOrd, Ord)]
+#[derive(Clone, Copy, PartialEq, Eq, PartialOrd, Ord)]
 pub struct Name {
     size: u8,
     cells: [u8; LONGEST_NAME],

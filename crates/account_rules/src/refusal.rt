@@ -4,7 +4,7 @@ ghost use Rattle.std.specs.Prelude.{◌≡◌};
 ghost use Rattle.account_rules.specs.declared.refusal.Word.TheVariants.{TooManyDocuments};
 
 /// The word that tells why something is refused.
-#[derive(Clone, Copy, Debug, PartialEq, Eq)]
+#[derive(Clone, Copy, PartialEq, Eq)]
 pub enum Word {
     // Requests.
     Version,
@@ -55,7 +55,7 @@ pub enum Word {
 
 /// Why something is refused: a word, and the IPP status code that goes with it (RFC 8011 appendix
 /// B).
-#[derive(Clone, Copy, Debug, PartialEq, Eq)]
+#[derive(Clone, Copy, PartialEq, Eq)]
 pub struct Refusal {
     pub status: u16,
     pub word: Word,

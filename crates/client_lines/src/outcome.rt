@@ -5,7 +5,7 @@ ghost use Rattle.client_lines.specs.Outcomes.{is_refused, outcome_after, worst_a
 use crate::answer::Answer;
 
 /// How it went with all that was sent.
-#[derive(Clone, Copy, Debug, PartialEq, Eq)]
+#[derive(Clone, Copy, PartialEq, Eq)]
 pub struct Outcome {
     /// How many lines or records there were.
     pub lines: usize,
@@ -15,7 +15,7 @@ pub struct Outcome {
 }
 
 /// The worst of the answers.
-#[derive(Clone, Copy, Debug, PartialEq, Eq)]
+#[derive(Clone, Copy, PartialEq, Eq)]
 pub enum Worst {
     /// No event failed, and no line was bad.
     Fine,

@@ -4,7 +4,7 @@ use Rattle.std.specs.Option.{option_map_or}
 use Rattle.std.specs.List.{sum_by}
 use Rattle.std.specs.FinMap.{values}
 use Rattle.page_markup.specs.Moments.{day_in_month}
-use Rattle.account_reads.specs.Summaries.{summary_of}
+use Rattle.account_state.specs.Summaries.{summary_of}
 use Rattle.account_rules.specs.Limits.{last_moment, most_units}
 use Rattle.account_rules.specs.Months.{month_at}
 use Rattle.account_state.specs.Queues.{not_completed}

@@ -1,8 +1,8 @@
 //! What one account comes to.
 
 use crate::days::MOST_DAYS;
-use account_reads::Summary;
 use account_rules::Job;
+use account_state::Summary;
 use ipp_coding::List;
 
 /// What the rows of an account come to for the print room's page, in one month.

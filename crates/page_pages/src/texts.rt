@@ -289,7 +289,7 @@ pub(crate) const IS_TOO_LARGE: &str =
 pub(crate) const PASSWORD_MISSING: &str = "A password is missing";
 
 pub(crate) const HAS_NO_PASSWORD: &str =
-    "This print room takes a file with a password alone. It was not taken.";
+    "This print room takes no file without a password. It was not taken.";
 
 pub(crate) const NOT_NOW: &str = "Not at this moment";
 

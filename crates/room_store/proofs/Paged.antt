@@ -9,8 +9,8 @@ use Rattle.page_pages.specs.declared.outcome.Outcome.{Outcome}
 use Rattle.page_pages.specs.declared.owner.Owner.{Owner}
 use Rattle.page_pages.specs.declared.statement.Statement.{Statement}
 use Rattle.account_questions.specs.Pages.{most_shown, owner_of, statement_of, statement_with}
-use Rattle.account_reads.specs.Summaries.{summary_of}
-use Rattle.account_reads.specs.declared.summary.Summary.{Summary}
+use Rattle.account_state.specs.Summaries.{summary_of}
+use Rattle.account_state.specs.declared.summary.Summary.{Summary}
 use Rattle.account_rules.specs.Devices.{Devices}
 use Rattle.account_rules.specs.declared.device.Device.{Device}
 use Rattle.account_rules.specs.declared.job.Job.{Job}

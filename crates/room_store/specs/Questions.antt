@@ -7,7 +7,7 @@ use Rattle.sqlite_trees.specs.declared.store.Store.{Ghosts}
 use Rattle.account_asks.specs.declared.ask.Which.TheVariants.{NotCompleted, Completed}
 use Rattle.account_machine.specs.declared.event.Reply.{Reply}
 use Rattle.account_machine.specs.declared.event.Reply.TheVariants as reply
-use Rattle.account_reads.specs.Names.{AreNames}
+use Rattle.account_state.specs.Names.{AreNames}
 use Rattle.account_questions.specs.Pages.{most_shown}
 use Rattle.account_questions.specs.Questions.{answer_about, answer_to, check_text, Concerns, ConcernsDevices, ConcernsNames, NeedsDevices}
 use Rattle.account_questions.specs.Stations.{printed_by}

@@ -3,7 +3,7 @@
 ghost use Rattle.std.specs.Prelude.{◌≡◌, ◌≤◌, Some, None, Err, IfOk};
 ghost use Rattle.std.specs.FinMap.{values};
 ghost use Rattle.account_asks.specs.declared.ask.Which.TheVariants.{NotCompleted, Completed};
-ghost use Rattle.account_reads.specs.Summaries.{summary_of};
+ghost use Rattle.account_state.specs.Summaries.{summary_of};
 ghost use Rattle.account_questions.specs.declared.question.About.TheVariants as about;
 ghost use Rattle.account_rules.specs.Limits.{most_units};
 ghost use Rattle.account_state.specs.Sums.{charged_in, granted_to, reserved_in};

@@ -4,7 +4,7 @@ ghost use Rattle.std.specs.Prelude.{◌≡◌, ℕ, List, Option, Err, IfOk, cod
 ghost use Rattle.std.specs.FinMap.{values};
 ghost use Rattle.account_machine.specs.declared.event.Reply.TheVariants as reply;
 ghost use Rattle.account_questions.specs.Lists.{accounts_text, devices_text};
-ghost use Rattle.account_reads.specs.Names.{next_names};
+ghost use Rattle.account_state.specs.Names.{next_names};
 ghost use Rattle.account_questions.specs.Questions.{NeedsDevices, answer_to};
 ghost use Rattle.account_questions.specs.declared.question.Question.TheVariants as question;
 ghost use Rattle.account_rules.specs.Devices.{Devices};

@@ -19,7 +19,7 @@ use Rattle.sqlite_rules.proofs.ProbeLemmas.{has_mapped}
 use Rattle.sqlite.specs.Effect.{Database}
 use Rattle.sqlite.specs.Listing.{understood}
 use Rattle.account_rules.specs.declared.account.Grant.{Grant}
-use Rattle.account_reads.specs.Grants.{grant_of}
+use Rattle.account_state.specs.Grants.{grant_of}
 use Rattle.account_state.specs.Rooms.{RoomValue}
 use Rattle.account_state.specs.RoomRules.{IsGrant}
 use Rattle.account_state.proofs.FiniteMaps.{all_along, all_above, entries_here, T_first, T_second}

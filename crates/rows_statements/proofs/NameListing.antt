@@ -21,7 +21,7 @@ use Rattle.sqlite_rules.specs.Lists.{Has}
 use Rattle.sqlite_rules.proofs.ListLemmas.{any_has, contains_had, has_filtered, has_kept}
 use Rattle.sqlite.specs.Effect.{Database}
 use Rattle.sqlite.specs.Listing.{understood}
-use Rattle.account_reads.specs.Names.{AreNames, NamesRise, from_name, most_names, next_names}
+use Rattle.account_state.specs.Names.{AreNames, NamesRise, from_name, most_names, next_names}
 use Rattle.account_rules.specs.Devices.{name_cmp}
 use Rattle.rows_tables.specs.Tables.{room_schema}
 use Rattle.rows_tables.specs.Keyed.{HasSchema}

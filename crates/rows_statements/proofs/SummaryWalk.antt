@@ -16,8 +16,8 @@ use Rattle.sqlite_rules.proofs.ListLemmas.{all_has}
 use Rattle.sqlite_rules.proofs.ProbeLemmas.{has_mapped}
 use Rattle.sqlite.specs.Effect.{Database}
 use Rattle.sqlite.specs.Listing.{understood}
-use Rattle.account_reads.specs.Summaries.{beyond, beyond_then, charged_then, is_held, is_in_month, is_pending, summary_of}
-use Rattle.account_reads.specs.declared.summary.Summary.{Summary}
+use Rattle.account_state.specs.Summaries.{beyond, beyond_then, charged_then, is_held, is_in_month, is_pending, summary_of}
+use Rattle.account_state.specs.declared.summary.Summary.{Summary}
 use Rattle.account_rules.specs.JobStates.{is_processing}
 use Rattle.account_rules.specs.Limits.{last_next_job, most_units, IsMoment}
 use Rattle.account_rules.specs.Quota.{need_of}

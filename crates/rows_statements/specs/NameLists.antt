@@ -5,7 +5,7 @@ use Rattle.sqlite_value.specs.declared.value.Value.TheVariants.{Text}
 use Rattle.sqlite_value.specs.Order.{Row, column}
 use Rattle.sqlite_rules.specs.Lists.{Has}
 use Rattle.sqlite.specs.Effect.{Database}
-use Rattle.account_reads.specs.Names.{next_names, AreNames}
+use Rattle.account_state.specs.Names.{next_names, AreNames}
 use Rattle.account_rules.specs.Names.{is_name}
 use Rattle.rows_tables.specs.Accounts.{account_at}
 

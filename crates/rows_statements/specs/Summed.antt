@@ -1,9 +1,9 @@
 -- What the jobs of an account come to for the statement of a month, one after another (all this
--- project's own). What all of a list come to is summary_of of account_reads.
+-- project's own). What all of a list come to is summary_of of account_state.
 use Rattle.std.specs.Prelude.{◌≡◌, ℕ, ◌+◌, ◌≤◌, if◌then◌else◌, [], ◌∷◌, Option, IfSome}
 use Rattle.sqlite_value.specs.Order.{Row, column}
-use Rattle.account_reads.specs.Summaries.{beyond, charged_then, is_held, is_in_month, is_pending}
-use Rattle.account_reads.specs.declared.summary.Summary.{Summary}
+use Rattle.account_state.specs.Summaries.{beyond, charged_then, is_held, is_in_month, is_pending}
+use Rattle.account_state.specs.declared.summary.Summary.{Summary}
 use Rattle.account_rules.specs.JobStates.{is_processing}
 use Rattle.account_rules.specs.Limits.{most_units, IsMoment}
 use Rattle.account_rules.specs.declared.job.JobState.{JobState}

@@ -1,7 +1,7 @@
 //! The names of accounts.
 
 ghost use Rattle.std.specs.Prelude.{◌≡◌, ℕ, List, Err, IfOk, IsSome};
-ghost use Rattle.account_reads.specs.Names.{from_name, next_names, AreNames};
+ghost use Rattle.account_state.specs.Names.{from_name, next_names, AreNames};
 ghost use Rattle.rows_statements.specs.NameLists.{ListsName, ShowsNames, refuses_name};
 ghost use Rattle.rows_statements.specs.Prelude.{IfOurTables, KeepsOpen, ReadsStore, WalksStore};
 ghost use Rattle.rows_statements.specs.SoundRows.{AreNamed};

@@ -3,7 +3,7 @@
 ghost use Rattle.std.specs.Prelude.{◌≡◌, ℕ, map, Err, IfOk, OnOk};
 ghost use Rattle.std.specs.List.{AllByRecursion};
 ghost use Rattle.std.specs.FinMap.{entries};
-ghost use Rattle.account_reads.specs.Grants.{grant_of};
+ghost use Rattle.account_state.specs.Grants.{grant_of};
 ghost use Rattle.account_state.specs.RoomRules.{IsGrant};
 ghost use Rattle.rows_statements.specs.Prelude.{HasGathered, HoldsRoom, IfOurTables, KeepsOpen, ReadsStore, RoomValue, WalksStore};
 ghost use Rattle.rows_statements.specs.GrantLists.{tells_no_grant, AreByMonth, IsInRange, ListsGrant};

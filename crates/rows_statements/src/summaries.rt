@@ -2,8 +2,8 @@
 
 ghost use Rattle.std.specs.Prelude.{◌≡◌, ◌≤◌, ℕ, map, Err, IfOk, IfSome, None, OnOk, Option, IsPermutation};
 ghost use Rattle.std.specs.FinMap.{values};
-ghost use Rattle.account_reads.specs.Summaries.{beyond, is_held, is_in_month, is_pending, summary_of};
-ghost use Rattle.account_reads.specs.declared.summary.Summary.{Summary as SummaryValue};
+ghost use Rattle.account_state.specs.Summaries.{beyond, is_held, is_in_month, is_pending, summary_of};
+ghost use Rattle.account_state.specs.declared.summary.Summary.{Summary as SummaryValue};
 ghost use Rattle.account_rules.specs.Limits.{most_units, IsMoment};
 ghost use Rattle.rows_statements.specs.Prelude.{HasGathered, HoldsRoom, IfOurTables, KeepsOpen, ReadsStore, RoomValue, WalksStore, column};
 ghost use Rattle.rows_statements.specs.SoundRows.{job_rows, CanBeSummed};
@@ -11,9 +11,8 @@ ghost use Rattle.rows_statements.specs.Summed.{gathers_summed, refuses_summed, s
 ghost use Rattle.rows_tables.specs.Cells.{moment};
 
 use crate::walking::{Gather, walk};
-use account_reads::Summary;
 use account_rules::{JobState, Moment, Name, month_of};
-use account_state::sum_of_units;
+use account_state::{Summary, sum_of_units};
 use rows_tables::TableFault;
 use rows_tables::values::{moment_at, number_at, state_at};
 use sqlite::{Alter, Connection, Row};

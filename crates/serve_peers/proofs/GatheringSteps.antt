@@ -7,7 +7,7 @@ use Rattle.sqlite.specs.Held.{Held}
 use Rattle.sqlite_trees.specs.declared.store.Store.{Ghosts}
 use Rattle.page_overview.specs.Surveys.{IsSurvey}
 use Rattle.page_overview.specs.declared.survey.Survey.{Survey}
-use Rattle.account_reads.specs.Names.{next_names}
+use Rattle.account_state.specs.Names.{next_names}
 use Rattle.account_rules.specs.Devices.{Devices}
 use Rattle.account_rules.specs.declared.device.Device.{Device}
 use Rattle.account_state.specs.Rooms.{RoomValue}

@@ -9,7 +9,7 @@ use Rattle.store_copy.specs.Copies.{AreCopies}
 use Rattle.store_copy.specs.Slices.{IsOfOne, last_of}
 use Rattle.store_copy.specs.declared.slices.Progress.{Progress}
 use Rattle.store_copy.specs.declared.slices.Progress.TheVariants.{UpTo}
-use Rattle.account_reads.specs.Names.{AreNames}
+use Rattle.account_state.specs.Names.{AreNames}
 use Rattle.rows_statements.specs.SoundRows.{AreNamed}
 use Rattle.rows_tables.specs.Accounts.{account_at}
 use Rattle.rows_tables.specs.Keyed.{HasSchema}

@@ -8,7 +8,7 @@ use Rattle.page_overview.specs.Surveys.{IsSurvey}
 use Rattle.page_overview.specs.declared.overview.Overview.{Overview}
 use Rattle.page_overview.specs.declared.overview.TheConstants.{MOST_ACCOUNTS}
 use Rattle.page_overview.specs.declared.survey.Survey.{Survey}
-use Rattle.account_reads.specs.Names.{next_names}
+use Rattle.account_state.specs.Names.{next_names}
 use Rattle.account_rules.specs.Devices.{Devices}
 use Rattle.account_rules.specs.declared.device.Device.{Device}
 use Rattle.account_rules.specs.Limits.{last_moment, last_month}

@@ -30,7 +30,7 @@ pub const MOST_LINE: usize = 65_536;
 const ROOM: usize = 4_096;
 
 /// Whose lines a connection carries.
-#[derive(Clone, Copy, Debug, PartialEq, Eq)]
+#[derive(Clone, Copy, PartialEq, Eq)]
 pub enum Side {
     /// `release`, `start` and `settle`, and a station's questions.
     Station,
@@ -70,7 +70,7 @@ impl Side {
 }
 
 /// What became of the line at the front of what came.
-#[derive(Clone, Copy, Debug, PartialEq, Eq)]
+#[derive(Clone, Copy, PartialEq, Eq)]
 pub enum Front {
     /// It was answered.
     Answered,

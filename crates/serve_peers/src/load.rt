@@ -15,7 +15,7 @@ pub const LONGEST: usize = HEAD_LIMIT + BODY_LIMIT;
 
 /// The bytes that a connection holds of what came. Its buffer keeps the room that it ever had,
 /// until it is closed.
-#[derive(Clone, Copy, Debug, PartialEq, Eq)]
+#[derive(Clone, Copy, PartialEq, Eq)]
 pub(crate) struct Load {
     /// What came since the last answer, and the last piece of it.
     coming: usize,

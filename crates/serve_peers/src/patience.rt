@@ -22,7 +22,7 @@ const MOST_PARTING: u64 = 10_000;
 const MOST_PAUSE: u64 = 250;
 
 /// What a connection is at.
-#[derive(Clone, Copy, Debug, PartialEq, Eq)]
+#[derive(Clone, Copy, PartialEq, Eq)]
 pub enum Doing {
     /// No request is under way.
     Rests,
@@ -36,7 +36,7 @@ pub enum Doing {
 
 /// How long a connection may take still. Ticks are milliseconds since any start that all of them
 /// share.
-#[derive(Clone, Copy, Debug, PartialEq, Eq)]
+#[derive(Clone, Copy, PartialEq, Eq)]
 pub struct Patience {
     // When `doing` began, or its last whole piece had moved.
     since: u64,

@@ -6,7 +6,7 @@ use crate::patience::Patience;
 use crate::step::{Next, Turn, was_all};
 
 /// How long a connection may take, and how far its reading is.
-#[derive(Clone, Copy, Debug)]
+#[derive(Clone, Copy)]
 pub(crate) struct Progress {
     pub patience: Patience,
     /// All that came was read.

@@ -16,7 +16,7 @@ const LEAST_ROOM: usize = 4_096;
 const DROPPED: usize = 16_384;
 
 /// A turn of a connection.
-#[derive(Clone, Copy, Debug)]
+#[derive(Clone, Copy)]
 pub struct Turn {
     /// In milliseconds since any start that all turns share.
     pub ticks: u64,
@@ -30,7 +30,7 @@ pub struct Turn {
 }
 
 /// What a connection waits for.
-#[derive(Clone, Copy, Debug, PartialEq, Eq)]
+#[derive(Clone, Copy, PartialEq, Eq)]
 pub enum Next {
     /// The system tells when it can go on.
     Wait,

@@ -17,7 +17,7 @@ use std::io::ErrorKind;
 pub(crate) const MOST_GUESTS: usize = 4_096;
 
 /// What is spoken by whoever comes in by a door.
-#[derive(Clone, Copy, Debug, PartialEq, Eq)]
+#[derive(Clone, Copy, PartialEq, Eq)]
 pub enum Speech {
     /// HTTP, with the service of the queues.
     Http,
@@ -43,7 +43,7 @@ impl Speech {
 }
 
 /// What a door is for.
-#[derive(Clone, Copy, Debug, PartialEq, Eq)]
+#[derive(Clone, Copy, PartialEq, Eq)]
 pub struct Kind {
     pub speech: Speech,
     /// The most peers who came in by the door and are there. So those of one door never keep out

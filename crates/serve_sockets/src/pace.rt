@@ -8,7 +8,7 @@ const MOST_AT_ONCE: u64 = 1_000;
 
 /// Milliseconds in which peers could be served. Where the process was stopped, or one event took
 /// long, a second of it counts at most: what peers sent meanwhile is still to be read.
-#[derive(Clone, Copy, Debug, PartialEq, Eq)]
+#[derive(Clone, Copy, PartialEq, Eq)]
 pub(crate) struct Pace {
     counted: u64,
     /// What the clock told at the last look.

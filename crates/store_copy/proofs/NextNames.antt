@@ -8,7 +8,7 @@ use Rattle.sqlite_value.specs.Order.{Row}
 use Rattle.sqlite_rules.specs.Lists.{Has}
 use Rattle.sqlite_rules.proofs.ListLemmas.{all_has, any_has}
 use Rattle.sqlite.specs.Effect.{Database}
-use Rattle.account_reads.specs.Names.{AreNames, NamesRise, from_name, next_names}
+use Rattle.account_state.specs.Names.{AreNames, NamesRise, from_name, next_names}
 use Rattle.account_rules.specs.Devices.{name_cmp}
 use Rattle.account_rules.specs.Names.{is_name}
 use Rattle.rows_tables.specs.Accounts.{account_at}

@@ -9,7 +9,7 @@ use Rattle.std.proofs.lemmas.Bool.Decides.{nat_tests}
 use Rattle.sqlite_value.specs.Order.{Row}
 use Rattle.sqlite.specs.Effect.{Database}
 use Rattle.sqlite_trees.proofs.ListLemmas.{all-append}
-use Rattle.account_reads.specs.Grants.{grant_of}
+use Rattle.account_state.specs.Grants.{grant_of}
 use Rattle.account_rules.specs.JobStates.{is_unfinished}
 use Rattle.account_rules.specs.declared.account.Grant.{Grant}
 use Rattle.account_rules.specs.declared.job.Document.{Document}

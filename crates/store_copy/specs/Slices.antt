@@ -3,7 +3,7 @@ use Rattle.std.specs.Prelude.{◌≡◌, ◌⊎◌, ℕ, ◌+◌, ◌<◌, ◌�
 use Rattle.std.specs.Ordering.{is_lt}
 use Rattle.sqlite_rules.specs.Lists.{Has}
 use Rattle.sqlite.specs.Effect.{Database}
-use Rattle.account_reads.specs.Names.{AreNames}
+use Rattle.account_state.specs.Names.{AreNames}
 use Rattle.account_rules.specs.Devices.{name_cmp}
 use Rattle.account_rules.specs.declared.account.Account.{Account}
 use Rattle.rows_tables.specs.Accounts.{account_at, AgreeOnRows, HoldsNothing}

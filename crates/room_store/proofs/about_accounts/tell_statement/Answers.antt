@@ -2,7 +2,7 @@ use Rattle.std.proofs.Common.{◌≡◌, ℕ, List, ap, ◌∙◌}
 use Rattle.account_machine.specs.declared.event.Reply.{Reply}
 use Rattle.account_machine.specs.declared.event.Reply.TheVariants.{Line}
 use Rattle.account_questions.specs.Quotas.{statement_text}
-use Rattle.account_reads.specs.declared.summary.Summary.{Summary}
+use Rattle.account_state.specs.declared.summary.Summary.{Summary}
 use Rattle.room_store.proofs.ServingLemmas.{look_passed, looked}
 use Rattle.room_store.proofs.about_accounts.tell_statement.Goals as goal
 

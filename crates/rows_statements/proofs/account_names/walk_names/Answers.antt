@@ -1,6 +1,6 @@
 use Rattle.std.proofs.Common.{sym, subst, refl}
 use Rattle.sqlite.specs.Held.{state}
-use Rattle.account_reads.specs.Names.{from_name}
+use Rattle.account_state.specs.Names.{from_name}
 use Rattle.rows_tables.specs.Queries.{Means, TakesParams}
 use Rattle.rows_statements.specs.NameLists.{name_cells, ShowsNames}
 use Rattle.rows_statements.proofs.WalkLemmas.{told_as}

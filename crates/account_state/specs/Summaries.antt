@@ -1,7 +1,7 @@
 -- What an account's jobs come to, and what of it in one month (all this project's own).
 use Rattle.std.specs.Prelude.{ℕ, ◌-◌, ◌==◌, Bool, true, false, if◌then◌else◌, List, count_by, Option, Some, None}
 use Rattle.std.specs.List.{sum_by}
-use Rattle.account_reads.specs.declared.summary.Summary.{Summary}
+use Rattle.account_state.specs.declared.summary.Summary.{Summary}
 use Rattle.account_rules.specs.JobStates.{is_processing}
 use Rattle.account_rules.specs.Months.{month_at}
 use Rattle.account_rules.specs.Quota.{need_of}

@@ -1,3 +1,0 @@
-pub mod Grants
-pub mod Names
-pub mod Summaries
