@@ -4,21 +4,25 @@ use Rattle.std.specs.FinMap.{contains_key}
 use Rattle.account_machine.specs.Events.{PlainEvent, OfAccount, OfDevice, Turn, Rate}
 use Rattle.account_machine.specs.declared.event.Reply.{Reply}
 use Rattle.account_machine.specs.declared.event.Reply.TheVariants as reply
-use Rattle.account_rules.specs.declared.refusal.Word.TheVariants.{NoDevice}
+use Rattle.account_machine.specs.declared.verdict.Verdict.{Verdict}
+use Rattle.account_machine.specs.Verdicts.{line_done, line_refused}
+use Rattle.account_rules.specs.declared.refusal.Word.TheVariants.{NoAccount, NoDevice}
 use Rattle.account_rules.specs.Devices.{Devices, turned, rated}
 use Rattle.account_replies.specs.declared.station_line.Success.TheVariants as success
 use Rattle.account_replies.specs.Lines.{success_text}
 use Rattle.account_replies.specs.Words.{word_text}
 
--- a reply, and what devices there are after it
+-- a reply, what the event came to, and what devices there are after it
 pub record DeviceAnswer : Type 0 where
   pub reply : Reply
+  pub verdict : Verdict
   pub devices : Devices
 
 -- a device that is turned on or off is known from then on
 abbrev pub turned_answer : (devices : Devices) (name : List ℕ) (on : Bool) → DeviceAnswer
 turned_answer devices name on = record {
   reply = reply.Line (success_text success.Ok);
+  verdict = line_done;
   devices = turned devices name on;
 }
 
@@ -27,13 +31,21 @@ abbrev pub rated_answer : (devices : Devices) (name : List ℕ) (units : ℕ) �
 rated_answer devices name units =
     if contains_key devices name then record {
       reply = reply.Line (success_text success.Ok);
+      verdict = line_done;
       devices = rated devices name units;
     }
-    else record { reply = reply.Line (word_text NoDevice); devices = devices }
+    else record {
+      reply = reply.Line (word_text NoDevice);
+      verdict = line_refused NoDevice;
+      devices = devices;
+    }
 
 -- an event of an account is of no device
 abbrev pub device_answered : (devices : Devices) (e : PlainEvent) → DeviceAnswer
 device_answered devices (OfDevice device (Turn on)) = turned_answer devices device on
 device_answered devices (OfDevice device (Rate units)) = rated_answer devices device units
-device_answered devices (OfAccount account it) =
-    record { reply = reply.NoAccount; devices = devices }
+device_answered devices (OfAccount account it) = record {
+  reply = reply.NoAccount;
+  verdict = line_refused NoAccount;
+  devices = devices;
+}

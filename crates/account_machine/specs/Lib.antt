@@ -1,6 +1,7 @@
 pub mod Events
 pub mod Fits
 pub mod Rates
+pub mod Verdicts
 pub mod Steps
 pub mod JobActs
 pub mod Stations

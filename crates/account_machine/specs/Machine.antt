@@ -1,4 +1,4 @@
--- One account's answer to one event, and its room afterwards.
+-- One account's answer to one event, what that came to, and its room afterwards.
 use Rattle.std.specs.Prelude.{ℕ, nat_lt, if◌then◌else◌, List, length, Option, Some, None, Result, Ok, Err}
 use Rattle.ipp_coding.specs.declared.message.Header.{Header}
 use Rattle.ipp_coding.specs.Limits.{header_length}
@@ -10,6 +10,9 @@ use Rattle.account_asks.specs.Asks.{PlainAsk, PlainRefusal, ask_of}
 use Rattle.account_machine.specs.Events.{PlainEvent, OfAccount, OfDevice, Open, Ipp, Release, Start, Settle, Grant}
 use Rattle.account_machine.specs.declared.event.Reply.{Reply}
 use Rattle.account_machine.specs.declared.event.Reply.TheVariants as reply
+use Rattle.account_machine.specs.declared.verdict.Verdict.{Verdict}
+use Rattle.account_machine.specs.declared.verdict.Verdict.TheVariants.{Refused}
+use Rattle.account_machine.specs.Verdicts.{line_done, line_refused, short_refused}
 use Rattle.account_machine.specs.Grants.{granted}
 use Rattle.account_machine.specs.JobRequests.{job_shown, cancel_of, hold_of, release_of, acted, sent}
 use Rattle.account_machine.specs.NewJobs.{made, validated}
@@ -50,6 +53,7 @@ abbrev pub responded_to :
     Response
 responded_to room devices account now header (Err refused) = record {
   text = refused_text header refused.refusal refused.unsupported;
+  verdict = Refused refused.refusal None;
   room = room;
 }
 responded_to room devices account now header (Ok ask) =
@@ -60,8 +64,13 @@ abbrev pub requested :
     Step
 requested room devices now account body =
     let response = responded_to room devices account now (header_in body) (ask_of account body) in
-    if nat_lt (length body) header_length then record { reply = reply.Short; room = room }
-    else record { reply = reply.Ipp response.text; room = response.room }
+    if nat_lt (length body) header_length
+    then record { reply = reply.Short; verdict = short_refused; room = room }
+    else record {
+      reply = reply.Ipp response.text;
+      verdict = response.verdict;
+      room = response.room;
+    }
 
 -- ---- an account that is open. A device's own event is of no account
 
@@ -81,27 +90,32 @@ answered_open room devices now (OfAccount account (Settle device job impressions
     (station_settle room (station devices device now) job impressions failed)
 answered_open room devices now (OfAccount account (Grant month pages)) = granted room month pages
 answered_open room devices now (OfDevice device it) =
-    record { reply = reply.NoAccount; room = room }
+    record { reply = reply.NoAccount; verdict = line_refused NoAccount; room = room }
 
 -- ---- an account that is not
 
--- a reply, and what room there is after it
+-- a reply, what the event came to, and what room there is after it
 pub record Answer : Type 0 where
   pub reply : Reply
+  pub verdict : Verdict
   pub room : Option RoomValue
 
-abbrev pub stays_unopened : (said : Reply) → Answer
-stays_unopened said = record { reply = said; room = None }
+abbrev pub stays_unopened : (said : Reply) (verdict : Verdict) → Answer
+stays_unopened said verdict = record { reply = said; verdict = verdict; room = None }
 
 abbrev pub answered_unopened : (now : ℕ) (e : PlainEvent) → Answer
 answered_unopened now (OfAccount account Open) = record {
   reply = reply.Line (success_text success.Ok);
+  verdict = line_done;
   room = Some (empty_room now);
 }
 answered_unopened now (OfAccount account (Ipp body)) =
-    stays_unopened (if nat_lt (length body) header_length then reply.Short else reply.NoAccount)
-answered_unopened now (OfAccount account line) = stays_unopened (reply.Line (word_text NoAccount))
-answered_unopened now (OfDevice device it) = stays_unopened reply.NoAccount
+    if nat_lt (length body) header_length then stays_unopened reply.Short short_refused
+    else stays_unopened reply.NoAccount (line_refused NoAccount)
+answered_unopened now (OfAccount account line) =
+    stays_unopened (reply.Line (word_text NoAccount)) (line_refused NoAccount)
+answered_unopened now (OfDevice device it) =
+    stays_unopened reply.NoAccount (line_refused NoAccount)
 
 -- ---- the machine
 
@@ -111,4 +125,4 @@ abbrev pub answered :
 answered None devices now e = answered_unopened now e
 answered (Some room) devices now e =
     let step = answered_open room devices now e in
-    record { reply = step.reply; room = Some step.room }
+    record { reply = step.reply; verdict = step.verdict; room = Some step.room }

@@ -4,7 +4,7 @@ use Rattle.std.specs.Prelude.{ℕ, if◌then◌else◌, List, [], ◌∷◌, Opt
 use Rattle.account_replies.specs.Queues.{accepting_refusal}
 use Rattle.account_asks.specs.Asks.{PlainAsk}
 use Rattle.account_asks.specs.Operations.{is_print_job}
-use Rattle.account_machine.specs.Requests.{Response, refusing_ask_or, doing_ask, asked_at}
+use Rattle.account_machine.specs.Requests.{Response, refusing_ask_or, doing_ask, done_with, asked_at}
 use Rattle.account_rules.specs.declared.job.Document.{Document}
 use Rattle.account_rules.specs.declared.job.Job.{Job}
 use Rattle.account_rules.specs.declared.refusal.Refusal.{Refusal}
@@ -44,7 +44,7 @@ abbrev pub made : (room : RoomValue) (account : List ℕ) (now : ℕ) (ask : Pla
 made room account now ask =
     refusing_ask_or room ask (accepts room) (λ _.
     let job = new_job room.next ask now in
-    doing_ask (with_new_job room job (new_document room.next ask)) ask
+    done_with (with_new_job room job (new_document room.next ask)) ask room.next
     (job_group (asked_at room.opened account now ask) job made_names ∷ []))
 
 abbrev pub validated : (room : RoomValue) (ask : PlainAsk) → Response

@@ -6,6 +6,7 @@ use Rattle.account_replies.specs.Parts.{part_of}
 use Rattle.account_replies.specs.Stations.{known_device, ready_device}
 use Rattle.account_machine.specs.declared.event.Reply.TheVariants as reply
 use Rattle.account_machine.specs.JobActs.{act_on}
+use Rattle.account_machine.specs.Verdicts.{line_done}
 use Rattle.account_machine.specs.Steps.{Step, refusing_or, telling, and_then, with_moved}
 use Rattle.account_rules.specs.Acts.{StationRelease, StationStart, StationSettle}
 use Rattle.account_rules.specs.declared.device.Device.{Device}
@@ -64,6 +65,7 @@ station_start room at number =
 abbrev pub start_told : (room : RoomValue) (number : ℕ) (decided : Result Standing Word) → Step
 start_told room number decided = refusing_or room decided (λ (standing : Standing). record {
   reply = reply.Documents (map (part_of standing.copies) (documents_of room number));
+  verdict = line_done;
   room = with_moved room number standing;
 })
 

@@ -1,8 +1,10 @@
--- What an event does to an account that is open: a reply, and the room after it.
+-- What an event does to an account that is open: a reply, what it came to, and the room after it.
 use Rattle.std.specs.Prelude.{ℕ, if◌then◌else◌, None, Result, Ok, Err}
 use Rattle.account_rules.specs.JobStates.{is_unfinished}
 use Rattle.account_machine.specs.declared.event.Reply.{Reply}
 use Rattle.account_machine.specs.declared.event.Reply.TheVariants as reply
+use Rattle.account_machine.specs.declared.verdict.Verdict.{Verdict}
+use Rattle.account_machine.specs.Verdicts.{line_done, line_refused}
 use Rattle.account_rules.specs.declared.job.Standing.{Standing}
 use Rattle.account_rules.specs.declared.refusal.Word.{Word}
 use Rattle.account_state.specs.Changes.{with_standing, with_ended}
@@ -13,15 +15,24 @@ use Rattle.account_replies.specs.Words.{word_text}
 
 pub record Step : Type 0 where
   pub reply : Reply
+  pub verdict : Verdict
   pub room : RoomValue
 
 -- a line that tells why, and nothing changes
 abbrev pub refusing : (room : RoomValue) (word : Word) → Step
-refusing room word = record { reply = reply.Line (word_text word); room = room }
+refusing room word = record {
+  reply = reply.Line (word_text word);
+  verdict = line_refused word;
+  room = room;
+}
 
 -- a line that tells what was done
 abbrev pub telling : (room : RoomValue) (success : Success) → Step
-telling room success = record { reply = reply.Line (success_text success); room = room }
+telling room success = record {
+  reply = reply.Line (success_text success);
+  verdict = line_done;
+  room = room;
+}
 
 -- the line that tells why, or what comes of an event that is not refused
 abbrev pub refusing_or :

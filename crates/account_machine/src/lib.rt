@@ -11,6 +11,7 @@ mod moving;
 mod queue;
 mod quota;
 mod respond;
+mod verdict;
 
 pub use account_asks::{Ask, AskFault, Operation, Which, new_job, read_ask};
 pub use account_replies::{
@@ -33,3 +34,4 @@ pub use moving::{by_word, released, released_at};
 pub use queue::jobs_told;
 pub use quota::left_with;
 pub use respond::{asked_at, made_names, no_job, wanted_names};
+pub use verdict::{Answered, Verdict};
