@@ -9,7 +9,8 @@ use Rattle.account_asks.specs.declared.operation.Operation.TheVariants.{PrintJob
 use Rattle.account_machine.specs.Events.{OfAccount, Ipp}
 use Rattle.account_machine.specs.Machine.{answered_open, responded, responded_to}
 use Rattle.account_machine.specs.NewJobs.{accepts, made, made_names, new_document, new_job}
-use Rattle.account_machine.specs.Requests.{Response, asked_at, doing_ask, refusing_ask_or}
+use Rattle.account_machine.specs.Requests.{Response, asked_at, doing_ask, done_with, refusing_ask_or}
+use Rattle.account_machine.specs.Verdicts.{short_refused}
 use Rattle.account_machine.specs.declared.event.Reply.TheVariants as reply
 use Rattle.account_laws.proofs.HiddenAnswers.{AnswerAlike, StepAlike, hidden_response, hidden_step}
 use Rattle.account_laws.proofs.HiddenPasswords.{group_hidden, hidden, same_secrets, secret}
@@ -51,10 +52,10 @@ module _ (room : RoomValue) (devices : Devices) (account : List ℕ) (now : ℕ)
       at = asked_at room.opened account now ask
 
       done : (password : List ℕ) → Response
-      done password = doing_ask (with_new_job room (job password) (new_document room.next ask)) ask (job_group at (job password) made_names ∷ [])
+      done password = done_with (with_new_job room (job password) (new_document room.next ask)) ask room.next (job_group at (job password) made_names ∷ [])
 
       by : (taken : Result (Unit {0}) Refusal) → AnswerAlike (refusing_ask_or room (with_password ask p) taken (λ _. done p)) (refusing_ask_or room (with_password ask q) taken (λ _. done q))
-      by (Ok x) = λ i. record { text = (doing_ask room ask (same_group at i ∷ [])).text; room = same_after i }
+      by (Ok x) = λ i. record { text = (doing_ask room ask (same_group at i ∷ [])).text; verdict = (done_with room ask room.next []).verdict; room = same_after i }
       by (Err refusal) = refl
 
   responded_alike : (operation : Operation) → AnswerAlike (responded room devices account now (with_password ask p) operation) (responded room devices account now (with_password ask q) operation)
@@ -75,13 +76,13 @@ module _ (room : RoomValue) (devices : Devices) (account : List ℕ) (now : ℕ)
   read_alike header other (Err a) (Ok b) same alike = absurd alike
 
   step_alike : (short : Bool) (first second : Response) → AnswerAlike first second
-      → StepAlike (cond short (record { reply = reply.Short; room = room }) (record { reply = reply.Ipp first.text; room = first.room })) (cond short (record { reply = reply.Short; room = room }) (record { reply = reply.Ipp second.text; room = second.room }))
+      → StepAlike (cond short (record { reply = reply.Short; verdict = short_refused; room = room }) (record { reply = reply.Ipp first.text; verdict = first.verdict; room = first.room })) (cond short (record { reply = reply.Short; verdict = short_refused; room = room }) (record { reply = reply.Ipp second.text; verdict = second.verdict; room = second.room }))
   step_alike true first second alike = refl
-  step_alike false first second alike = ap (λ (response : Response). record { reply = reply.Ipp response.text; room = response.room }) alike
+  step_alike false first second alike = ap (λ (response : Response). record { reply = reply.Ipp response.text; verdict = response.verdict; room = response.room }) alike
 
   pub bodies_alike : (a b : List ℕ) → AreBodiesAlike account a b → StepAlike (answered_open room devices now (OfAccount account (Ipp a))) (answered_open room devices now (OfAccount account (Ipp b)))
   bodies_alike a b alike =
       let first = responded_to room devices account now (header_in a) (ask_of account a) in
       let second = responded_to room devices account now (header_in b) (ask_of account b) in
-      ap (λ (short : Bool). hidden_step (cond short (record { reply = reply.Short; room = room }) (record { reply = reply.Ipp first.text; room = first.room }))) alike.short
+      ap (λ (short : Bool). hidden_step (cond short (record { reply = reply.Short; verdict = short_refused; room = room }) (record { reply = reply.Ipp first.text; verdict = first.verdict; room = first.room }))) alike.short
       ∙ step_alike (nat_lt (length b) header_length) first second (read_alike (header_in a) (header_in b) (ask_of account a) (ask_of account b) alike.header alike.read)

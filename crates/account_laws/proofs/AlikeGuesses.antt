@@ -20,6 +20,7 @@ use Rattle.account_laws.specs.StationAnswers.{is_wrong}
 use Rattle.account_replies.specs.Lines.{success_text}
 use Rattle.account_replies.specs.Stations.{ready_device}
 use Rattle.account_replies.specs.declared.station_line.Success.TheVariants.{Released}
+use Rattle.account_machine.specs.Verdicts.{line_done}
 use Rattle.account_rules.specs.Acts.{StationRelease}
 use Rattle.account_rules.specs.Devices.{Devices}
 use Rattle.account_rules.specs.Effects.{after_reserving, impressions_of, is_incomplete, is_wrong_password, refused}
@@ -72,11 +73,11 @@ module _ (a b : RoomValue) (same : hidden_room a ≡ hidden_room b) where
       ∙ moved_hidden b number standing
 
   told_alike : (now number : ℕ) (decided : Result Standing Word) → StepAlike (release_told a now number decided) (release_told b now number decided)
-  told_alike now number (Err word) = ap (λ room. record { reply = (refusing a word).reply; room = room }) same
+  told_alike now number (Err word) = ap (λ room. record { reply = (refusing a word).reply; verdict = (refusing a word).verdict; room = room }) same
   told_alike now number (Ok standing) =
       let rooms = moved_alike number standing in
       let left = left_alike (with_moved a number standing) (with_moved b number standing) now rooms in
-      λ i. record { reply = reply.Line (success_text (Released standing.reserved (left i))); room = rooms i }
+      λ i. record { reply = reply.Line (success_text (Released standing.reserved (left i))); verdict = line_done; room = rooms i }
 
 module _ (told other : AccountTold) (a b : RoomValue) (stands : StandsAsTold told a) (stand_too : StandsAsTold other b) (same : hidden_room a ≡ hidden_room b) where
   pub guesses_alike : (devices : Devices) (now : ℕ) (account device : List ℕ) (number impressions : ℕ) (given tried : List ℕ) → is_wrong_for told number given ≡ is_wrong_for other number tried →

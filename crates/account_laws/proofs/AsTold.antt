@@ -16,6 +16,7 @@ use Rattle.account_asks.specs.Operations.{is_print_job}
 use Rattle.account_asks.specs.declared.operation.Operation.{Operation}
 use Rattle.account_asks.specs.declared.operation.Operation.TheVariants.{PrintJob, ValidateJob, CreateJob, SendDocument, GetJobAttributes, GetJobs, GetPrinterAttributes}
 use Rattle.account_asks.specs.declared.operation.Operation.TheVariants as asks
+use Rattle.account_machine.specs.Verdicts.{line_done, line_refused}
 use Rattle.account_machine.specs.DeviceEvents.{DeviceAnswer, device_answered}
 use Rattle.account_machine.specs.Events.{AccountEvent, DeviceEvent, OfAccount, OfDevice, Open, Ipp, Release, Start, Settle, Grant, Turn, Rate}
 use Rattle.account_machine.specs.JobRequests.{has_data, has_password, sent_document}
@@ -27,7 +28,7 @@ use Rattle.account_machine.specs.declared.event.Reply.TheVariants as reply
 use Rattle.account_laws.proofs.Afterwards.{inserted}
 use Rattle.account_laws.proofs.Changes.{Makes, refuses, reads, makes, takes, acts, releases, starts, settles, grants, act_asked, makes_one, only_reads, makes_jobs, ready_is}
 use Rattle.account_laws.proofs.DevicesStay.{same_name}
-use Rattle.account_laws.proofs.LifeLemmas.{account_exchange, device_exchange, of_each_life}
+use Rattle.account_laws.proofs.LifeLemmas.{account_exchange, device_exchange, of_each_life, unopened_answer}
 use Rattle.account_laws.proofs.Moved.{no_document_more, one_document_more, same_copies, same_created, same_documents, was_unfinished, brings_document}
 use Rattle.account_laws.proofs.PlacedDocuments.{Follows, none_after, none_placed, others_stay, placed, placed_with, same_placed}
 use Rattle.account_laws.proofs.StageLemmas.{canceled_at, freed_at, held_at, released_at, sent_at, settled_at, started_at}
@@ -576,14 +577,14 @@ abbrev pub AccountKeeps : AccountTold → Option RoomValue → Type 0
 AccountKeeps told None = WasNotOpened told
 AccountKeeps told (Some room) = Keeps told room
 
-unopened_short : (told : AccountTold) (now : ℕ) (account body : List ℕ) (short : Bool) → after_deed now told (account_deed account (Ipp body) (cond short reply.Short reply.NoAccount)) ≡ told
-unopened_short told now account body true = refl
-unopened_short told now account body false = refl
+unopened_keeps : (told : AccountTold) (now : ℕ) (account body : List ℕ) → WasNotOpened told → (short : Bool) → AccountKeeps (after_deed now told (account_deed account (Ipp body) (unopened_answer short).reply)) (unopened_answer short).room
+unopened_keeps told now account body was true = was
+unopened_keeps told now account body was false = was
 
 account_keeps : (told : AccountTold) (room : Option RoomValue) (devices : Devices) → ((name : List ℕ) → get devices name ≡ device_told told name) → (now : ℕ) (account : List ℕ) (it : AccountEvent) → AccountKeeps told room
     → AccountKeeps (after_deed now told (account_deed account it (answered room devices now (OfAccount account it)).reply)) (answered room devices now (OfAccount account it)).room
 account_keeps told None devices known now account Open was = opens told now was
-account_keeps told None devices known now account (Ipp body) was = subst WasNotOpened (sym (unopened_short told now account body (nat_lt (length body) header_length))) was
+account_keeps told None devices known now account (Ipp body) was = unopened_keeps told now account body was (nat_lt (length body) header_length)
 account_keeps told None devices known now account (Release device number password impressions) was = was
 account_keeps told None devices known now account (Start device number) was = was
 account_keeps told None devices known now account (Settle device number impressions failed) was = was
@@ -742,7 +743,7 @@ rates told devices name units knows there = record {
 -- the answer to a rate, of a device that is known or is not
 abbrev pub rated_by : (there : Bool) (devices : Devices) (name : List ℕ) (units : ℕ) → DeviceAnswer
 rated_by there devices name units =
-    cond there (record { reply = reply.Line (success_text success.Ok); devices = insert devices name (record { name = name; on = is_on_in devices name; rate = units }) }) (record { reply = reply.Line (word_text NoDevice); devices = devices })
+    cond there (record { reply = reply.Line (success_text success.Ok); verdict = line_done; devices = insert devices name (record { name = name; on = is_on_in devices name; rate = units }) }) (record { reply = reply.Line (word_text NoDevice); verdict = line_refused NoDevice; devices = devices })
 
 device_turns : (told : AccountTold) (devices : Devices) (now : ℕ) (device : List ℕ) (it : DeviceEvent) → KnowsDevices told devices
     → KnowsDevices (after_deed now told (device_deed device it (device_answered devices (OfDevice device it)).reply)) (device_answered devices (OfDevice device it)).devices

@@ -13,7 +13,8 @@ use Rattle.account_machine.specs.JobActs.{act_on, job_in, job_or_refusal}
 use Rattle.account_machine.specs.JobRequests.{acted, document_taken, has_data, has_password, sent_document}
 use Rattle.account_machine.specs.Machine.{answered_open, requested, responded, responded_to}
 use Rattle.account_machine.specs.NewJobs.{accepts, made, made_names, new_job, new_document}
-use Rattle.account_machine.specs.Requests.{Response, asked_at, doing_ask, refusing_ask, refusing_ask_or}
+use Rattle.account_machine.specs.Requests.{Response, asked_at, doing_ask, done_with, refusing_ask, refusing_ask_or}
+use Rattle.account_machine.specs.Verdicts.{short_refused}
 use Rattle.account_machine.specs.Stations.{by_word, release_told, settling_told, start_told}
 use Rattle.account_machine.specs.Steps.{Step, and_then, refusing, refusing_or, telling, with_moved}
 use Rattle.account_machine.specs.declared.event.Reply.{Reply}
@@ -101,7 +102,7 @@ refuses_ask room devices now account body ask refusal errs = refuses _ _ (tells_
 -- Print-Job and Create-Job
 made_or : (room : RoomValue) (devices : Devices) (now : ℕ) (account : List ℕ) (body : List ℕ) (ask : PlainAsk) (groups : List PlainGroup) → ask_of account body ≡ Ok ask → makes_jobs ask.operation ≡ true
     → (taken : Result (Unit {0}) Refusal) → accepts room ≡ taken → RefusesByError taken
-    → MakesResponse room devices now account body (refusing_ask_or room ask taken (λ _. doing_ask (with_new_job room (new_job room.next ask now) (new_document room.next ask)) ask groups))
+    → MakesResponse room devices now account body (refusing_ask_or room ask taken (λ _. done_with (with_new_job room (new_job room.next ask now) (new_document room.next ask)) ask room.next groups))
 made_or room devices now account body ask groups asked it (Ok tt) is errs = makes body ask _ asked it is (tells_success ask.header ask.unsupported groups)
 made_or room devices now account body ask groups asked it (Err refusal) is errs = refuses_ask room devices now account body ask refusal errs
 
@@ -160,7 +161,7 @@ read_ask room devices now account body (Err refused) asked = refuses _ _ (tells_
 
 -- one that is too short for a header is told so
 long_or_short : (room : RoomValue) (devices : Devices) (now : ℕ) (account : List ℕ) (body : List ℕ) (told : Response) → MakesResponse room devices now account body told → (is_short : Bool)
-    → MakesStep room devices now account (Ipp body) (cond is_short (record { reply = reply.Short; room = room }) (record { reply = reply.Ipp told.text; room = told.room }))
+    → MakesStep room devices now account (Ipp body) (cond is_short (record { reply = reply.Short; verdict = short_refused; room = room }) (record { reply = reply.Ipp told.text; verdict = told.verdict; room = told.room }))
 long_or_short room devices now account body told made true = refuses _ _ refl refl refl
 long_or_short room devices now account body told made false = made
 

@@ -22,7 +22,7 @@ use Rattle.account_laws.proofs.AsTold.{Keeps, all_keep, deed_done, found, makes_
 use Rattle.account_laws.proofs.Changes.{Makes, refuses, reads, makes, takes, acts, releases, starts, settles, grants, act_asked, makes_one, ready_is}
 use Rattle.account_laws.proofs.DocumentsOfJobs as documents
 use Rattle.account_laws.proofs.DocumentsOfJobs.{AreOfJobs, has_of_jobs}
-use Rattle.account_laws.proofs.LifeLemmas.{account_exchange, device_exchange, leads_on, of_each_life}
+use Rattle.account_laws.proofs.LifeLemmas.{account_exchange, device_exchange, leads_on, of_each_life, unopened_answer}
 use Rattle.account_laws.proofs.Moved.{document_taken, same_copies, was_unfinished}
 use Rattle.account_laws.specs.AccountsTold.{AccountTold, account_told, after_exchange, nothing_told, rate_told}
 use Rattle.account_laws.specs.Deeds.{Deed, Made, Brought, Canceled, HeldBack, Freed, Released, Started, Settled, Turned, Rated, NoDeed, account_deed, asked_deed, deed_of, device_deed}
@@ -275,7 +275,7 @@ record IsFound (past : Life) (room : Option RoomValue) (devices : Devices) : Typ
   pub is : IsLife past room devices
   pub all : FindAll nothing_told past
 
-short_finds : (told : AccountTold) (now : ℕ) (account body : List ℕ) (short : Bool) → Finds told ((now, OfAccount account (Ipp body)), cond short reply.Short reply.NoAccount) (account_deed account (Ipp body) (cond short reply.Short reply.NoAccount))
+short_finds : (told : AccountTold) (now : ℕ) (account body : List ℕ) (short : Bool) → Finds told ((now, OfAccount account (Ipp body)), (unopened_answer short).reply) (account_deed account (Ipp body) (unopened_answer short).reply)
 short_finds told now account body true = tt
 short_finds told now account body false = tt
 

@@ -1,18 +1,19 @@
 -- Each document stands under the number of its job, as it was sent.
-use Rattle.std.proofs.Common.{◌≡◌, ℕ, Bool, true, false, cond, ◌==◌, ◌&&◌, not, List, [], ◌∷◌, ◌++◌, map, Option, Some, None, refl, sym, ap, ◌∙◌, arith}
+use Rattle.std.proofs.Common.{◌≡◌, ℕ, Bool, true, false, cond, ◌==◌, ◌&&◌, not, List, [], ◌∷◌, ◌++◌, map, Option, Some, None, refl, sym, ap, ◌∙◌, arith, nat_lt, length}
 use Rattle.std.specs.FinMap.{FinMap, get, get-empty, get-insert}
 use Rattle.std.specs.List.{flat_map}
 use Rattle.std.specs.Option.{option_to_list}
 use Rattle.std.proofs.lemmas.Bool.Decides.{nat_tests}
 use Rattle.std.proofs.lemmas.Option.{none-some, same_Some}
-use Rattle.account_machine.specs.Events.{AccountEvent, OfAccount, Open}
+use Rattle.ipp_coding.specs.Limits.{header_length}
+use Rattle.account_machine.specs.Events.{AccountEvent, Ipp, OfAccount, Open}
 use Rattle.account_machine.specs.JobRequests.{sent_document}
 use Rattle.account_machine.specs.Machine.{answered}
 use Rattle.account_machine.specs.NewJobs.{new_document}
 use Rattle.account_machine.specs.Steps.{with_moved}
 use Rattle.account_machine.specs.declared.event.Reply.{Reply}
 use Rattle.account_laws.proofs.Changes.{Makes, refuses, reads, makes, takes, acts, releases, starts, settles, grants, makes_one}
-use Rattle.account_laws.proofs.LifeLemmas.{of_each_life}
+use Rattle.account_laws.proofs.LifeLemmas.{of_each_life, unopened_answer}
 use Rattle.account_laws.specs.Lives.{IsLife, Life}
 use Rattle.account_laws.specs.StandsAsTold.{as_sent}
 use Rattle.account_laws.specs.StationAnswers.{part_told}
@@ -84,6 +85,7 @@ answered_keeps None devices now account it has = unopened it
   where
     unopened : (it : AccountEvent) → RoomHasOfJobs (answered None devices now (OfAccount account it)).room
     unopened Open = λ number k document here. absurd (none-some document (sym (get-empty place_cmp (number, k)) ∙ here))
+    unopened (Ipp body) = elim (nat_lt (length body) header_length) as (λ (b : Bool). RoomHasOfJobs (unopened_answer b).room) [ true ↦ tt | false ↦ tt ]
     unopened _ = tt
 answered_keeps (Some room) devices now account it are = each_keeps room devices now account it _ _ (makes_one room devices now account it) are
 

@@ -18,7 +18,7 @@ use Rattle.account_machine.specs.Machine.{responded}
 use Rattle.account_machine.specs.NewJobs.{accepts, made_names, new_document, new_job}
 use Rattle.account_machine.specs.Printers.{printer_of}
 use Rattle.account_machine.specs.Queues.{asked_jobs, listed_names}
-use Rattle.account_machine.specs.Requests.{Response, answer_to, asked_at, doing_ask, refusing_ask_or}
+use Rattle.account_machine.specs.Requests.{Response, answer_to, asked_at, doing_ask, done_with, refusing_ask_or}
 use Rattle.account_machine.specs.Steps.{and_then, with_moved}
 use Rattle.account_machine.specs.declared.event.Reply.TheVariants as reply
 use Rattle.account_laws.proofs.Afterwards.{inserted}
@@ -147,10 +147,10 @@ module _ (told : AccountTold) (room : RoomValue) (devices : Devices) (known : (n
       ((made_one told room now ask keeps).stands.jobs told.next)
 
   makes : (operation : Operation) (groups : List PlainGroup) → groups ≡ job_group (place_told told account now ask) (job_shown told.next (job_made now ask)) made_names ∷ []
-      → (let response = refusing_ask_or room ask (accepts room) (λ _. doing_ask (with_new_job room (new_job room.next ask now) (new_document room.next ask)) ask (job_group (asked_at room.opened account now ask) (new_job room.next ask now) made_names ∷ [])) in
+      → (let response = refusing_ask_or room ask (accepts room) (λ _. done_with (with_new_job room (new_job room.next ask now) (new_document room.next ask)) ask room.next (job_group (asked_at room.opened account now ask) (new_job room.next ask now) made_names ∷ [])) in
       IsDone response → response.text ≡ answer_to ask groups)
   makes operation groups are =
-      says_or room ask groups (accepts room) (λ _. doing_ask (with_new_job room (new_job room.next ask now) (new_document room.next ask)) ask (job_group (asked_at room.opened account now ask) (new_job room.next ask now) made_names ∷ [])) (accepting_errs (unfinished_count room) room.next)
+      says_or room ask groups (accepts room) (λ _. done_with (with_new_job room (new_job room.next ask now) (new_document room.next ask)) ask room.next (job_group (asked_at room.opened account now ask) (new_job room.next ask now) made_names ∷ [])) (accepting_errs (unfinished_count room) room.next)
       (λ _ _. ap (answer_to ask) (ap (λ (g : PlainGroup). g ∷ []) (group_is told.next (job_made now ask) (with_new_job room (new_job room.next ask now) (new_document room.next ask)) (new_job room.next ask now) made_names made_is) ∙ sym are))
 
   -- Cancel-Job, Hold-Job and Release-Job

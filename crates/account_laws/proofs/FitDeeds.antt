@@ -10,12 +10,11 @@ use Rattle.account_machine.specs.Events.{AccountEvent, DeviceEvent, OfAccount, O
 use Rattle.account_machine.specs.JobRequests.{has_password}
 use Rattle.account_machine.specs.Machine.{answered}
 use Rattle.account_machine.specs.declared.event.Reply.{Reply}
-use Rattle.account_machine.specs.declared.event.Reply.TheVariants as reply
 use Rattle.account_laws.proofs.AsTold.{AccountKeeps, Keeps, all_keep, counts_alike, deed_done, found, makes_one_job, no_deed, rate_is_told, reads_no_deed}
 use Rattle.account_laws.proofs.AsToldSums.{left_as_told}
 use Rattle.account_laws.proofs.Changes.{Makes, refuses, reads, makes, takes, acts, releases, starts, settles, grants, act_asked, makes_one, ready_is}
 use Rattle.account_laws.proofs.DeedFinds.{IsPrinted, none_next, printed_if_settled, same_act, waits_if_released}
-use Rattle.account_laws.proofs.LifeLemmas.{front_of_life}
+use Rattle.account_laws.proofs.LifeLemmas.{front_of_life, unopened_answer}
 use Rattle.account_laws.specs.AccountsTold.{AccountTold, account_told, left_told, rate_told}
 use Rattle.account_laws.specs.Deeds.{Deed, Made, Freed, Released, Settled, Granted, Turned, Rated, NoDeed, account_deed, asked_deed, deed_of, device_deed, moment_of}
 use Rattle.account_laws.specs.JobsTold.{JobTold, Stage, Waits, need_told}
@@ -118,7 +117,7 @@ account_fit : (told : AccountTold) (room : Option RoomValue) (devices : Devices)
     → IsFit told now (account_deed account it (answered room devices now (OfAccount account it)).reply)
 account_fit told None devices known now account Open was = tt
 account_fit told None devices known now account (Ipp body) was =
-    (elim (nat_lt (length body) header_length) as (λ (b : Bool). IsFit told now (account_deed account (Ipp body) (cond b reply.Short reply.NoAccount))) [ true ↦ tt | false ↦ tt ])
+    (elim (nat_lt (length body) header_length) as (λ (b : Bool). IsFit told now (account_deed account (Ipp body) (unopened_answer b).reply)) [ true ↦ tt | false ↦ tt ])
 account_fit told None devices known now account (Release device number password impressions) was = tt
 account_fit told None devices known now account (Start device number) was = tt
 account_fit told None devices known now account (Settle device number impressions failed) was = tt

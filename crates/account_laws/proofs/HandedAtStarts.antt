@@ -1,5 +1,5 @@
 -- Documents are the answer to a start, and to nothing else.
-use Rattle.std.proofs.Common.{◌≡◌, ℕ, Bool, true, false, cond, List, length, nat_lt, Option, Some, None, refl, sym, ap, subst, ◌∙◌}
+use Rattle.std.proofs.Common.{◌≡◌, ℕ, Bool, true, false, List, length, nat_lt, Option, Some, None, refl, sym, ap, subst, ◌∙◌}
 use Rattle.std.specs.FinMap.{contains_key}
 use Rattle.std.proofs.lemmas.Bool.{true≢false}
 use Rattle.ipp_coding.specs.Limits.{header_length}
@@ -7,10 +7,9 @@ use Rattle.account_machine.specs.DeviceEvents.{device_answered}
 use Rattle.account_machine.specs.Events.{AccountEvent, DeviceEvent, OfAccount, OfDevice, Ipp, Turn, Rate}
 use Rattle.account_machine.specs.Machine.{answered, answered_unopened}
 use Rattle.account_machine.specs.declared.event.Reply.{Reply}
-use Rattle.account_machine.specs.declared.event.Reply.TheVariants as reply
 use Rattle.account_laws.proofs.Changes.{Makes, refuses, starts, makes_one}
 use Rattle.account_laws.proofs.AsTold.{rated_by}
-use Rattle.account_laws.proofs.LifeLemmas.{front_of_life}
+use Rattle.account_laws.proofs.LifeLemmas.{front_of_life, unopened_answer}
 use Rattle.account_laws.specs.HandedAsSent.{HandedAtStarts, IsStart}
 use Rattle.account_laws.specs.Told.{is_documents}
 use Rattle.account_rules.specs.Devices.{Devices}
@@ -22,7 +21,7 @@ by_open room devices now account _ _ _ (starts device number ready job standing 
 by_open room devices now account _ _ _ _ is = absurd (true≢false (sym is))
 
 none_unopened : (now : ℕ) (account : List ℕ) (it : AccountEvent) → is_documents (answered_unopened now (OfAccount account it)).reply ≡ false
-none_unopened now account (Ipp body) = elim (nat_lt (length body) header_length) as (λ (b : Bool). is_documents (cond b reply.Short reply.NoAccount) ≡ false) [ true ↦ refl | false ↦ refl ]
+none_unopened now account (Ipp body) = elim (nat_lt (length body) header_length) as (λ (b : Bool). is_documents (unopened_answer b).reply ≡ false) [ true ↦ refl | false ↦ refl ]
 none_unopened now account _ = refl
 
 by_account : (room : Option RoomValue) (devices : Devices) (now : ℕ) (account : List ℕ) (it : AccountEvent) → let said = (answered room devices now (OfAccount account it)).reply in is_documents said ≡ true → IsStart ((now, OfAccount account it), said)

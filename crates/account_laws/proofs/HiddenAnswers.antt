@@ -16,7 +16,10 @@ use Rattle.account_machine.specs.Machine.{answered_open, responded, responded_to
 use Rattle.account_machine.specs.NewJobs.{made, made_names, new_document, new_job, validated}
 use Rattle.account_machine.specs.Printers.{printer_shown}
 use Rattle.account_machine.specs.Queues.{asked_jobs, listed, listed_names}
-use Rattle.account_machine.specs.Requests.{Response, asked_at, doing_ask, refusing_ask, refusing_ask_or}
+use Rattle.account_machine.specs.Requests.{Response, asked_at, doing_ask, done_with, refusing_ask, refusing_ask_or}
+use Rattle.account_machine.specs.Verdicts.{line_done, line_refused, short_refused}
+use Rattle.account_machine.specs.declared.verdict.Verdict.{Verdict}
+use Rattle.account_machine.specs.declared.verdict.Verdict.TheVariants.{Refused}
 use Rattle.account_machine.specs.Stations.{PlainStation, by_word, settling_told, start_told, station, station_settle, station_start}
 use Rattle.account_machine.specs.Steps.{Step, and_then, refusing, refusing_or, telling, with_moved}
 use Rattle.account_machine.specs.declared.event.Reply.{Reply}
@@ -53,10 +56,10 @@ use Rattle.account_laws.proofs.MappedValues.{get-with_each, values-with_each}
 
 -- the passwords are hidden in the room after it
 abbrev pub hidden_step : Step → Step
-hidden_step step = record { reply = step.reply; room = hidden_room step.room }
+hidden_step step = record { reply = step.reply; verdict = step.verdict; room = hidden_room step.room }
 
 abbrev pub hidden_response : Response → Response
-hidden_response response = record { text = response.text; room = hidden_room response.room }
+hidden_response response = record { text = response.text; verdict = response.verdict; room = hidden_room response.room }
 
 -- two responses that are alike
 abbrev pub AnswerAlike : (a b : Response) → Type 0
@@ -89,16 +92,19 @@ act_hidden room number first second same =
 -- ---- requests
 
 module _ (room : RoomValue) (ask : PlainAsk) where
+  done_alike : (number : ℕ) (a b : RoomValue) (first second : List PlainGroup) → hidden_room a ≡ hidden_room b → first ≡ second → AnswerAlike (done_with a ask number first) (done_with b ask number second)
+  done_alike number a b first second rooms groups = λ i. record { text = (done_with b ask number (groups i)).text; verdict = (done_with b ask number second).verdict; room = rooms i }
+
   doing_alike : (a b : RoomValue) (first second : List PlainGroup) → hidden_room a ≡ hidden_room b → first ≡ second → AnswerAlike (doing_ask a ask first) (doing_ask b ask second)
-  doing_alike a b first second rooms groups = λ i. record { text = (doing_ask b ask (groups i)).text; room = rooms i }
+  doing_alike = done_alike ask.job
 
   refused_alike : {A : Type 0} (decided : Result A Refusal) (first second : A → Response) → ((x : A) → AnswerAlike (first x) (second x)) → AnswerAlike (refusing_ask_or (hidden_room room) ask decided first) (refusing_ask_or room ask decided second)
-  refused_alike (Err refusal) first second alike = λ i. record { text = (refusing_ask room ask refusal).text; room = room_once room i }
+  refused_alike (Err refusal) first second alike = λ i. record { text = (refusing_ask room ask refusal).text; verdict = (refusing_ask room ask refusal).verdict; room = room_once room i }
   refused_alike (Ok x) first second alike = alike x
 
   found_alike : (found : Option Job) (first second : Job → Response) → ((job : Job) → AnswerAlike (first (hidden job)) (second job)) →
       AnswerAlike (refusing_ask_or (hidden_room room) ask (job_or_refusal (option_map hidden found)) first) (refusing_ask_or room ask (job_or_refusal found) second)
-  found_alike None first second alike = ap (λ (after : RoomValue). record { text = (refusing_ask_or room ask (job_or_refusal None) second).text; room = after }) (room_once room)
+  found_alike None first second alike = ap (λ (after : RoomValue). record { text = (refusing_ask_or room ask (job_or_refusal None) second).text; verdict = (refusing_ask_or room ask (job_or_refusal None) second).verdict; room = after }) (room_once room)
   found_alike (Some job) first second alike = alike job
 
   -- what is decided of a job that is there
@@ -153,8 +159,8 @@ module _ (room : RoomValue) (ask : PlainAsk) where
       let job = new_job room.next ask now in
       let document = new_document room.next ask in
       let groups : List PlainGroup = job_group (asked_at room.opened account now ask) job made_names ∷ [] in
-      accepted_alike (λ _. doing_ask (with_new_job (hidden_room room) job document) ask groups) (λ _. doing_ask (with_new_job room job document) ask groups) (λ _.
-      doing_alike (with_new_job (hidden_room room) job document) (with_new_job room job document) groups groups (new_hidden room job document) refl)
+      accepted_alike (λ _. done_with (with_new_job (hidden_room room) job document) ask room.next groups) (λ _. done_with (with_new_job room job document) ask room.next groups) (λ _.
+      done_alike room.next (with_new_job (hidden_room room) job document) (with_new_job room job document) groups groups (new_hidden room job document) refl)
 
   validated_alike : AnswerAlike (validated (hidden_room room) ask) (validated room ask)
   validated_alike = accepted_alike (λ _. doing_ask (hidden_room room) ask []) (λ _. doing_ask room ask []) (λ _. doing_alike (hidden_room room) room [] [] (room_once room) refl)
@@ -169,6 +175,7 @@ module _ (room : RoomValue) (ask : PlainAsk) where
   printer_alike : (devices : Devices) (account : List ℕ) (now : ℕ) → AnswerAlike (printer_shown (hidden_room room) devices account now ask) (printer_shown room devices account now ask)
   printer_alike devices account now = λ i. record {
     text = (doing_ask room ask (printer_group (asked_at room.opened account now ask) (printer_now (unfinished_hidden room i) room.next (processing_hidden room i) (is_some_on devices)) ask.wanted ∷ [])).text;
+    verdict = (doing_ask room ask []).verdict;
     room = room_once room i;
   }
 
@@ -185,23 +192,23 @@ module _ (room : RoomValue) (ask : PlainAsk) where
   responded_alike devices account now ReleaseJob = acted_alike (release_of (hidden_room room) now ask) (release_of room now ask) (release_alike now)
 
 read_alike : (room : RoomValue) (devices : Devices) (account : List ℕ) (now : ℕ) (header : Header) (read : Result PlainAsk PlainRefusal) → AnswerAlike (responded_to (hidden_room room) devices account now header read) (responded_to room devices account now header read)
-read_alike room devices account now header (Err refused) = λ i. record { text = refused_text header refused.refusal refused.unsupported; room = room_once room i }
+read_alike room devices account now header (Err refused) = λ i. record { text = refused_text header refused.refusal refused.unsupported; verdict = Refused refused.refusal None; room = room_once room i }
 read_alike room devices account now header (Ok ask) = responded_alike room ask devices account now ask.operation
 
 -- ---- steps
 
 module _ (room : RoomValue) where
-  replying_alike : (said : Reply) (a b : RoomValue) → hidden_room a ≡ hidden_room b → StepAlike (record { reply = said; room = a }) (record { reply = said; room = b })
-  replying_alike said a b rooms = ap (λ room. record { reply = said; room = room }) rooms
+  replying_alike : (said : Reply) (came : Verdict) (a b : RoomValue) → hidden_room a ≡ hidden_room b → StepAlike (record { reply = said; verdict = came; room = a }) (record { reply = said; verdict = came; room = b })
+  replying_alike said came a b rooms = ap (λ room. record { reply = said; verdict = came; room = room }) rooms
 
   requested_alike : (short : Bool) (first second : Response) → AnswerAlike first second →
-      StepAlike (cond short (record { reply = reply.Short; room = hidden_room room }) (record { reply = reply.Ipp first.text; room = first.room }))
-      (cond short (record { reply = reply.Short; room = room }) (record { reply = reply.Ipp second.text; room = second.room }))
-  requested_alike true first second alike = replying_alike reply.Short (hidden_room room) room (room_once room)
-  requested_alike false first second alike = ap (λ (response : Response). record { reply = reply.Ipp response.text; room = response.room }) alike
+      StepAlike (cond short (record { reply = reply.Short; verdict = short_refused; room = hidden_room room }) (record { reply = reply.Ipp first.text; verdict = first.verdict; room = first.room }))
+      (cond short (record { reply = reply.Short; verdict = short_refused; room = room }) (record { reply = reply.Ipp second.text; verdict = second.verdict; room = second.room }))
+  requested_alike true first second alike = replying_alike reply.Short short_refused (hidden_room room) room (room_once room)
+  requested_alike false first second alike = ap (λ (response : Response). record { reply = reply.Ipp response.text; verdict = response.verdict; room = response.room }) alike
 
   decided_alike : {A : Type 0} (decided : Result A Word) (first second : A → Step) → ((x : A) → StepAlike (first x) (second x)) → StepAlike (refusing_or (hidden_room room) decided first) (refusing_or room decided second)
-  decided_alike (Err word) first second alike = ap (λ room. record { reply = (refusing room word).reply; room = room }) (room_once room)
+  decided_alike (Err word) first second alike = ap (λ room. record { reply = (refusing room word).reply; verdict = (refusing room word).verdict; room = room }) (room_once room)
   decided_alike (Ok x) first second alike = alike x
 
   -- what a station decides of a job, whatever its device is found to be
@@ -214,16 +221,16 @@ module _ (room : RoomValue) where
   start_alike at number =
       ap (λ decided. hidden_step (start_told (hidden_room room) number decided)) (station_alike (ready_device (get at.devices at.device)) number (λ (ready : Device). StationStart at.device ready.rate at.now))
       ∙ decided_alike (station_start room at number)
-      (λ standing. record { reply = reply.Documents (map (part_of standing.copies) (documents_of room number)); room = with_moved (hidden_room room) number standing })
-      (λ standing. record { reply = reply.Documents (map (part_of standing.copies) (documents_of room number)); room = with_moved room number standing })
-      (λ standing. replying_alike (reply.Documents (map (part_of standing.copies) (documents_of room number))) (with_moved (hidden_room room) number standing) (with_moved room number standing) (moved_hidden room number standing))
+      (λ standing. record { reply = reply.Documents (map (part_of standing.copies) (documents_of room number)); verdict = line_done; room = with_moved (hidden_room room) number standing })
+      (λ standing. record { reply = reply.Documents (map (part_of standing.copies) (documents_of room number)); verdict = line_done; room = with_moved room number standing })
+      (λ standing. replying_alike (reply.Documents (map (part_of standing.copies) (documents_of room number))) line_done (with_moved (hidden_room room) number standing) (with_moved room number standing) (moved_hidden room number standing))
 
   settled_alike : (now number : ℕ) (standing : Standing) →
       StepAlike (telling (with_moved (hidden_room room) number standing) (Settled standing.charged (left_in (with_moved (hidden_room room) number standing) now))) (telling (with_moved room number standing) (Settled standing.charged (left_in (with_moved room number standing) now)))
   settled_alike now number standing =
       let rooms = moved_hidden room number standing in
       let left = left_alike (with_moved (hidden_room room) number standing) (with_moved room number standing) now rooms in
-      λ i. record { reply = reply.Line (success_text (Settled standing.charged (left i))); room = rooms i }
+      λ i. record { reply = reply.Line (success_text (Settled standing.charged (left i))); verdict = line_done; room = rooms i }
 
   settle_alike : (at : PlainStation) (now number impressions : ℕ) (failed : Bool) → StepAlike (settling_told (hidden_room room) now number (station_settle (hidden_room room) at number impressions failed)) (settling_told room now number (station_settle room at number impressions failed))
   settle_alike at now number impressions failed =
@@ -236,11 +243,11 @@ module _ (room : RoomValue) where
   granted_alike : (month pages : ℕ) → StepAlike (granted (hidden_room room) month pages) (granted room month pages)
   granted_alike month pages =
       decided_alike (grant_refusal (get room.grants month) pages) (λ _. telling (with_grant (hidden_room room) month pages) success.Ok) (λ _. telling (with_grant room month pages) success.Ok) (λ _.
-      replying_alike (reply.Line (success_text success.Ok)) (with_grant (hidden_room room) month pages) (with_grant room month pages) (grant_hidden room month pages))
+      replying_alike (reply.Line (success_text success.Ok)) line_done (with_grant (hidden_room room) month pages) (with_grant room month pages) (grant_hidden room month pages))
 
   -- each event but a release
   pub answered_alike : (devices : Devices) (now : ℕ) (account : List ℕ) (event : AccountEvent) → is_release event ≡ false → StepAlike (answered_open (hidden_room room) devices now (OfAccount account event)) (answered_open room devices now (OfAccount account event))
-  answered_alike devices now account Open other = replying_alike (reply.Line (word_text Exists)) (hidden_room room) room (room_once room)
+  answered_alike devices now account Open other = replying_alike (reply.Line (word_text Exists)) (line_refused Exists) (hidden_room room) room (room_once room)
   answered_alike devices now account (Ipp body) other =
       requested_alike (nat_lt (length body) header_length) (responded_to (hidden_room room) devices account now (header_in body) (ask_of account body)) (responded_to room devices account now (header_in body) (ask_of account body))
       (read_alike room devices account now (header_in body) (ask_of account body))

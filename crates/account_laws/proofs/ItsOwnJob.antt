@@ -1,11 +1,12 @@
 -- An exchange changes its own job alone, and one that did nothing could as well not have been.
-use Rattle.std.proofs.Common.{◌≡◌, ℕ, Bool, true, false, cond, List, ◌∷◌, ◌++◌, Option, Some, None, IsSomeAnd, inl, inr, refl, sym, ap, subst, ◌∙◌}
+use Rattle.std.proofs.Common.{◌≡◌, ℕ, Bool, true, false, cond, List, ◌∷◌, ◌++◌, Option, Some, None, IsSomeAnd, inl, inr, refl, sym, ap, subst, ◌∙◌, nat_lt, length}
 use Rattle.std.specs.FinMap.{contains_key, empty, get}
 use Rattle.std.proofs.lemmas.Bool.{true≢false}
 use Rattle.std.proofs.lemmas.Option.{none-some}
 use Rattle.account_asks.specs.Asks.{PlainAsk}
 use Rattle.account_asks.specs.declared.operation.Operation.{Operation}
 use Rattle.account_asks.specs.declared.operation.Operation.TheVariants as asks
+use Rattle.ipp_coding.specs.Limits.{header_length}
 use Rattle.account_machine.specs.DeviceEvents.{device_answered}
 use Rattle.account_machine.specs.Events.{AccountEvent, DeviceEvent, OfAccount, OfDevice, Open, Ipp, Release, Start, Settle, Grant, Turn, Rate}
 use Rattle.account_machine.specs.Machine.{answered}
@@ -13,7 +14,7 @@ use Rattle.account_machine.specs.declared.event.Reply.{Reply}
 use Rattle.account_laws.proofs.AsTold.{deed_done, makes_one_job, no_deed, rated_by, reads_nothing, told_more}
 use Rattle.account_laws.proofs.Changes.{Makes, refuses, reads, makes, takes, acts, releases, starts, settles, grants, act_asked, makes_one}
 use Rattle.account_laws.proofs.DeedTurns.{next_after, next_is, others_same}
-use Rattle.account_laws.proofs.LifeLemmas.{front_of_life, leads_on}
+use Rattle.account_laws.proofs.LifeLemmas.{front_of_life, leads_on, unopened_answer}
 use Rattle.account_laws.specs.AccountsTold.{AccountTold, account_told, after_deed}
 use Rattle.account_laws.specs.Deeds.{Deed, Opened, Made, Brought, Released, Started, Settled, Granted, Turned, Rated, NoDeed, account_deed, asked_deed, deed_of, deed_of_request, device_deed, moment_of}
 use Rattle.account_laws.specs.ItsOwnJob.{ItsOwnJobAlone, OnlyAsks, ReadsAndRefusalsDoNothing, TellsNoDeed, only_asks}
@@ -60,7 +61,7 @@ same_room room devices now account _ _ _ (grants month pages new) none = some_de
 
 same_account : (room : Option RoomValue) (devices : Devices) (now : ℕ) (account : List ℕ) (it : AccountEvent) → let answer = answered room devices now (OfAccount account it) in account_deed account it answer.reply ≡ NoDeed → answer.room ≡ room
 same_account None devices now account Open none = some_deed Opened does refl refl none
-same_account None devices now account (Ipp body) none = refl
+same_account None devices now account (Ipp body) none = elim (nat_lt (length body) header_length) as (λ (b : Bool). (unopened_answer b).room ≡ None) [ true ↦ refl | false ↦ refl ]
 same_account None devices now account (Release device number password impressions) none = refl
 same_account None devices now account (Start device number) none = refl
 same_account None devices now account (Settle device number impressions failed) none = refl

@@ -29,6 +29,7 @@ pub mod PageAccounts
 pub mod GrantedMonths
 pub mod DeviceLinesSet
 pub mod RequestsAnswered
+pub mod VerdictsTold
 pub mod KeyedValues
 pub mod ShownJobs
 pub mod DoneAnswers

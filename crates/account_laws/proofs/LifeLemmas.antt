@@ -1,12 +1,15 @@
 -- Lives, taken apart and put together, and what each exchange of a life keeps.
-use Rattle.std.proofs.Common.{◌≡◌, ℕ, List, [], ◌∷◌, ◌++◌, Option, None, append-nil, append_assoc, refl, sym, subst, ◌∙◌}
+use Rattle.std.proofs.Common.{◌≡◌, ℕ, Bool, cond, List, [], ◌∷◌, ◌++◌, Option, None, append-nil, append_assoc, refl, sym, subst, ◌∙◌}
 use Rattle.std.specs.FinMap.{empty}
 use Rattle.account_machine.specs.DeviceEvents.{device_answered}
 use Rattle.account_machine.specs.Events.{AccountEvent, DeviceEvent, OfAccount, OfDevice}
-use Rattle.account_machine.specs.Machine.{answered}
+use Rattle.account_machine.specs.Machine.{Answer, answered, stays_unopened}
+use Rattle.account_machine.specs.Verdicts.{line_refused, short_refused}
 use Rattle.account_machine.specs.declared.event.Reply.{Reply}
+use Rattle.account_machine.specs.declared.event.Reply.TheVariants as reply
 use Rattle.account_laws.specs.Lives.{Exchange, IsLife, LeadsTo, Life, LivesGoOn, LivesLeaveOne}
 use Rattle.account_rules.specs.Devices.{Devices}
+use Rattle.account_rules.specs.declared.refusal.Word.TheVariants.{NoAccount}
 use Rattle.account_state.specs.Rooms.{RoomValue}
 
 -- the exchange of an account's event, as its machine answers it
@@ -16,6 +19,10 @@ account_exchange room devices now account it = ((now, OfAccount account it), (an
 -- and that of an event of a device
 abbrev pub device_exchange : (devices : Devices) (now : ℕ) (device : List ℕ) (it : DeviceEvent) → Exchange
 device_exchange devices now device it = ((now, OfDevice device it), (device_answered devices (OfDevice device it)).reply)
+
+-- what a request to an account that is not open is answered
+abbrev pub unopened_answer : (short : Bool) → Answer
+unopened_answer short = cond short (stays_unopened reply.Short short_refused) (stays_unopened reply.NoAccount (line_refused NoAccount))
 
 -- ---- taken apart
 

@@ -2,6 +2,7 @@
 use Rattle.std.proofs.Common.{◌≡◌, ℕ, Bool, true, false, cond, ◌==◌, List, ◌++◌, Option, Some, None, option_map, Result, Err, is_none, is_some, codes, refl, sym, ap, ◌∙◌}
 use Rattle.std.specs.FinMap.{get}
 use Rattle.std.specs.Fmt.{decimal}
+use Rattle.account_machine.specs.Verdicts.{line_done, line_refused}
 use Rattle.account_machine.specs.DeviceEvents.{DeviceAnswer, device_answered}
 use Rattle.account_machine.specs.Events.{OfAccount, OfDevice, Open, Grant, Turn, Rate}
 use Rattle.account_machine.specs.Machine.{answered}
@@ -63,7 +64,7 @@ rate_told_so : (told : AccountTold) (devices : Devices) (device : List ℕ) (uni
 rate_told_so told devices device units known = ap (λ (found : Option Device). (rated_so (is_some found)).reply) known ∙ by (get told.on device)
   where
     rated_so : Bool → DeviceAnswer
-    rated_so there = cond there (record { reply = reply.Line (success_text success.Ok); devices = rated devices device units }) (record { reply = reply.Line (word_text NoDevice); devices = devices })
+    rated_so there = cond there (record { reply = reply.Line (success_text success.Ok); verdict = line_done; devices = rated devices device units }) (record { reply = reply.Line (word_text NoDevice); verdict = line_refused NoDevice; devices = devices })
 
     by : (on : Option Bool) → (rated_so (is_some (option_map (λ (on : Bool). let it : Device = record { name = device; on = on; rate = rate_told told device } in it) on))).reply ≡ reply.Line (cond (is_none on) (codes "no-device") (codes "ok"))
     by None = refl

@@ -1,19 +1,19 @@
 -- Two lives that differ in nothing but passwords are told the same.
-use Rattle.std.proofs.Common.{◌≡◌, ℕ, Bool, false, cond, List, [], ◌∷◌, ◌++◌, Option, Some, None, refl, sym, ap, subst, ◌∙◌}
+use Rattle.std.proofs.Common.{◌≡◌, ℕ, Bool, false, List, [], ◌∷◌, ◌++◌, Option, Some, None, refl, sym, ap, subst, ◌∙◌, nat_lt, length, true}
 use Rattle.std.specs.FinMap.{empty}
 use Rattle.std.proofs.lemmas.Bool.{true≢false}
+use Rattle.ipp_coding.specs.Limits.{header_length}
 use Rattle.account_machine.specs.DeviceEvents.{device_answered}
 use Rattle.account_machine.specs.Events.{AccountEvent, PlainEvent, OfAccount, OfDevice, Open, Ipp, Release}
 use Rattle.account_machine.specs.Machine.{answered, answered_open}
 use Rattle.account_machine.specs.Steps.{Step}
 use Rattle.account_machine.specs.declared.event.Reply.{Reply}
-use Rattle.account_machine.specs.declared.event.Reply.TheVariants as reply
 use Rattle.account_laws.proofs.AlikeBodies.{bodies_alike}
 use Rattle.account_laws.proofs.AlikeGuesses.{guesses_alike}
 use Rattle.account_laws.proofs.AsTold.{told_more}
 use Rattle.account_laws.proofs.HiddenAnswers.{StepAlike, answered_alike, hidden_step, is_release}
 use Rattle.account_laws.proofs.HiddenRooms.{hidden_room}
-use Rattle.account_laws.proofs.LifeLemmas.{leads_on}
+use Rattle.account_laws.proofs.LifeLemmas.{leads_on, unopened_answer}
 use Rattle.account_laws.specs.AccountsTold.{AccountTold, account_told, after_exchange}
 use Rattle.account_laws.specs.Lives.{Exchange, IsLife, LeadsTo, Life}
 use Rattle.account_laws.specs.PasswordsStaySecret as law
@@ -62,8 +62,15 @@ same_event a b devices now account event other alike =
     ∙ answered_alike b devices now account event other
 
 -- by one that is not
+both_unopened : (short other : Bool) → AreRoomsAlike (unopened_answer short).room (unopened_answer other).room
+both_unopened true true = tt
+both_unopened true false = tt
+both_unopened false true = tt
+both_unopened false false = tt
+
 unopened_same : (devices : Devices) (now : ℕ) (account : List ℕ) (event : AccountEvent) → GoesAlike None None devices now (OfAccount account event) (OfAccount account event)
 unopened_same devices now account Open = record { reply = refl; rooms = refl; known = refl }
+unopened_same devices now account (Ipp body) = record { reply = refl; rooms = both_unopened (nat_lt (length body) header_length) (nat_lt (length body) header_length); known = refl }
 unopened_same devices now account _ = record { reply = refl; rooms = tt; known = refl }
 
 none_given : (account : List ℕ) (event : AccountEvent) → gives_password (OfAccount account event) ≡ false → is_release event ≡ false
@@ -74,8 +81,8 @@ each_alike : (told other : AccountTold) (a b : Option RoomValue) (devices : Devi
 each_alike told other None None devices now _ _ stands too alike (same (OfAccount account event) none) = unopened_same devices now account event
 each_alike told other None None devices now _ _ stands too alike (same (OfDevice device it) none) = record { reply = refl; rooms = tt; known = refl }
 each_alike told other None None devices now _ _ stands too alike (requests account p q bodies) = record {
-  reply = ap (λ (short : Bool). cond short reply.Short reply.NoAccount) bodies.short;
-  rooms = tt;
+  reply = ap (λ (short : Bool). (unopened_answer short).reply) bodies.short;
+  rooms = both_unopened (nat_lt (length p) header_length) (nat_lt (length q) header_length);
   known = refl;
 }
 each_alike told other None None devices now _ _ stands too alike (releases account device number impressions given tried agree) = record { reply = refl; rooms = tt; known = refl }

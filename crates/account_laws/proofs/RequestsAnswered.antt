@@ -20,11 +20,12 @@ use Rattle.account_machine.specs.Printers.{printer_of}
 use Rattle.account_machine.specs.Queues.{asked_jobs, listed_names}
 use Rattle.account_machine.specs.Requests.{answer_to, Response, asked_at, doing_ask, refusing_ask_or}
 use Rattle.account_machine.specs.Steps.{Step, and_then, with_moved}
+use Rattle.account_machine.specs.Verdicts.{short_refused}
 use Rattle.account_machine.specs.declared.event.Reply.{Reply}
 use Rattle.account_machine.specs.declared.event.Reply.TheVariants as reply
 use Rattle.account_laws.proofs.AsTold.{AccountKeeps, Keeps, all_keep}
 use Rattle.account_laws.proofs.AsToldSums.{left_as_told, unfinished_as_told}
-use Rattle.account_laws.proofs.LifeLemmas.{front_of_life}
+use Rattle.account_laws.proofs.LifeLemmas.{front_of_life, unopened_answer}
 use Rattle.account_laws.proofs.Moved.{ended_is}
 use Rattle.account_laws.proofs.Tellings.{tells_success}
 use Rattle.account_laws.specs.AccountsTold.{AccountTold, account_told}
@@ -273,11 +274,16 @@ answers_read told room devices known now account header (Ok ask) keeps =
 answers_it : (told : AccountTold) (room : Option RoomValue) (devices : Devices) → ((name : List ℕ) → get devices name ≡ device_told told name) → (now : ℕ) (account body : List ℕ) → AccountKeeps told room
     → (answered room devices now (OfAccount account (Ipp body))).reply ≡ request_answer told now account body
 answers_it told None devices known now account body was =
-    sym (ap (λ (o : Option ℕ). cond (nat_lt (length body) header_length) reply.Short (option_map_or (λ _. answer_as_read told now account (header_in body) (ask_of account body)) o reply.NoAccount)) was.opened)
+    by (nat_lt (length body) header_length)
+    ∙ sym (ap (λ (o : Option ℕ). cond (nat_lt (length body) header_length) reply.Short (option_map_or (λ _. answer_as_read told now account (header_in body) (ask_of account body)) o reply.NoAccount)) was.opened)
+  where
+    by : (short : Bool) → (unopened_answer short).reply ≡ cond short reply.Short reply.NoAccount
+    by true = refl
+    by false = refl
 answers_it told (Some room) devices known now account body keeps = by (responded_to room devices account now (header_in body) (ask_of account body)) (answers_read told room devices known now account (header_in body) (ask_of account body) keeps) (nat_lt (length body) header_length)
   where
     by : (response : Response) → reply.Ipp response.text ≡ answer_as_read told now account (header_in body) (ask_of account body) → (short : Bool)
-        → (cond {A = Step} short (record { reply = reply.Short; room = room }) (record { reply = reply.Ipp response.text; room = response.room })).reply
+        → (cond {A = Step} short (record { reply = reply.Short; verdict = short_refused; room = room }) (record { reply = reply.Ipp response.text; verdict = response.verdict; room = response.room })).reply
         ≡ cond short reply.Short (option_map_or (λ _. answer_as_read told now account (header_in body) (ask_of account body)) told.opened reply.NoAccount)
     by response answers true = refl
     by response answers false = answers ∙ ap (λ (o : Option ℕ). option_map_or (λ _. answer_as_read told now account (header_in body) (ask_of account body)) o reply.NoAccount) (sym keeps.stands.opened)

@@ -1,15 +1,16 @@
 -- A life of events within their limits leaves a room.
-use Rattle.std.proofs.Common.{ℕ, sym, ◌∙◌, List, [], ◌∷◌, ◌++◌, Option, Some, None, All}
+use Rattle.std.proofs.Common.{ℕ, sym, ◌∙◌, List, [], ◌∷◌, ◌++◌, Option, Some, None, All, nat_lt, length, true, false, Bool}
 use Rattle.std.specs.FinMap.{get-empty}
 use Rattle.std.specs.Prelude.{IfSome}
 use Rattle.std.proofs.lemmas.List.Elements.{All-cons, All-head, All-nil, All-tail}
 use Rattle.std.proofs.lemmas.Option.{none-some}
+use Rattle.ipp_coding.specs.Limits.{header_length}
 use Rattle.account_machine.specs.DeviceEvents.{device_answered}
-use Rattle.account_machine.specs.Events.{AccountEvent, DeviceEvent, OfAccount, OfDevice, Open}
+use Rattle.account_machine.specs.Events.{AccountEvent, DeviceEvent, Ipp, OfAccount, OfDevice, Open}
 use Rattle.account_machine.specs.Machine.{answered, answered_unopened}
 use Rattle.account_laws.proofs.Changes.{makes_one}
 use Rattle.account_laws.proofs.DevicesStay.{AreDevices, devices_stay}
-use Rattle.account_laws.proofs.LifeLemmas.{account_exchange, device_exchange, of_each_life}
+use Rattle.account_laws.proofs.LifeLemmas.{account_exchange, device_exchange, of_each_life, unopened_answer}
 use Rattle.account_laws.proofs.StepsKeepRooms.{event_keeps}
 use Rattle.account_laws.specs.Lives.{Exchange, Life}
 use Rattle.account_laws.specs.RoomsStay.{IsEvent, RoomsStay}
@@ -46,6 +47,7 @@ both (first ∷ past) x are =
 -- an account that is opened has a room
 opened : (now : ℕ) (account : List ℕ) (event : AccountEvent) → IsMoment now → IfSome (answered_unopened now (OfAccount account event)).room IsRoom
 opened now account Open moment = empty_room_keeps now moment
+opened now account (Ipp body) moment = elim (nat_lt (length body) header_length) as (λ (b : Bool). IfSome (unopened_answer b).room IsRoom) [ true ↦ tt | false ↦ tt ]
 opened now account _ moment = tt
 
 by_account : (past : Life) (room : Option RoomValue) (devices : Devices) (now : ℕ) (account : List ℕ) (it : AccountEvent) → StaysSo past room devices

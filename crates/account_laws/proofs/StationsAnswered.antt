@@ -3,6 +3,7 @@ use Rattle.std.proofs.Common.{◌≡◌, ◌*◌, ℕ, ℤ, pos, negsuc, Bool, t
 use Rattle.std.specs.FinMap.{get}
 use Rattle.std.specs.Fmt.{decimal, signed_decimal}
 use Rattle.std.proofs.lemmas.Grind.{common_steps}
+use Rattle.account_machine.specs.Verdicts.{line_done}
 use Rattle.account_machine.specs.Events.{OfAccount, Release, Start, Settle}
 use Rattle.account_machine.specs.Machine.{answered}
 use Rattle.account_machine.specs.Stations.{by_word}
@@ -168,7 +169,7 @@ module _ (told : AccountTold) (room : RoomValue) (devices : Devices) (known : (n
     start_of ready job = StationStart device ready.rate now
 
     abbrev tells_started : Standing → Step
-    tells_started standing = record { reply = reply.Documents (map (part_of standing.copies) (documents_of room number)); room = with_moved room number standing }
+    tells_started standing = record { reply = reply.Documents (map (part_of standing.copies) (documents_of room number)); verdict = line_done; room = with_moved room number standing }
 
     abbrev started_as_told : JobTold → Reply
     started_as_told ticket = reply.Documents (map (part_told number ticket.maker.copies) ticket.documents)

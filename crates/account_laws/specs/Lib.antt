@@ -6,6 +6,7 @@ pub mod AccountsTold
 pub mod StandsAsTold
 pub mod Refusals
 pub mod StationAnswers
+pub mod VerdictsTold
 pub mod DoneAnswers
 pub mod RequestAnswers
 pub mod OperatorAnswers

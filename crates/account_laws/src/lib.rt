@@ -7,6 +7,7 @@ mod operators;
 mod page_account;
 mod printing;
 mod requests;
+mod verdicts;
 
 pub use answers::{operators_are_answered, stations_are_answered};
 pub use laws::{asks_lie_within, leaves_as_told, lives_go_on, rooms_stay};
@@ -17,3 +18,4 @@ pub use printing::{
     passwords_stay_secret,
 };
 pub use requests::{asks_are_spelled, jobs_are_counted, jobs_last, requests_are_answered};
+pub use verdicts::replies_tell_verdicts;

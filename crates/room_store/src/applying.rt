@@ -3,27 +3,27 @@
 ghost use Rattle.std.specs.Prelude.{◌≡◌, not, IsTrue};
 ghost use Rattle.account_machine.specs.Events.{plain_event};
 ghost use Rattle.account_machine.specs.Fits.{fits};
-ghost use Rattle.room_store.specs.Applied.{Applies};
+ghost use Rattle.room_store.specs.Applied.{AppliesFully};
 ghost use Rattle.rows_tables.specs.Crashes.{IsOnDisk};
 ghost use Rattle.sqlite.specs.Held.{state};
 
 use crate::events::{answer_on_disk, is_short};
 use crate::fault::StoreFault;
 use crate::rounds::Rounds;
-use account_machine::{Event, Moment, Reply};
+use account_machine::{Answered, Event, Moment};
 use sqlite::Alter;
 use std::alloc::Global;
 
 /// Answers the event at the moment `now`, in seconds from 1970. `Moment` is looked at first;
 /// `Storage` tells also that a transaction is under way.
-pub(crate) fn apply_alone<S: Alter>(
+pub(crate) fn apply_in_own_transaction<S: Alter>(
     alloc: Global,
     connection: &mut Rounds<S>,
     now: u64,
     e: &Event<'_>,
-) -> Result<Reply, StoreFault>
+) -> Result<Answered, StoreFault>
     requires { IsTrue (fits (plain_event e.now)) }
-    ensures { Applies now (plain_event e.entry.now)
+    ensures { AppliesFully now (plain_event e.entry.now)
         (state S.Store connection.old) (state S.Store connection.new) result }
 {
     let is_alone = is_alone(connection);

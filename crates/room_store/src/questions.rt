@@ -15,12 +15,12 @@ ghost use Rattle.rows_tables.specs.Accounts.{Holds};
 ghost use Rattle.rows_tables.specs.Devices.{HoldsDevices};
 
 use crate::about_accounts::{tell_ended, tell_grants, tell_jobs, tell_left, tell_statement};
+use crate::lines::{refusal_line, success_line};
 use crate::page_questions::{tell_owner_page, tell_statement_page};
 use crate::rounds::Rounds;
 use crate::rounds::lists::{check_account, list_devices, next_accounts};
 use crate::rounds::reads::{find_account, knock};
 use crate::station_questions::{tell_again, tell_waiting};
-use crate::told::{refusing, telling};
 use account_machine::{Name, Reply, Success, Word};
 use account_questions::{About, Question, accounts_lines, check_line, devices_lines};
 use rows_tables::TableFault;
@@ -60,7 +60,7 @@ fn tell_ok<S: Alter>(alloc: Global, connection: &mut Rounds<S>) -> Result<Reply,
     ensures asks { WasOpen S.Store connection.old connection.new result }
 {
     knock(connection)?;
-    telling(alloc, Success::Ok)
+    success_line(alloc, Success::Ok)
 }
 
 /// Tells the devices.
@@ -117,7 +117,7 @@ fn tell_check<S: Alter>(
     }
     match check_account(alloc, connection, account) {
         Ok(true) => Ok(Reply::Line(check_line(alloc, true)?)),
-        Ok(false) => refusing(alloc, Word::NoAccount),
+        Ok(false) => refusal_line(alloc, Word::NoAccount),
         Err(TableFault::Damaged) => {
             knock(connection)?;
             Ok(Reply::Line(check_line(alloc, false)?))
@@ -144,7 +144,7 @@ fn tell_account<S: Alter>(
 {
     match find_account(connection, account)? {
         Some(_) => tell_about(alloc, connection, account, about),
-        None => refusing(alloc, Word::NoAccount),
+        None => refusal_line(alloc, Word::NoAccount),
     }
 }
 

@@ -8,10 +8,10 @@ ghost use Rattle.room_store.specs.Questions.{AgainIsReadable, PrintedIsReadable,
 ghost use Rattle.room_store.specs.Prelude.{HoldsRoom, IfOurTables, LooksUp, RoomValue};
 ghost use Rattle.room_store.specs.Reading.{DocumentsAreReadable};
 
+use crate::lines::refusal_line;
 use crate::rounds::Rounds;
 use crate::rounds::reads::{find_device, find_documents, look_up, unfinished_jobs};
 use crate::stations::parts;
-use crate::told::refusing;
 use account_machine::{Job, Name, Reply, Word, known_device};
 use account_questions::{jobs_lines, printed_by, waiting_at};
 use rows_tables::TableFault;
@@ -31,7 +31,7 @@ pub(crate) fn tell_waiting<S: Alter>(
     ensures looks { LooksUp S.Store connection.old connection.new result }
 {
     if let Err(word) = known_device(find_device(connection, device)?) {
-        return refusing(alloc, word);
+        return refusal_line(alloc, word);
     }
     let jobs = unfinished_jobs(alloc, connection, account, None)?;
     let waiting = waiting_at(alloc, device, jobs)?;
@@ -52,7 +52,7 @@ pub(crate) fn tell_again<S: Alter>(
     ensures looks { LooksUp S.Store connection.old connection.new result }
 {
     if let Err(word) = known_device(find_device(connection, device)?) {
-        return refusing(alloc, word);
+        return refusal_line(alloc, word);
     }
     hand_printed(alloc, connection, account, device, number)
 }
@@ -93,7 +93,7 @@ fn hand_again<S: Alter>(
 {
     let job = match decided {
         Ok(job) => job,
-        Err(word) => return refusing(alloc, word),
+        Err(word) => return refusal_line(alloc, word),
     };
     let documents = find_documents(alloc, connection, account, job.job)?;
     Ok(Reply::Documents(parts(alloc, job.standing.copies, documents)?))

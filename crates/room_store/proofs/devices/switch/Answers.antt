@@ -56,13 +56,13 @@ returns-clause-served g c =
     let is_new = c.is_none-is_new.result in
     let passed = read_passed g.S.Store old mid _ c.in_ok-find_device.ensures.reads in
     let made = c.in_ok-turn_device.ensures in
-    changed_after _ _ _ _ _ g.S.Store old mid passed new c.in_ok-reply.reply made.turns.whole
+    changed_after _ _ _ _ _ g.S.Store old mid passed new c.in_ok-answered.answered made.turns.whole
     (λ was clean has same.
     let after = made.turns.made clean (subst HasSchema (sym same) has) in (
       after.0,
       after.1.alone,
       λ devices held. (
-        c.in_ok-reply.ensures.line,
+        c.in_ok-answered.ensures.answered,
         after.1.devices devices (subst (λ db. HoldsDevices db devices) (sym same) held) (is_new_device devices name _ c.in_ok-find_device.field-0 is_new held (c.in_ok-find_device.ensures.found was has) c.is_none-is_new.ensures),
       ),
     ))

@@ -19,4 +19,4 @@ returns-in_ok-check_line-in-Ok-true-clause-checked g c = λ clean has.
     told_open _ _ _ _ c.in-Ok-true.field-0-test (ap Line c.in_ok-check_line-in-Ok-true.ensures.text) (c.in-Ok-true.ensures.sound clean has)
 
 pub returns-in-Ok-false-clause-looks : goal.returns-in-Ok-false-clause-looks
-returns-in-Ok-false-clause-looks g c = looked g.S.Store c.args.connection.now c.check_account.new.connection c.refusing.result (read_passed g.S.Store _ _ _ c.in-Ok-false.ensures.reads)
+returns-in-Ok-false-clause-looks g c = looked g.S.Store c.args.connection.now c.check_account.new.connection c.refusal_line.result (read_passed g.S.Store _ _ _ c.in-Ok-false.ensures.reads)

@@ -11,7 +11,7 @@ use Rattle.rows_tables.specs.Keyed.{HasSchema}
 use Rattle.room_store.proofs.station_questions.tell_waiting.Goals as goal
 
 pub returns-in-Err-clause-looks : goal.returns-in-Err-clause-looks
-returns-in-Err-clause-looks g c = looked g.S.Store _ _ c.refusing.result (read_passed g.S.Store c.args.connection.now c.find_device.new.connection _ c.in_ok-find_device.ensures.reads)
+returns-in-Err-clause-looks g c = looked g.S.Store _ _ c.refusal_line.result (read_passed g.S.Store c.args.connection.now c.find_device.new.connection _ c.in_ok-find_device.ensures.reads)
 
 pub returns-in_err-jobs-clause-damaged : goal.returns-in_err-jobs-clause-damaged
 returns-in_err-jobs-clause-damaged g c clean has is readable =
