@@ -16,6 +16,7 @@ use Rattle.account_rules.specs.Names.{IsNameOrNone}
 use Rattle.account_rules.specs.declared.job.Document.{Document}
 use Rattle.account_rules.specs.declared.job.Job.{Job}
 use Rattle.account_state.specs.RoomRules.{has_document, IsDocumentAt}
+use Rattle.rows_tables.specs.Places.{document_tree, document_column, cell}
 use Rattle.rows_tables.specs.Tables.{room_schema, document}
 use Rattle.rows_tables.specs.Keyed.{HasSchema}
 use Rattle.rows_tables.specs.Queries.{Means, TakesParams, of_table, is_given, FindsRow}
@@ -34,35 +35,35 @@ abbrev pub one_text : List ℕ
 one_text = codes "SELECT format, bytes FROM document WHERE account = ?1 AND job = ?2 AND number = ?3"
 
 abbrev pub one_tests : List Term
-one_tests = is_given 1 1 ∷ is_given 2 2 ∷ is_given 3 3 ∷ []
+one_tests = is_given document_column.account 1 ∷ is_given document_column.job 2 ∷ is_given document_column.number 3 ∷ []
 
 abbrev pub one_shows : List Term
-one_shows = col 1 4 ∷ col 1 5 ∷ []
+one_shows = col 1 document_column.format ∷ col 1 document_column.bytes ∷ []
 
 abbrev pub one_names : List (List ℕ)
 one_names = codes "format" ∷ codes "bytes" ∷ []
 
-pub one_is : Means room_schema one_text (of_table 5 one_tests one_shows []) one_names 3
+pub one_is : Means room_schema one_text (of_table document_tree one_tests one_shows []) one_names 3
 unfolding understood everything
 one_is = record { is = refl; lists_nothing = refl; is_plain = (refl, refl); takes = refl; is_whole = refl }
 
-pub one_takes : (name : List ℕ) (job n : ℕ) → TakesParams room_schema (of_table 5 one_tests one_shows []) (Text name ∷ number job ∷ number n ∷ []) 3
+pub one_takes : (name : List ℕ) (job n : ℕ) → TakesParams room_schema (of_table document_tree one_tests one_shows []) (Text name ∷ number job ∷ number n ∷ []) 3
 one_takes name job n = record { given = refl; typed = refl }
 
 abbrev content : Row → Row
-content cells = column cells 3 ∷ column cells 4 ∷ []
+content cells = cell document_column.format cells ∷ cell document_column.bytes cells ∷ []
 
-behind_place : (r : Row) → column r 4 ∷ column r 5 ∷ [] ≡ content (drop 1 r)
+behind_place : (r : Row) → column r document_column.format ∷ column r document_column.bytes ∷ [] ≡ content (drop 1 r)
 behind_place [] = refl
 behind_place (v ∷ r) = refl
 
-pub gets_document : (old new : State) (name : List ℕ) (job n : ℕ) → HasSchema old.now → (result : Result (Option Row) Error) → FindsRow old new 5 one_tests one_shows (Text name ∷ number job ∷ number n ∷ []) result
-    → Gets old new (document_at old.now name (pos job) (pos n)) (λ cells. column cells 3 ∷ column cells 4 ∷ []) result
+pub gets_document : (old new : State) (name : List ℕ) (job n : ℕ) → HasSchema old.now → (result : Result (Option Row) Error) → FindsRow old new document_tree one_tests one_shows (Text name ∷ number job ∷ number n ∷ []) result
+    → Gets old new (document_at old.now name (pos job) (pos n)) (λ cells. cell document_column.format cells ∷ cell document_column.bytes cells ∷ []) result
 unfolding first_key
 gets_document old new name job n has result found =
     gets document document_in.listed document_in.guarded (Text name ∷ number job ∷ number n ∷ []) one_tests one_shows (Text name ∷ number job ∷ number n ∷ []) content (λ r. refl) behind_place old new has result found
 
-module _ (db : Database) (has : HasSchema db) (name : List ℕ) (job n : ℕ) (row : Row) (shown : Some row ≡ option_map (λ (cells : Row). column cells 3 ∷ column cells 4 ∷ []) (document_at db name (pos job) (pos n))) where
+module _ (db : Database) (has : HasSchema db) (name : List ℕ) (job n : ℕ) (row : Row) (shown : Some row ≡ option_map (λ (cells : Row). cell document_column.format cells ∷ cell document_column.bytes cells ∷ []) (document_at db name (pos job) (pos n))) where
   pub one_found : (it : Document) → IsDocumentAt (job, n) it → ShowsContent row it → document_at db name (pos job) (pos n) ≡ Some (document_cells name it)
   one_found it at tells =
       let are : EachIs 0 (Text (media_type it.format) ∷ Blob it.bytes ∷ []) row = (tells.format, (tells.bytes, tt)) in

@@ -21,6 +21,7 @@ use Rattle.rows_tables.specs.Cells.{document_cells, grant_cells, job_cells}
 use Rattle.rows_tables.specs.Keyed.{HasSchema}
 use Rattle.rows_tables.proofs.KeyedRows.{integer_at, key_begins, whole_in}
 use Rattle.rows_tables.proofs.KeyedTables.{document_in, document_key, grants_in, grants_key, job_in, job_key}
+use Rattle.rows_tables.specs.Places.{job_tree, document_tree, grants_tree, job_column, document_column, grant_column, account_places, cell}
 use Rattle.rows_tables.specs.Tables.{document as document_table}
 use Rattle.rows_tables.proofs.Columns.{exact_front}
 use Rattle.rows_tables.proofs.RowOfKey.{at_its_key}
@@ -34,34 +35,34 @@ use Rattle.rows_statements.proofs.RowTotals.{refused_there}
 
 module _ (db : Database) (has : HasSchema db) (name : List ℕ) where
   abbrev of_name : Row → Bool
-  of_name row = agree plain (1 ∷ []) row (1 ∷ []) (Null ∷ Text name ∷ [])
+  of_name row = agree plain account_places row account_places (Null ∷ Text name ∷ [])
 
   -- a row of the account stands under its number
-  pub job_of_row : (cells : Row) → Has (job_rows db name) cells → (z : ℤ) × (job_at db name z ≡ Some cells) × (column cells 1 ≡ Int z)
+  pub job_of_row : (cells : Row) → Has (job_rows db name) cells → (z : ℤ) × (job_at db name z ≡ Some cells) × (cell job_column.job cells ≡ Int z)
   job_of_row cells h =
-      let r = has_mapped (drop 1) (filter of_name (db.trees 3)) cells h in
-      let there = has_filtered of_name (db.trees 3) r.0 r.1 in
-      let ends = λ (row : Row) (h : Has (db.trees 3) row). integer_at job_in db has row h 1 (codes "job") refl in
+      let r = has_mapped (drop 1) (filter of_name (db.trees job_tree)) cells h in
+      let there = has_filtered of_name (db.trees job_tree) r.0 r.1 in
+      let ends = λ (row : Row) (h : Has (db.trees job_tree) row). integer_at job_in db has row h 1 (codes "job") refl in
       let at = row_under (Text name ∷ []) Int job_in (job_key name) (refl, tt) (λ n. refl) db has ends r.0 there.0 there.1 in
       (at.0, at.1 ∙ ap Some (sym r.2), number_of at.0 cells r.0 (sym r.2) at.1)
     where
-      number_of : (z : ℤ) (cells row : Row) → drop 1 row ≡ cells → job_at db name z ≡ Some (drop 1 row) → column cells 1 ≡ Int z
+      number_of : (z : ℤ) (cells row : Row) → drop 1 row ≡ cells → job_at db name z ≡ Some (drop 1 row) → cell job_column.job cells ≡ Int z
       number_of z cells row same is = sym (ap (λ r. column r 1) same) ∙ (job_listed db has name z (drop 1 row) is).1
 
-  pub grant_of_row : (cells : Row) → Has (grant_rows db name) cells → (z : ℤ) × (grant_at db name z ≡ Some cells) × (column cells 1 ≡ Int z)
+  pub grant_of_row : (cells : Row) → Has (grant_rows db name) cells → (z : ℤ) × (grant_at db name z ≡ Some cells) × (cell grant_column.month cells ≡ Int z)
   grant_of_row cells h =
-      let r = has_mapped (drop 1) (filter of_name (db.trees 7)) cells h in
-      let there = has_filtered of_name (db.trees 7) r.0 r.1 in
-      let ends = λ (row : Row) (h : Has (db.trees 7) row). integer_at grants_in db has row h 1 (codes "month") refl in
+      let r = has_mapped (drop 1) (filter of_name (db.trees grants_tree)) cells h in
+      let there = has_filtered of_name (db.trees grants_tree) r.0 r.1 in
+      let ends = λ (row : Row) (h : Has (db.trees grants_tree) row). integer_at grants_in db has row h 1 (codes "month") refl in
       let at = row_under (Text name ∷ []) Int grants_in (grants_key name) (refl, tt) (λ n. refl) db has ends r.0 there.0 there.1 in
       let is = at.1 ∙ ap Some (sym r.2) in
       (at.0, is, (grant_listed db has name at.0 cells is).1)
 
   -- a row of a document stands under the numbers of its job and of it
-  pub document_of_row : (cells : Row) → Has (all_documents db name) cells → (y : ℤ) × (z : ℤ) × (document_at db name y z ≡ Some cells) × (column cells 1 ≡ Int y) × (column cells 2 ≡ Int z)
+  pub document_of_row : (cells : Row) → Has (all_documents db name) cells → (y : ℤ) × (z : ℤ) × (document_at db name y z ≡ Some cells) × (cell document_column.job cells ≡ Int y) × (cell document_column.number cells ≡ Int z)
   document_of_row cells h =
-      let r = has_mapped (drop 1) (filter of_name (db.trees 5)) cells h in
-      let there = has_filtered of_name (db.trees 5) r.0 r.1 in
+      let r = has_mapped (drop 1) (filter of_name (db.trees document_tree)) cells h in
+      let there = has_filtered of_name (db.trees document_tree) r.0 r.1 in
       let y = integer_at document_in db has r.0 there.0 1 (codes "job") refl in
       let z = integer_at document_in db has r.0 there.0 2 (codes "number") refl in
       let begins = key_begins document_table.columns (Text name ∷ []) [] r.0 (exact_front document_table.columns (Text name ∷ []) (Int y.0 ∷ Int z.0 ∷ []) (document_key name y.0 z.0)) (whole_in document_in db has r.0 there.0).typed there.1 in
@@ -76,7 +77,7 @@ module _ (db : Database) (has : HasSchema db) (name : List ℕ) where
         let at = job_of_row shown.0 shown.1 in
         of at.0 shown.0 shown.2 at.1 at.2
       where
-        of : (z : ℤ) (cells : Row) → it.row ≡ number_cell cells → job_at db name z ≡ Some cells → column cells 1 ≡ Int z → ⊥
+        of : (z : ℤ) (cells : Row) → it.row ≡ number_cell cells → job_at db name z ≡ Some cells → cell job_column.job cells ≡ Int z → ⊥
         of (negsuc n) cells same is numbered = let no : None ≡ Some cells = sym (held.rows.job_rows (negsuc n)) ∙ is in absurd cc
         of (pos n) cells same is numbered = by_job (get room.jobs n) refl
           where
@@ -93,7 +94,7 @@ module _ (db : Database) (has : HasSchema db) (name : List ℕ) where
         let at = grant_of_row shown.0 shown.1 in
         of at.0 shown.0 shown.2 at.1 at.2
       where
-        of : (z : ℤ) (cells : Row) → it.row ≡ number_cell cells → grant_at db name z ≡ Some cells → column cells 1 ≡ Int z → ⊥
+        of : (z : ℤ) (cells : Row) → it.row ≡ number_cell cells → grant_at db name z ≡ Some cells → cell grant_column.month cells ≡ Int z → ⊥
         of (negsuc n) cells same is numbered = let no : None ≡ Some cells = sym (held.rows.grant_rows (negsuc n)) ∙ is in absurd cc
         of (pos n) cells same is numbered = by_grant (get room.grants n) refl
           where
@@ -123,7 +124,7 @@ module _ (db : Database) (has : HasSchema db) (name : List ℕ) where
         let at = document_of_row shown.0 shown.1 in
         of at.0 at.1 shown.0 shown.2 at.2 at.3 at.4
       where
-        of : (y z : ℤ) (cells : Row) → it.row ≡ place_cells cells → document_at db name y z ≡ Some cells → column cells 1 ≡ Int y → column cells 2 ≡ Int z → ⊥
+        of : (y z : ℤ) (cells : Row) → it.row ≡ place_cells cells → document_at db name y z ≡ Some cells → cell document_column.job cells ≡ Int y → cell document_column.number cells ≡ Int z → ⊥
         of (negsuc j) (negsuc n) cells same is job number = let no : None ≡ Some cells = sym (held.rows.document_rows (negsuc j) (negsuc n)) ∙ is in absurd cc
         of (negsuc j) (pos n) cells same is job number = let no : None ≡ Some cells = sym (held.rows.document_rows (negsuc j) (pos n)) ∙ is in absurd cc
         of (pos j) (negsuc n) cells same is job number = let no : None ≡ Some cells = sym (held.rows.document_rows (pos j) (negsuc n)) ∙ is in absurd cc

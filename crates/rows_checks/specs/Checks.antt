@@ -15,6 +15,7 @@ use Rattle.account_state.specs.RoomRules.{has_document, IsDocumentAt, IsGrant, I
 use Rattle.rows_tables.specs.Accounts.{account_at, document_at, grant_at, job_at, HoldsNothing, HoldsRoom, IsAccount}
 use Rattle.rows_tables.specs.Cells.{account_cells, document_cells, grant_cells, job_cells}
 use Rattle.rows_tables.specs.Keyed.{rows_under, HasSchema}
+use Rattle.rows_tables.specs.Places.{document_column, account_places, cell}
 use Rattle.rows_tables.specs.Tables.{document as document_table}
 use Rattle.rows_statements.specs.SoundRows.{unfinished_rows, IsRowOf}
 
@@ -103,11 +104,11 @@ refuses_place row = (job number : ℕ) → job < 2 ^ 32 → number < 2 ^ 32
 
 -- the rows of an account's documents, whichever their job
 abbrev pub all_documents : (db : Database) (name : List ℕ) → List Row
-all_documents db name = rows_under document_table (1 ∷ []) (Text name ∷ []) db
+all_documents db name = rows_under document_table account_places (Text name ∷ []) db
 
 -- of a row of the table its key behind the account
 abbrev pub place_cells : Row → Row
-place_cells cells = column cells 1 ∷ column cells 2 ∷ []
+place_cells cells = cell document_column.job cells ∷ cell document_column.number cells ∷ []
 
 -- ---- all rows of the account: those in order are under the numbers that they can be under
 

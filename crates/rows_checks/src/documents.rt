@@ -5,6 +5,7 @@ ghost use Rattle.account_rules.specs.declared.job.Document.{Document as Document
 ghost use Rattle.account_state.specs.RoomRules.{has_document, IsDocumentAt};
 ghost use Rattle.rows_checks.specs.Checks.{DocumentIsInOrder, DocumentsAreInOrder, HasDocument, IsDocumentThere, ShowsContent};
 ghost use Rattle.rows_statements.specs.Prelude.{GetsRow, IfOurTables, IsRowOf, KeepsOpen, ReadsStore, column};
+ghost use Rattle.rows_tables.specs.Places.{document_column, cell};
 ghost use Rattle.rows_tables.specs.Accounts.{document_at, IsSound};
 ghost use Rattle.rows_tables.specs.Cells.{document_cells};
 
@@ -65,7 +66,8 @@ fn document_row<S: Alter>(
 ) -> Result<Option<Row>, Error>
     ensures gets { GetsRow S.Store connection.old connection.new
         (λ db. document_at db account (pos job) (pos document))
-        (λ cells. column cells 3 ∷ column cells 4 ∷ []) result }
+        (λ cells. cell document_column.format cells ∷ cell document_column.bytes cells ∷ [])
+        result }
     ensures connection { KeepsOpen S.Store connection.old connection.new result }
 {
     find_row(

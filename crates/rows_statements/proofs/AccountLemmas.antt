@@ -11,6 +11,7 @@ use Rattle.sqlite_sql.specs.Term.{Term, lit, col, op2}
 use Rattle.sqlite.specs.Effect.{Database}
 use Rattle.sqlite.specs.Listing.{understood}
 use Rattle.account_rules.specs.declared.account.Account.{Account}
+use Rattle.rows_tables.specs.Places.{account_tree, account_column, row_number, cell}
 use Rattle.rows_tables.specs.Tables.{room_schema, account}
 use Rattle.rows_tables.specs.Keyed.{HasSchema, has_key}
 use Rattle.sqlite.specs.State.{State}
@@ -33,19 +34,19 @@ abbrev pub find_account_text : List ℕ
 find_account_text = codes "SELECT opened, next_job FROM account WHERE name = ?1"
 
 abbrev pub account_tests : List Term
-account_tests = op2 (Compare Eq Binary) (col 1 1) (col 0 0) ∷ []
+account_tests = op2 (Compare Eq Binary) (col 1 account_column.name) (col 0 0) ∷ []
 
 abbrev pub account_shows : List Term
-account_shows = col 1 2 ∷ col 1 3 ∷ []
+account_shows = col 1 account_column.opened ∷ col 1 account_column.next_job ∷ []
 
 abbrev pub account_names : List (List ℕ)
 account_names = codes "opened" ∷ codes "next_job" ∷ []
 
-pub find_account_is : Means room_schema find_account_text (of_table 1 account_tests account_shows []) account_names 1
+pub find_account_is : Means room_schema find_account_text (of_table account_tree account_tests account_shows []) account_names 1
 unfolding understood everything
 find_account_is = record { is = refl; lists_nothing = refl; is_plain = (refl, refl); takes = refl; is_whole = refl }
 
-pub find_account_takes : (name : List ℕ) → TakesParams room_schema (of_table 1 account_tests account_shows []) (Text name ∷ []) 1
+pub find_account_takes : (name : List ℕ) → TakesParams room_schema (of_table account_tree account_tests account_shows []) (Text name ∷ []) 1
 find_account_takes name = record { given = refl; typed = refl }
 
 -- ---- the write of one row
@@ -55,7 +56,7 @@ set_account_text = codes "INSERT INTO account (name, opened, next_job) VALUES (?
 
 -- its number and its key, and the new values
 abbrev pub account_becomes : List Term
-account_becomes = col 1 0 ∷ col 1 1 ∷ col 0 6 ∷ col 0 7 ∷ []
+account_becomes = col 1 row_number ∷ col 1 account_column.name ∷ col 0 6 ∷ col 0 7 ∷ []
 
 abbrev pub account_terms : List Term
 account_terms = lit Null ∷ col 0 0 ∷ col 0 1 ∷ col 0 2 ∷ []
@@ -71,15 +72,15 @@ next_text = codes "UPDATE account SET next_job = ?2 WHERE name = ?1"
 
 -- its number twice, as the row that is there and as the new one's, and the cells
 abbrev pub next_terms : List Term
-next_terms = col 1 0 ∷ col 1 1 ∷ col 1 2 ∷ col 0 1 ∷ []
+next_terms = col 1 row_number ∷ col 1 account_column.name ∷ col 1 account_column.opened ∷ col 0 1 ∷ []
 
 abbrev pub next_tests : List Term
 next_tests = account_tests
 
 abbrev pub with_next : ℕ → Row → Row
-with_next next cells = column cells 0 ∷ column cells 1 ∷ number next ∷ []
+with_next next cells = cell account_column.name cells ∷ cell account_column.opened cells ∷ number next ∷ []
 
-next_shows : (name : List ℕ) (next : ℕ) (r : Row) → drop 1 (shows_of (col 1 0 ∷ next_terms) (Text name ∷ number next ∷ []) r) ≡ column r 0 ∷ with_next next (drop 1 r)
+next_shows : (name : List ℕ) (next : ℕ) (r : Row) → drop 1 (shows_of (col 1 row_number ∷ next_terms) (Text name ∷ number next ∷ []) r) ≡ column r 0 ∷ with_next next (drop 1 r)
 next_shows name next [] = refl
 next_shows name next (v ∷ r) = refl
 
@@ -95,21 +96,21 @@ next_keyed name it = has_values (Text name ∷ []) (Null ∷ account_cells name 
 
 -- ---- what is read of the row
 
-pub gets_account : (old new : State) (name : List ℕ) → HasSchema old.now → (result : Result (Option Row) Error) → FindsRow old new 1 account_tests account_shows (Text name ∷ []) result
-    → Gets old new (account_at old.now name) (λ cells. column cells 1 ∷ column cells 2 ∷ []) result
+pub gets_account : (old new : State) (name : List ℕ) → HasSchema old.now → (result : Result (Option Row) Error) → FindsRow old new account_tree account_tests account_shows (Text name ∷ []) result
+    → Gets old new (account_at old.now name) (λ cells. cell account_column.opened cells ∷ cell account_column.next_job cells ∷ []) result
 unfolding first_key
 gets_account old new name has result found =
-    gets account account_in.listed account_in.guarded (Text name ∷ []) account_tests account_shows (Text name ∷ []) (λ cells. column cells 1 ∷ column cells 2 ∷ [])
+    gets account account_in.listed account_in.guarded (Text name ∷ []) account_tests account_shows (Text name ∷ []) (λ cells. cell account_column.opened cells ∷ cell account_column.next_job cells ∷ [])
     (λ r. refl) (λ r. rw (without_number r 1, without_number r 2) refl) old new has result found
 
-module _ (db : Database) (has : HasSchema db) (name : List ℕ) (row : Row) (shown : Some row ≡ option_map (λ cells. column cells 1 ∷ column cells 2 ∷ []) (account_at db name)) where
+module _ (db : Database) (has : HasSchema db) (name : List ℕ) (row : Row) (shown : Some row ≡ option_map (λ cells. cell account_column.opened cells ∷ cell account_column.next_job cells ∷ []) (account_at db name)) where
   pub account_found : (it : Account) → (column row 0 ≡ number it.opened) × (column row 1 ≡ number it.next_job) → account_at db name ≡ Some (account_cells name it)
   account_found it read = row_found (Text name ∷ []) account_in (account_key name) db has (number it.opened ∷ number it.next_job ∷ []) refl row shown (read.0, (read.1, tt))
 
   pub account_unsound : ((it : Account) → IsAccount it → column row 0 ≡ number it.opened → column row 1 ≢ number it.next_job) → IsRowOf (account_cells name) IsAccount (account_at db name) → ⊥
   account_unsound damaged (None, range, is) = absurd (let e = rw is at shown in cc)
   account_unsound damaged (Some it, range, is) =
-      let same = same_row (shown ∙ ap (option_map (λ cells. column cells 1 ∷ column cells 2 ∷ [])) is) in
+      let same = same_row (shown ∙ ap (option_map (λ cells. cell account_column.opened cells ∷ cell account_column.next_job cells ∷ [])) is) in
       damaged it range (ap (λ r. column r 0) same) (ap (λ r. column r 1) same)
 
 pub account_read : (db : Database) (name : List ℕ) → IsSound db name → IsRowOf (account_cells name) IsAccount (account_at db name)

@@ -17,6 +17,7 @@ use Rattle.account_rules.specs.declared.job.Job.{Job}
 use Rattle.account_state.specs.Queues.{not_completed}
 use Rattle.account_state.specs.Rooms.{RoomValue}
 use Rattle.account_state.specs.RoomRules.{unfinished_count}
+use Rattle.rows_tables.specs.Places.{job_tree, job_column}
 use Rattle.rows_tables.specs.Tables.{room_schema}
 use Rattle.rows_tables.specs.Keyed.{HasSchema}
 use Rattle.rows_tables.specs.Queries.{Means, TakesParams, of_table, shown_of}
@@ -34,24 +35,24 @@ abbrev pub count_text : List ℕ
 count_text = codes "SELECT job FROM job WHERE account = ?1 AND ended = -1"
 
 abbrev pub count_shows : List Term
-count_shows = col 1 2 ∷ []
+count_shows = col 1 job_column.job ∷ []
 
 abbrev pub count_names : List (List ℕ)
 count_names = codes "job" ∷ []
 
-pub count_is : Means room_schema count_text (of_table 3 queued_tests count_shows []) count_names 1
+pub count_is : Means room_schema count_text (of_table job_tree queued_tests count_shows []) count_names 1
 unfolding understood everything
 count_is = record { is = refl; lists_nothing = refl; is_plain = (refl, refl); takes = refl; is_whole = refl }
 
-pub count_takes : (name : List ℕ) → TakesParams room_schema (of_table 3 queued_tests count_shows []) (Text name ∷ []) 1
+pub count_takes : (name : List ℕ) → TakesParams room_schema (of_table job_tree queued_tests count_shows []) (Text name ∷ []) 1
 count_takes name = record { given = refl; typed = refl }
 
-cells_numbered : (r : Row) → column r 2 ∷ [] ≡ number_cell (drop 1 r)
+cells_numbered : (r : Row) → column r job_column.job ∷ [] ≡ number_cell (drop 1 r)
 cells_numbered [] = refl
 cells_numbered (v ∷ r) = refl
 
-pub count_shown : (name : List ℕ) (db : Database) → shown_of 3 queued_tests count_shows (Text name ∷ []) db.trees ≡ map number_cell (unfinished_rows db name)
-count_shown = told_unfinished (λ r. column r 2 ∷ []) number_cell cells_numbered
+pub count_shown : (name : List ℕ) (db : Database) → shown_of job_tree queued_tests count_shows (Text name ∷ []) db.trees ≡ map number_cell (unfinished_rows db name)
+count_shown = told_unfinished (λ r. column r job_column.job ∷ []) number_cell cells_numbered
 
 -- ---- how many are gathered
 

@@ -26,6 +26,7 @@ use Rattle.account_rules.specs.declared.job.Standing.{Standing}
 use Rattle.rows_tables.specs.Accounts.{account_at, job_at}
 use Rattle.rows_tables.specs.Cells.{account_cells, job_cells, moment}
 use Rattle.rows_tables.specs.Keyed.{HasSchema}
+use Rattle.rows_tables.specs.Places.{account_places}
 use Rattle.rows_tables.specs.Tables.{job as job_table}
 use Rattle.rows_tables.proofs.Columns.{EachIs, each_behind, exact_front}
 use Rattle.rows_tables.proofs.KeyedRows.{integer_at, key_begins, same_row, whole_in}
@@ -44,7 +45,7 @@ use Rattle.rows_statements.proofs.LeftAlone.{account_row_kept, account_row_stays
 
 module _ (name : List ℕ) (db : Database) (has : HasSchema db) where
   abbrev is_under : Row → Bool
-  is_under row = agree plain (1 ∷ []) row (1 ∷ []) (Null ∷ Text name ∷ [])
+  is_under row = agree plain account_places row account_places (Null ∷ Text name ∷ [])
 
   ends : (r : Row) → Has (db.trees job_table.tree) r → (n : ℤ) × (column r 2 ≡ Int n)
   ends r there = integer_at job_in db has r there 1 (codes "job") refl

@@ -8,6 +8,7 @@ use Rattle.sqlite_value.specs.Order.{Row, column}
 use Rattle.sqlite.specs.Effect.{Database}
 use Rattle.sqlite.specs.Listing.{understood}
 use Rattle.account_rules.specs.declared.device.Device.{Device}
+use Rattle.rows_tables.specs.Places.{device_tree, device_column, cell}
 use Rattle.rows_tables.specs.Tables.{room_schema}
 use Rattle.rows_tables.specs.Queries.{Means, TakesParams, of_table}
 use Rattle.rows_tables.specs.Cells.{flag, on_cells, device_cells}
@@ -27,11 +28,11 @@ find_text = codes "SELECT accepting FROM device WHERE name = ?1"
 abbrev pub names : List (List ℕ)
 names = codes "accepting" ∷ []
 
-pub find_is : Means room_schema find_text (of_table 9 tests shows []) names 1
+pub find_is : Means room_schema find_text (of_table device_tree tests shows []) names 1
 unfolding understood everything
 find_is = record { is = refl; lists_nothing = refl; is_plain = (refl, refl); takes = refl; is_whole = refl }
 
-pub find_takes : (name : List ℕ) → TakesParams room_schema (of_table 9 tests shows []) (Text name ∷ []) 1
+pub find_takes : (name : List ℕ) → TakesParams room_schema (of_table device_tree tests shows []) (Text name ∷ []) 1
 find_takes name = record { given = refl; typed = refl }
 
 -- ---- the write of one row
@@ -45,10 +46,10 @@ sets name value = record { command = refl; is_plain = (refl, refl); rows = refl;
 
 -- ---- what is read of the row
 
-pub unsound : (db : Database) (name : List ℕ) (row : Row) → Some row ≡ option_map (λ cells. column cells 1 ∷ []) (device_at db name) → ((value : Bool) → column row 0 ≢ flag value)
+pub unsound : (db : Database) (name : List ℕ) (row : Row) → Some row ≡ option_map (λ cells. cell device_column.accepting cells ∷ []) (device_at db name) → ((value : Bool) → column row 0 ≢ flag value)
     → IsRowOf (on_cells name) (λ _. ⊤) (device_at db name) → ⊥
 unsound db name row shown damaged (None, range, is) = absurd (let e = rw is at shown in cc)
-unsound db name row shown damaged (Some on, range, is) = damaged on (ap (λ r. column r 0) (same_row (shown ∙ ap (option_map (λ cells. column cells 1 ∷ [])) is)))
+unsound db name row shown damaged (Some on, range, is) = damaged on (ap (λ r. column r 0) (same_row (shown ∙ ap (option_map (λ cells. cell device_column.accepting cells ∷ [])) is)))
 
 pub device_read : (db : Database) (name : List ℕ) → AreSoundDevices db → IsRowOf (on_cells name) (λ _. ⊤) (device_at db name)
 device_read db name (devices, held) = of_map (get devices name) refl

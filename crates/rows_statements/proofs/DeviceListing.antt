@@ -17,6 +17,7 @@ use Rattle.account_rules.specs.Devices.{Devices}
 use Rattle.account_rules.specs.Limits.{IsRate}
 use Rattle.account_rules.specs.Names.{is_name}
 use Rattle.account_rules.specs.declared.device.Device.{Device}
+use Rattle.rows_tables.specs.Places.{device_tree, device_column, cell}
 use Rattle.rows_tables.specs.Tables.{room_schema}
 use Rattle.rows_tables.specs.Keyed.{HasSchema}
 use Rattle.rows_tables.specs.Queries.{Means, TakesParams, of_table, IsShownBy}
@@ -40,13 +41,13 @@ abbrev pub list_text : List ℕ
 list_text = codes "SELECT name, accepting FROM device ORDER BY name"
 
 abbrev pub list_shows : List Term
-list_shows = col 1 1 ∷ col 1 2 ∷ []
+list_shows = col 1 device_column.name ∷ col 1 device_column.accepting ∷ []
 
 abbrev pub list_names : List (List ℕ)
 list_names = codes "name" ∷ codes "accepting" ∷ []
 
 abbrev pub list_query : Query
-list_query = of_table 9 [] list_shows by_name
+list_query = of_table device_tree [] list_shows by_name
 
 pub list_is : Means room_schema list_text list_query list_names 0
 unfolding understood everything
@@ -58,17 +59,17 @@ list_takes = record { given = refl; typed = refl }
 -- ---- what is shown
 
 abbrev told_cells : Row → Output
-told_cells cells = (column cells 0 ∷ [], shown_device cells)
+told_cells cells = (cell device_column.name cells ∷ [], shown_device cells)
 
 outputs_are : (r : Row) → output list_query (env [] r) ≡ told_cells (drop 1 r)
 outputs_are [] = refl
 outputs_are (v ∷ r) = refl
 
 module _ (db : Database) (has : HasSchema db) where
-  row_named : (r : Row) → Has (db.trees 9) r → (name : List ℕ) × (column r 1 ≡ Text name)
+  row_named : (r : Row) → Has (db.trees device_tree) r → (name : List ℕ) × (column r device_column.name ≡ Text name)
   row_named r there = text_at device_in db has r there 0 (codes "name") refl
 
-  row_at_name : (r : Row) → Has (db.trees 9) r → (name : List ℕ) → column r 1 ≡ Text name → device_at db name ≡ Some (drop 1 r)
+  row_at_name : (r : Row) → Has (db.trees device_tree) r → (name : List ℕ) → column r device_column.name ≡ Text name → device_at db name ≡ Some (drop 1 r)
   row_at_name r there name is = at_its_key device_in db has (Text name ∷ []) refl (device_key name) (refl, tt) r there (is, tt)
 
   module _ (devices : Devices) (held : HoldsDevices db devices) where
@@ -78,7 +79,7 @@ module _ (db : Database) (has : HasSchema db) where
     got_by_name : AllByRecursion (λ (d : Device). get devices d.name ≡ Some d) (values devices)
     got_by_name = values_keep devices (λ (d : Device). get devices d.name ≡ Some d) (λ name d is. ap (get devices) (under_its_name name d is) ∙ is)
 
-    row_found : (r : Row) → Has (db.trees 9) r → (d : Device) × Has (values devices) d × (output list_query (env [] r) ≡ (Text d.name ∷ [], device_cells d))
+    row_found : (r : Row) → Has (db.trees device_tree) r → (d : Device) × Has (values devices) d × (output list_query (env [] r) ≡ (Text d.name ∷ [], device_cells d))
     row_found r there =
         let name = row_named r there in
         of_device (get devices name.0) refl (sym (row_at_name r there name.0 name.1) ∙ held.device_rows name.0) name.0
@@ -87,7 +88,7 @@ module _ (db : Database) (has : HasSchema db) where
         of_device None is e name = absurd (let no = e ∙ ap (option_map device_cells) is in cc)
         of_device (Some d) is e name = (d, value_has devices (row_named r there).0 d is, outputs_are r ∙ ap told_cells (same_row (e ∙ ap (option_map device_cells) is)))
 
-    row_from : (d : Device) → Has (values devices) d → (r : Row) × Has (db.trees 9) r × (true ≡ true) × (output list_query (env [] r) ≡ (Text d.name ∷ [], device_cells d))
+    row_from : (d : Device) → Has (values devices) d → (r : Row) × Has (db.trees device_tree) r × (true ≡ true) × (output list_query (env [] r) ≡ (Text d.name ∷ [], device_cells d))
     row_from d h =
         let is : get devices d.name ≡ Some d = all_has (λ (d : Device). get devices d.name ≡ Some d) (values devices) d got_by_name h in
         let it = there_at device_in db has (Text d.name ∷ []) refl (device_key d.name) (refl, tt) (device_cells d) (held.device_rows d.name ∙ ap (option_map device_cells) is) in
@@ -100,7 +101,7 @@ module _ (db : Database) (has : HasSchema db) where
         (values_rise devices (λ (d : Device). d.name) (under_its_name devices held)) (λ r there _. row_found devices held r there) (row_from devices held);
     are_rows = λ row h.
         let r = shown_of_row 9 [] list_shows list_query.limit [] db.trees rows answer row h in
-        (drop 1 r.0, mapped_has (drop 1) (db.trees 9) r.0 r.1, r.3 ∙ ap (λ (o : Output). o.1) (outputs_are r.0));
+        (drop 1 r.0, mapped_has (drop 1) (db.trees device_tree) r.0 r.1, r.3 ∙ ap (λ (o : Output). o.1) (outputs_are r.0));
   }
 
   -- ---- what is gathered
@@ -122,7 +123,7 @@ module _ (db : Database) (has : HasSchema db) where
     switches_there =
         gathered_each ListsSwitch (λ (switch : List ℕ × Bool). IsSome (device_at db switch.0)) gathered.0 (λ before row after h step.
         let cells = gathered.1.are_rows row h in
-        let r = has_mapped (drop 1) (db.trees 9) cells.0 cells.1 in
+        let r = has_mapped (drop 1) (db.trees device_tree) cells.0 cells.1 in
         let is : column r.0 1 ≡ Text step.switch.0 = sym (without_number r.0 0) ∙ ap (λ l. column l 0) (sym r.2) ∙ ap (λ l. column l 0) (sym cells.2) ∙ step.told.name in
         (step.switch, subst (λ (o : Option Row). IsSome o) (sym (row_at_name r.0 r.1 step.switch.0 is)) refl, step.added)) first last (subst (AllByRecursion (λ (switch : List ℕ × Bool). IsSome (device_at db switch.0))) (sym none) tt) gathered.2
 
@@ -137,7 +138,7 @@ module _ (db : Database) (has : HasSchema db) where
   pub devices_listed : AreSoundDevices db → CanBeListed db
   devices_listed (devices, held) = record {
     devices = λ cells h.
-        let r = has_mapped (drop 1) (db.trees 9) cells h in
+        let r = has_mapped (drop 1) (db.trees device_tree) cells h in
         let name = row_named r.0 r.1 in
         of_row name.0 cells (get devices name.0) refl (ap Some r.2 ∙ sym (row_at_name r.0 r.1 name.0 name.1) ∙ held.device_rows name.0);
     rates = λ name some. rate_there name (get devices name) refl (subst (λ (o : Option Row). IsSome o) (held.device_rows name) some);

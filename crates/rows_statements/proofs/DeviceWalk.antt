@@ -13,6 +13,7 @@ use Rattle.sqlite_rules.proofs.ProbeLemmas.{has_mapped, mapped_has}
 use Rattle.sqlite.specs.Effect.{Database}
 use Rattle.sqlite.specs.Listing.{understood}
 use Rattle.account_rules.specs.declared.device.Device.{Device}
+use Rattle.rows_tables.specs.Places.{device_tree, device_column, cell}
 use Rattle.rows_tables.specs.Tables.{room_schema}
 use Rattle.rows_tables.specs.Keyed.{HasSchema}
 use Rattle.rows_tables.specs.Queries.{Means, TakesParams, of_table, passes, shows_of}
@@ -34,16 +35,16 @@ abbrev pub walk_text : List ℕ
 walk_text = codes "SELECT accepting FROM device"
 
 abbrev pub walk_shows : List Term
-walk_shows = col 1 2 ∷ []
+walk_shows = col 1 device_column.accepting ∷ []
 
 abbrev pub walk_names : List (List ℕ)
 walk_names = codes "accepting" ∷ []
 
-pub walk_is : Means room_schema walk_text (of_table 9 [] walk_shows []) walk_names 0
+pub walk_is : Means room_schema walk_text (of_table device_tree [] walk_shows []) walk_names 0
 unfolding understood everything
 walk_is = record { is = refl; lists_nothing = refl; is_plain = (refl, refl); takes = refl; is_whole = refl }
 
-pub walk_takes : TakesParams room_schema (of_table 9 [] walk_shows []) [] 0
+pub walk_takes : TakesParams room_schema (of_table device_tree [] walk_shows []) [] 0
 walk_takes = record { given = refl; typed = refl }
 
 abbrev pub second : Row → Row
@@ -92,18 +93,18 @@ module _ {G : Type 0} (on : G → Bool) where
 
 module _ (db : Database) (has : HasSchema db) where
   -- each row is that of a name
-  device_row : (r : Row) → Has (db.trees 9) r → (name : List ℕ) × (device_at db name ≡ Some (drop 1 r))
+  device_row : (r : Row) → Has (db.trees device_tree) r → (name : List ℕ) × (device_at db name ≡ Some (drop 1 r))
   device_row r k = row_under [] Text device_in device_key tt (λ t. refl) db has (λ r there. text_at device_in db has r there 0 (codes "name") refl) r k refl
 
-  module _ {G : Type 0} (on : G → Bool) (first last : G) (off : on first ≡ false) (walked : WalksAll (λ a row b. GathersOn (on a) row (on b)) (λ a row. refuses_flag row) (map second (db.trees 9)) first last) where
+  module _ {G : Type 0} (on : G → Bool) (first last : G) (off : on first ≡ false) (walked : WalksAll (λ a row b. GathersOn (on a) row (on b)) (λ a row. refuses_flag row) (map second (db.trees device_tree)) first last) where
     is_on : on last ≡ true → (name : List ℕ) × (device_at db name ≡ Some (on_cells name true))
     is_on is = elim (came_on on first last walked.0 walked.2 is) [
       | inl before ↦ absurd (true≢false (sym before ∙ off))
       | inr some ↦
-          let r = has_mapped second (db.trees 9) some.0 (permuted_has (map second (db.trees 9)) walked.0 some.0 walked.1 some.1) in
+          let r = has_mapped second (db.trees device_tree) some.0 (permuted_has (map second (db.trees device_tree)) walked.0 some.0 walked.1 some.1) in
           let it = device_row r.0 r.1 in
           let told : column r.0 2 ≡ flag true = ap (λ x. column x 0) (sym r.2) ∙ some.2 in
-          (it.0, value_found device_in db has it.0 (column (drop 1 r.0) 1 ∷ []) (sym (ap (option_map (λ cells. column cells 1 ∷ [])) it.1)) (flag true) (without_number r.0 1 ∙ told))
+          (it.0, value_found device_in db has it.0 (column (drop 1 r.0) 1 ∷ []) (sym (ap (option_map (λ cells. cell device_column.accepting cells ∷ [])) it.1)) (flag true) (without_number r.0 1 ∙ told))
     ]
 
     has_on : (name : List ℕ) × (device_at db name ≡ Some (on_cells name true)) → on last ≡ true
@@ -112,7 +113,7 @@ module _ (db : Database) (has : HasSchema db) where
       | inr not ↦
           let r = under_row [] Text device_in device_key tt (λ t. refl) db has name (on_cells name true) at in
           let told : column r.row 2 ≡ flag true = sym (without_number r.row 1) ∙ ap (λ l. column l 1) r.are_cells in
-          let there = permuted_from walked.0 (map second (db.trees 9)) (second r.row) walked.1 (mapped_has second (db.trees 9) r.row r.there) in
+          let there = permuted_from walked.0 (map second (db.trees device_tree)) (second r.row) walked.1 (mapped_has second (db.trees device_tree) r.row r.there) in
           absurd (none_on on first last walked.0 walked.2 not (second r.row) there told)
     ]
       where
@@ -122,16 +123,16 @@ module _ (db : Database) (has : HasSchema db) where
     pub on_exactly : IsTrue (on last) ↔ ((name : List ℕ) × (device_at db name ≡ Some (on_cells name true)))
     on_exactly = (is_on, has_on)
 
-  pub flags_unsound : {G : Type 0} (step : G → Row → G → Type 0) (first : G) → RefusesOne step (λ a row. refuses_flag row) (map second (db.trees 9)) first → AreRowsOf (λ (it : List ℕ × Bool). on_cells it.0 it.1) (λ _. ⊤) (device_rows db) → ⊥
+  pub flags_unsound : {G : Type 0} (step : G → Row → G → Type 0) (first : G) → RefusesOne step (λ a row. refuses_flag row) (map second (db.trees device_tree)) first → AreRowsOf (λ (it : List ℕ × Bool). on_cells it.0 it.1) (λ _. ⊤) (device_rows db) → ⊥
   flags_unsound step first it rows =
-      let there = permuted_has (map second (db.trees 9)) ((it.given ++ it.row ∷ []) ++ it.more) it.row it.are_shown (refused_there it.given it.row it.more) in
-      let r = has_mapped second (db.trees 9) it.row there in
-      let told = rows (drop 1 r.0) (mapped_has (drop 1) (db.trees 9) r.0 r.1) in
+      let there = permuted_has (map second (db.trees device_tree)) ((it.given ++ it.row ∷ []) ++ it.more) it.row it.are_shown (refused_there it.given it.row it.more) in
+      let r = has_mapped second (db.trees device_tree) it.row there in
+      let told = rows (drop 1 r.0) (mapped_has (drop 1) (db.trees device_tree) r.0 r.1) in
       it.refused told.0.1 (ap (λ x. column x 0) r.2 ∙ sym (without_number r.0 1) ∙ ap (λ l. column l 1) told.2)
 
   pub devices_read : AreSoundDevices db → AreRowsOf (λ (it : List ℕ × Bool). on_cells it.0 it.1) (λ _. ⊤) (device_rows db)
   devices_read (devices, held) x h =
-      let r = has_mapped (drop 1) (db.trees 9) x h in
+      let r = has_mapped (drop 1) (db.trees device_tree) x h in
       let named = device_row r.0 r.1 in
       of_device (get devices named.0) (ap Some r.2 ∙ sym named.1 ∙ held.device_rows named.0)
     where

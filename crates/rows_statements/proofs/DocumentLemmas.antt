@@ -14,6 +14,7 @@ use Rattle.sqlite.specs.State.{State, mode_of, Executes}
 use Rattle.sqlite.proofs.Callers.{statement_of, runs_as}
 use Rattle.account_rules.specs.declared.job.Document.{Document}
 use Rattle.account_rules.specs.Formats.{media_type}
+use Rattle.rows_tables.specs.Places.{document_tree, job_places}
 use Rattle.rows_tables.specs.Tables.{room_schema, document}
 use Rattle.rows_tables.specs.Keyed.{HasSchema, RemovesRows}
 use Rattle.rows_tables.specs.Queries.{passes}
@@ -29,7 +30,7 @@ use Rattle.rows_tables.proofs.Removals.{deleted}
 use Rattle.rows_tables.proofs.Statements.{numbered_in, once_in, keeps_schema}
 
 pub removes_documents : (name : List ℕ) (job : ℕ) (old new : State) (count : ℕ) → HasSchema old.now → Executes remove_text (meant_by name job) old new (Ok count)
-    → RemovesRows document (meant_by name job) (1 ∷ 2 ∷ []) old.now new.now × HasSchema new.now
+    → RemovesRows document (meant_by name job) job_places old.now new.now × HasSchema new.now
 removes_documents name job old new count has h =
     let params = meant_by name job in
     let ran = runs_as remove_text params old new room_schema has.schema_is remove_command remove_is remove_plain count h in
@@ -43,10 +44,10 @@ removes_documents name job old new count has h =
     let trees : new.now.trees ≡ done.0.trees = ap (λ (d : Database). d.trees) now in (
       record {
         rows = λ key.
-            let concerns = agree plain (1 ∷ 2 ∷ []) (Null ∷ key) (1 ∷ 2 ∷ []) (Null ∷ meant_by name job) in
+            let concerns = agree plain job_places (Null ∷ key) job_places (Null ∷ meant_by name job) in
             ap (λ (t : Trees). option_map (drop 1) (found_at document key (t 5))) trees
-            ∙ ap (option_map (drop 1)) (removed document key (db 5) (done.0.trees 5) (passes remove_tests params) wrote.0 after concerns (meant name job key))
-            ∙ by_case concerns (found_at document key (db 5));
+            ∙ ap (option_map (drop 1)) (removed document key (db document_tree) (done.0.trees document_tree) (passes remove_tests params) wrote.0 after concerns (meant name job key))
+            ∙ by_case concerns (found_at document key (db document_tree));
         rest = left.1;
       },
       left.0,

@@ -12,6 +12,7 @@ use Rattle.sqlite_schema.specs.Rules.{agree}
 use Rattle.sqlite_rules.proofs.KeyLemmas.{agree_back, agree_chain}
 use Rattle.sqlite.specs.Listing.{understood}
 use Rattle.sqlite.proofs.Callers.{IsPlain, command_of}
+use Rattle.rows_tables.specs.Places.{document_tree, document_column, row_number, job_places}
 use Rattle.rows_tables.specs.Tables.{room_schema, document}
 use Rattle.rows_tables.specs.Keyed.{has_key}
 use Rattle.rows_tables.specs.Queries.{of_table, is_given, passes}
@@ -21,10 +22,10 @@ abbrev pub remove_text : List ℕ
 remove_text = codes "DELETE FROM document WHERE account = ?1 AND job = ?2"
 
 abbrev pub remove_tests : List Term
-remove_tests = is_given 1 1 ∷ is_given 2 2 ∷ []
+remove_tests = is_given document_column.account 1 ∷ is_given document_column.job 2 ∷ []
 
 abbrev pub remove_command : Command
-remove_command = Delete 3 (record { lets = []; body = of_table 5 remove_tests (col 1 0 ∷ []) [] })
+remove_command = Delete 3 (record { lets = []; body = of_table document_tree remove_tests (col 1 row_number ∷ []) [] })
 
 pub remove_is : command_of (understood room_schema remove_text) ≡ remove_command
 unfolding understood everything
@@ -47,9 +48,9 @@ alike places a b c same = elim (cases_Bool (agree plain places b places c)) [
 abbrev pub meant_by : List ℕ → ℕ → Row
 meant_by name job = Text name ∷ number job ∷ []
 
-pub meant : (name : List ℕ) (job : ℕ) (key x : Row) → has_key document key x ≡ true → passes remove_tests (meant_by name job) x ≡ agree plain (1 ∷ 2 ∷ []) (Null ∷ key) (1 ∷ 2 ∷ []) (Null ∷ meant_by name job)
+pub meant : (name : List ℕ) (job : ℕ) (key x : Row) → has_key document key x ≡ true → passes remove_tests (meant_by name job) x ≡ agree plain job_places (Null ∷ key) job_places (Null ∷ meant_by name job)
 unfolding first_key
 meant name job key x is =
     let parts = and_parts _ _ is in
-    let first : agree plain (1 ∷ 2 ∷ []) x (1 ∷ 2 ∷ []) (Null ∷ key) ≡ true = and_from _ _ parts.0 (and_from _ _ (and_parts _ _ parts.1).0 refl) in
-    alike (1 ∷ 2 ∷ []) x (Null ∷ key) (Null ∷ meant_by name job) first
+    let first : agree plain job_places x job_places (Null ∷ key) ≡ true = and_from _ _ parts.0 (and_from _ _ (and_parts _ _ parts.1).0 refl) in
+    alike job_places x (Null ∷ key) (Null ∷ meant_by name job) first

@@ -21,6 +21,7 @@ use Rattle.account_rules.specs.declared.job.Job.{Job}
 use Rattle.account_state.specs.Documents.{documents_of}
 use Rattle.account_state.specs.Rooms.{RoomValue}
 use Rattle.account_state.specs.RoomRules.{has_document}
+use Rattle.rows_tables.specs.Places.{document_tree, document_column}
 use Rattle.rows_tables.specs.Tables.{room_schema}
 use Rattle.rows_tables.specs.Keyed.{HasSchema}
 use Rattle.rows_tables.specs.Queries.{Means, TakesParams, of_table, is_given, shown_of}
@@ -40,29 +41,29 @@ abbrev pub walk_text : List ℕ
 walk_text = codes "SELECT number, format, bytes FROM document WHERE account = ?1 AND job = ?2"
 
 abbrev pub walk_tests : List Term
-walk_tests = is_given 1 1 ∷ is_given 2 2 ∷ []
+walk_tests = is_given document_column.account 1 ∷ is_given document_column.job 2 ∷ []
 
 abbrev pub walk_shows : List Term
-walk_shows = col 1 3 ∷ col 1 4 ∷ col 1 5 ∷ []
+walk_shows = col 1 document_column.number ∷ col 1 document_column.format ∷ col 1 document_column.bytes ∷ []
 
 abbrev pub walk_names : List (List ℕ)
 walk_names = codes "number" ∷ codes "format" ∷ codes "bytes" ∷ []
 
-pub walk_is : Means room_schema walk_text (of_table 5 walk_tests walk_shows []) walk_names 2
+pub walk_is : Means room_schema walk_text (of_table document_tree walk_tests walk_shows []) walk_names 2
 unfolding understood everything
 walk_is = record { is = refl; lists_nothing = refl; is_plain = (refl, refl); takes = refl; is_whole = refl }
 
-pub walk_takes : (name : List ℕ) (job : ℕ) → TakesParams room_schema (of_table 5 walk_tests walk_shows []) (Text name ∷ number job ∷ []) 2
+pub walk_takes : (name : List ℕ) (job : ℕ) → TakesParams room_schema (of_table document_tree walk_tests walk_shows []) (Text name ∷ number job ∷ []) 2
 walk_takes name job = record { given = refl; typed = refl }
 
-pub all_shown : (db : Database) (name : List ℕ) (job : ℕ) → shown_of 5 walk_tests walk_shows (Text name ∷ number job ∷ []) db.trees ≡ shown_documents db name job
+pub all_shown : (db : Database) (name : List ℕ) (job : ℕ) → shown_of document_tree walk_tests walk_shows (Text name ∷ number job ∷ []) db.trees ≡ shown_documents db name job
 unfolding first_key
 all_shown db name job = refl
 
 -- ---- the rows of the table
 
 abbrev behind : Row → Row
-behind row = column row 3 ∷ column row 4 ∷ column row 5 ∷ []
+behind row = column row document_column.number ∷ column row document_column.format ∷ column row document_column.bytes ∷ []
 
 same_document : (row : Row) (a b : Document) → a.job ≡ b.job → ShowsDocument row a → ShowsDocument row b → a ≡ b
 same_document row a b job p q =
@@ -78,7 +79,7 @@ module _ (db : Database) (has : HasSchema db) (name : List ℕ) (job : ℕ) wher
     number : ℤ
     at_place : document_at db name (pos job) number ≡ Some (drop 1 row)
 
-  number_there : (r : Row) → Has (db.trees 5) r → (n : ℤ) × (column r 3 ≡ Int n)
+  number_there : (r : Row) → Has (db.trees document_tree) r → (n : ℤ) × (column r document_column.number ≡ Int n)
   number_there r there = integer_at document_in db has r there 2 (codes "number") refl
 
   -- a row of the job that is shown
@@ -87,9 +88,9 @@ module _ (db : Database) (has : HasSchema db) (name : List ℕ) (job : ℕ) wher
     placed : IsPlaced row
     shown : x ≡ behind row
 
-  placed_row : (r : Row) → Has (filter (is_of_job name job) (db.trees 5)) r → IsPlaced r
+  placed_row : (r : Row) → Has (filter (is_of_job name job) (db.trees document_tree)) r → IsPlaced r
   placed_row r h =
-      let there = has_filtered (is_of_job name job) (db.trees 5) r h in
+      let there = has_filtered (is_of_job name job) (db.trees document_tree) r h in
       let placed = row_under (Text name ∷ number job ∷ []) Int document_in (document_key name (pos job)) (refl, (refl, tt)) (λ n. refl) db has number_there r there.0 there.1 in
       record { number = placed.0; at_place = placed.1 }
 
@@ -155,7 +156,7 @@ module _ (db : Database) (has : HasSchema db) (name : List ℕ) (job : ℕ) wher
         (held.rows.document_rows (pos job) (pos n) ∙ ap (option_map (document_cells name)) is) in
         record {
           row = behind r.row;
-          there = mapped_has behind _ r.row (has_kept (is_of_job name job) (db.trees 5) r.row r.there r.begins);
+          there = mapped_has behind _ r.row (has_kept (is_of_job name job) (db.trees document_tree) r.row r.there r.begins);
           tells = tells_it r.row (behind r.row) it refl r.are_cells;
         }
 

@@ -23,6 +23,7 @@ use Rattle.account_state.specs.Grants.{grant_of}
 use Rattle.account_state.specs.Rooms.{RoomValue}
 use Rattle.account_state.specs.RoomRules.{IsGrant}
 use Rattle.account_state.proofs.FiniteMaps.{all_along, all_above, entries_here, T_first, T_second}
+use Rattle.rows_tables.specs.Places.{grants_tree, grant_column, cell}
 use Rattle.rows_tables.specs.Tables.{room_schema}
 use Rattle.rows_tables.specs.Keyed.{HasSchema}
 use Rattle.rows_tables.specs.Queries.{Means, TakesParams, of_table, passes, IsShownBy}
@@ -45,10 +46,10 @@ abbrev pub by_month_text : List ℕ
 by_month_text = codes "SELECT month, pages FROM grants WHERE account = ?1 ORDER BY month"
 
 abbrev pub by_month : List (Term × Key)
-by_month = (col 1 2, rising) ∷ []
+by_month = (col 1 grant_column.month, rising) ∷ []
 
 abbrev pub by_month_query : Query
-by_month_query = of_table 7 granted_tests granted_shows by_month
+by_month_query = of_table grants_tree granted_tests granted_shows by_month
 
 pub by_month_is : Means room_schema by_month_text by_month_query granted_names 1
 unfolding understood everything
@@ -60,7 +61,7 @@ by_month_takes name = record { given = refl; typed = refl }
 -- ---- what is shown, with what it is sorted by
 
 abbrev sorted_cells : Row → Output
-sorted_cells cells = (column cells 1 ∷ [], granted_cells cells)
+sorted_cells cells = (cell grant_column.month cells ∷ [], granted_cells cells)
 
 abbrev sorted_entry : ℕ × ℕ → Output
 sorted_entry entry = (number entry.0 ∷ [], month_cells entry)
@@ -70,7 +71,7 @@ module _ (name : List ℕ) where
   outputs_granted [] = refl
   outputs_granted (v ∷ r) = refl
 
-  sorted_rows : (db : Database) → map (λ r. output by_month_query (env (Text name ∷ []) r)) (filter (passes granted_tests (Text name ∷ [])) (db.trees 7)) ≡ map sorted_cells (grant_rows db name)
+  sorted_rows : (db : Database) → map (λ r. output by_month_query (env (Text name ∷ []) r)) (filter (passes granted_tests (Text name ∷ [])) (db.trees grants_tree)) ≡ map sorted_cells (grant_rows db name)
   unfolding first_key
   sorted_rows db = of_their_cells (λ r. output by_month_query (env (Text name ∷ []) r)) sorted_cells outputs_granted _
 
@@ -88,14 +89,14 @@ module _ (name : List ℕ) where
         let cells = λ (e : ℕ × ℕ). grant_cells name e.0 e.1 in
         let told : IsPermutation (map sorted_cells (grant_rows db name)) (map sorted_entry es) =
         subst (IsPermutation (map sorted_cells (grant_rows db name))) (map-map sorted_cells cells es) (IsPermutation-map sorted_cells (grant_rows db name) (map cells es) (rows_of_grants db has name room held)) in
-        answer_in_order 7 granted_tests granted_shows by_month (lit (Int (negsuc 0))) db.trees (Text name ∷ []) rows answer (map sorted_entry es) (subst (λ l. IsPermutation l (map sorted_entry es)) (sym (sorted_rows db)) told)
+        answer_in_order grants_tree granted_tests granted_shows by_month (lit (Int (negsuc 0))) db.trees (Text name ∷ []) rows answer (map sorted_entry es) (subst (λ l. IsPermutation l (map sorted_entry es)) (sym (sorted_rows db)) told)
         (ascending-map (λ a b. output_cmp by_month_query a b ≡ Less) sorted_entry es (months_rise es (entries_sorted room.grants)))
         ∙ map-map (λ (o : Output). o.1) sorted_entry es
 
     pub shown_by_month : (rows : List Row) → IsShownBy by_month_query db.trees (Text name ∷ []) rows → AreByMonth db name rows
     shown_by_month rows answer = record {
       of_room = λ room held. entries_shown room held rows answer;
-      are_shown = subst (λ l. IsPermutation l rows) (grants_shown name db) (answer_is 7 granted_tests granted_shows by_month db.trees (Text name ∷ []) rows answer);
+      are_shown = subst (λ l. IsPermutation l rows) (grants_shown name db) (answer_is grants_tree granted_tests granted_shows by_month db.trees (Text name ∷ []) rows answer);
     }
 
 -- ---- what is gathered of the rows

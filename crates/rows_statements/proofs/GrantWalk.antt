@@ -16,6 +16,7 @@ use Rattle.sqlite.specs.Listing.{understood}
 use Rattle.account_rules.specs.Limits.{most_units}
 use Rattle.account_state.specs.Sums.{pages_by}
 use Rattle.account_state.proofs.Bounds.{granted_bound}
+use Rattle.rows_tables.specs.Places.{grants_tree, grant_column, account_places}
 use Rattle.rows_tables.specs.Tables.{room_schema, grants}
 use Rattle.rows_tables.specs.Keyed.{HasSchema, rows_under}
 use Rattle.rows_tables.specs.Queries.{Means, TakesParams, of_table, is_given, shown_of}
@@ -34,29 +35,29 @@ abbrev pub granted_text : List ℕ
 granted_text = codes "SELECT month, pages FROM grants WHERE account = ?1"
 
 abbrev pub granted_tests : List Term
-granted_tests = is_given 1 1 ∷ []
+granted_tests = is_given grant_column.account 1 ∷ []
 
 abbrev pub granted_shows : List Term
-granted_shows = col 1 2 ∷ col 1 3 ∷ []
+granted_shows = col 1 grant_column.month ∷ col 1 grant_column.pages ∷ []
 
 abbrev pub granted_names : List (List ℕ)
 granted_names = codes "month" ∷ codes "pages" ∷ []
 
-pub granted_is : Means room_schema granted_text (of_table 7 granted_tests granted_shows []) granted_names 1
+pub granted_is : Means room_schema granted_text (of_table grants_tree granted_tests granted_shows []) granted_names 1
 unfolding understood everything
 granted_is = record { is = refl; lists_nothing = refl; is_plain = (refl, refl); takes = refl; is_whole = refl }
 
-pub granted_takes : (name : List ℕ) → TakesParams room_schema (of_table 7 granted_tests granted_shows []) (Text name ∷ []) 1
+pub granted_takes : (name : List ℕ) → TakesParams room_schema (of_table grants_tree granted_tests granted_shows []) (Text name ∷ []) 1
 granted_takes name = record { given = refl; typed = refl }
 
-cells_granted : (r : Row) → column r 2 ∷ column r 3 ∷ [] ≡ granted_cells (drop 1 r)
+cells_granted : (r : Row) → column r grant_column.month ∷ column r grant_column.pages ∷ [] ≡ granted_cells (drop 1 r)
 cells_granted [] = refl
 cells_granted (v ∷ r) = refl
 
 -- the rows that pass the test of the text are those of the account
-pub grants_shown : (name : List ℕ) (db : Database) → shown_of 7 granted_tests granted_shows (Text name ∷ []) db.trees ≡ map granted_cells (rows_under grants (1 ∷ []) (Text name ∷ []) db)
+pub grants_shown : (name : List ℕ) (db : Database) → shown_of grants_tree granted_tests granted_shows (Text name ∷ []) db.trees ≡ map granted_cells (rows_under grants account_places (Text name ∷ []) db)
 unfolding first_key
-grants_shown name db = of_their_cells (λ r. column r 2 ∷ column r 3 ∷ []) granted_cells cells_granted _
+grants_shown name db = of_their_cells (λ r. column r grant_column.month ∷ column r grant_column.pages ∷ []) granted_cells cells_granted _
 
 -- ---- what the rows tell
 

@@ -10,6 +10,7 @@ use Rattle.sqlite.specs.Listing.{understood}
 use Rattle.sqlite.specs.State.{State}
 use Rattle.sqlite.specs.declared.error.Error.{Error}
 use Rattle.account_rules.specs.declared.job.Job.{Job}
+use Rattle.rows_tables.specs.Places.{job_tree, job_column}
 use Rattle.rows_tables.specs.Tables.{room_schema, job}
 use Rattle.rows_tables.specs.Keyed.{HasSchema}
 use Rattle.rows_tables.specs.Queries.{Means, TakesParams, of_table, is_given, FindsRow}
@@ -28,28 +29,28 @@ abbrev pub find_text : List ℕ
 find_text = codes "SELECT name, password, state, open, stopping, copies, impressions, reserved, charged, documents, rate, device, created, started, ended FROM job WHERE account = ?1 AND job = ?2"
 
 abbrev pub tests : List Term
-tests = is_given 1 1 ∷ is_given 2 2 ∷ []
+tests = is_given job_column.account 1 ∷ is_given job_column.job 2 ∷ []
 
 abbrev pub shows : List Term
-shows = col 1 3 ∷ col 1 4 ∷ col 1 5 ∷ col 1 6 ∷ col 1 7 ∷ col 1 8 ∷ col 1 9 ∷ col 1 10 ∷ col 1 11 ∷ col 1 12 ∷ col 1 13 ∷ col 1 14 ∷ col 1 15 ∷ col 1 16 ∷ col 1 17 ∷ []
+shows = col 1 job_column.name ∷ col 1 job_column.password ∷ col 1 job_column.state ∷ col 1 job_column.is_open ∷ col 1 job_column.stopping ∷ col 1 job_column.copies ∷ col 1 job_column.impressions ∷ col 1 job_column.reserved ∷ col 1 job_column.charged ∷ col 1 job_column.documents ∷ col 1 job_column.rate ∷ col 1 job_column.device ∷ col 1 job_column.created ∷ col 1 job_column.started ∷ col 1 job_column.ended ∷ []
 
 abbrev pub names : List (List ℕ)
 names = codes "name" ∷ codes "password" ∷ codes "state" ∷ codes "open" ∷ codes "stopping" ∷ codes "copies" ∷ codes "impressions" ∷ codes "reserved" ∷ codes "charged" ∷ codes "documents" ∷ codes "rate" ∷ codes "device" ∷ codes "created" ∷ codes "started" ∷ codes "ended" ∷ []
 
-pub find_is : Means room_schema find_text (of_table 3 tests shows []) names 2
+pub find_is : Means room_schema find_text (of_table job_tree tests shows []) names 2
 unfolding understood everything
 find_is = record { is = refl; lists_nothing = refl; is_plain = (refl, refl); takes = refl; is_whole = refl }
 
-pub find_takes : (name : List ℕ) (n : ℕ) → TakesParams room_schema (of_table 3 tests shows []) (Text name ∷ number n ∷ []) 2
+pub find_takes : (name : List ℕ) (n : ℕ) → TakesParams room_schema (of_table job_tree tests shows []) (Text name ∷ number n ∷ []) 2
 find_takes name n = record { given = refl; typed = refl }
 
-behind_number : (r : Row) → column r 3 ∷ column r 4 ∷ column r 5 ∷ column r 6 ∷ column r 7 ∷ column r 8 ∷ column r 9 ∷ column r 10 ∷ column r 11 ∷ column r 12 ∷ column r 13 ∷ column r 14 ∷ column r 15 ∷ column r 16 ∷ column r 17 ∷ [] ≡ behind_key (drop 1 r)
+behind_number : (r : Row) → column r job_column.name ∷ column r job_column.password ∷ column r job_column.state ∷ column r job_column.is_open ∷ column r job_column.stopping ∷ column r job_column.copies ∷ column r job_column.impressions ∷ column r job_column.reserved ∷ column r job_column.charged ∷ column r job_column.documents ∷ column r job_column.rate ∷ column r job_column.device ∷ column r job_column.created ∷ column r job_column.started ∷ column r job_column.ended ∷ [] ≡ behind_key (drop 1 r)
 behind_number [] = refl
 behind_number (v ∷ r) = refl
 
 -- ---- what is read of the row
 
-pub gets_job : (old new : State) (name : List ℕ) (n : ℕ) → HasSchema old.now → (result : Result (Option Row) Error) → FindsRow old new 3 tests shows (Text name ∷ number n ∷ []) result
+pub gets_job : (old new : State) (name : List ℕ) (n : ℕ) → HasSchema old.now → (result : Result (Option Row) Error) → FindsRow old new job_tree tests shows (Text name ∷ number n ∷ []) result
     → Gets old new (job_at old.now name (pos n)) behind_key result
 unfolding first_key
 gets_job old new name n has result found =

@@ -10,6 +10,7 @@ use Rattle.sqlite.specs.Effect.{Database}
 use Rattle.sqlite.specs.Listing.{understood}
 use Rattle.account_rules.specs.declared.job.Job.{Job}
 use Rattle.account_rules.specs.declared.job.Standing.{Standing}
+use Rattle.rows_tables.specs.Places.{job_column, row_number, cell}
 use Rattle.rows_tables.specs.Tables.{job}
 use Rattle.rows_tables.specs.Keyed.{HasSchema, has_key}
 use Rattle.rows_tables.specs.Queries.{is_given, shows_of}
@@ -36,18 +37,18 @@ standing_text = codes "UPDATE job SET state = ?3, open = ?4, stopping = ?5, copi
 
 -- its number, as the new row's, its key and its texts, and the new values
 abbrev pub standing_terms : List Term
-standing_terms = col 1 0 ∷ col 1 1 ∷ col 1 2 ∷ col 1 3 ∷ col 1 4 ∷ col 0 2 ∷ col 0 3 ∷ col 0 4 ∷ col 0 5 ∷ col 0 6 ∷ col 0 7 ∷ col 0 8 ∷ col 0 9 ∷ col 0 10 ∷ col 0 11 ∷ col 0 12 ∷ col 0 13 ∷ col 0 14 ∷ []
+standing_terms = col 1 row_number ∷ col 1 job_column.account ∷ col 1 job_column.job ∷ col 1 job_column.name ∷ col 1 job_column.password ∷ col 0 2 ∷ col 0 3 ∷ col 0 4 ∷ col 0 5 ∷ col 0 6 ∷ col 0 7 ∷ col 0 8 ∷ col 0 9 ∷ col 0 10 ∷ col 0 11 ∷ col 0 12 ∷ col 0 13 ∷ col 0 14 ∷ []
 
 abbrev pub standing_tests : List Term
-standing_tests = is_given 1 1 ∷ is_given 2 2 ∷ []
+standing_tests = is_given job_column.account 1 ∷ is_given job_column.job 2 ∷ []
 
 abbrev pub standing_given : List ℕ → ℕ → Standing → Row
 standing_given name n standing = Text name ∷ number n ∷ standing_cells standing
 
 abbrev pub with_standing : Standing → Row → Row
-with_standing standing cells = column cells 0 ∷ column cells 1 ∷ column cells 2 ∷ column cells 3 ∷ standing_cells standing
+with_standing standing cells = cell job_column.account cells ∷ cell job_column.job cells ∷ cell job_column.name cells ∷ cell job_column.password cells ∷ standing_cells standing
 
-standing_shows : (name : List ℕ) (n : ℕ) (standing : Standing) (r : Row) → drop 1 (shows_of (col 1 0 ∷ standing_terms) (standing_given name n standing) r) ≡ column r 0 ∷ with_standing standing (drop 1 r)
+standing_shows : (name : List ℕ) (n : ℕ) (standing : Standing) (r : Row) → drop 1 (shows_of (col 1 row_number ∷ standing_terms) (standing_given name n standing) r) ≡ column r 0 ∷ with_standing standing (drop 1 r)
 standing_shows name n standing [] = refl
 standing_shows name n standing (v ∷ r) = refl
 

@@ -11,6 +11,7 @@ use Rattle.account_rules.specs.declared.account.Account.{Account}
 use Rattle.account_rules.specs.declared.job.Document.{Document}
 use Rattle.account_rules.specs.declared.job.Job.{Job}
 use Rattle.account_rules.specs.declared.job.Standing.{Standing}
+use Rattle.rows_tables.specs.Places.{job_places}
 use Rattle.rows_tables.specs.Tables.{room_schema, meta, account, job, document, grants, device, rates}
 use Rattle.rows_tables.specs.Keyed.{has_key, row_at, OnlyChanges, StaysUnless, SetsRow, RemovesRows}
 use Rattle.rows_tables.specs.Cells.{number, account_cells, job_cells}
@@ -96,7 +97,7 @@ module _ (name : List ℕ) (old new : Database) where
   pub grant_alone : (cells : Row) → SetsRow grants (Text name ∷ cells) old new → OnlyAccount name old new
   grant_alone cells h = only_account name old new grants refl h.rest (λ other apart key. not_set _ _ _ _ (h.rows (Text other ∷ key)) (apart_at (2 ∷ []) name cells other key apart)) (λ e. cc) (λ e. cc) (λ e. cc)
 
-  pub removal_alone : (beginning : Row) → RemovesRows document (Text name ∷ beginning) (1 ∷ 2 ∷ []) old new → OnlyAccount name old new
+  pub removal_alone : (beginning : Row) → RemovesRows document (Text name ∷ beginning) job_places old new → OnlyAccount name old new
   removal_alone beginning h = only_account name old new document refl h.rest (λ other apart key. not_removed _ _ _ (h.rows (Text other ∷ key)) (apart_at (2 ∷ []) other key name beginning (λ e. apart (sym e)))) (λ e. cc) (λ e. cc) (λ e. cc)
 
   pub device_alone : (cells : Row) → SetsRow device (Text name ∷ cells) old new → OnlyDevices old new

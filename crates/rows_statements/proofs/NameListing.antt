@@ -23,6 +23,7 @@ use Rattle.sqlite.specs.Effect.{Database}
 use Rattle.sqlite.specs.Listing.{understood}
 use Rattle.account_state.specs.Names.{AreNames, NamesRise, from_name, most_names, next_names}
 use Rattle.account_rules.specs.Devices.{name_cmp}
+use Rattle.rows_tables.specs.Places.{account_tree, account_column}
 use Rattle.rows_tables.specs.Tables.{room_schema}
 use Rattle.rows_tables.specs.Keyed.{HasSchema}
 use Rattle.rows_tables.specs.Queries.{Means, TakesParams, first_of_table, passes, IsShownBy}
@@ -42,10 +43,10 @@ abbrev pub names_text : List ℕ
 names_text = codes "SELECT name FROM account WHERE name > ?1 ORDER BY name LIMIT 100"
 
 abbrev pub names_tests : List Term
-names_tests = op2 (Compare Gt Binary) (col 1 1) (col 0 0) ∷ []
+names_tests = op2 (Compare Gt Binary) (col 1 account_column.name) (col 0 0) ∷ []
 
 abbrev pub names_shows : List Term
-names_shows = col 1 1 ∷ []
+names_shows = col 1 account_column.name ∷ []
 
 abbrev pub names_limit : Term
 names_limit = lit (Int (pos most_names))
@@ -54,7 +55,7 @@ abbrev pub names_shown : List (List ℕ)
 names_shown = codes "name" ∷ []
 
 abbrev pub names_query : Query
-names_query = first_of_table 1 names_tests names_shows by_name names_limit
+names_query = first_of_table account_tree names_tests names_shows by_name names_limit
 
 pub names_is : Means room_schema names_text names_query names_shown 1
 unfolding understood everything
@@ -81,7 +82,7 @@ only_test : (a b : Bool) → a ≡ b → (a && true) ≡ b
 only_test true b same = same
 only_test false b same = same
 
-asks_behind : (start name : List ℕ) (r : Row) → column r 1 ≡ Text name → passes names_tests (name_cells start) r ≡ comes_behind start name
+asks_behind : (start name : List ℕ) (r : Row) → column r account_column.name ≡ Text name → passes names_tests (name_cells start) r ≡ comes_behind start name
 asks_behind start name r is = only_test _ _ (ap (λ v. is_true (binary (Compare Gt Binary) v (Text start))) is ∙ greater_text start name)
 
 -- ---- what is shown
@@ -98,15 +99,15 @@ some_cells None some = absurd (true≢false (sym some))
 some_cells (Some cells) some = (cells, refl)
 
 module _ (db : Database) (has : HasSchema db) where
-  row_named : (r : Row) → Has (db.trees 1) r → (name : List ℕ) × (column r 1 ≡ Text name)
+  row_named : (r : Row) → Has (db.trees account_tree) r → (name : List ℕ) × (column r account_column.name ≡ Text name)
   row_named r there = text_at account_in db has r there 0 (codes "name") refl
 
-  row_there : (r : Row) → Has (db.trees 1) r → (name : List ℕ) → column r 1 ≡ Text name → IsSome (account_at db name)
+  row_there : (r : Row) → Has (db.trees account_tree) r → (name : List ℕ) → column r account_column.name ≡ Text name → IsSome (account_at db name)
   row_there r there name is = subst (λ (o : Option Row). IsSome o) (sym (at_its_key account_in db has (Text name ∷ []) refl (account_key name) (refl, tt) r there (is, tt))) refl
 
   module _ (start : List ℕ) where
     module _ (names : List (List ℕ)) (are : AreNames (λ name. IsSome (account_at db name)) names) where
-      row_found : (r : Row) → Has (db.trees 1) r → passes names_tests (name_cells start) r ≡ true
+      row_found : (r : Row) → Has (db.trees account_tree) r → passes names_tests (name_cells start) r ≡ true
           → (name : List ℕ) × Has (filter (comes_behind start) names) name × (output names_query (env (name_cells start) r) ≡ (Text name ∷ [], name_cells name))
       row_found r there passing =
           let name = row_named r there in
@@ -115,7 +116,7 @@ module _ (db : Database) (has : HasSchema db) where
           (name.0, has_kept (comes_behind start) names name.0 it (sym (asks_behind start name.0 r name.1) ∙ passing), ap (λ v. (v ∷ [], v ∷ [])) name.1)
 
       row_from : (name : List ℕ) → Has (filter (comes_behind start) names) name
-          → (r : Row) × Has (db.trees 1) r × (passes names_tests (name_cells start) r ≡ true) × (output names_query (env (name_cells start) r) ≡ (Text name ∷ [], name_cells name))
+          → (r : Row) × Has (db.trees account_tree) r × (passes names_tests (name_cells start) r ≡ true) × (output names_query (env (name_cells start) r) ≡ (Text name ∷ [], name_cells name))
       row_from name h =
           let it = has_filtered (comes_behind start) names name h in
           let cells = some_cells (account_at db name) ((are.exactly name).0 (any_from names name it.0)) in

@@ -18,6 +18,7 @@ use Rattle.sqlite_rules.proofs.ListLemmas.{all_has, has_filtered, has_kept}
 use Rattle.sqlite_rules.proofs.ProbeLemmas.{has_mapped, mapped_has}
 use Rattle.sqlite.specs.Effect.{Database}
 use Rattle.account_rules.specs.Devices.{name_cmp}
+use Rattle.rows_tables.specs.Places.{account_column}
 use Rattle.rows_tables.specs.Tables.{keyed}
 use Rattle.rows_tables.specs.Keyed.{HasSchema}
 use Rattle.rows_tables.specs.Queries.{first_of_table, passes, shows_of, IsShownBy}
@@ -57,7 +58,7 @@ once_told told p (r ∷ rows) rises apart =
 
 -- by the first column
 abbrev pub by_name : List (Term × Key)
-by_name = (col 1 1, rising) ∷ []
+by_name = (col 1 account_column.name, rising) ∷ []
 
 module _ (tree : ℕ) (tests shows : List Term) (limit : Term) (params : Row) where
   abbrev pub named_query : Query
@@ -74,7 +75,7 @@ module _ (tree : ℕ) (tests shows : List Term) (limit : Term) (params : Row) wh
       (r.0, there.0, there.1, o.2 ∙ ap (λ (o : Output). o.1) r.2)
 
   module _ {at : ℕ} {label : List ℕ} {columns : List Column} (in_schema : IsInSchema at label tree 1 columns) (exact : (name : List ℕ) → AreExact columns (Text name ∷ []))
-      (texts : (db : Database) → HasSchema db → (r : Row) → Has (db.trees tree) r → (name : List ℕ) × (column r 1 ≡ Text name)) where
+      (texts : (db : Database) → HasSchema db → (r : Row) → Has (db.trees tree) r → (name : List ℕ) × (column r account_column.name ≡ Text name)) where
     one_named : (db : Database) → HasSchema db → (a b : Row) → Has (db.trees tree) a → Has (db.trees tree) b → output named_query (env params a) ≡ output named_query (env params b) → a ≡ b
     one_named db has a b h k same =
         let name = texts db has a h in

@@ -11,6 +11,7 @@ use Rattle.sqlite_schema.specs.declared.schema.Kind.TheVariants as kind
 use Rattle.sqlite.specs.Effect.{Database}
 use Rattle.sqlite.specs.State.{State}
 use Rattle.sqlite.specs.declared.error.Error.{Error}
+use Rattle.rows_tables.specs.Places.{device_column, row_number, cell}
 use Rattle.rows_tables.specs.Tables.{column_of, keyed}
 use Rattle.rows_tables.specs.Keyed.{HasSchema, row_at}
 use Rattle.rows_tables.specs.Queries.{is_given, FindsRow}
@@ -23,15 +24,15 @@ use Rattle.rows_tables.proofs.Reading.{gets, without_number}
 -- the read by its name
 
 abbrev pub tests : List Term
-tests = is_given 1 1 ∷ []
+tests = is_given device_column.name 1 ∷ []
 
 abbrev pub shows : List Term
-shows = col 1 2 ∷ []
+shows = col 1 device_column.accepting ∷ []
 
 -- the write: its number and its key, and the new value
 
 abbrev pub becomes : List Term
-becomes = col 1 0 ∷ col 1 1 ∷ col 0 5 ∷ []
+becomes = col 1 row_number ∷ col 1 device_column.name ∷ col 0 5 ∷ []
 
 abbrev pub terms : List Term
 terms = lit Null ∷ col 0 0 ∷ col 0 1 ∷ []
@@ -41,11 +42,11 @@ module _ {at : ℕ} {table_name : List ℕ} {tree : ℕ} {label : List ℕ} {sec
   table = keyed table_name tree (1 ∷ []) (column_of kind.Text label ∷ second ∷ [])
 
   pub gets_row : (old new : State) (name : List ℕ) → HasSchema old.now → (result : Result (Option Row) Error) → FindsRow old new tree tests shows (Text name ∷ []) result
-      → Gets old new (row_at table (Text name ∷ []) old.now) (λ cells. column cells 1 ∷ []) result
+      → Gets old new (row_at table (Text name ∷ []) old.now) (λ cells. cell device_column.accepting cells ∷ []) result
   unfolding first_key
   gets_row old new name has result found =
-      gets table in_schema.listed in_schema.guarded (Text name ∷ []) tests shows (Text name ∷ []) (λ cells. column cells 1 ∷ []) (λ r. refl) (λ r. rw (without_number r 1) refl) old new has result found
+      gets table in_schema.listed in_schema.guarded (Text name ∷ []) tests shows (Text name ∷ []) (λ cells. cell device_column.accepting cells ∷ []) (λ r. refl) (λ r. rw (without_number r 1) refl) old new has result found
 
-  pub value_found : (db : Database) → HasSchema db → (name : List ℕ) (row : Row) → Some row ≡ option_map (λ cells. column cells 1 ∷ []) (row_at table (Text name ∷ []) db)
+  pub value_found : (db : Database) → HasSchema db → (name : List ℕ) (row : Row) → Some row ≡ option_map (λ cells. cell device_column.accepting cells ∷ []) (row_at table (Text name ∷ []) db)
       → (value : Value) → column row 0 ≡ value → row_at table (Text name ∷ []) db ≡ Some (Text name ∷ value ∷ [])
   value_found db has name row shown value read = row_found (Text name ∷ []) in_schema ((λ v. text_is v name), tt) db has (value ∷ []) refl row shown (read, tt)

@@ -10,6 +10,7 @@ use Rattle.account_rules.specs.declared.job.Document.{Document}
 use Rattle.account_rules.specs.declared.job.Job.{Job}
 use Rattle.account_state.specs.Rooms.{RoomValue, empty_room, place_cmp}
 use Rattle.account_state.specs.Changes.{without_documents, with_document}
+use Rattle.rows_tables.specs.Places.{job_places}
 use Rattle.rows_tables.specs.Tables.{account, job, document, grants}
 use Rattle.rows_tables.specs.Keyed.{SetsRow, RemovesRows}
 use Rattle.rows_tables.specs.Cells.{number, account_cells, job_cells, document_cells, grant_cells}
@@ -63,7 +64,7 @@ module _ (name : List ℕ) (old new : Database) (room : RoomValue) (held : Holds
         (λ e. subst (λ z. is_at_number name (pos month) (number pages ∷ []) name z ≡ true) e (number_here name (pos month) (number pages ∷ []))) (held.grant_rows n) (h.rows (Text name ∷ Int n ∷ []));
   }
 
-  pub documents_removed : (j : ℕ) → RemovesRows document (Text name ∷ number j ∷ []) (1 ∷ 2 ∷ []) old new → HoldsRows new name (record room { documents = without_documents room.documents j })
+  pub documents_removed : (j : ℕ) → RemovesRows document (Text name ∷ number j ∷ []) job_places old new → HoldsRows new name (record room { documents = without_documents room.documents j })
   documents_removed j h = record {
     account_row = row_kept account old new (h.rest.account (λ e. let no : ⊥ = cc in no)) (Text name ∷ []) ∙ held.account_row;
     job_rows = λ n. row_kept job old new (h.rest.job (λ e. let no : ⊥ = cc in no)) (Text name ∷ Int n ∷ []) ∙ held.job_rows n;

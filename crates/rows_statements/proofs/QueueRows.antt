@@ -27,6 +27,7 @@ use Rattle.account_state.specs.RoomRules.{NumbersRise}
 use Rattle.account_state.specs.Queues.{not_completed, ended_jobs, completed, at_most}
 use Rattle.account_state.proofs.JobMaps.{values_keep, values_rise}
 use Rattle.account_state.proofs.QueueOrders.{not_completed_rise, completed_permutes, completed_fall}
+use Rattle.rows_tables.specs.Places.{job_tree, account_places}
 use Rattle.rows_tables.specs.Tables.{job}
 use Rattle.rows_tables.specs.Keyed.{HasSchema, rows_under}
 use Rattle.rows_tables.specs.Queries.{first_of_table, passes, IsShownBy}
@@ -71,9 +72,9 @@ sorted_keys f by cmp same xs sorted k d low high =
 
 module _ (tests : List Term) (order : List (Term × Key)) (name : List ℕ) (limit : Option ℕ) (state_test : Row → Bool) (sorts : Row → Row)
     (asks : (r : Row) → passes tests (params name limit) r ≡ (of_account name r && state_test (drop 1 r)))
-    (outputs : (r : Row) → output (first_of_table 3 tests shows order (col 0 1)) (env (params name limit) r) ≡ told_by sorts (drop 1 r)) where
+    (outputs : (r : Row) → output (first_of_table job_tree tests shows order (col 0 1)) (env (params name limit) r) ≡ told_by sorts (drop 1 r)) where
   abbrev query : Query
-  query = first_of_table 3 tests shows order (col 0 1)
+  query = first_of_table job_tree tests shows order (col 0 1)
 
   passing_rows : (rows : List Row) → map (λ r. output query (env (params name limit) r)) (filter (passes tests (params name limit)) rows) ≡ map (told_by sorts) (filter state_test (map (drop 1) (filter (of_account name) rows)))
   passing_rows rows =
@@ -90,14 +91,14 @@ module _ (tests : List Term) (order : List (Term × Key)) (name : List ℕ) (lim
   limited_so wanted (Some n) same = ap (take n) (map-map (λ (o : Output). o.1) (job_told sorts name) wanted) ∙ take-map numbered_cells n wanted
 
   pub rows_told : (db : Database) (rows : List Row) → IsShownBy query db.trees (params name limit) rows → (wanted : List Job)
-      → IsPermutation (filter state_test (rows_under job (1 ∷ []) (Text name ∷ []) db)) (map (job_cells name) wanted)
+      → IsPermutation (filter state_test (rows_under job account_places (Text name ∷ []) db)) (map (job_cells name) wanted)
       → IsAscending (λ a b. output_cmp query (job_told sorts name a) (job_told sorts name b) ≡ Less) wanted
       → rows ≡ map numbered_cells (at_most limit wanted)
   rows_told db rows answer wanted same up =
-      let permuted = IsPermutation-map (told_by sorts) (filter state_test (rows_under job (1 ∷ []) (Text name ∷ []) db)) (map (job_cells name) wanted) same in
-      let all : IsPermutation (map (λ r. output query (env (params name limit) r)) (filter (passes tests (params name limit)) (db.trees 3))) (map (job_told sorts name) wanted) =
-      subst (λ l. IsPermutation l (map (job_told sorts name) wanted)) (sym (passing_rows (db.trees 3))) (subst (IsPermutation (map (told_by sorts) (filter state_test (rows_under job (1 ∷ []) (Text name ∷ []) db)))) (map-map (told_by sorts) (job_cells name) wanted) permuted) in
-      answer_in_order 3 tests shows order (col 0 1) db.trees (params name limit) rows answer (map (job_told sorts name) wanted) all (ascending-map (λ a b. output_cmp query a b ≡ Less) (job_told sorts name) wanted up) ∙ limited_so wanted limit refl
+      let permuted = IsPermutation-map (told_by sorts) (filter state_test (rows_under job account_places (Text name ∷ []) db)) (map (job_cells name) wanted) same in
+      let all : IsPermutation (map (λ r. output query (env (params name limit) r)) (filter (passes tests (params name limit)) (db.trees job_tree))) (map (job_told sorts name) wanted) =
+      subst (λ l. IsPermutation l (map (job_told sorts name) wanted)) (sym (passing_rows (db.trees job_tree))) (subst (IsPermutation (map (told_by sorts) (filter state_test (rows_under job account_places (Text name ∷ []) db)))) (map-map (told_by sorts) (job_cells name) wanted) permuted) in
+      answer_in_order job_tree tests shows order (col 0 1) db.trees (params name limit) rows answer (map (job_told sorts name) wanted) all (ascending-map (λ a b. output_cmp query a b ≡ Less) (job_told sorts name) wanted up) ∙ limited_so wanted limit refl
 
   limited_rows : (all : List Row) (most : Option ℕ) → most ≡ limit → page query (params name most) (map (λ (o : Output). o.1) (map (told_by sorts) all)) ≡ map with_number (limited most all)
   limited_rows all None same = map-map (λ (o : Output). o.1) (told_by sorts) all
@@ -107,9 +108,9 @@ module _ (tests : List Term) (order : List (Term × Key)) (name : List ℕ) (lim
   pub rows_first : (by : Row → Row → Ordering) → ((a b : Row) → by a b ≡ output_cmp query (told_by sorts a) (told_by sorts b)) → (db : Database) (rows : List Row) → IsShownBy query db.trees (params name limit) rows
       → (first : List Row) × AreFirst by limit (filter state_test (job_rows db name)) first × (rows ≡ map listed_cells first)
   rows_first by same db rows answer =
-      let all = answer_ordered 3 tests shows order (col 0 1) db.trees (params name limit) rows answer in
+      let all = answer_ordered job_tree tests shows order (col 0 1) db.trees (params name limit) rows answer in
       let theirs = filter state_test (job_rows db name) in
-      let put = unmapped (told_by sorts) theirs all.0 (subst (λ (l : List Output). IsPermutation l all.0) (passing_rows (db.trees 3)) all.1) in
+      let put = unmapped (told_by sorts) theirs all.0 (subst (λ (l : List Output). IsPermutation l all.0) (passing_rows (db.trees job_tree)) all.1) in
       let sorted : IsSorted by put.0 = sorted_keys (told_by sorts) by (output_cmp query) same put.0 (subst (λ (l : List Output). IsSorted (output_cmp query) l) put.2 all.2) in (
         limited limit put.0,
         record { all = put.0; same = put.1; sorted = sorted; are = refl },
@@ -127,10 +128,10 @@ module _ (name : List ℕ) (limit : Option ℕ) where
   kept_jobs state_test test jobs same = filter-map state_test (job_cells name) jobs ∙ ap (map (job_cells name)) (filter_same (λ it. state_test (job_cells name it)) test jobs same)
 
   kept_rows : (db : Database) → HasSchema db → (state_test : Row → Bool) (test : Job → Bool) → ((it : Job) → IsStanding it.standing → state_test (job_cells name it) ≡ test it)
-      → (room : RoomValue) → HoldsRoom db name room → IsPermutation (filter state_test (rows_under job (1 ∷ []) (Text name ∷ []) db)) (map (job_cells name) (filter test (values room.jobs)))
+      → (room : RoomValue) → HoldsRoom db name room → IsPermutation (filter state_test (rows_under job account_places (Text name ∷ []) db)) (map (job_cells name) (filter test (values room.jobs)))
   kept_rows db has state_test test same room held =
-      subst (IsPermutation (filter state_test (rows_under job (1 ∷ []) (Text name ∷ []) db))) (kept_jobs state_test test (values room.jobs) (all_weaker (λ (it : Job). IsStanding it.standing) _ same (values room.jobs) (room_sound db room held)))
-      (IsPermutation-filter state_test (rows_under job (1 ∷ []) (Text name ∷ []) db) (map (job_cells name) (values room.jobs)) (rows_of_jobs db has name room held))
+      subst (IsPermutation (filter state_test (rows_under job account_places (Text name ∷ []) db))) (kept_jobs state_test test (values room.jobs) (all_weaker (λ (it : Job). IsStanding it.standing) _ same (values room.jobs) (room_sound db room held)))
+      (IsPermutation-filter state_test (rows_under job account_places (Text name ∷ []) db) (map (job_cells name) (values room.jobs)) (rows_of_jobs db has name room held))
 
   room_rises : (db : Database) (room : RoomValue) → HoldsRoom db name room → NumbersRise (values room.jobs)
   room_rises db room held = values_rise room.jobs (λ n it is. (held.is_room.jobs n it is).numbered)

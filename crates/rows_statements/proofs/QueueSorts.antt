@@ -5,7 +5,7 @@ use Rattle.std.specs.Ordering.{ordering_then}
 use Rattle.std.proofs.lemmas.Bool.{true≢false}
 use Rattle.std.proofs.lemmas.Bool.Decides.{nat_tests}
 use Rattle.std.proofs.lemmas.Int.{ints}
-use Rattle.sqlite_value.specs.Order.{Row, column, value_cmp}
+use Rattle.sqlite_value.specs.Order.{Row, value_cmp}
 use Rattle.sqlite_value.proofs.OrderLemmas.{value_cmp-Int}
 use Rattle.sqlite_trees.specs.Tree.{IsAscending}
 use Rattle.sqlite_trees.proofs.ListLemmas.{all_weaker, all_both}
@@ -13,6 +13,7 @@ use Rattle.sqlite_sql.specs.Query.{Output, output, output_cmp}
 use Rattle.account_rules.specs.declared.job.Job.{Job}
 use Rattle.account_state.specs.RoomRules.{NumbersRise}
 use Rattle.account_state.specs.Queues.{EndsLater, EndsFall}
+use Rattle.rows_tables.specs.Places.{job_column, cell}
 use Rattle.rows_tables.specs.Cells.{number, moment, job_cells}
 use Rattle.rows_statements.specs.Queues.{by_falling_end, by_rising_number, numbered_cells}
 use Rattle.rows_tables.proofs.Queries.{env}
@@ -21,8 +22,8 @@ use Rattle.rows_statements.proofs.QueueTexts.{params, unfinished_query, ended_qu
 -- what is shown of a row, its number not among it
 abbrev pub with_number : Row → Row
 with_number cells =
-    column cells 2 ∷ column cells 3 ∷ column cells 4 ∷ column cells 5 ∷ column cells 6 ∷ column cells 7 ∷ column cells 8 ∷ column cells 9 ∷ column cells 10
-    ∷ column cells 11 ∷ column cells 12 ∷ column cells 13 ∷ column cells 14 ∷ column cells 15 ∷ column cells 16 ∷ column cells 1 ∷ []
+    cell job_column.name cells ∷ cell job_column.password cells ∷ cell job_column.state cells ∷ cell job_column.is_open cells ∷ cell job_column.stopping cells ∷ cell job_column.copies cells ∷ cell job_column.impressions cells ∷ cell job_column.reserved cells ∷ cell job_column.charged cells
+    ∷ cell job_column.documents cells ∷ cell job_column.rate cells ∷ cell job_column.device cells ∷ cell job_column.created cells ∷ cell job_column.started cells ∷ cell job_column.ended cells ∷ cell job_column.job cells ∷ []
 
 abbrev pub told_by : (Row → Row) → Row → Output
 told_by sorts cells = (sorts cells, with_number cells)
@@ -58,7 +59,7 @@ then_equal Greater = refl
 -- ---- those that have not ended, by number
 
 abbrev pub by_number : Row → Row
-by_number cells = column cells 1 ∷ []
+by_number cells = cell job_column.job cells ∷ []
 
 module _ (name : List ℕ) (limit : Option ℕ) where
   pub early_outputs : (r : Row) → output unfinished_query (env (params name limit) r) ≡ told_by by_number (drop 1 r)
@@ -66,7 +67,7 @@ module _ (name : List ℕ) (limit : Option ℕ) where
   early_outputs (v ∷ r) = refl
 
   pub rises_by : (a b : Row) → by_rising_number a b ≡ output_cmp unfinished_query (told_by by_number a) (told_by by_number b)
-  rises_by a b = then_equal (value_cmp (column a 1) (column b 1))
+  rises_by a b = then_equal (value_cmp (cell job_column.job a) (cell job_column.job b))
 
   pub early_rise : (jobs : List Job) → NumbersRise jobs
       → IsAscending (λ a b. output_cmp unfinished_query (job_told by_number name a) (job_told by_number name b) ≡ Less) jobs
@@ -76,7 +77,7 @@ module _ (name : List ℕ) (limit : Option ℕ) where
 -- ---- those that have, by their end
 
 abbrev pub by_end : Row → Row
-by_end cells = column cells 16 ∷ column cells 1 ∷ []
+by_end cells = cell job_column.ended cells ∷ cell job_column.job cells ∷ []
 
 module _ (name : List ℕ) (limit : Option ℕ) where
   pub late_outputs : (r : Row) → output ended_query (env (params name limit) r) ≡ told_by by_end (drop 1 r)
@@ -84,7 +85,7 @@ module _ (name : List ℕ) (limit : Option ℕ) where
   late_outputs (v ∷ r) = refl
 
   pub falls_by : (a b : Row) → by_falling_end a b ≡ output_cmp ended_query (told_by by_end a) (told_by by_end b)
-  falls_by a b = ap (ordering_then (value_cmp (column b 16) (column a 16))) (then_equal (value_cmp (column b 1) (column a 1)))
+  falls_by a b = ap (ordering_then (value_cmp (cell job_column.ended b) (cell job_column.ended a))) (then_equal (value_cmp (cell job_column.job b) (cell job_column.job a)))
 
   pub late_fall : (jobs : List Job) → AllByRecursion (λ (it : Job). IsSome it.standing.ended) jobs → EndsFall jobs → IsAscending (λ a b. output_cmp ended_query (job_told by_end name a) (job_told by_end name b) ≡ Less) jobs
   late_fall [] ended fall = tt

@@ -17,6 +17,7 @@ use Rattle.account_rules.specs.Standings.{KeepsToState}
 use Rattle.account_rules.specs.declared.job.Standing.{Standing}
 use Rattle.account_rules.specs.declared.job.JobState.{JobState}
 use Rattle.account_rules.specs.declared.job.JobState.TheVariants.{Held, Pending, Processing, Canceled, Aborted, Completed}
+use Rattle.rows_tables.specs.Places.{account_places}
 use Rattle.rows_tables.specs.Queries.{passes}
 use Rattle.rows_tables.specs.Cells.{moment}
 use Rattle.rows_statements.specs.SoundRows.{tells_unfinished, tells_ended}
@@ -24,7 +25,7 @@ use Rattle.rows_statements.proofs.QueueTexts.{params, unfinished_tests, ended_te
 
 -- the tests ask for the account, and then for the state
 abbrev pub of_account : List ℕ → Row → Bool
-of_account name row = agree plain (1 ∷ []) row (1 ∷ []) (Null ∷ Text name ∷ [])
+of_account name row = agree plain account_places row account_places (Null ∷ Text name ∷ [])
 
 pub regrouped : (a b : Bool) → (a && (b && true)) ≡ ((a && true) && b)
 regrouped true true = refl

@@ -10,13 +10,14 @@ use Rattle.sqlite_sql.specs.declared.ops.CompareOp.TheVariants.{Eq, Ge}
 use Rattle.sqlite_sql.specs.Query.{Query}
 use Rattle.sqlite_sql.specs.Term.{Term, lit, col, op2}
 use Rattle.sqlite.specs.Listing.{understood}
+use Rattle.rows_tables.specs.Places.{job_tree, job_column}
 use Rattle.rows_tables.specs.Tables.{room_schema}
 use Rattle.rows_tables.specs.Queries.{Means, TakesParams, first_of_table, is_given}
 use Rattle.rows_statements.specs.Queues.{limit_number}
 use Rattle.rows_statements.proofs.JobRows as job_rows
 
 abbrev pub shows : List Term
-shows = job_rows.shows ++ col 1 2 ∷ []
+shows = job_rows.shows ++ col 1 job_column.job ∷ []
 
 abbrev pub names : List (List ℕ)
 names = job_rows.names ++ codes "job" ∷ []
@@ -36,13 +37,13 @@ abbrev pub unfinished_text : List ℕ
 unfinished_text = codes "SELECT name, password, state, open, stopping, copies, impressions, reserved, charged, documents, rate, device, created, started, ended, job FROM job WHERE account = ?1 AND ended = -1 ORDER BY job LIMIT ?2"
 
 abbrev pub unfinished_tests : List Term
-unfinished_tests = is_given 1 1 ∷ op2 (Compare Eq Binary) (col 1 17) (lit (Int (negsuc 0))) ∷ []
+unfinished_tests = is_given job_column.account 1 ∷ op2 (Compare Eq Binary) (col 1 job_column.ended) (lit (Int (negsuc 0))) ∷ []
 
 abbrev pub unfinished_order : List (Term × Key)
-unfinished_order = (col 1 2, rising) ∷ []
+unfinished_order = (col 1 job_column.job, rising) ∷ []
 
 abbrev pub unfinished_query : Query
-unfinished_query = first_of_table 3 unfinished_tests shows unfinished_order (col 0 1)
+unfinished_query = first_of_table job_tree unfinished_tests shows unfinished_order (col 0 1)
 
 pub unfinished_is : Means room_schema unfinished_text unfinished_query names 2
 unfolding understood everything
@@ -57,13 +58,13 @@ abbrev pub ended_text : List ℕ
 ended_text = codes "SELECT name, password, state, open, stopping, copies, impressions, reserved, charged, documents, rate, device, created, started, ended, job FROM job WHERE account = ?1 AND ended >= 0 ORDER BY ended DESC, job DESC LIMIT ?2"
 
 abbrev pub ended_tests : List Term
-ended_tests = is_given 1 1 ∷ op2 (Compare Ge Binary) (col 1 17) (lit (Int (pos 0))) ∷ []
+ended_tests = is_given job_column.account 1 ∷ op2 (Compare Ge Binary) (col 1 job_column.ended) (lit (Int (pos 0))) ∷ []
 
 abbrev pub ended_order : List (Term × Key)
-ended_order = (col 1 17, falling) ∷ (col 1 2, falling) ∷ []
+ended_order = (col 1 job_column.ended, falling) ∷ (col 1 job_column.job, falling) ∷ []
 
 abbrev pub ended_query : Query
-ended_query = first_of_table 3 ended_tests shows ended_order (col 0 1)
+ended_query = first_of_table job_tree ended_tests shows ended_order (col 0 1)
 
 pub ended_is : Means room_schema ended_text ended_query names 2
 unfolding understood everything

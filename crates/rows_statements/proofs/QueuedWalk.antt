@@ -16,6 +16,7 @@ use Rattle.account_rules.specs.declared.job.JobState.TheVariants.{Held, Pending,
 use Rattle.account_state.specs.Queues.{not_completed}
 use Rattle.account_state.specs.Tallies.{tally_of, is_in_bounds}
 use Rattle.account_state.proofs.TallyLemmas.{three_lower, room_in_bounds}
+use Rattle.rows_tables.specs.Places.{job_tree, job_column}
 use Rattle.rows_tables.specs.Keyed.{HasSchema}
 use Rattle.rows_tables.specs.Queries.{passes, shown_of}
 use Rattle.rows_tables.specs.Accounts.{IsSound}
@@ -33,15 +34,15 @@ asks name [] = regrouped _ _
 asks name (v ∷ r) = regrouped _ _
 
 -- the rows that pass the tests of the text are those of the account that tell no end
-pub told_unfinished : (told cells : Row → Row) (same : (r : Row) → told r ≡ cells (drop 1 r)) (name : List ℕ) (db : Database) → map told (filter (passes queued_tests (Text name ∷ [])) (db.trees 3)) ≡ map cells (unfinished_rows db name)
+pub told_unfinished : (told cells : Row → Row) (same : (r : Row) → told r ≡ cells (drop 1 r)) (name : List ℕ) (db : Database) → map told (filter (passes queued_tests (Text name ∷ [])) (db.trees job_tree)) ≡ map cells (unfinished_rows db name)
 told_unfinished told cells same name db =
-    let chosen = filter (of_account name) (db.trees 3) in
-    ap (map told) (filter_same (passes queued_tests (Text name ∷ [])) (λ r. of_account name r && tells_unfinished (drop 1 r)) (db.trees 3) (all_of _ (asks name) (db.trees 3)) ∙ filter_both (of_account name) (λ r. tells_unfinished (drop 1 r)) (db.trees 3))
+    let chosen = filter (of_account name) (db.trees job_tree) in
+    ap (map told) (filter_same (passes queued_tests (Text name ∷ [])) (λ r. of_account name r && tells_unfinished (drop 1 r)) (db.trees job_tree) (all_of _ (asks name) (db.trees job_tree)) ∙ filter_both (of_account name) (λ r. tells_unfinished (drop 1 r)) (db.trees job_tree))
     ∙ of_their_cells told cells same (filter (λ r. tells_unfinished (drop 1 r)) chosen)
     ∙ ap (map cells) (sym (filter-map tells_unfinished (drop 1) chosen))
 
-pub queued_shown : (name : List ℕ) (db : Database) → shown_of 3 queued_tests tally_shows (Text name ∷ []) db.trees ≡ map counted_cells (unfinished_rows db name)
-queued_shown = told_unfinished (λ r. column r 5 ∷ column r 10 ∷ column r 11 ∷ []) counted_cells cells_counted
+pub queued_shown : (name : List ℕ) (db : Database) → shown_of job_tree queued_tests tally_shows (Text name ∷ []) db.trees ≡ map counted_cells (unfinished_rows db name)
+queued_shown = told_unfinished (λ r. column r job_column.state ∷ column r job_column.reserved ∷ column r job_column.charged ∷ []) counted_cells cells_counted
 
 -- ---- jobs that have not ended, among all of them
 

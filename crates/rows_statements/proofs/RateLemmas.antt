@@ -8,6 +8,7 @@ use Rattle.sqlite.specs.Effect.{Database}
 use Rattle.sqlite.specs.Listing.{understood}
 use Rattle.account_rules.specs.Limits.{most_rate}
 use Rattle.account_rules.specs.declared.device.Device.{Device}
+use Rattle.rows_tables.specs.Places.{rates_tree, rate_column, cell}
 use Rattle.rows_tables.specs.Tables.{room_schema}
 use Rattle.rows_tables.specs.Queries.{Means, TakesParams, of_table}
 use Rattle.rows_tables.specs.Cells.{number, units_cells, rate_cells}
@@ -27,11 +28,11 @@ find_text = codes "SELECT units FROM rates WHERE device = ?1"
 abbrev pub names : List (List ℕ)
 names = codes "units" ∷ []
 
-pub find_is : Means room_schema find_text (of_table 11 tests shows []) names 1
+pub find_is : Means room_schema find_text (of_table rates_tree tests shows []) names 1
 unfolding understood everything
 find_is = record { is = refl; lists_nothing = refl; is_plain = (refl, refl); takes = refl; is_whole = refl }
 
-pub find_takes : (name : List ℕ) → TakesParams room_schema (of_table 11 tests shows []) (Text name ∷ []) 1
+pub find_takes : (name : List ℕ) → TakesParams room_schema (of_table rates_tree tests shows []) (Text name ∷ []) 1
 find_takes name = record { given = refl; typed = refl }
 
 -- ---- the write of one row
@@ -48,10 +49,10 @@ sets name value = record { command = refl; is_plain = (refl, refl); rows = refl;
 abbrev is_rate : ℕ → Type 0
 is_rate units = (1 ≤ units) × (units ≤ most_rate)
 
-pub unsound : (db : Database) (name : List ℕ) (row : Row) → Some row ≡ option_map (λ cells. column cells 1 ∷ []) (rate_at db name) → ((value : ℕ) → 1 ≤ value → value ≤ most_rate → column row 0 ≢ number value)
+pub unsound : (db : Database) (name : List ℕ) (row : Row) → Some row ≡ option_map (λ cells. cell rate_column.units cells ∷ []) (rate_at db name) → ((value : ℕ) → 1 ≤ value → value ≤ most_rate → column row 0 ≢ number value)
     → IsRowOf (units_cells name) is_rate (rate_at db name) → ⊥
 unsound db name row shown damaged (None, range, is) = absurd (let e = rw is at shown in cc)
-unsound db name row shown damaged (Some units, range, is) = damaged units range.0 range.1 (ap (λ r. column r 0) (same_row (shown ∙ ap (option_map (λ cells. column cells 1 ∷ [])) is)))
+unsound db name row shown damaged (Some units, range, is) = damaged units range.0 range.1 (ap (λ r. column r 0) (same_row (shown ∙ ap (option_map (λ cells. cell rate_column.units cells ∷ [])) is)))
 
 pub rate_read : (db : Database) (name : List ℕ) → AreSoundDevices db → IsRowOf (units_cells name) is_rate (rate_at db name)
 rate_read db name (devices, held) = of_map (get devices name) refl

@@ -4,7 +4,7 @@ use Rattle.std.specs.List.{sum_by}
 use Rattle.std.specs.FinMap.{values, entries}
 use Rattle.std.proofs.lemmas.List.{length-map}
 use Rattle.std.proofs.lemmas.List.Elements.{All-nil, All-from_recursion, recursion_from_All}
-use Rattle.std.proofs.lemmas.List.Sums.{sum_by-cons, count_by-le-length}
+use Rattle.std.proofs.lemmas.List.Sums.{sum_by-cons, sum_by-le-sum_by, count_by-le-length}
 use Rattle.std.proofs.lemmas.List.Sorted.{IsPermutation-map, IsPermutation-sym, sum_by-IsPermutation}
 use Rattle.sqlite_tied.specs.Compute.{everything}
 use Rattle.sqlite_value.specs.declared.value.Value.TheVariants.{Text}
@@ -16,7 +16,7 @@ use Rattle.sqlite_rules.proofs.ListLemmas.{all_has}
 use Rattle.sqlite_rules.proofs.ProbeLemmas.{has_mapped}
 use Rattle.sqlite.specs.Effect.{Database}
 use Rattle.sqlite.specs.Listing.{understood}
-use Rattle.account_state.specs.Summaries.{beyond, beyond_then, charged_then, is_held, is_in_month, is_pending, summary_of}
+use Rattle.account_state.specs.Summaries.{beyond, charged_then, is_held, is_in_month, is_pending, summary_of}
 use Rattle.account_state.specs.declared.summary.Summary.{Summary}
 use Rattle.account_rules.specs.JobStates.{is_processing}
 use Rattle.account_rules.specs.Limits.{last_next_job, most_units, IsMoment}
@@ -28,6 +28,7 @@ use Rattle.account_state.specs.Tallies.{tally_of, is_in_bounds}
 use Rattle.account_state.proofs.FiniteMaps.{entries_few}
 use Rattle.account_state.proofs.JobMaps.{values_keep}
 use Rattle.account_state.proofs.TallyLemmas.{room_in_bounds}
+use Rattle.rows_tables.specs.Places.{job_tree, job_column, account_places}
 use Rattle.rows_tables.specs.Tables.{room_schema, job}
 use Rattle.rows_tables.specs.Keyed.{HasSchema, rows_under}
 use Rattle.rows_tables.specs.Queries.{Means, TakesParams, of_table, is_given, shown_of}
@@ -47,29 +48,29 @@ abbrev pub summed_text : List ℕ
 summed_text = codes "SELECT state, reserved, charged, ended, impressions, copies, rate FROM job WHERE account = ?1"
 
 abbrev pub summed_tests : List Term
-summed_tests = is_given 1 1 ∷ []
+summed_tests = is_given job_column.account 1 ∷ []
 
 abbrev pub summed_shows : List Term
-summed_shows = col 1 5 ∷ col 1 10 ∷ col 1 11 ∷ col 1 17 ∷ col 1 9 ∷ col 1 8 ∷ col 1 13 ∷ []
+summed_shows = col 1 job_column.state ∷ col 1 job_column.reserved ∷ col 1 job_column.charged ∷ col 1 job_column.ended ∷ col 1 job_column.impressions ∷ col 1 job_column.copies ∷ col 1 job_column.rate ∷ []
 
 abbrev pub summed_names : List (List ℕ)
 summed_names = codes "state" ∷ codes "reserved" ∷ codes "charged" ∷ codes "ended" ∷ codes "impressions" ∷ codes "copies" ∷ codes "rate" ∷ []
 
-pub summed_is : Means room_schema summed_text (of_table 3 summed_tests summed_shows []) summed_names 1
+pub summed_is : Means room_schema summed_text (of_table job_tree summed_tests summed_shows []) summed_names 1
 unfolding understood everything
 summed_is = record { is = refl; lists_nothing = refl; is_plain = (refl, refl); takes = refl; is_whole = refl }
 
-pub summed_takes : (name : List ℕ) → TakesParams room_schema (of_table 3 summed_tests summed_shows []) (Text name ∷ []) 1
+pub summed_takes : (name : List ℕ) → TakesParams room_schema (of_table job_tree summed_tests summed_shows []) (Text name ∷ []) 1
 summed_takes name = record { given = refl; typed = refl }
 
-cells_summed : (r : Row) → column r 5 ∷ column r 10 ∷ column r 11 ∷ column r 17 ∷ column r 9 ∷ column r 8 ∷ column r 13 ∷ [] ≡ summed_cells (drop 1 r)
+cells_summed : (r : Row) → column r job_column.state ∷ column r job_column.reserved ∷ column r job_column.charged ∷ column r job_column.ended ∷ column r job_column.impressions ∷ column r job_column.copies ∷ column r job_column.rate ∷ [] ≡ summed_cells (drop 1 r)
 cells_summed [] = refl
 cells_summed (v ∷ r) = refl
 
 -- the rows that pass the test of the text are those of the account
-pub jobs_shown : (name : List ℕ) (db : Database) → shown_of 3 summed_tests summed_shows (Text name ∷ []) db.trees ≡ map summed_cells (rows_under job (1 ∷ []) (Text name ∷ []) db)
+pub jobs_shown : (name : List ℕ) (db : Database) → shown_of job_tree summed_tests summed_shows (Text name ∷ []) db.trees ≡ map summed_cells (rows_under job account_places (Text name ∷ []) db)
 unfolding first_key
-jobs_shown name db = of_their_cells (λ r. column r 5 ∷ column r 10 ∷ column r 11 ∷ column r 17 ∷ column r 9 ∷ column r 8 ∷ column r 13 ∷ []) summed_cells cells_summed _
+jobs_shown name db = of_their_cells (λ r. column r job_column.state ∷ column r job_column.reserved ∷ column r job_column.charged ∷ column r job_column.ended ∷ column r job_column.impressions ∷ column r job_column.copies ∷ column r job_column.rate ∷ []) summed_cells cells_summed _
 
 -- ---- what the rows tell
 
@@ -189,46 +190,31 @@ units_within month last (rows, gathered) =
 
 -- ---- what jobs come to
 
-then_fewer : (month : ℕ) (jobs : List Job) → (summary_of month jobs).charged_then ≤ (summary_of month jobs).charged
-then_fewer month [] = omega arith
-then_fewer month (it ∷ jobs) =
-    let s = it.standing in
-    omega (
-      arith,
-      one (is_in_month month s.ended) s.charged,
-      then_fewer month jobs,
-      sum_by-cons (λ (it : Job). charged_then month it.standing.ended it.standing.charged) it jobs,
-      sum_by-cons (λ (it : Job). it.standing.charged) it jobs,
-    )
+-- what is in one month of a part of each job's charge is within all that the jobs were charged
+part_within : (month : ℕ) (part : Job → ℕ) (within : (it : Job) → part it ≤ it.standing.charged) (jobs : List Job)
+    → sum_by (λ (it : Job). charged_then month it.standing.ended (part it)) jobs ≤ (summary_of month jobs).charged
+part_within month part within jobs =
+    sum_by-le-sum_by (λ (it : Job). charged_then month it.standing.ended (part it)) (λ (it : Job). it.standing.charged) jobs
+    (λ it. one (is_in_month month it.standing.ended) (part it) it.standing.charged (within it))
   where
-    one : (b : Bool) (units : ℕ) → cond b units 0 ≤ units
-    one true units = omega arith
-    one false units = omega arith
+    one : (b : Bool) (units most : ℕ) → units ≤ most → cond b units 0 ≤ most
+    one true units most within = within
+    one false units most within = omega arith
 
-beyond_fewer : (month : ℕ) (jobs : List Job) → (summary_of month jobs).beyond_then ≤ (summary_of month jobs).charged
-beyond_fewer month [] = omega arith
-beyond_fewer month (it ∷ jobs) =
-    let s = it.standing in
-    omega (
-      arith,
-      one (is_in_month month s.ended) s.charged (need_of s.impressions s.copies s.rate),
-      beyond_fewer month jobs,
-      sum_by-cons (beyond_then month) it jobs,
-      sum_by-cons (λ (it : Job). it.standing.charged) it jobs,
-    )
-  where
-    one : (b : Bool) (units need : ℕ) → cond b (units - need) 0 ≤ units
-    one true units need = omega arith
-    one false units need = omega arith
+beyond_within : (units need : ℕ) → units - need ≤ units
+beyond_within units need = omega arith
 
 jobs_within : (month : ℕ) (jobs : List Job) → IsTrue (is_in_bounds (tally_of jobs)) → length jobs ≤ last_next_job → IsInBounds (summary_of month jobs)
 jobs_within month jobs within few =
     let units = units_of (tally_of jobs) within in
+    let charged = part_within month (λ (it : Job). it.standing.charged) (λ it. omega arith) jobs in
+    let further = part_within month (λ (it : Job). let s = it.standing in beyond s.charged s.impressions s.copies s.rate)
+    (λ it. let s = it.standing in beyond_within s.charged (need_of s.impressions s.copies s.rate)) jobs in
     record {
       reserved = units.0;
       charged = units.1;
-      charged_then = omega (arith, then_fewer month jobs, units.1);
-      beyond_then = omega (arith, beyond_fewer month jobs, units.1);
+      charged_then = omega (arith, charged, units.1);
+      beyond_then = omega (arith, further, units.1);
       held = omega (arith, few, count_by-le-length (λ (it : Job). is_held it.standing.state) jobs);
       pending = omega (arith, few, count_by-le-length (λ (it : Job). is_pending it.standing.state) jobs);
       processing = omega (arith, few, count_by-le-length (λ (it : Job). is_processing it.standing.state) jobs);

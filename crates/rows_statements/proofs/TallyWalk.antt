@@ -22,6 +22,7 @@ use Rattle.account_rules.specs.declared.job.JobState.{JobState}
 use Rattle.account_state.specs.declared.tally.Tally.{Tally}
 use Rattle.account_state.specs.Tallies.{tally_of, counted, is_in_bounds}
 use Rattle.account_state.proofs.TallyLemmas.{three_lower, counted_some, room_in_bounds}
+use Rattle.rows_tables.specs.Places.{job_tree, job_column, account_places}
 use Rattle.rows_tables.specs.Tables.{room_schema, job}
 use Rattle.rows_tables.specs.Keyed.{HasSchema, rows_under}
 use Rattle.rows_tables.specs.Queries.{Means, TakesParams, of_table, is_given, shown_of}
@@ -39,29 +40,29 @@ abbrev pub tally_text : List ℕ
 tally_text = codes "SELECT state, reserved, charged FROM job WHERE account = ?1"
 
 abbrev pub tally_tests : List Term
-tally_tests = is_given 1 1 ∷ []
+tally_tests = is_given job_column.account 1 ∷ []
 
 abbrev pub tally_shows : List Term
-tally_shows = col 1 5 ∷ col 1 10 ∷ col 1 11 ∷ []
+tally_shows = col 1 job_column.state ∷ col 1 job_column.reserved ∷ col 1 job_column.charged ∷ []
 
 abbrev pub tally_names : List (List ℕ)
 tally_names = codes "state" ∷ codes "reserved" ∷ codes "charged" ∷ []
 
-pub tally_is : Means room_schema tally_text (of_table 3 tally_tests tally_shows []) tally_names 1
+pub tally_is : Means room_schema tally_text (of_table job_tree tally_tests tally_shows []) tally_names 1
 unfolding understood everything
 tally_is = record { is = refl; lists_nothing = refl; is_plain = (refl, refl); takes = refl; is_whole = refl }
 
-pub tally_takes : (name : List ℕ) → TakesParams room_schema (of_table 3 tally_tests tally_shows []) (Text name ∷ []) 1
+pub tally_takes : (name : List ℕ) → TakesParams room_schema (of_table job_tree tally_tests tally_shows []) (Text name ∷ []) 1
 tally_takes name = record { given = refl; typed = refl }
 
-pub cells_counted : (r : Row) → column r 5 ∷ column r 10 ∷ column r 11 ∷ [] ≡ counted_cells (drop 1 r)
+pub cells_counted : (r : Row) → column r job_column.state ∷ column r job_column.reserved ∷ column r job_column.charged ∷ [] ≡ counted_cells (drop 1 r)
 cells_counted [] = refl
 cells_counted (v ∷ r) = refl
 
 -- the rows that pass the test of the text are those of the account
-pub jobs_shown : (name : List ℕ) (db : Database) → shown_of 3 tally_tests tally_shows (Text name ∷ []) db.trees ≡ map counted_cells (rows_under job (1 ∷ []) (Text name ∷ []) db)
+pub jobs_shown : (name : List ℕ) (db : Database) → shown_of job_tree tally_tests tally_shows (Text name ∷ []) db.trees ≡ map counted_cells (rows_under job account_places (Text name ∷ []) db)
 unfolding first_key
-jobs_shown name db = of_their_cells (λ r. column r 5 ∷ column r 10 ∷ column r 11 ∷ []) counted_cells cells_counted _
+jobs_shown name db = of_their_cells (λ r. column r job_column.state ∷ column r job_column.reserved ∷ column r job_column.charged ∷ []) counted_cells cells_counted _
 
 -- ---- what the rows tell
 

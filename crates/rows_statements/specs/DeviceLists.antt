@@ -8,6 +8,7 @@ use Rattle.sqlite.specs.Effect.{Database}
 use Rattle.account_rules.specs.Devices.{Devices}
 use Rattle.account_rules.specs.Names.{is_name}
 use Rattle.account_rules.specs.declared.device.Device.{Device}
+use Rattle.rows_tables.specs.Places.{device_column, cell}
 use Rattle.rows_tables.specs.Cells.{flag, device_cells, rate_cells}
 use Rattle.rows_tables.specs.Devices.{rate_at, HoldsDevices}
 use Rattle.rows_statements.specs.SoundRows.{device_rows}
@@ -16,7 +17,7 @@ use Rattle.rows_statements.specs.SoundRows.{device_rows}
 
 -- of a row of the table, its name and its flag
 abbrev pub shown_device : Row → Row
-shown_device cells = column cells 0 ∷ column cells 1 ∷ []
+shown_device cells = cell device_column.name cells ∷ cell device_column.accepting cells ∷ []
 
 -- what is shown are rows of the table, and where those are a map's, all its devices in their order
 pub record ShowsDevices (db : Database) (shown : List Row) : Type 0 where

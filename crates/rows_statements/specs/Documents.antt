@@ -8,6 +8,7 @@ use Rattle.sqlite.specs.Effect.{Database}
 use Rattle.account_rules.specs.Formats.{media_type}
 use Rattle.account_rules.specs.Limits.{longest_document, most_documents}
 use Rattle.account_rules.specs.declared.job.Document.{Document}
+use Rattle.rows_tables.specs.Places.{document_column, job_places}
 use Rattle.rows_tables.specs.Tables.{document as document_table}
 use Rattle.rows_tables.specs.Cells.{number}
 use Rattle.rows_statements.specs.declared.documents.Found.{Found}
@@ -15,11 +16,12 @@ use Rattle.rows_statements.specs.declared.documents.Found.{Found}
 -- the row, its row number first, is of a document of the job
 abbrev pub is_of_job : (name : List ℕ) (job : ℕ) (row : Row) → Bool
 is_of_job name job row =
-    agree plain (1 ∷ 2 ∷ []) row (1 ∷ 2 ∷ []) (Null ∷ Text name ∷ number job ∷ [])
+    agree plain job_places row job_places (Null ∷ Text name ∷ number job ∷ [])
 
 -- what is shown of the documents of the job: of each the columns after that of the job
 abbrev pub shown_documents : (db : Database) (name : List ℕ) (job : ℕ) → List Row
-shown_documents db name job = map (λ row. column row 3 ∷ column row 4 ∷ column row 5 ∷ [])
+shown_documents db name job = map (λ row. column row document_column.number
+    ∷ column row document_column.format ∷ column row document_column.bytes ∷ [])
     (filter (is_of_job name job) (db.trees document_table.tree))
 
 -- what is shown tells the document

@@ -10,6 +10,7 @@ use Rattle.sqlite.specs.Effect.{Database}
 use Rattle.account_rules.specs.Limits.{last_next_job}
 use Rattle.account_rules.specs.declared.job.Job.{Job}
 use Rattle.account_state.specs.Rooms.{RoomValue}
+use Rattle.rows_tables.specs.Places.{job_column, cell}
 use Rattle.rows_tables.specs.Cells.{number, standing_cells}
 use Rattle.rows_tables.specs.Accounts.{HoldsRoom}
 use Rattle.rows_statements.specs.Shown.{behind_key, ShowsJob, IsJob}
@@ -46,17 +47,17 @@ refuses_numbered row = (job : Job) → IsNumbered job → ShowsNumbered row job 
 
 -- of a row of the table, the cells after the key, and then its number
 abbrev pub listed_cells : Row → Row
-listed_cells cells = behind_key cells ++ column cells 1 ∷ []
+listed_cells cells = behind_key cells ++ cell job_column.job cells ∷ []
 
 -- ---- in which order, as SQL compares what stands in a column
 
 -- by rising number
 abbrev pub by_rising_number : Row → Row → Ordering
-by_rising_number = on (λ row. column row 1) value_cmp
+by_rising_number = on (cell job_column.job) value_cmp
 
 -- by falling end, and of one end by falling number
 abbrev pub by_falling_end : Row → Row → Ordering
-by_falling_end = flip_args (then_cmp (on (λ row. column row 16) value_cmp) by_rising_number)
+by_falling_end = flip_args (then_cmp (on (cell job_column.ended) value_cmp) by_rising_number)
 
 -- the first so many of the rows of a table in an order
 pub record AreFirst (order : Row → Row → Ordering) (limit : Option ℕ) (rows first : List Row)

@@ -7,6 +7,7 @@ use Rattle.account_rules.specs.declared.job.Document.{Document}
 use Rattle.account_rules.specs.declared.job.Job.{Job}
 use Rattle.account_rules.specs.declared.job.Standing.{Standing}
 use Rattle.rows_statements.specs.Updates.{SetsNextJob, SetsStanding}
+use Rattle.rows_tables.specs.Places.{job_places}
 use Rattle.rows_tables.specs.Tables.{job as job_table, document as document_table, device as device_table, rates as rates_table}
 use Rattle.rows_tables.specs.Keyed.{SetsRow, RemovesRows}
 use Rattle.rows_tables.specs.Cells.{number, job_cells, document_cells, on_cells, units_cells}
@@ -46,7 +47,7 @@ pub record EndsJob
   pub with_standing : Database
   pub job_row : SetsStanding name job standing old with_standing
   pub document_rows :
-      RemovesRows document_table (Text name ∷ number job ∷ []) (1 ∷ 2 ∷ []) with_standing new
+      RemovesRows document_table (Text name ∷ number job ∷ []) job_places with_standing new
 
 -- a device that is new has rate 1
 abbrev pub RatesNew : (name : List ℕ) (is_new : Bool) (old new : Database) → Type 0

@@ -7,14 +7,18 @@ use Rattle.account_rules.specs.Limits.{longest_job_name, longest_password}
 use Rattle.account_rules.specs.Standings.{IsStanding}
 use Rattle.account_rules.specs.declared.job.Standing.{Standing}
 use Rattle.account_rules.specs.declared.job.Job.{Job}
+use Rattle.rows_tables.specs.Places.{job_column, cell}
 use Rattle.rows_tables.specs.Cells.{number, flag, moment, device_text}
 
 -- the cells of a job after its key
 abbrev pub behind_key : Row → Row
 behind_key cells =
-    column cells 2 ∷ column cells 3 ∷ column cells 4 ∷ column cells 5 ∷ column cells 6
-    ∷ column cells 7 ∷ column cells 8 ∷ column cells 9 ∷ column cells 10 ∷ column cells 11
-    ∷ column cells 12 ∷ column cells 13 ∷ column cells 14 ∷ column cells 15 ∷ column cells 16 ∷ []
+    cell job_column.name cells ∷ cell job_column.password cells ∷ cell job_column.state cells
+    ∷ cell job_column.is_open cells ∷ cell job_column.stopping cells ∷ cell job_column.copies cells
+    ∷ cell job_column.impressions cells ∷ cell job_column.reserved cells
+    ∷ cell job_column.charged cells ∷ cell job_column.documents cells ∷ cell job_column.rate cells
+    ∷ cell job_column.device cells ∷ cell job_column.created cells ∷ cell job_column.started cells
+    ∷ cell job_column.ended cells ∷ []
 
 -- from the third column on, a standing
 pub record ShowsStanding (row : Row) (s : Standing) : Type 0 where

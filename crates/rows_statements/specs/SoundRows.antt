@@ -5,7 +5,7 @@ use Rattle.std.specs.declared.cmp.Ordering.{Ordering}
 use Rattle.std.specs.List.{sum_by}
 use Rattle.sqlite_value.specs.declared.value.Value.TheVariants.{Int, Text}
 use Rattle.sqlite_value.specs.declared.keys.Collation.TheVariants.{Binary}
-use Rattle.sqlite_value.specs.Order.{Row, column}
+use Rattle.sqlite_value.specs.Order.{Row}
 use Rattle.sqlite_sql.specs.declared.ops.BinaryOp.TheVariants.{Compare}
 use Rattle.sqlite_sql.specs.declared.ops.CompareOp.TheVariants.{Eq, Ge}
 use Rattle.sqlite_sql.specs.Ops.{binary, is_true}
@@ -17,6 +17,7 @@ use Rattle.account_rules.specs.declared.job.Job.{Job}
 use Rattle.account_state.specs.RoomRules.{IsGrant}
 use Rattle.account_state.specs.Sums.{pages_by}
 use Rattle.account_state.specs.Tallies.{tally_of, is_in_bounds}
+use Rattle.rows_tables.specs.Places.{job_column, account_places, job_places, cell}
 use Rattle.rows_tables.specs.Tables.{job, document, grants, device}
 use Rattle.rows_tables.specs.Keyed.{HasSchema, rows_under}
 use Rattle.rows_tables.specs.Cells.{number, account_cells, job_cells, document_cells, grant_cells, on_cells, units_cells}
@@ -47,21 +48,22 @@ FirstAreRowsOf cells InRange order limit rows =
 -- ---- the rows of an account in a table
 
 abbrev pub job_rows : (db : Database) (name : List ℕ) → List Row
-job_rows db name = rows_under job (1 ∷ []) (Text name ∷ []) db
+job_rows db name = rows_under job account_places (Text name ∷ []) db
 
 abbrev pub grant_rows : (db : Database) (name : List ℕ) → List Row
-grant_rows db name = rows_under grants (1 ∷ []) (Text name ∷ []) db
+grant_rows db name = rows_under grants account_places (Text name ∷ []) db
 
 -- those of one of its jobs
 abbrev pub document_rows : (db : Database) (name : List ℕ) (of_job : ℕ) → List Row
-document_rows db name of_job = rows_under document (1 ∷ 2 ∷ []) (Text name ∷ number of_job ∷ []) db
+document_rows db name of_job = rows_under document job_places (Text name ∷ number of_job ∷ []) db
 
 -- those of its jobs that tell no moment of an end, and those that tell one
 abbrev pub tells_unfinished : Row → Bool
-tells_unfinished cells = is_true (binary (Compare Eq Binary) (column cells 16) (Int (negsuc 0)))
+tells_unfinished cells =
+    is_true (binary (Compare Eq Binary) (cell job_column.ended cells) (Int (negsuc 0)))
 
 abbrev pub tells_ended : Row → Bool
-tells_ended cells = is_true (binary (Compare Ge Binary) (column cells 16) (Int (pos 0)))
+tells_ended cells = is_true (binary (Compare Ge Binary) (cell job_column.ended cells) (Int (pos 0)))
 
 abbrev pub unfinished_rows : (db : Database) (name : List ℕ) → List Row
 unfinished_rows db name = filter tells_unfinished (job_rows db name)

@@ -7,6 +7,7 @@ use Rattle.account_state.specs.declared.summary.Summary.{Summary}
 use Rattle.account_rules.specs.JobStates.{is_processing}
 use Rattle.account_rules.specs.Limits.{most_units, IsMoment}
 use Rattle.account_rules.specs.declared.job.JobState.{JobState}
+use Rattle.rows_tables.specs.Places.{job_column, cell}
 use Rattle.rows_tables.specs.Cells.{moment, number}
 use Rattle.rows_statements.specs.Totals.{TellsCounted}
 use Rattle.rows_statements.specs.declared.summaries.Summed.{Summed}
@@ -15,8 +16,9 @@ use Rattle.rows_statements.specs.declared.summaries.Summed.{Summed}
 -- release let it cost
 abbrev pub summed_cells : Row → Row
 summed_cells cells =
-    column cells 4 ∷ column cells 9 ∷ column cells 10 ∷ column cells 16
-    ∷ column cells 8 ∷ column cells 7 ∷ column cells 12 ∷ []
+    cell job_column.state cells ∷ cell job_column.reserved cells ∷ cell job_column.charged cells
+    ∷ cell job_column.ended cells ∷ cell job_column.impressions cells ∷ cell job_column.copies cells
+    ∷ cell job_column.rate cells ∷ []
 
 -- the row tells a job that was charged so many units beyond what its release let it cost
 pub record TellsBeyond (row : Row) (charges further : ℕ) : Type 0 where

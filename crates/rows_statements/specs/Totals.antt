@@ -8,6 +8,7 @@ use Rattle.account_rules.specs.declared.job.JobState.{JobState}
 use Rattle.account_state.specs.declared.tally.Tally.{Tally}
 use Rattle.account_state.specs.Tallies.{counted_in_bounds}
 use Rattle.account_state.specs.Sums.{pages_by}
+use Rattle.rows_tables.specs.Places.{job_column, grant_column, cell}
 use Rattle.rows_tables.specs.Cells.{flag, number}
 use Rattle.rows_statements.specs.declared.grants.Granted.{Granted}
 
@@ -15,7 +16,9 @@ use Rattle.rows_statements.specs.declared.grants.Granted.{Granted}
 
 -- the cells of a job that are counted: its state, and the units that it reserves and was charged
 abbrev pub counted_cells : Row → Row
-counted_cells cells = column cells 4 ∷ column cells 9 ∷ column cells 10 ∷ []
+counted_cells cells =
+    cell job_column.state cells ∷ cell job_column.reserved cells ∷ cell job_column.charged cells
+    ∷ []
 
 pub record TellsCounted (row : Row) (job : JobState) (reserves charges : ℕ) : Type 0 where
   pub state : column row 0 ≡ number (state_number job)
@@ -39,7 +42,7 @@ refuses_job first row =
 -- ---- its jobs that have not ended, by number alone
 
 abbrev pub number_cell : Row → Row
-number_cell cells = column cells 1 ∷ []
+number_cell cells = cell job_column.job cells ∷ []
 
 -- one more is there, whatever its number
 abbrev pub counts_one : (first : ℕ) → Row → (last : ℕ) → Type 0
@@ -53,7 +56,7 @@ refuses_one first row = most_unfinished ≤ first
 
 -- the cells of a grant after the account
 abbrev pub granted_cells : Row → Row
-granted_cells cells = column cells 1 ∷ column cells 2 ∷ []
+granted_cells cells = cell grant_column.month cells ∷ cell grant_column.pages cells ∷ []
 
 pub record TellsGrant (row : Row) (of_month granted : ℕ) : Type 0 where
   pub month : column row 0 ≡ number of_month

@@ -3,6 +3,7 @@
 ghost use Rattle.std.specs.Prelude.{◌≡◌, ◌≢◌, [], ◌∷◌, Some, Err, option_map, IfOk, IfSome};
 ghost use Rattle.rows_statements.specs.Prelude.{Changes, GetsRow, IfOurTables, IsRowOf, KeepsOpen, ReadsStore, SetsRow, WritesInSavepoint, column, number};
 ghost use Rattle.account_rules.specs.declared.account.Account.{Account as AccountValue};
+ghost use Rattle.rows_tables.specs.Places.{account_column, cell};
 ghost use Rattle.rows_tables.specs.Tables.{account as account_table};
 ghost use Rattle.rows_tables.specs.Cells.{account_cells};
 ghost use Rattle.rows_tables.specs.Accounts.{account_at, IsAccount};
@@ -39,7 +40,8 @@ fn account_row<S: Alter>(
     account: Name,
 ) -> Result<Option<Row>, Error>
     ensures gets { GetsRow S.Store connection.old connection.new (λ db. account_at db account)
-        (λ cells. column cells 1 ∷ column cells 2 ∷ []) result }
+        (λ cells. cell account_column.opened cells ∷ cell account_column.next_job cells ∷ [])
+        result }
     ensures connection { KeepsOpen S.Store connection.old connection.new result }
 {
     find_row(

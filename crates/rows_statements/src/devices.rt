@@ -4,6 +4,7 @@ ghost use Rattle.std.specs.Prelude.{◌≡◌, ◌↔◌, ℕ, Bool, ⊤, List, 
 ghost use Rattle.rows_statements.specs.Prelude.{Changes, GetsRow, IfOurTables, IsRowOf, KeepsOpen, ReadsStore, SetsRow, WalksStore, WritesInSavepoint, column};
 ghost use Rattle.account_rules.specs.Devices.{Devices, is_some_on};
 ghost use Rattle.account_rules.specs.Names.{is_name};
+ghost use Rattle.rows_tables.specs.Places.{device_column, cell};
 ghost use Rattle.rows_tables.specs.Tables.{device as device_table};
 ghost use Rattle.rows_tables.specs.Cells.{on_cells};
 ghost use Rattle.rows_tables.specs.Devices.{device_at, HoldsDevices};
@@ -38,7 +39,7 @@ pub fn find_device<S: Alter>(
 
 fn device_row<S: Alter>(connection: &mut Connection<S>, name: Name) -> Result<Option<Row>, Error>
     ensures gets { GetsRow S.Store connection.old connection.new (λ db. device_at db name)
-        (λ cells. column cells 1 ∷ []) result }
+        (λ cells. cell device_column.accepting cells ∷ []) result }
     ensures connection { KeepsOpen S.Store connection.old connection.new result }
 {
     find_row(
@@ -92,7 +93,8 @@ fn walk_devices<S: Alter>(
     ensures walks { WalksStore
         (λ first row last. GathersOn first.is_on row last.is_on) (λ first row. refuses_flag row)
         S.Store connection.old connection.new
-        (λ db. IsPermutation (map (λ row. column row 2 ∷ []) (db.trees device_table.tree)))
+        (λ db. IsPermutation
+        (map (λ row. column row device_column.accepting ∷ []) (db.trees device_table.tree)))
         found.old found.new result }
     ensures connection { KeepsOpen S.Store connection.old connection.new result }
 {

@@ -7,6 +7,7 @@ ghost use Rattle.std.specs.Option.{option_to_list};
 ghost use Rattle.sqlite_value.specs.declared.value.Value.TheVariants.{Text};
 ghost use Rattle.account_rules.specs.declared.job.Document.{Document as DocumentValue};
 ghost use Rattle.account_state.specs.Documents.{documents_of};
+ghost use Rattle.rows_tables.specs.Places.{job_places};
 ghost use Rattle.rows_tables.specs.Tables.{document as document_table};
 ghost use Rattle.rows_tables.specs.Keyed.{RemovesRows};
 ghost use Rattle.rows_tables.specs.Cells.{document_cells};
@@ -165,7 +166,7 @@ pub fn remove_documents<S: Alter>(
     job: u32,
 ) -> Result<(), Error>
     ensures removes { Changes S.Store savepoint.old.conn.now savepoint.new.conn.now result
-        (RemovesRows document_table (Text account ∷ number job ∷ []) (1 ∷ 2 ∷ [])) }
+        (RemovesRows document_table (Text account ∷ number job ∷ []) job_places) }
     ensures inside { WritesInSavepoint savepoint.old savepoint.new result }
 {
     write(

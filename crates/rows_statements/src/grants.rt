@@ -4,6 +4,7 @@ ghost use Rattle.std.specs.Prelude.{◌≡◌, ◌≢◌, ℕ, ◌≤◌, pos, [
 ghost use Rattle.rows_statements.specs.Prelude.{Changes, GetsRow, HasGathered, HoldsRoom, IfOurTables, IsRowOf, KeepsOpen, ReadsStore, RoomValue, SetsRow, WalksStore, WritesInSavepoint, column, number};
 ghost use Rattle.account_rules.specs.Limits.{most_pages, most_units};
 ghost use Rattle.account_state.specs.Sums.{granted_to};
+ghost use Rattle.rows_tables.specs.Places.{grant_column, cell};
 ghost use Rattle.rows_tables.specs.Tables.{grants as grants_table};
 ghost use Rattle.rows_tables.specs.Cells.{grant_cells};
 ghost use Rattle.rows_tables.specs.Accounts.{grant_at};
@@ -46,7 +47,8 @@ fn grant_row<S: Alter>(
     month: u32,
 ) -> Result<Option<Row>, Error>
     ensures gets { GetsRow S.Store connection.old connection.new
-        (λ db. grant_at db account (pos month)) (λ cells. column cells 2 ∷ []) result }
+        (λ db. grant_at db account (pos month))
+        (λ cells. cell grant_column.pages cells ∷ []) result }
     ensures connection { KeepsOpen S.Store connection.old connection.new result }
 {
     find_row(

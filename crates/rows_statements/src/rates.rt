@@ -4,6 +4,7 @@ ghost use Rattle.std.specs.Prelude.{◌≡◌, ◌≢◌, ◌≤◌, ℕ, [], �
 ghost use Rattle.rows_statements.specs.Prelude.{Changes, GetsRow, IfOurTables, IsRowOf, KeepsOpen, ReadsStore, SetsRow, WritesInSavepoint, column, number};
 ghost use Rattle.account_rules.specs.Limits.{most_rate, IsRate};
 ghost use Rattle.account_rules.specs.Names.{is_name};
+ghost use Rattle.rows_tables.specs.Places.{rate_column, cell};
 ghost use Rattle.rows_tables.specs.Tables.{rates as rates_table};
 ghost use Rattle.rows_tables.specs.Cells.{units_cells};
 ghost use Rattle.rows_tables.specs.Devices.{rate_at};
@@ -38,7 +39,7 @@ pub fn find_rate<S: Alter>(
 
 fn rate_row<S: Alter>(connection: &mut Connection<S>, name: Name) -> Result<Option<Row>, Error>
     ensures gets { GetsRow S.Store connection.old connection.new (λ db. rate_at db name)
-        (λ cells. column cells 1 ∷ []) result }
+        (λ cells. cell rate_column.units cells ∷ []) result }
     ensures connection { KeepsOpen S.Store connection.old connection.new result }
 {
     find_row(

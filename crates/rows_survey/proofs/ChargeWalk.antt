@@ -15,6 +15,7 @@ use Rattle.sqlite.specs.Listing.{understood}
 use Rattle.page_overview.specs.Surveys.{charged_on, is_on, told}
 use Rattle.page_overview.specs.declared.days.TheConstants.{MOST_DAYS}
 use Rattle.account_rules.specs.declared.job.Job.{Job}
+use Rattle.rows_tables.specs.Places.{job_tree, job_column, account_places}
 use Rattle.rows_tables.specs.Tables.{room_schema, job}
 use Rattle.rows_tables.specs.Keyed.{rows_under}
 use Rattle.rows_tables.specs.Queries.{Means, TakesParams, of_table, is_given, shown_of}
@@ -31,29 +32,29 @@ abbrev pub charged_text : List ℕ
 charged_text = codes "SELECT charged, ended FROM job WHERE account = ?1"
 
 abbrev pub charged_tests : List Term
-charged_tests = is_given 1 1 ∷ []
+charged_tests = is_given job_column.account 1 ∷ []
 
 abbrev pub charged_shows : List Term
-charged_shows = col 1 11 ∷ col 1 17 ∷ []
+charged_shows = col 1 job_column.charged ∷ col 1 job_column.ended ∷ []
 
 abbrev pub charged_names : List (List ℕ)
 charged_names = codes "charged" ∷ codes "ended" ∷ []
 
-pub charged_is : Means room_schema charged_text (of_table 3 charged_tests charged_shows []) charged_names 1
+pub charged_is : Means room_schema charged_text (of_table job_tree charged_tests charged_shows []) charged_names 1
 unfolding understood everything
 charged_is = record { is = refl; lists_nothing = refl; is_plain = (refl, refl); takes = refl; is_whole = refl }
 
-pub charged_takes : (name : List ℕ) → TakesParams room_schema (of_table 3 charged_tests charged_shows []) (Text name ∷ []) 1
+pub charged_takes : (name : List ℕ) → TakesParams room_schema (of_table job_tree charged_tests charged_shows []) (Text name ∷ []) 1
 charged_takes name = record { given = refl; typed = refl }
 
-cells_charged : (r : Row) → column r 11 ∷ column r 17 ∷ [] ≡ charged_cells (drop 1 r)
+cells_charged : (r : Row) → column r job_column.charged ∷ column r job_column.ended ∷ [] ≡ charged_cells (drop 1 r)
 cells_charged [] = refl
 cells_charged (v ∷ r) = refl
 
 -- the rows that pass the test of the text are those of the account
-pub jobs_shown : (name : List ℕ) (db : Database) → shown_of 3 charged_tests charged_shows (Text name ∷ []) db.trees ≡ map charged_cells (rows_under job (1 ∷ []) (Text name ∷ []) db)
+pub jobs_shown : (name : List ℕ) (db : Database) → shown_of job_tree charged_tests charged_shows (Text name ∷ []) db.trees ≡ map charged_cells (rows_under job account_places (Text name ∷ []) db)
 unfolding first_key
-jobs_shown name db = of_their_cells (λ r. column r 11 ∷ column r 17 ∷ []) charged_cells cells_charged _
+jobs_shown name db = of_their_cells (λ r. column r job_column.charged ∷ column r job_column.ended ∷ []) charged_cells cells_charged _
 
 -- ---- what the rows tell
 

@@ -4,12 +4,13 @@ use Rattle.std.specs.Prelude.{◌≡◌, ℕ, ◌+◌, ◌<◌, if◌then◌else
 use Rattle.sqlite_value.specs.Order.{Row, column}
 use Rattle.page_overview.specs.Surveys.{is_on, told}
 use Rattle.page_overview.specs.declared.days.TheConstants.{MOST_DAYS}
+use Rattle.rows_tables.specs.Places.{job_column, cell}
 use Rattle.rows_tables.specs.Cells.{moment, number}
 use Rattle.rows_survey.specs.declared.charges.Charges.{Charges}
 
 -- the cells of a job that are read: its charge, and the moment of its end
 abbrev pub charged_cells : Row → Row
-charged_cells cells = column cells 10 ∷ column cells 16 ∷ []
+charged_cells cells = cell job_column.charged cells ∷ cell job_column.ended cells ∷ []
 
 pub record TellsCharge (row : Row) (charged : ℕ) (ended : Option ℕ) : Type 0 where
   pub charge : column row 0 ≡ number charged

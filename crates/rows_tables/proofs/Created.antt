@@ -25,6 +25,7 @@ use Rattle.sqlite.specs.Rows.{Written}
 use Rattle.sqlite.specs.Listing.{understood}
 use Rattle.sqlite.specs.State.{State, Writes, Executes, mode_of}
 use Rattle.sqlite.proofs.Callers.{statement_of, runs_as, one_step}
+use Rattle.rows_tables.specs.Places.{meta_tree}
 use Rattle.rows_tables.specs.Tables.{room_schema, meta, account, job, document, grants, device, rates}
 use Rattle.rows_tables.specs.Keyed.{has_key, row_at}
 use Rattle.rows_tables.specs.Making.{IsBlank, IsNew, version_row}
@@ -89,7 +90,7 @@ numbers_version old new count h blank =
     let trees : new.now.trees ≡ written.0 = ap (λ (d : Database). d.trees) now ∙ ap (λ (it : Written). it.trees) (same_value counted.2) ∙ same_value counted.1 in
     let step = one_step room_schema Enforced db written.0 (edit_of db meta [] Chosen 0 sourced.0) refl written.1 in
     let edit : edited db (edit_of db meta [] Chosen 0 sourced.0) ≡ version_row (pos 2) ∷ [] = ap (λ all. edited db (edit_of db meta [] Chosen 0 all)) sourced.1.1 ∙ rw (none, cast_null, cast_integer (pos 1), cast_integer (pos 2)) refl in
-    let rows : new.now.trees 0 ≡ version_row (pos 2) ∷ [] = ap (λ (t : Trees). t 0) trees ∙ step.rows ∙ edit in
+    let rows : new.now.trees meta_tree ≡ version_row (pos 2) ∷ [] = ap (λ (t : Trees). t 0) trees ∙ step.rows ∙ edit in
     let others : (t : Table) → Has room_schema.tables t → t.tree ≢ 0 → new.now.trees t.tree ≡ [] = λ t listed other.
     ap (λ (f : Trees). f t.tree) trees ∙ all_has (λ u. u.tree ≢ 0 → written.0 u.tree ≡ db u.tree) room_schema.tables t step.tables listed other ∙ all_has (λ u. db u.tree ≡ []) room_schema.tables t blank.1 listed in
     record {

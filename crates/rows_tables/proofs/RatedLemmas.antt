@@ -28,6 +28,7 @@ use Rattle.sqlite.specs.Rows.{Written}
 use Rattle.sqlite.specs.Listing.{understood}
 use Rattle.sqlite.specs.State.{State, Executes, mode_of}
 use Rattle.sqlite.proofs.Callers.{statement_of, runs_as}
+use Rattle.rows_tables.specs.Places.{device_tree, rates_tree}
 use Rattle.rows_tables.specs.Tables.{first_schema, unindexed_schema, room_schema, column_of, device, rates}
 use Rattle.rows_tables.specs.Keyed.{has_key}
 use Rattle.rows_tables.specs.Queries.{passes, shows_of}
@@ -71,7 +72,7 @@ numbered_has rows (q ∷ given) r (inr later) = let it = numbered_has (put_row (
 listed : Has room_schema.tables device
 listed = inr (inr (inr (inr (inr (inl refl)))))
 
-name_in : (trees : Trees) → Fits room_schema trees → (x : Row) → Has (trees 9) x → (t : List ℕ) × (column x 1 ≡ Text t)
+name_in : (trees : Trees) → Fits room_schema trees → (x : Row) → Has (trees device_tree) x → (t : List ℕ) × (column x 1 ≡ Text t)
 name_in trees fits x h =
     let present = keeps_at NotNull room_schema trees device x (fits.rules NotNull (λ e. absurd cc)) listed h in
     let typed = (and_parts _ _ (keeps_at Datatype room_schema trees device x (fits.rules Datatype (λ e. absurd cc)) listed h)).0 in
@@ -129,7 +130,7 @@ module _ (devices rows : List Row) (are : AreRates devices rows) (name : List �
 apart : device.tree ≢ rates.tree
 apart e = omega (arith, e)
 
-pub rates_devices : (old new : State) (count : ℕ) → Executes rate_text [] old new (Ok count) → old.now.schema ≡ room_schema → old.now.trees 11 ≡ [] → RatesDevices old.now new.now
+pub rates_devices : (old new : State) (count : ℕ) → Executes rate_text [] old new (Ok count) → old.now.schema ≡ room_schema → old.now.trees rates_tree ≡ [] → RatesDevices old.now new.now
 rates_devices old new count h was none =
     let db = old.now.trees in
     let command = Insert 6 (Query of_devices) in
@@ -141,7 +142,7 @@ rates_devices old new count h was none =
     let written = went (went sourced.2).2 in
     let counted = went written.2 in
     let trees : new.now.trees ≡ written.0 = ap (λ (d : Database). d.trees) now ∙ ap (λ (it : Written). it.trees) (same_value counted.2) ∙ same_value counted.1 in
-    let empty : AreNumbered (db 11) = subst AreNumbered (sym none) (tt, tt) in
+    let empty : AreNumbered (db rates_tree) = subst AreNumbered (sym none) (tt, tt) in
     let news = (edit_of db rates [] Chosen 0 sourced.0).news in
     let wrote = edit_wrote rates db written.0 [] news empty written.1 in
     let shown = answer_collated 9 [] rate_shows [] by_bytes db [] sourced.0 (sourced.1.answer Null) in
@@ -151,9 +152,9 @@ rates_devices old new count h was none =
     let are : AreRates (written.0 9) (written.0 11) = record {
       from = λ y k. elim (edit_from rates db written.0 [] news empty written.1 y k) [
         | inl fresh ↦
-            let r = numbered_from (db 11) (map (λ s. cast_row rates s) sourced.0) y fresh in
+            let r = numbered_from (db rates_tree) (map (λ s. cast_row rates s) sourced.0) y fresh in
             let s = has_mapped (λ s. cast_row rates s) sourced.0 r.0 r.1 in
-            let x = finds_shown (passes [] []) (shows_of rate_shows []) (db 9) sourced.0 shown s.0 s.1 in
+            let x = finds_shown (passes [] []) (shows_of rate_shows []) (db device_tree) sourced.0 shown s.0 s.1 in
             let there = subst (λ l. Has l x.0) (sym devices) x.1 in
             let t = name_in written.0 fits x.0 there in
             (x.0, there, (t.0, t.1, r.2 ∙ ap (drop 1) s.2 ∙ ap (λ q. drop 1 (cast_row rates q)) x.3 ∙ remade x.0 t.0 t.1))
@@ -162,7 +163,7 @@ rates_devices old new count h was none =
       each = λ x k.
           let t = name_in written.0 fits x k in
           let given : Has sourced.0 (shows_of rate_shows [] x) = given_from db sourced.0 shown x (subst (λ l. Has l x) devices k) in
-          let y = numbered_has (db 11) (map (λ s. cast_row rates s) sourced.0) (cast_row rates (shows_of rate_shows [] x)) (mapped_has (λ s. cast_row rates s) sourced.0 (shows_of rate_shows [] x) given) in
+          let y = numbered_has (db rates_tree) (map (λ s. cast_row rates s) sourced.0) (cast_row rates (shows_of rate_shows [] x)) (mapped_has (λ s. cast_row rates s) sourced.0 (shows_of rate_shows [] x) given) in
           (y.0, edit_adds rates db written.0 [] news empty written.1 y.0 y.1, (t.0, t.1, y.2 ∙ remade x t.0 t.1));
     } in
     record {
@@ -178,7 +179,7 @@ rates_devices old new count h was none =
     all_filtered (r ∷ rows) x (inl same) = inl same
     all_filtered (r ∷ rows) x (inr later) = inr (all_filtered rows x later)
 
-    given_from : (db : Trees) (found : List Row) → IsPermutation (map (shows_of rate_shows []) (filter (passes [] []) (db 9))) found → (x : Row) → Has (db 9) x → Has found (shows_of rate_shows [] x)
+    given_from : (db : Trees) (found : List Row) → IsPermutation (map (shows_of rate_shows []) (filter (passes [] []) (db device_tree))) found → (x : Row) → Has (db device_tree) x → Has found (shows_of rate_shows [] x)
     given_from db found same x h =
-        permuted_has found (map (shows_of rate_shows []) (filter (passes [] []) (db 9))) (shows_of rate_shows [] x) (IsPermutation-sym _ _ same)
-        (mapped_has (shows_of rate_shows []) (filter (passes [] []) (db 9)) x (all_filtered (db 9) x h))
+        permuted_has found (map (shows_of rate_shows []) (filter (passes [] []) (db device_tree))) (shows_of rate_shows [] x) (IsPermutation-sym _ _ same)
+        (mapped_has (shows_of rate_shows []) (filter (passes [] []) (db device_tree)) x (all_filtered (db device_tree) x h))

@@ -12,6 +12,7 @@ use Rattle.sqlite_schema.specs.declared.command.Source.TheVariants.{Query}
 use Rattle.sqlite_rules.specs.Cast.{cast_row}
 use Rattle.sqlite.specs.Listing.{understood}
 use Rattle.sqlite.proofs.Callers.{IsPlain, command_of}
+use Rattle.rows_tables.specs.Places.{device_column}
 use Rattle.rows_tables.specs.Tables.{room_schema, rates}
 use Rattle.rows_tables.specs.Queries.{shows_of}
 use Rattle.rows_tables.specs.Cells.{units_cells}
@@ -22,7 +23,7 @@ abbrev pub rate_text : List ℕ
 rate_text = codes "INSERT INTO rates (device, units) SELECT name, 1 FROM device"
 
 abbrev pub rate_shows : List Term
-rate_shows = lit Null ∷ col 1 1 ∷ lit (Int (pos 1)) ∷ []
+rate_shows = lit Null ∷ col 1 device_column.name ∷ lit (Int (pos 1)) ∷ []
 
 abbrev pub by_bytes : List Collation
 by_bytes = Binary ∷ Binary ∷ Binary ∷ []

@@ -7,13 +7,14 @@ use Rattle.sqlite_schema.specs.declared.schema.Table.{Table}
 use Rattle.sqlite_rules.specs.Lists.{Has}
 use Rattle.sqlite_rules.specs.Calls.{ids_of}
 use Rattle.sqlite.specs.Rows.{Written, Deletes}
+use Rattle.rows_tables.specs.Places.{row_number}
 use Rattle.rows_tables.specs.Queries.{of_table, passes}
 use Rattle.rows_tables.proofs.Edits.{AreNumbered, Wrote, taken_out, left_in, edit_wrote, edit_from, edit_keeps}
 use Rattle.rows_tables.proofs.Finds.{Removes}
 use Rattle.rows_tables.proofs.StatementParts.{went, same_value, task_of, found_by}
 
 pub deleted : (limit : Option ℕ) (params : Row) (table : Table) (tests : List Term) (db : Trees) (w : Written) → AreNumbered (db table.tree)
-    → Deletes (task_of limit params table) (record { lets = []; body = of_table table.tree tests (col 1 0 ∷ []) [] }) db (Ok w)
+    → Deletes (task_of limit params table) (record { lets = []; body = of_table table.tree tests (col 1 row_number ∷ []) [] }) db (Ok w)
     → Removes (passes tests params) (db table.tree) (w.trees table.tree) × Wrote table db w.trees
 deleted limit params table tests db w was h =
     let asked = went h in

@@ -24,6 +24,7 @@ use Rattle.sqlite.specs.Rows.{stamped}
 use Rattle.sqlite.specs.Listing.{understood}
 use Rattle.sqlite.specs.State.{State, mode_of, Executes}
 use Rattle.sqlite.proofs.Callers.{IsPlain, command_of, statement_of, runs_as}
+use Rattle.rows_tables.specs.Places.{row_number}
 use Rattle.rows_tables.specs.Tables.{room_schema, keyed}
 use Rattle.rows_tables.specs.Keyed.{HasSchema, SetsRow, has_key}
 use Rattle.rows_tables.specs.Queries.{shows_of}
@@ -51,7 +52,7 @@ all_kept (c ∷ cs) (v ∷ vs) kept = ap (λ w. w ∷ cast_all cs vs) kept.0 ∙
 
 -- the row that is there, by its number, which stands after the parameters
 abbrev pub by_number : Row → List Term
-by_number params = op2 (Compare Eq Binary) (col 1 0) (col 0 (length params)) ∷ []
+by_number params = op2 (Compare Eq Binary) (col 1 row_number) (col 0 (length params)) ∷ []
 
 column_after : (front : Row) (v : Value) (back : Row) → column (front ++ v ∷ back) (length front) ≡ v
 column_after [] v back = refl
@@ -79,7 +80,7 @@ module _ {at : ℕ} {name : List ℕ} {tree : ℕ} {columns : List Column} (key 
     pub is_plain : IsPlain (understood room_schema text)
     -- the new row, and what the row that is there becomes, which keeps its number and its key
     pub rows : value_rows (stamped table cells) width (length terms / width) terms ≡ (Null ∷ cells) ∷ []
-    pub becomes : (id there : Value) (r : Row) → drop 1 (shows_of (col 1 0 ∷ more) (update_params cells name tree places columns cells (by_number cells) more id there) r) ≡ column r 0 ∷ cells_from (length key) 1 r ++ rest
+    pub becomes : (id there : Value) (r : Row) → drop 1 (shows_of (col 1 row_number ∷ more) (update_params cells name tree places columns cells (by_number cells) more id there) r) ≡ column r 0 ∷ cells_from (length key) 1 r ++ rest
     pub exact : AreExact columns key
     pub kept : AllKept columns cells
 

@@ -16,6 +16,7 @@ use Rattle.sqlite_schema.specs.Rules.{equal}
 use Rattle.sqlite_rules.specs.Cast.{cast}
 use Rattle.sqlite.specs.Effect.{Answers}
 use Rattle.sqlite.specs.Rows.{Task}
+use Rattle.rows_tables.specs.Places.{row_number}
 use Rattle.rows_tables.specs.Tables.{room_schema}
 use Rattle.rows_tables.specs.Queries.{of_table, passes, shows_of}
 use Rattle.rows_tables.proofs.Edits.{AreFound, tie_of}
@@ -64,7 +65,7 @@ task_of limit params table = record { limit = limit; keys = Enforced; schema = r
 
 -- what a query that shows the row number first found
 pub found_by : (tree : ℕ) (tests more : List Term) (trees : Trees) (params : Row) (found : List Row)
-    → Answers (record { schema = room_schema; trees = trees }) (record { lets = []; body = of_table tree tests (col 1 0 ∷ more) [] }) params found
-    → ((r : Row) → rowid (shows_of (col 1 0 ∷ more) params r) ≡ rowid r) → AreFound (passes tests params) (trees tree) found
+    → Answers (record { schema = room_schema; trees = trees }) (record { lets = []; body = of_table tree tests (col 1 row_number ∷ more) [] }) params found
+    → ((r : Row) → rowid (shows_of (col 1 row_number ∷ more) params r) ≡ rowid r) → AreFound (passes tests params) (trees tree) found
 found_by tree tests more trees params found answers first =
-    finds_numbers (passes tests params) (shows_of (col 1 0 ∷ more) params) (trees tree) found first (answer_is tree tests (col 1 0 ∷ more) [] trees params found (answers.answer Null))
+    finds_numbers (passes tests params) (shows_of (col 1 row_number ∷ more) params) (trees tree) found first (answer_is tree tests (col 1 row_number ∷ more) [] trees params found (answers.answer Null))

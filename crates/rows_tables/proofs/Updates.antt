@@ -28,6 +28,7 @@ use Rattle.sqlite.specs.Rows.{Written, Updates}
 use Rattle.sqlite.specs.Listing.{understood}
 use Rattle.sqlite.specs.State.{State, mode_of, Executes}
 use Rattle.sqlite.proofs.Callers.{IsPlain, command_of, statement_of, runs_as}
+use Rattle.rows_tables.specs.Places.{row_number}
 use Rattle.rows_tables.specs.Tables.{room_schema, keyed}
 use Rattle.rows_tables.specs.Keyed.{HasSchema, SetsRow, has_key, row_at}
 use Rattle.rows_tables.specs.Queries.{of_table, passes, shows_of}
@@ -48,7 +49,7 @@ module _ {at : ℕ} {name : List ℕ} {tree : ℕ} {columns : List Column} (key 
   table = keyed name tree places columns
 
   abbrev asked_rows : Program
-  asked_rows = record { lets = []; body = of_table tree tests (col 1 0 ∷ more) [] }
+  asked_rows = record { lets = []; body = of_table tree tests (col 1 row_number ∷ more) [] }
 
   -- the text gives the row of the key other cells
   pub record IsUpdating (becomes : Row → Row) : Type 0 where
@@ -56,7 +57,7 @@ module _ {at : ℕ} {name : List ℕ} {tree : ℕ} {columns : List Column} (key 
     pub is_plain : IsPlain (understood room_schema text)
     pub asks : (r : Row) → passes tests params r ≡ has_key table key r
     -- the number of the row, and the whole new row
-    pub shows : (r : Row) → drop 1 (shows_of (col 1 0 ∷ more) params r) ≡ column r 0 ∷ becomes (drop 1 r)
+    pub shows : (r : Row) → drop 1 (shows_of (col 1 row_number ∷ more) params r) ≡ column r 0 ∷ becomes (drop 1 r)
 
   module _ (becomes : Row → Row) (it : IsUpdating becomes) (limit : Option ℕ) (db : Trees) (was : AreNumbered (db tree)) (one : IsOnce table (db tree)) (w : Written) (h : Updates (task_of limit params table) asked_rows params db (Ok w)) where
     updated_wrote : Wrote table db w.trees
@@ -79,7 +80,7 @@ module _ {at : ℕ} {name : List ℕ} {tree : ℕ} {columns : List Column} (key 
       abbrev remade : Row → Row
       remade s = cast_row table (drop 1 s)
 
-      becomes_new : remade (shows_of (col 1 0 ∷ more) params there) ≡ new
+      becomes_new : remade (shows_of (col 1 row_number ∷ more) params there) ≡ new
       becomes_new =
           let number : rowid there ≡ Int (id_in (rowid there)) = int_is (rowid there) (all_has _ (db tree) there was.1 listed) in
           let cast_number : cast Integer (rowid there) ≡ rowid there = subst (λ v. cast Integer v ≡ v) (sym number) (cast_integer _) in
@@ -93,8 +94,8 @@ module _ {at : ℕ} {name : List ℕ} {tree : ℕ} {columns : List Column} (key 
           let found = found_by tree tests more db params asked.0 asked.1 (λ r. refl) in
           let itself : passes tests params there ≡ true = it.asks there ∙ has_it in
           let shown_is : (x : Row) → Has asked.0 x → remade x ≡ new = λ x k.
-          let r = finds_shown (passes tests params) (shows_of (col 1 0 ∷ more) params) (db tree) asked.0 (answer_is tree tests (col 1 0 ∷ more) [] db params asked.0 (asked.1.answer Null)) x k in
-          ap remade (r.3 ∙ ap (shows_of (col 1 0 ∷ more) params) (only r.0 r.1 r.2)) ∙ becomes_new in
+          let r = finds_shown (passes tests params) (shows_of (col 1 row_number ∷ more) params) (db tree) asked.0 (answer_is tree tests (col 1 row_number ∷ more) [] db params asked.0 (asked.1.answer Null)) x k in
+          ap remade (r.3 ∙ ap (shows_of (col 1 row_number ∷ more) params) (only r.0 r.1 r.2)) ∙ becomes_new in
           let news = map remade asked.0 in
           let step : Writes room_schema Enforced db (record { table = table; gone = ids_of asked.0; news = news }) (Ok wrote.0) =
           subst (λ rows. Writes room_schema Enforced db (record { table = table; gone = ids_of asked.0; news = rows }) (Ok wrote.0)) (given _ news) wrote.1 in

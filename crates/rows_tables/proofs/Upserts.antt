@@ -31,6 +31,7 @@ use Rattle.sqlite_rules.proofs.ProbeLemmas.{has_mapped, mapped_has}
 use Rattle.sqlite_rules.proofs.TableLemmas.{int_is}
 use Rattle.sqlite.specs.Effect.{Answers, value_rows}
 use Rattle.sqlite.specs.Rows.{Written, Task, shown, stamped, Updates, InsertsOr, TriesEach, count_of, nothing, Puts, Clears, Meets, Upserts, Judged, Tries}
+use Rattle.rows_tables.specs.Places.{row_number}
 use Rattle.rows_tables.specs.Tables.{room_schema, keyed}
 use Rattle.rows_tables.specs.Queries.{of_table, passes, shows_of}
 use Rattle.rows_tables.proofs.Edits.{AreNumbered, Wrote, taken_out, left_in, edit_wrote, edit_from, edit_keeps, edit_adds}
@@ -51,7 +52,7 @@ module _ (params : Row) (name : List ℕ) (tree : ℕ) (places : List ℕ) (colu
   update_params id there = params ++ there ∷ shown (keyed name tree places columns) (id ∷ cells)
 
   abbrev pub update_clause : Upsert
-  update_clause = record { target = Some places; update = Some (record { lets = []; body = of_table tree tests (col 1 0 ∷ more) [] }) }
+  update_clause = record { target = Some places; update = Some (record { lets = []; body = of_table tree tests (col 1 row_number ∷ more) [] }) }
 
   -- what each such statement has to show of its own terms
   pub record IsUpsert (db : Trees) : Type 0 where
@@ -61,9 +62,9 @@ module _ (params : Row) (name : List ℕ) (tree : ℕ) (places : List ℕ) (colu
     pub recast_null : cast_row (keyed name tree places columns) (Null ∷ cells) ≡ Null ∷ cells
     pub conflict : (id : Value) (r : Row) → conflicts (Some places) room_schema.indexes (keyed name tree places columns) (id ∷ cells) r ≡ agree plain places r places (id ∷ cells)
     pub asks : (id there : Value) (r : Row) → passes tests (update_params id there) r ≡ equal Binary (rowid r) there
-    pub first : (id there : Value) (r : Row) → rowid (shows_of (col 1 0 ∷ more) (update_params id there) r) ≡ rowid r
+    pub first : (id there : Value) (r : Row) → rowid (shows_of (col 1 row_number ∷ more) (update_params id there) r) ≡ rowid r
     pub updates : (id there : Value) (r : Row) → Has (db tree) r → has_same_key r ≡ true
-        → cast_row (keyed name tree places columns) (drop 1 (shows_of (col 1 0 ∷ more) (update_params id there) r)) ≡ cast Integer (rowid r) ∷ cells
+        → cast_row (keyed name tree places columns) (drop 1 (shows_of (col 1 row_number ∷ more) (update_params id there) r)) ≡ cast Integer (rowid r) ∷ cells
 
   module _ (limit : Option ℕ) (db : Trees) (it : IsUpsert db) (was : AreNumbered (db tree)) (one : IsOnce (keyed name tree places columns) (db tree)) where
     abbrev pub Upserted : Trees → Type 0
@@ -96,7 +97,7 @@ module _ (params : Row) (name : List ℕ) (tree : ℕ) (places : List ℕ) (colu
 
     -- the one row that has the key is given the new cells, under its number
     updated : (id : Value) (there : Row) (w : Written) → Has (db tree) there → has_same_key there ≡ true
-        → Updates task (record { lets = []; body = of_table tree tests (col 1 0 ∷ more) [] }) (update_params id (rowid there)) db (Ok w) → Upserted w.trees
+        → Updates task (record { lets = []; body = of_table tree tests (col 1 row_number ∷ more) [] }) (update_params id (rowid there)) db (Ok w) → Upserted w.trees
     updated id there w has is h =
         let table = keyed name tree places columns in
         let asked = went h in
@@ -114,10 +115,10 @@ module _ (params : Row) (name : List ℕ) (tree : ℕ) (places : List ℕ) (colu
         let other : (r : Row) → Has (db tree) r → has_same_key r ≡ true → r ≡ there =
         λ r k e. one r there k has (agree_chain plain places places places r (Null ∷ cells) there e (agree_back plain places places there (Null ∷ cells) is)) in
         let cast_number : cast Integer (rowid there) ≡ rowid there = subst (λ v. cast Integer v ≡ v) (sym number) (cast_integer _) in
-        let becomes : remade (shows_of (col 1 0 ∷ more) full there) ≡ new = it.updates id (rowid there) there has is ∙ ap (λ v. v ∷ cells) cast_number in
+        let becomes : remade (shows_of (col 1 row_number ∷ more) full there) ≡ new = it.updates id (rowid there) there has is ∙ ap (λ v. v ∷ cells) cast_number in
         let shown_is : (x : Row) → Has asked.0 x → remade x ≡ new = λ x k.
         let r = found_shows id (rowid there) asked.0 asked.1 x k in
-        ap remade (r.3 ∙ ap (shows_of (col 1 0 ∷ more) full) (only r.0 r.1 r.2)) ∙ becomes in
+        ap remade (r.3 ∙ ap (shows_of (col 1 row_number ∷ more) full) (only r.0 r.1 r.2)) ∙ becomes in
         let news = map remade asked.0 in
         let step : Writes room_schema Enforced db (record { table = table; gone = ids_of asked.0; news = news }) (Ok wrote.0) =
         subst (λ rows. Writes room_schema Enforced db (record { table = table; gone = ids_of asked.0; news = rows }) (Ok wrote.0)) (given _ news) wrote.1 in
@@ -141,10 +142,10 @@ module _ (params : Row) (name : List ℕ) (tree : ℕ) (places : List ℕ) (colu
         )
       where
         found_shows : (id there : Value) (found : List Row)
-            → Answers (record { schema = room_schema; trees = db }) (record { lets = []; body = of_table tree tests (col 1 0 ∷ more) [] }) (update_params id there) found
-            → (x : Row) → Has found x → (r : Row) × Has (db tree) r × (passes tests (update_params id there) r ≡ true) × (x ≡ shows_of (col 1 0 ∷ more) (update_params id there) r)
-        found_shows id there found answers x k = finds_shown (passes tests (update_params id there)) (shows_of (col 1 0 ∷ more) (update_params id there)) (db tree) found
-            (answer_is tree tests (col 1 0 ∷ more) [] db (update_params id there) found (answers.answer Null)) x k
+            → Answers (record { schema = room_schema; trees = db }) (record { lets = []; body = of_table tree tests (col 1 row_number ∷ more) [] }) (update_params id there) found
+            → (x : Row) → Has found x → (r : Row) × Has (db tree) r × (passes tests (update_params id there) r ≡ true) × (x ≡ shows_of (col 1 row_number ∷ more) (update_params id there) r)
+        found_shows id there found answers x k = finds_shown (passes tests (update_params id there)) (shows_of (col 1 row_number ∷ more) (update_params id there)) (db tree) found
+            (answer_is tree tests (col 1 row_number ∷ more) [] db (update_params id there) found (answers.answer Null)) x k
 
     cleared : (id : ℤ) (w : Written) (others : List Row) → ((r : Row) → Has (db tree) r → has_same_key r ≡ false) → Clears task Abort (Int id ∷ cells) db others (Ok w) → Upserted w.trees
     cleared id w [] free h = inserted id w free h
@@ -159,7 +160,7 @@ module _ (params : Row) (name : List ℕ) (tree : ℕ) (places : List ℕ) (colu
     meets id w (there ∷ rest) are h =
         let r = are.sound there (inl refl) in
         updated (Int id) r.0 w r.1 (sym (it.numberless (Int id) r.0) ∙ sym (it.conflict (Int id) r.0) ∙ r.2)
-        (subst (λ x. Updates task (record { lets = []; body = of_table tree tests (col 1 0 ∷ more) [] }) (params ++ rowid x ∷ shown (keyed name tree places columns) (Int id ∷ cells)) db (Ok w)) r.3 h)
+        (subst (λ x. Updates task (record { lets = []; body = of_table tree tests (col 1 row_number ∷ more) [] }) (params ++ rowid x ∷ shown (keyed name tree places columns) (Int id ∷ cells)) db (Ok w)) r.3 h)
 
     judged : (id : ℤ) (w : Written) (verdict : Option Refusal) → Judged task Abort (update_clause ∷ []) (Int id ∷ cells) db verdict (Ok w) → Upserted w.trees
     judged id w None h = meets id w h.0 h.1 h.2

@@ -34,6 +34,7 @@ use Rattle.sqlite.specs.Rows.{Written}
 use Rattle.sqlite.specs.Listing.{understood}
 use Rattle.sqlite.specs.State.{State, Executes, mode_of}
 use Rattle.sqlite.proofs.Callers.{IsPlain, command_of, statement_of, runs_as, one_step}
+use Rattle.rows_tables.specs.Places.{meta_tree, row_number}
 use Rattle.rows_tables.specs.Tables.{room_schema, meta, account, job, document, grants, device, rates}
 use Rattle.rows_tables.specs.Cells.{units_cells}
 use Rattle.rows_tables.specs.Keyed.{has_key}
@@ -50,10 +51,10 @@ two_text = codes "UPDATE meta SET version = 2 WHERE id = 1"
 
 -- the number of the row that is there, and the whole new row
 abbrev pub two_shows : List Term
-two_shows = col 1 0 ∷ col 1 0 ∷ lit Null ∷ lit (Int (pos 2)) ∷ []
+two_shows = col 1 row_number ∷ col 1 row_number ∷ lit Null ∷ lit (Int (pos 2)) ∷ []
 
 abbrev pub to_two : Program
-to_two = record { lets = []; body = of_table 0 version_tests two_shows [] }
+to_two = record { lets = []; body = of_table meta_tree version_tests two_shows [] }
 
 pub two_is : command_of (understood room_schema two_text) ≡ Update 0 to_two
 unfolding understood everything
@@ -107,13 +108,13 @@ notes_two old new count h was version =
     let trees : new.now.trees ≡ wrote.0 = ap (λ (d : Database). d.trees) now ∙ ap (λ (it : Written). it.trees) (same_value wrote.2) in
     let edit = edit_of db meta (ids_of asked.0) Given 1 asked.0 in
     let step = one_step room_schema Enforced db wrote.0 edit refl wrote.1 in
-    let shown = answer_is 0 version_tests two_shows [] db [] asked.0 (asked.1.answer Null) in
+    let shown = answer_is meta_tree version_tests two_shows [] db [] asked.0 (asked.1.answer Null) in
     let row = version.0 in
     let passed : passes version_tests [] row ≡ true = and-true _ ∙ version.1.1 in
-    let found : Has asked.0 (shows_of two_shows [] row) = permuted_has asked.0 (map (shows_of two_shows []) (filter (passes version_tests []) (db 0))) (shows_of two_shows [] row) (IsPermutation-sym _ _ shown)
-    (mapped_has (shows_of two_shows []) (filter (passes version_tests []) (db 0)) row (has_kept (passes version_tests []) (db 0) row version.1.0 passed)) in
+    let found : Has asked.0 (shows_of two_shows [] row) = permuted_has asked.0 (map (shows_of two_shows []) (filter (passes version_tests []) (db meta_tree))) (shows_of two_shows [] row) (IsPermutation-sym _ _ shown)
+    (mapped_has (shows_of two_shows []) (filter (passes version_tests []) (db meta_tree)) row (has_kept (passes version_tests []) (db meta_tree) row version.1.0 passed)) in
     let put : Has edit.news (new_row row) = subst (λ rows. Has rows (new_row row)) (sym (given _ _)) (mapped_has (λ s. cast_row meta (drop 1 s)) asked.0 (shows_of two_shows [] row) found) in
-    let there : Has (wrote.0 0) (new_row row) = subst (λ rows. Has rows (new_row row)) (sym step.rows) (put_all_adds edit.news (without_all (db 0) (ids_of asked.0)) (new_row row) step.fresh put) in
+    let there : Has (wrote.0 0) (new_row row) = subst (λ rows. Has rows (new_row row)) (sym step.rows) (put_all_adds edit.news (without_all (db meta_tree) (ids_of asked.0)) (new_row row) step.fresh put) in
     record {
       schema_is = ap (λ (d : Database). d.schema) now;
       is_database = ran.sound;

@@ -15,6 +15,7 @@ use Rattle.sqlite_rules.specs.Lists.{Has}
 use Rattle.sqlite_catalog.specs.Change.{created}
 use Rattle.sqlite.specs.Effect.{Database, IsDatabase}
 use Rattle.sqlite.specs.State.{State}
+use Rattle.rows_tables.specs.Places.{meta_column, row_number}
 use Rattle.rows_tables.specs.Tables.{no_schema, first_schema, unindexed_schema, room_schema, meta, account, job, document, grants, room_version}
 use Rattle.rows_tables.specs.declared.fault.OpenFault.{OpenFault}
 use Rattle.rows_tables.specs.declared.schema.Layout.{Layout}
@@ -75,15 +76,17 @@ IsVersionRow db row = Has (db.trees meta.tree) row × (equal Binary (rowid row) 
 
 -- what asks for it
 abbrev pub version_tests : List Term
-version_tests = op2 (Compare Eq Binary) (col 1 0) (lit (Int (pos 1))) ∷ []
+version_tests = op2 (Compare Eq Binary) (col 1 row_number) (lit (Int (pos 1))) ∷ []
 
 abbrev pub HasVersion : (db : Database) (version : ℤ) → Type 0
-HasVersion db version = (row : Row) × IsVersionRow db row × (column row 2 ≡ Int version)
+HasVersion db version =
+    (row : Row) × IsVersionRow db row × (column row meta_column.version ≡ Int version)
 
 -- there is no such row, or it has no number
 abbrev pub LacksVersion : Database → Type 0
 LacksVersion db = ((row : Row) → IsVersionRow db row → ⊥)
-    ⊎ ((row : Row) × IsVersionRow db row × ((version : ℤ) → column row 2 ≢ Int version))
+    ⊎ ((row : Row) × IsVersionRow db row
+    × ((version : ℤ) → column row meta_column.version ≢ Int version))
 
 -- ---- as it is made
 

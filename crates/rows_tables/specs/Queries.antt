@@ -45,7 +45,8 @@ first_of_table tree tests shows order limit = record {
 abbrev pub of_table : (tree : ℕ) (tests shows : List Term) (order : List (Term × Key)) → Query
 of_table tree tests shows order = first_of_table tree tests shows order (lit (Int (negsuc 0)))
 
--- a column, by its place, is the parameter of this number, counted from 1
+-- A column, by its place, is the parameter of this number, counted from 1. `col 1` is a column of
+-- the row, and `col 0` a parameter, counted from 0.
 abbrev pub is_given : (place parameter : ℕ) → Term
 is_given place parameter = op2 (Compare Eq Binary) (col 1 place) (col 0 (parameter - 1))
 

@@ -7,6 +7,12 @@ ghost use Rattle.rows_tables.specs.Tables.{column_of, keyed, meta, account, job,
 ghost use Rattle.rows_tables.specs.ProofForms.{column_formed};
 ghost use Rattle.rows_tables.specs.Making.{IsLaidOut, KeepsVersion};
 
+use crate::places::{
+    ACCOUNT_NAME, ACCOUNT_TREE, DEVICE_NAME, DEVICE_TREE, DOCUMENT_ACCOUNT, DOCUMENT_JOB,
+    DOCUMENT_NUMBER, DOCUMENT_TREE, GRANT_ACCOUNT, GRANT_MONTH, GRANTS_TREE, JOB_ACCOUNT,
+    JOB_ENDED, JOB_ENDED_TREE, JOB_NUMBER, JOB_TREE, META_TREE, RATE_DEVICE, RATES_TREE,
+    ROW_NUMBER,
+};
 use sqlite_items::Items;
 use sqlite_schema::code::Terms;
 use sqlite_schema::schema::{Column, Index, Kind, Schema, Table};
@@ -82,7 +88,7 @@ pub(crate) fn keeps_version(schema: &Schema) -> bool
     ensures { IsTrue result ↔ KeepsVersion schema.now }
 {
     match schema.tables.as_slice() {
-        [first, ..] => is_meta(first),
+        [first, ..] => is_meta_table(first),
         _ => false,
     }
 }
@@ -125,7 +131,7 @@ fn are_room_tables(tables: &[Table]) -> bool
     ensures { IsTrue result ↔ tables.now ≡ room_schema.tables }
 {
     match tables {
-        [first @ .., last] => are_first_tables(first) && is_rates(last),
+        [first @ .., last] => are_first_tables(first) && is_rates_table(last),
         _ => false,
     }
 }
@@ -134,7 +140,10 @@ fn are_first_tables(tables: &[Table]) -> bool
     ensures { IsTrue result ↔ tables.now ≡ first_schema.tables }
 {
     match tables {
-        [a, b, c, rest @ ..] => is_meta(a) && is_account(b) && is_job(c) && are_later_tables(rest),
+        [a, b, c, rest @ ..] => is_meta_table(a)
+            && is_account_table(b)
+            && is_job_table(c)
+            && are_later_tables(rest),
         _ => false,
     }
 }
@@ -143,45 +152,45 @@ fn are_later_tables(tables: &[Table]) -> bool
     ensures { IsTrue result ↔ tables.now ≡ drop 3 first_schema.tables }
 {
     match tables {
-        [a, b, c] => is_document(a) && is_grants(b) && is_device(c),
+        [a, b, c] => is_document_table(a) && is_grants_table(b) && is_device_table(c),
         _ => false,
     }
 }
 
 /// Whether it is `meta`, whose row tells the version: the one table whose key is its row number.
-fn is_meta(table: &Table) -> bool
+fn is_meta_table(table: &Table) -> bool
     ensures { IsTrue result ↔ table.now ≡ meta }
 {
-    table.key == Some(0)
+    table.key == Some(ROW_NUMBER)
         && table.uniques.is_empty()
         && table.orders.is_empty()
-        && is_laid_out(table, "meta", 0, &[0])
+        && is_laid_out(table, "meta", META_TREE, &[ROW_NUMBER])
         && are_columns(
             table.columns.as_slice(),
             &[integer("id"), integer("version")],
         )
 }
 
-fn is_account(table: &Table) -> bool
+fn is_account_table(table: &Table) -> bool
     ensures { IsTrue result ↔ table.now ≡ account }
 {
     is_keyed(
         table,
         "account",
-        1,
-        &[1],
+        ACCOUNT_TREE,
+        &[ACCOUNT_NAME],
         &[text("name"), integer("opened"), integer("next_job")],
     )
 }
 
-fn is_job(table: &Table) -> bool
+fn is_job_table(table: &Table) -> bool
     ensures { IsTrue result ↔ table.now ≡ job }
 {
     is_keyed(
         table,
         "job",
-        3,
-        &[1, 2],
+        JOB_TREE,
+        &[JOB_ACCOUNT, JOB_NUMBER],
         &[
             text("account"),
             integer("job"),
@@ -204,14 +213,14 @@ fn is_job(table: &Table) -> bool
     )
 }
 
-fn is_document(table: &Table) -> bool
+fn is_document_table(table: &Table) -> bool
     ensures { IsTrue result ↔ table.now ≡ document }
 {
     is_keyed(
         table,
         "document",
-        5,
-        &[1, 2, 3],
+        DOCUMENT_TREE,
+        &[DOCUMENT_ACCOUNT, DOCUMENT_JOB, DOCUMENT_NUMBER],
         &[
             text("account"),
             integer("job"),
@@ -222,38 +231,38 @@ fn is_document(table: &Table) -> bool
     )
 }
 
-fn is_grants(table: &Table) -> bool
+fn is_grants_table(table: &Table) -> bool
     ensures { IsTrue result ↔ table.now ≡ grants }
 {
     is_keyed(
         table,
         "grants",
-        7,
-        &[1, 2],
+        GRANTS_TREE,
+        &[GRANT_ACCOUNT, GRANT_MONTH],
         &[text("account"), integer("month"), integer("pages")],
     )
 }
 
-fn is_device(table: &Table) -> bool
+fn is_device_table(table: &Table) -> bool
     ensures { IsTrue result ↔ table.now ≡ device }
 {
     is_keyed(
         table,
         "device",
-        9,
-        &[1],
+        DEVICE_TREE,
+        &[DEVICE_NAME],
         &[text("name"), integer("accepting")],
     )
 }
 
-fn is_rates(table: &Table) -> bool
+fn is_rates_table(table: &Table) -> bool
     ensures { IsTrue result ↔ table.now ≡ rates }
 {
     is_keyed(
         table,
         "rates",
-        11,
-        &[1],
+        RATES_TREE,
+        &[RATE_DEVICE],
         &[text("device"), integer("units")],
     )
 }
@@ -294,11 +303,11 @@ fn has_no_more(table: &Table) -> bool
       is_counted = false;
     } }
 {
-    are_none(&table.checks)
+    are_no_terms(&table.checks)
         && table.references.is_empty()
         && table.computed.is_empty()
         && table.stamps.places.is_empty()
-        && are_none(&table.stamps.terms)
+        && are_no_terms(&table.stamps.terms)
         && table.stamps.formats.is_empty()
         && !table.is_counted
 }
@@ -330,18 +339,18 @@ fn are_room_indexes(indexes: &[Index]) -> bool
     ensures { IsTrue result ↔ indexes.now ≡ room_schema.indexes }
 {
     match indexes {
-        [rated @ .., last] => are_key_indexes(rated) && is_job_ended(last),
+        [rated @ .., last] => are_key_indexes(rated) && is_job_ended_index(last),
         _ => false,
     }
 }
 
-fn is_job_ended(index: &Index) -> bool
+fn is_job_ended_index(index: &Index) -> bool
     ensures { IsTrue result ↔ index.now ≡ job_ended }
 {
     is_name(&index.name, "job_ended")
-        && index.tree == 13
-        && index.table == 3
-        && are_places(&index.columns, &[1, 17, 2])
+        && index.tree == JOB_ENDED_TREE
+        && index.table == JOB_TREE
+        && are_places(&index.columns, &[JOB_ACCOUNT, JOB_ENDED, JOB_NUMBER])
         && index.order.digits == 0
         && !index.is_unique
 }
@@ -351,7 +360,8 @@ fn are_key_indexes(indexes: &[Index]) -> bool
 {
     match indexes {
         [first @ .., last] => {
-            are_first_indexes(first) && is_index(last, "sqlite_autoindex_rates_1", 11, &[1])
+            are_first_indexes(first)
+                && is_index(last, "sqlite_autoindex_rates_1", RATES_TREE, &[RATE_DEVICE])
         }
         _ => false,
     }
@@ -362,9 +372,17 @@ fn are_first_indexes(indexes: &[Index]) -> bool
 {
     match indexes {
         [a, b, rest @ ..] => {
-            is_index(a, "sqlite_autoindex_account_1", 1, &[1])
-                && is_index(b, "sqlite_autoindex_job_1", 3, &[1, 2])
-                && are_later_indexes(rest)
+            is_index(
+                a,
+                "sqlite_autoindex_account_1",
+                ACCOUNT_TREE,
+                &[ACCOUNT_NAME],
+            ) && is_index(
+                b,
+                "sqlite_autoindex_job_1",
+                JOB_TREE,
+                &[JOB_ACCOUNT, JOB_NUMBER],
+            ) && are_later_indexes(rest)
         }
         _ => false,
     }
@@ -375,7 +393,12 @@ fn are_later_indexes(indexes: &[Index]) -> bool
 {
     match indexes {
         [a, rest @ ..] => {
-            is_index(a, "sqlite_autoindex_document_1", 5, &[1, 2, 3]) && are_last_indexes(rest)
+            is_index(
+                a,
+                "sqlite_autoindex_document_1",
+                DOCUMENT_TREE,
+                &[DOCUMENT_ACCOUNT, DOCUMENT_JOB, DOCUMENT_NUMBER],
+            ) && are_last_indexes(rest)
         }
         _ => false,
     }
@@ -386,8 +409,12 @@ fn are_last_indexes(indexes: &[Index]) -> bool
 {
     match indexes {
         [a, b] => {
-            is_index(a, "sqlite_autoindex_grants_1", 7, &[1, 2])
-                && is_index(b, "sqlite_autoindex_device_1", 9, &[1])
+            is_index(
+                a,
+                "sqlite_autoindex_grants_1",
+                GRANTS_TREE,
+                &[GRANT_ACCOUNT, GRANT_MONTH],
+            ) && is_index(b, "sqlite_autoindex_device_1", DEVICE_TREE, &[DEVICE_NAME])
         }
         _ => false,
     }
@@ -449,7 +476,7 @@ fn is_plain(orders: &Items<Order>) -> bool
     }
 }
 
-fn are_none(terms: &Terms) -> bool
+fn are_no_terms(terms: &Terms) -> bool
     ensures { IsTrue result ↔ terms.now ≡ [] }
 {
     terms.roots.is_empty()

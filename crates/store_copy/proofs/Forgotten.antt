@@ -4,6 +4,7 @@ use Rattle.sqlite_value.specs.declared.value.Value.TheVariants.{Int, Text}
 use Rattle.sqlite_value.specs.Order.{Row}
 use Rattle.sqlite.specs.Effect.{Database}
 use Rattle.sqlite_schema.specs.declared.schema.Table.{Table}
+use Rattle.rows_tables.specs.Places.{account_places}
 use Rattle.rows_tables.specs.Tables.{account, job, document, grants}
 use Rattle.rows_tables.specs.Keyed.{RemovesRows, row_at}
 use Rattle.rows_statements.proofs.KeyTests.{text_here, text_met, unmet}
@@ -17,11 +18,11 @@ is_left : (test : Bool) (was new : Option Row) → new ≡ cond test None was �
 is_left test was new is unmet = is ∙ ap (λ b. cond b None was) unmet
 
 -- rows of no other account are
-others_left : (table : Table) (name : List ℕ) (x y : Database) → RemovesRows table (Text name ∷ []) (1 ∷ []) x y → (other : List ℕ) → other ≢ name → (key : Row) → row_at table (Text other ∷ key) y ≡ row_at table (Text other ∷ key) x
+others_left : (table : Table) (name : List ℕ) (x y : Database) → RemovesRows table (Text name ∷ []) account_places x y → (other : List ℕ) → other ≢ name → (key : Row) → row_at table (Text other ∷ key) y ≡ row_at table (Text other ∷ key) x
 others_left table name x y h other apart key = is_left _ _ _ (h.rows (Text other ∷ key)) (unmet _ (text_met other key name) apart)
 
 module _ (name : List ℕ) (a b c d e : Database)
-    (documents : RemovesRows document (Text name ∷ []) (1 ∷ []) a b) (jobs : RemovesRows job (Text name ∷ []) (1 ∷ []) b c) (granted : RemovesRows grants (Text name ∷ []) (1 ∷ []) c d) (own : RemovesRows account (Text name ∷ []) (1 ∷ []) d e) where
+    (documents : RemovesRows document (Text name ∷ []) account_places a b) (jobs : RemovesRows job (Text name ∷ []) account_places b c) (granted : RemovesRows grants (Text name ∷ []) account_places c d) (own : RemovesRows account (Text name ∷ []) account_places d e) where
   pub forgotten : ForgetsAccount name a e
   forgotten = record {
     gone = record {

@@ -18,6 +18,7 @@ use Rattle.sqlite.specs.Does.{Does, Tally}
 use Rattle.sqlite.specs.Listing.{understood}
 use Rattle.sqlite.specs.State.{State, mode_of, Executes}
 use Rattle.sqlite.proofs.Callers.{IsPlain, command_of, statement_of, runs_as}
+use Rattle.rows_tables.specs.Places.{account_column, row_number, account_places}
 use Rattle.rows_tables.specs.Tables.{room_schema, keyed}
 use Rattle.rows_tables.specs.Keyed.{HasSchema, RemovesRows, has_key}
 use Rattle.rows_tables.specs.Queries.{of_table, is_given, passes}
@@ -38,23 +39,23 @@ alike places a b c same = elim (cases_Bool (agree plain places b places c)) [
 ]
 
 abbrev tests : List Term
-tests = is_given 1 1 ∷ []
+tests = is_given account_column.name 1 ∷ []
 
 module _ {at : ℕ} {label : List ℕ} {tree width : ℕ} {columns : List Column} (in_schema : IsInSchema at label tree width columns) (text : List ℕ) where
   abbrev table : Table
   table = keyed label tree (places_from width 1) columns
 
   abbrev command_removes : Command
-  command_removes = Delete at (record { lets = []; body = of_table tree tests (col 1 0 ∷ []) [] })
+  command_removes = Delete at (record { lets = []; body = of_table tree tests (col 1 row_number ∷ []) [] })
 
   -- the text asks for the rows whose key begins with the parameter, and removes them
   pub record IsRemoving : Type 0 where
     pub command : command_of (understood room_schema text) ≡ command_removes
     pub is_plain : IsPlain (understood room_schema text)
-    pub asks : (name : List ℕ) (key x : Row) → has_key table key x ≡ true → passes tests (Text name ∷ []) x ≡ agree plain (1 ∷ []) (Null ∷ key) (1 ∷ []) (Null ∷ Text name ∷ [])
+    pub asks : (name : List ℕ) (key x : Row) → has_key table key x ≡ true → passes tests (Text name ∷ []) x ≡ agree plain account_places (Null ∷ key) account_places (Null ∷ Text name ∷ [])
 
   pub removes_own : IsRemoving → (name : List ℕ) (old new : State) (count : ℕ) → HasSchema old.now → Executes text (Text name ∷ []) old new (Ok count)
-      → HasSchema new.now × RemovesRows table (Text name ∷ []) (1 ∷ []) old.now new.now
+      → HasSchema new.now × RemovesRows table (Text name ∷ []) account_places old.now new.now
   removes_own it name old new count has h =
       let params : Row = Text name ∷ [] in
       let ran = runs_as text params old new room_schema has.schema_is command_removes it.command it.is_plain count h in
@@ -71,7 +72,7 @@ module _ {at : ℕ} {label : List ℕ} {tree width : ℕ} {columns : List Column
         left.0,
         record {
           rows = λ key.
-              let concerns = agree plain (1 ∷ []) (Null ∷ key) (1 ∷ []) (Null ∷ Text name ∷ []) in
+              let concerns = agree plain account_places (Null ∷ key) account_places (Null ∷ Text name ∷ []) in
               ap (λ (t : Trees). option_map (drop 1) (found_at table key (t tree))) trees
               ∙ ap (option_map (drop 1)) (removed table key (db tree) (done.0.trees tree) (passes tests params) wrote.0 after concerns (it.asks name key))
               ∙ by_case concerns (found_at table key (db tree));
@@ -84,9 +85,9 @@ module _ {at : ℕ} {label : List ℕ} {tree width : ℕ} {columns : List Column
       by_case false was = refl
 
 -- what has the key begins as the key does
-asks_own : (more : List ℕ) (name : List ℕ) (key x : Row) → agree plain (1 ∷ more) x (1 ∷ more) (Null ∷ key) ≡ true → passes tests (Text name ∷ []) x ≡ agree plain (1 ∷ []) (Null ∷ key) (1 ∷ []) (Null ∷ Text name ∷ [])
+asks_own : (more : List ℕ) (name : List ℕ) (key x : Row) → agree plain (1 ∷ more) x (1 ∷ more) (Null ∷ key) ≡ true → passes tests (Text name ∷ []) x ≡ agree plain account_places (Null ∷ key) account_places (Null ∷ Text name ∷ [])
 unfolding first_key
-asks_own more name key x is = alike (1 ∷ []) x (Null ∷ key) (Null ∷ Text name ∷ []) (and_from _ _ (and_parts _ _ is).0 refl)
+asks_own more name key x is = alike account_places x (Null ∷ key) (Null ∷ Text name ∷ []) (and_from _ _ (and_parts _ _ is).0 refl)
 
 -- ---- the texts
 

@@ -5,6 +5,7 @@ ghost use Rattle.sqlite_value.specs.declared.value.Value.TheVariants.{Text};
 ghost use Rattle.rows_tables.specs.Calls.{Changes, WritesInSavepoint};
 ghost use Rattle.rows_tables.specs.Keyed.{RemovesRows};
 ghost use Rattle.rows_tables.specs.Tables.{account as account_table, document as document_table};
+ghost use Rattle.rows_tables.specs.Places.{account_places};
 ghost use Rattle.rows_tables.specs.Tables.{grants as grants_table, job as job_table};
 
 use account_rules::Name;
@@ -18,7 +19,7 @@ pub(crate) fn remove_documents<T: Alter>(
     account: Name,
 ) -> Result<(), Error>
     ensures removes { Changes T.Store savepoint.old.conn.now savepoint.new.conn.now result
-        (RemovesRows document_table (Text account ∷ []) (1 ∷ [])) }
+        (RemovesRows document_table (Text account ∷ []) account_places) }
     ensures inside { WritesInSavepoint savepoint.old savepoint.new result }
 {
     write(
@@ -34,7 +35,7 @@ pub(crate) fn remove_jobs<T: Alter>(
     account: Name,
 ) -> Result<(), Error>
     ensures removes { Changes T.Store savepoint.old.conn.now savepoint.new.conn.now result
-        (RemovesRows job_table (Text account ∷ []) (1 ∷ [])) }
+        (RemovesRows job_table (Text account ∷ []) account_places) }
     ensures inside { WritesInSavepoint savepoint.old savepoint.new result }
 {
     write(
@@ -50,7 +51,7 @@ pub(crate) fn remove_grants<T: Alter>(
     account: Name,
 ) -> Result<(), Error>
     ensures removes { Changes T.Store savepoint.old.conn.now savepoint.new.conn.now result
-        (RemovesRows grants_table (Text account ∷ []) (1 ∷ [])) }
+        (RemovesRows grants_table (Text account ∷ []) account_places) }
     ensures inside { WritesInSavepoint savepoint.old savepoint.new result }
 {
     write(
@@ -66,7 +67,7 @@ pub(crate) fn remove_account<T: Alter>(
     account: Name,
 ) -> Result<(), Error>
     ensures removes { Changes T.Store savepoint.old.conn.now savepoint.new.conn.now result
-        (RemovesRows account_table (Text account ∷ []) (1 ∷ [])) }
+        (RemovesRows account_table (Text account ∷ []) account_places) }
     ensures inside { WritesInSavepoint savepoint.old savepoint.new result }
 {
     write(

@@ -1,6 +1,7 @@
 use Rattle.std.proofs.Common.{[], ◌∷◌, sym, subst, refl}
 use Rattle.sqlite_value.specs.declared.value.Value.TheVariants.{Text}
 use Rattle.sqlite.specs.Held.{state}
+use Rattle.rows_tables.specs.Places.{job_tree}
 use Rattle.rows_tables.specs.Queries.{Means, TakesParams, of_table}
 use Rattle.rows_statements.proofs.WalkLemmas.{in_some_order}
 use Rattle.rows_checks.proofs.KeyWalks.{key_tests, number_shows, jobs_text, jobs_names, jobs_is, jobs_takes, jobs_shown}
@@ -9,6 +10,6 @@ use Rattle.rows_checks.proofs.keys.walk_jobs.Goals as goal
 pub returns-clause-walks : goal.returns-clause-walks
 returns-clause-walks g c clean has =
     let old = state g.S.Store c.args.connection.now in
-    let means = subst (λ s. Means s jobs_text (of_table 3 key_tests number_shows []) jobs_names 1) (sym has.schema_is) jobs_is in
-    let takes = subst (λ s. TakesParams s (of_table 3 key_tests number_shows []) (Text c.args.account ∷ []) 1) (sym has.schema_is) (jobs_takes c.args.account) in
-    rw (jobs_shown c.args.account old.now) at (in_some_order _ _ old _ _ _ 3 key_tests number_shows (Text c.args.account ∷ []) c.walk.result ((rw c.bytes.ensures.value at (c.walk.ensures.walks clean)) (of_table 3 key_tests number_shows []) jobs_names 1 (record { ungrouped = refl; unfolded = refl }) means takes))
+    let means = subst (λ s. Means s jobs_text (of_table job_tree key_tests number_shows []) jobs_names 1) (sym has.schema_is) jobs_is in
+    let takes = subst (λ s. TakesParams s (of_table job_tree key_tests number_shows []) (Text c.args.account ∷ []) 1) (sym has.schema_is) (jobs_takes c.args.account) in
+    rw (jobs_shown c.args.account old.now) at (in_some_order _ _ old _ _ _ job_tree key_tests number_shows (Text c.args.account ∷ []) c.walk.result ((rw c.bytes.ensures.value at (c.walk.ensures.walks clean)) (of_table job_tree key_tests number_shows []) jobs_names 1 (record { ungrouped = refl; unfolded = refl }) means takes))

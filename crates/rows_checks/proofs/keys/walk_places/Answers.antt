@@ -1,6 +1,7 @@
 use Rattle.std.proofs.Common.{[], ◌∷◌, sym, subst, refl}
 use Rattle.sqlite_value.specs.declared.value.Value.TheVariants.{Text}
 use Rattle.sqlite.specs.Held.{state}
+use Rattle.rows_tables.specs.Places.{document_tree}
 use Rattle.rows_tables.specs.Queries.{Means, TakesParams, of_table}
 use Rattle.rows_statements.proofs.WalkLemmas.{in_some_order}
 use Rattle.rows_checks.proofs.KeyWalks.{key_tests, place_shows, places_text, places_names, places_is, places_takes, places_shown}
@@ -9,6 +10,6 @@ use Rattle.rows_checks.proofs.keys.walk_places.Goals as goal
 pub returns-clause-walks : goal.returns-clause-walks
 returns-clause-walks g c clean has =
     let old = state g.S.Store c.args.connection.now in
-    let means = subst (λ s. Means s places_text (of_table 5 key_tests place_shows []) places_names 1) (sym has.schema_is) places_is in
-    let takes = subst (λ s. TakesParams s (of_table 5 key_tests place_shows []) (Text c.args.account ∷ []) 1) (sym has.schema_is) (places_takes c.args.account) in
-    rw (places_shown c.args.account old.now) at (in_some_order _ _ old _ _ _ 5 key_tests place_shows (Text c.args.account ∷ []) c.walk.result ((rw c.bytes.ensures.value at (c.walk.ensures.walks clean)) (of_table 5 key_tests place_shows []) places_names 1 (record { ungrouped = refl; unfolded = refl }) means takes))
+    let means = subst (λ s. Means s places_text (of_table document_tree key_tests place_shows []) places_names 1) (sym has.schema_is) places_is in
+    let takes = subst (λ s. TakesParams s (of_table document_tree key_tests place_shows []) (Text c.args.account ∷ []) 1) (sym has.schema_is) (places_takes c.args.account) in
+    rw (places_shown c.args.account old.now) at (in_some_order _ _ old _ _ _ document_tree key_tests place_shows (Text c.args.account ∷ []) c.walk.result ((rw c.bytes.ensures.value at (c.walk.ensures.walks clean)) (of_table document_tree key_tests place_shows []) places_names 1 (record { ungrouped = refl; unfolded = refl }) means takes))

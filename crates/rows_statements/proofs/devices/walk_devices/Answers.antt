@@ -1,5 +1,6 @@
 use Rattle.std.proofs.Common.{[], sym, subst, refl}
 use Rattle.sqlite.specs.Held.{state}
+use Rattle.rows_tables.specs.Places.{device_tree}
 use Rattle.rows_tables.specs.Queries.{Means, TakesParams, of_table}
 use Rattle.rows_statements.proofs.WalkLemmas.{in_some_order}
 use Rattle.rows_statements.proofs.DeviceWalk.{walk_text, walk_shows, walk_names, walk_is, walk_takes, all_shown}
@@ -8,6 +9,6 @@ use Rattle.rows_statements.proofs.devices.walk_devices.Goals as goal
 pub returns-clause-walks : goal.returns-clause-walks
 returns-clause-walks g c clean has =
     let old = state g.S.Store c.args.connection.now in
-    let means = subst (λ s. Means s walk_text (of_table 9 [] walk_shows []) walk_names 0) (sym has.schema_is) walk_is in
-    let takes = subst (λ s. TakesParams s (of_table 9 [] walk_shows []) [] 0) (sym has.schema_is) walk_takes in
-    rw (all_shown (old.now.trees 9)) at (in_some_order _ _ old _ _ _ 9 [] walk_shows [] c.walk.result (c.walk.ensures.walks clean (of_table 9 [] walk_shows []) walk_names 0 (record { ungrouped = refl; unfolded = refl }) means takes))
+    let means = subst (λ s. Means s walk_text (of_table device_tree [] walk_shows []) walk_names 0) (sym has.schema_is) walk_is in
+    let takes = subst (λ s. TakesParams s (of_table device_tree [] walk_shows []) [] 0) (sym has.schema_is) walk_takes in
+    rw (all_shown (old.now.trees device_tree)) at (in_some_order _ _ old _ _ _ device_tree [] walk_shows [] c.walk.result (c.walk.ensures.walks clean (of_table device_tree [] walk_shows []) walk_names 0 (record { ungrouped = refl; unfolded = refl }) means takes))

@@ -1,6 +1,7 @@
 use Rattle.std.proofs.Common.{[], ◌∷◌, sym, subst, refl}
 use Rattle.sqlite_value.specs.declared.value.Value.TheVariants.{Text}
 use Rattle.sqlite.specs.Held.{state}
+use Rattle.rows_tables.specs.Places.{document_tree}
 use Rattle.rows_tables.specs.Cells.{number}
 use Rattle.rows_tables.specs.Queries.{Means, TakesParams, of_table}
 use Rattle.rows_statements.proofs.WalkLemmas.{in_some_order}
@@ -11,6 +12,6 @@ pub returns-clause-walks : goal.returns-clause-walks
 returns-clause-walks g c clean has =
     let old = state g.S.Store c.args.connection.now in
     let job = c.args.found.now.job in
-    let means = subst (λ s. Means s walk_text (of_table 5 walk_tests walk_shows []) walk_names 2) (sym has.schema_is) walk_is in
-    let takes = subst (λ s. TakesParams s (of_table 5 walk_tests walk_shows []) (Text c.args.account ∷ number job ∷ []) 2) (sym has.schema_is) (walk_takes c.args.account job) in
-    rw (all_shown old.now c.args.account job) at (in_some_order _ _ old _ _ _ 5 walk_tests walk_shows (Text c.args.account ∷ number job ∷ []) c.walk.result ((rw (c.bytes.ensures.value, c.number.ensures) at (c.walk.ensures.walks clean)) (of_table 5 walk_tests walk_shows []) walk_names 2 (record { ungrouped = refl; unfolded = refl }) means takes))
+    let means = subst (λ s. Means s walk_text (of_table document_tree walk_tests walk_shows []) walk_names 2) (sym has.schema_is) walk_is in
+    let takes = subst (λ s. TakesParams s (of_table document_tree walk_tests walk_shows []) (Text c.args.account ∷ number job ∷ []) 2) (sym has.schema_is) (walk_takes c.args.account job) in
+    rw (all_shown old.now c.args.account job) at (in_some_order _ _ old _ _ _ document_tree walk_tests walk_shows (Text c.args.account ∷ number job ∷ []) c.walk.result ((rw (c.bytes.ensures.value, c.number.ensures) at (c.walk.ensures.walks clean)) (of_table document_tree walk_tests walk_shows []) walk_names 2 (record { ungrouped = refl; unfolded = refl }) means takes))

@@ -1,6 +1,7 @@
 use Rattle.std.proofs.Common.{[], ◌∷◌, sym, subst, refl}
 use Rattle.sqlite_value.specs.declared.value.Value.TheVariants.{Text}
 use Rattle.sqlite.specs.Held.{state}
+use Rattle.rows_tables.specs.Places.{grants_tree}
 use Rattle.rows_tables.specs.Queries.{Means, TakesParams, of_table}
 use Rattle.rows_statements.proofs.WalkLemmas.{in_some_order}
 use Rattle.rows_statements.proofs.GrantWalk.{granted_text, granted_tests, granted_shows, granted_names, granted_is, granted_takes, grants_shown}
@@ -9,6 +10,6 @@ use Rattle.rows_statements.proofs.grants.walk_grants.Goals as goal
 pub returns-clause-walks : goal.returns-clause-walks
 returns-clause-walks g c clean has =
     let old = state g.S.Store c.args.connection.now in
-    let means = subst (λ s. Means s granted_text (of_table 7 granted_tests granted_shows []) granted_names 1) (sym has.schema_is) granted_is in
-    let takes = subst (λ s. TakesParams s (of_table 7 granted_tests granted_shows []) (Text c.args.account ∷ []) 1) (sym has.schema_is) (granted_takes c.args.account) in
-    rw (grants_shown c.args.account old.now) at (in_some_order _ _ old _ _ _ 7 granted_tests granted_shows (Text c.args.account ∷ []) c.walk.result ((rw c.bytes.ensures.value at (c.walk.ensures.walks clean)) (of_table 7 granted_tests granted_shows []) granted_names 1 (record { ungrouped = refl; unfolded = refl }) means takes))
+    let means = subst (λ s. Means s granted_text (of_table grants_tree granted_tests granted_shows []) granted_names 1) (sym has.schema_is) granted_is in
+    let takes = subst (λ s. TakesParams s (of_table grants_tree granted_tests granted_shows []) (Text c.args.account ∷ []) 1) (sym has.schema_is) (granted_takes c.args.account) in
+    rw (grants_shown c.args.account old.now) at (in_some_order _ _ old _ _ _ grants_tree granted_tests granted_shows (Text c.args.account ∷ []) c.walk.result ((rw c.bytes.ensures.value at (c.walk.ensures.walks clean)) (of_table grants_tree granted_tests granted_shows []) granted_names 1 (record { ungrouped = refl; unfolded = refl }) means takes))
