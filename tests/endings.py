@@ -12,7 +12,7 @@ import signal
 import socket
 import subprocess
 
-from program import MOMENT, MOST_SECONDS, PROGRAM, Clock, expect, variables
+from program import MOMENT, MOST_SECONDS, PROGRAM, Clock, expect, run_well, variables
 
 # The most bytes that a run reads.
 MOST_INPUT = 67108864
@@ -34,6 +34,8 @@ def cases():
     for endings in (long_inputs, failing_readers, failing_writers, failing_errors):
         for name, words, ending in endings():
             yield f'{name}: {words}', functools.partial(ends, words=words.split(), **ending)
+    for descriptor, name in enumerate(('input', 'output', 'error')):
+        yield f'without standard {name}, on a file', functools.partial(keeps_files, descriptor)
 
 
 def long_inputs():
@@ -83,6 +85,29 @@ def failing_errors():
     """The status is the same where the fault can't be told."""
     for name, writer in FAILING:
         yield f'{name} is told', 'open :memory: Alice', {'output': writer, 'errors': writer, 'status': 2}
+
+
+def keeps_files(folder, descriptor):
+    """No file of a database becomes a descriptor that the run was started without: what is printed or told goes into none."""
+    streams = dict.fromkeys(('given', 'output', 'errors')[descriptor:descriptor + 1], closed)
+    printed = {'status': 4, 'told': IO} if descriptor == 1 else {'printed': b'ok\n'}
+    ends(folder, ['create', 'room.db'], **streams, **printed)
+    ends(folder, ['open', 'room.db', 'alice'], **streams, **printed)
+    ends(folder, ['open', 'room.db', 'bob'], **streams, moment=LATE, status=3, told=b'' if descriptor == 2 else STORE)
+    words = ['serve', 'room.db', '0', 'stations', 'operators', '--log', 'log']
+    with subprocess.Popen([PROGRAM, *words], cwd=folder, stdin=subprocess.DEVNULL, stdout=subprocess.PIPE, stderr=subprocess.PIPE,
+                          preexec_fn=functools.partial(os.close, descriptor)) as serving:
+        try:
+            if descriptor != 1:
+                expect(serving.stdout.readline()[:16], b'serving clients=')
+                run_well(folder, 'end', 'operators')
+            expect(serving.wait(MOST_SECONDS), 4 if descriptor == 1 else 0)
+        finally:
+            serving.kill()
+    for name in filter(os.path.isfile, (f'{folder}/{name}' for name in os.listdir(folder))):
+        text = text_of(name)
+        expect((b'serving clients=' in text, b'ipp-room: ' in text), (False, False), name)
+    expect(run_well(folder, 'copy', 'room.db', 'copy.db'), b'ok\n')
 
 
 def ends(folder, words, given=None, output=None, errors=None, room=None, moment=MOMENT, status=0, printed=b'', told=b''):

@@ -1,4 +1,2 @@
 pub mod Ended
-pub mod Options
-pub mod Placed
 pub mod Records

@@ -1,10 +1,4 @@
-pub mod Addresses
-pub mod Commands
 pub mod Faults
 pub mod Grants
 pub mod Outcomes
 pub mod Runs
-pub mod Statuses
-pub mod ServedWords
-pub mod Visitors
-pub mod Words

@@ -7,7 +7,7 @@ use Rattle.room_serve.specs.Outcomes.{reply_of}
 use Rattle.room_serve.specs.declared.outcome.Outcome.{Outcome}
 use Rattle.room_serve.specs.declared.outcome.Outcome.TheVariants.{Answered, Failed}
 use Rattle.cli_commands.specs.Faults.{event_fault}
-use Rattle.cli_commands.specs.declared.fault.Fault.{Fault}
+use Rattle.cli_words.specs.declared.fault.Fault.{Fault}
 
 -- what was answered, or `failed`
 abbrev pub outcome_lines : Outcome → List ℕ

@@ -20,8 +20,8 @@ use Rattle.room_serve.specs.Runs.{AreApplied}
 use Rattle.room_serve.specs.declared.outcome.Outcome.{Outcome}
 use Rattle.cli_commands.specs.Grants.{grant_event}
 use Rattle.cli_commands.specs.Outcomes.{first_failure, outcome_lines, records_text}
-use Rattle.cli_commands.specs.declared.command.Command.{Command}
-use Rattle.cli_commands.specs.declared.command.Command.TheVariants as command
+use Rattle.cli_words.specs.declared.command.Command.{Command}
+use Rattle.cli_words.specs.declared.command.Command.TheVariants as command
 
 -- what standard input may have had
 abbrev pub Given : Type 1

@@ -5,7 +5,8 @@ ghost use Rattle.input_fields.specs.GrantFiles.{is_too_large};
 ghost use Rattle.input_fields.specs.GrantLines.{IsInRange};
 ghost use Rattle.input_fields.specs.Streams.{MayBeLeft};
 
-use crate::fault::Fault;
+use crate::fault::line_fault;
+use cli_words::Fault;
 use input_fields::{Counted, GrantLine, read_grants, read_whole};
 use input_lines::{Grammar, Line};
 use std::alloc::Global;
@@ -24,7 +25,9 @@ pub fn read_lines<R: Read + Drop>(
         (λ lines. AreGiven (MayBeLeft (R.remaining input) false) grammar lines.items) }
 {
     let text = read_text(alloc, input)?;
-    Ok(grammar.read(alloc, text.as_slice())?)
+    grammar
+        .read(alloc, text.as_slice())
+        .map_err(|fault| line_fault(fault))
 }
 
 /// All of the input, whatever lines it has.

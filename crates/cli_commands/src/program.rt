@@ -3,18 +3,17 @@ ghost use Rattle.std.specs.Prelude.{◌≡◌, ◌≤◌, false, IsOk, IsTrue, N
 ghost use Rattle.std.specs.Io.KnownBytes.{Appends};
 ghost use Rattle.input_fields.specs.Streams.{MayBeLeft};
 ghost use Rattle.input_lines.specs.Actions.{is_in_range};
-ghost use Rattle.cli_commands.specs.Commands.{IsSaidBy};
-ghost use Rattle.cli_commands.specs.Commands.{is_in_range as is_command_in_range};
 ghost use Rattle.cli_commands.specs.Runs.{At, Runs, RunsAction, event_of_line, RunsGrants, RunsInput, RunsLines};
-ghost use Rattle.cli_commands.specs.Words.{placed, texts};
+ghost use Rattle.cli_words.specs.Commands.{IsSaidBy};
+ghost use Rattle.cli_words.specs.Commands.{is_in_range as is_command_in_range};
+ghost use Rattle.cli_words.specs.Words.{placed, texts};
 
-use crate::command::Command;
-use crate::fault::Fault;
 use crate::grants::grant_events;
 use crate::input::{read_lines, read_records, read_text};
 use crate::opener::Opener;
 use crate::printing::{print_explained, print_grants, print_outcomes, print_text};
 use crate::tables::{Begin, first_failure, outcomes_of, prepare};
+use cli_words::{Command, Fault};
 use input_lines::{Action, Grammar, Line, events_of};
 use sqlite::{Alter, Connection};
 use std::alloc::Global;
@@ -29,8 +28,7 @@ use std::io::{Read, Write};
 /// `opener` is asked for the database once nothing else can be wrong, and gets it back before
 /// anything is printed. In `:memory:` each run makes tables of its own. `explain` asks for none,
 /// and none of its lines is wrong. Of `copy`, `listen`, `serve`, `send` and what is asked over an
-/// address or of a queue it answers `Io` with nothing run, since it has one database and no sockets (`Copying`,
-/// `Listening`, `Serving`, `Sending`, `BackingUp`, `Errand` and `OwnerErrand` say what their words ask for).
+/// address or of a queue it answers `Io` with nothing run, since it has one database and no sockets.
 pub fn run<S, F, R, W, E>(
     alloc: Global,
     words: &[&str],

@@ -5,13 +5,13 @@ ghost use Rattle.account_machine.specs.Events.{plain_event, plain_timed};
 ghost use Rattle.account_machine.specs.Fits.{fits};
 ghost use Rattle.room_serve.specs.Runs.{AreApplied};
 ghost use Rattle.cli_commands.specs.Outcomes.{first_failure};
-ghost use Rattle.cli_commands.specs.Statuses.{exit_status_of};
+ghost use Rattle.cli_words.specs.Statuses.{exit_status_of};
 
-use crate::command::MEMORY;
-use crate::fault::Fault;
+use crate::fault::{event_fault, open_fault, opened};
 use crate::opener::Opener;
 use account_machine::Event;
-use room_serve::{Outcome, run_events};
+use cli_words::{Fault, MEMORY};
+use room_serve::{Outcome, RunFault, run_events};
 use room_store::{Refused, Store};
 use sqlite::{Alter, Connection};
 use std::alloc::Global;
@@ -56,7 +56,10 @@ pub fn outcomes_of<S: Alter + Drop, F: Opener<Kept = Connection<S>> + Drop>(
     let mut store = store_of(alloc, &mut opener, database, Begin::Open)?;
     let outcomes = run_events(alloc, &mut store, events);
     opener.close(store.close());
-    Ok(outcomes?)
+    match outcomes {
+        Ok(outcomes) => Ok(outcomes),
+        Err(RunFault::Memory) => Err(Fault::Memory),
+    }
 }
 
 /// The first failed event's fault.
@@ -65,7 +68,7 @@ pub fn first_failure(outcomes: &[Outcome]) -> Option<Fault>
 {
     for outcome in outcomes {
         if let Outcome::Failed(fault) = outcome {
-            return Some(Fault::from(*fault));
+            return Some(event_fault(*fault));
         }
     }
     None
@@ -81,7 +84,7 @@ pub fn store_of<S: Alter + Drop, F: Opener<Kept = Connection<S>>>(
 ) -> Result<Store<S>, Fault>
     ensures status { IfErr result (λ fault. exit_status_of fault ≡ 3) }
 {
-    let connection = opener.open(database)?;
+    let connection = opened(opener.open(database))?;
     let store = match how {
         Begin::Create => Store::create(connection),
         _ if database == MEMORY => Store::create(connection),
@@ -91,14 +94,14 @@ pub fn store_of<S: Alter + Drop, F: Opener<Kept = Connection<S>>>(
     match store {
         Ok(store) => {
             if matches!(how, Begin::Serve) && database != MEMORY {
-                Ok(store.reopen(alloc)?)
+                opened(store.reopen(alloc))
             } else {
                 Ok(store)
             }
         }
         Err(Refused { connection, fault }) => {
             opener.close(connection);
-            Err(Fault::from(fault))
+            Err(open_fault(fault))
         }
     }
 }

@@ -6,7 +6,7 @@ use crate::placing::{
     Failed, Keeper, OnDisk, Place, at, open_tables, open_there, part_of, print_ok, remove_database,
     replace,
 };
-use cli_commands::{BackingUp, Fault};
+use cli_words::{BackingUp, Fault};
 use client_lines::{ClientFault, Peer};
 use room_store::Rounds;
 use sqlite::{Alter, Connection};

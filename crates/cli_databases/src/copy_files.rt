@@ -1,7 +1,7 @@
 //! The files of copies of the database that is served.
 
 use crate::placing::{Keeper, OnDisk, part_of, remove_database};
-use cli_commands::Fault;
+use cli_words::Fault;
 use sqlite::{Connection, File, FileStore};
 use store_copy::CopyMaker;
 

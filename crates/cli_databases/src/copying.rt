@@ -5,7 +5,7 @@ use crate::placing::{
     Failed, Keeper, OnDisk, Place, at, open_tables, open_there, part_of, print_ok, remove_database,
     replace, tables_of,
 };
-use cli_commands::{Copying, Fault};
+use cli_words::{Copying, Fault};
 use room_store::{Rounds, Store, next_accounts};
 use rows_statements::TableFault;
 use sqlite::{Alter, Connection};

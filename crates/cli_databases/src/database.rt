@@ -3,7 +3,8 @@ ghost use Rattle.std.specs.Prelude.{◌≤◌};
 
 use crate::copying::copy;
 use crate::file::connect;
-use cli_commands::{CREATE, Copying, MEMORY, Opener, is_command, run};
+use cli_commands::{Opener, run};
+use cli_words::{CREATE, Copying, MEMORY, is_command};
 use room_store::OpenFault;
 use sqlite::{Connection, File, FileStore, MemStore};
 use std::alloc::Global;

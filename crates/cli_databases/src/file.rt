@@ -2,7 +2,7 @@
 ghost use Rattle.std.specs.Prelude.{◌≡◌, ◌*◌, ◌≤◌, IfOk};
 ghost use Rattle.cli_databases.specs.FileFaults.{file_fault};
 
-use cli_commands::MEMORY;
+use cli_words::MEMORY;
 use room_store::OpenFault;
 use sqlite::{Connection, File, FileStore, Options, Unknown};
 use sqlite_std_file::OpenError;

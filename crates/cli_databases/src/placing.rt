@@ -1,10 +1,11 @@
 //! What `copy` and `backup` have in common: databases that are held open, and one that is put in the
 //! place of a file once it is whole.
 ghost use Rattle.std.specs.Prelude.{◌≡◌, ◌≤◌};
-ghost use Rattle.cli_commands.specs.Statuses.{exit_status_of};
+ghost use Rattle.cli_words.specs.Statuses.{exit_status_of};
 
 use crate::file::connect;
-use cli_commands::{Fault, MEMORY, print_text};
+use cli_commands::{open_fault, opened, print_text};
+use cli_words::{Fault, MEMORY};
 use room_store::{Refused, Rounds, Store};
 use sqlite::{Alter, Connection, File, FileStore};
 use std::fmt::Display;
@@ -32,7 +33,7 @@ impl Keeper for OnDisk<'_> {
     type Kept = Connection<FileStore<File>>;
 
     fn open(&self, path: &str) -> Result<Connection<FileStore<File>>, Fault> {
-        Ok(connect(self.rt, path)?)
+        opened(connect(self.rt, path))
     }
 
     fn close(&self, rows: Connection<FileStore<File>>) -> Result<(), Fault> {
@@ -114,7 +115,7 @@ pub(crate) fn tables_of<S: Alter + Drop, K: Keeper<Kept = Connection<S>>>(
         Ok(store) => Ok(Rounds::over(store)),
         Err(Refused { connection, fault }) => {
             let _ = keeper.close(connection);
-            Err(Fault::from(fault))
+            Err(open_fault(fault))
         }
     }
 }

@@ -1,9 +1,9 @@
 //! `backup`: an operator's address is asked for a backup.
 ghost use Rattle.std.specs.Prelude.{◌≤◌, IfOk};
 
-use crate::connected::{BUFFER, at_path, at_port};
-use cli_commands::{Address, BackingUp, Fault};
+use cli_asking::{BUFFER, at_path, at_port};
 use cli_databases::back_up;
+use cli_words::{Address, BackingUp, Fault};
 use client_lines::Peer;
 use std::io::{BufReader, BufWriter, Read, Write};
 

@@ -1,8 +1,9 @@
 //! A front over the database that its command names.
 
 use crate::front::Front;
-use cli_commands::{Begin, Fault, MEMORY, Opener, store_of};
+use cli_commands::{Begin, Opener, store_of};
 use cli_databases::{InFile, InMemory};
+use cli_words::{Fault, MEMORY};
 use sqlite::{Alter, Connection};
 use std::io::Write;
 

@@ -1,6 +1,6 @@
 //! What serves others over a store, whatever storage that is on.
 
-use cli_commands::Fault;
+use cli_words::Fault;
 use room_store::Store;
 use sqlite::{Alter, Connection};
 use std::io::Write;

@@ -1,21 +1,17 @@
-//! The program `ipp-room` as one call: `listen`, `serve`, `send` and what is asked over a connection,
-//! with their sockets and files, and every other command by `run_on`.
+//! The program `ipp-room` as one call, from its words to its exit status. `listen`, `serve` and what
+//! opens the file of a backup are here; `cli_asking` has what else asks a process, and
+//! `cli_databases` the commands on a database.
 #![tactic(auto)]
 
 mod backing_up;
-mod connected;
 mod database;
-mod errands;
-mod folder;
+mod descriptors;
 mod front;
 mod listening;
-mod owner;
 mod program;
-mod sending;
 mod serving;
 mod version;
 
 pub use listening::listen;
 pub use program::start;
-pub use sending::send;
 pub use serving::serve;

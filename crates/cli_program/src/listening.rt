@@ -5,7 +5,7 @@ ghost use Rattle.room_serve.specs.Wires.{reader_of, wire_has_ended, writer_of};
 
 use crate::database::serve_over;
 use crate::front::Front;
-use cli_commands::{Fault, Listening};
+use cli_words::{Fault, Listening};
 use input_fields::Counted;
 use room_serve::{After, Sink, Source, Wire, serve_one};
 use room_store::Store;

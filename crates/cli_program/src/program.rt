@@ -2,14 +2,13 @@
 ghost use Rattle.std.specs.Prelude.{◌≤◌, IfOk};
 
 use crate::backing_up::run_backup;
-use crate::errands::run_errand;
+use crate::descriptors::take_closed;
 use crate::listening::listen;
-use crate::owner::run_owner_errand;
-use crate::sending::send;
 use crate::serving::serve;
 use crate::version::{asks_for_version, print_version};
-use cli_commands::{BackingUp, Errand, Fault, Listening, OwnerErrand, Sending, Serving, words_of};
+use cli_asking::{run_errand, run_owner_errand, send};
 use cli_databases::run_on;
+use cli_words::{BackingUp, Errand, Fault, Listening, OwnerErrand, Sending, Serving, words_of};
 use serve_sockets::moment;
 use std::io::{BufWriter, Write};
 
@@ -33,6 +32,7 @@ pub fn start(rt: &HostRuntime, commit: &str) -> u8
 fn begin(rt: &HostRuntime, commit: &str) -> Result<u8, Fault>
     ensures { IfOk result (λ status. status ≤ 5) }
 {
+    take_closed(rt)?;
     let alloc = rt.alloc();
     let given = words_of(rt)?;
     let words: Vec<&str> = given.iter().map(|word| word.as_str()).collect(alloc)?;
@@ -61,11 +61,11 @@ fn run<W: Write>(rt: &HostRuntime, words: &[&str], output: &mut W) -> Result<u8,
         return Ok(0);
     }
     if let Some(asked) = Errand::read(alloc, words)? {
-        run_errand(rt, &asked, output)?;
+        run_errand(rt, moment(rt), &asked, output)?;
         return Ok(0);
     }
     if let Some(asked) = OwnerErrand::read(alloc, words)? {
-        run_owner_errand(rt, &asked, output)?;
+        run_owner_errand(rt, moment(rt), &asked, output)?;
         return Ok(0);
     }
     if let Some(asked) = BackingUp::read(alloc, words)? {

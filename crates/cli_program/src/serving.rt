@@ -4,8 +4,8 @@ ghost use Rattle.serve_peers.specs.Journals.{open_of, rounds_of};
 
 use crate::database::serve_over;
 use crate::front::Front;
-use cli_commands::{Address, Fault, MEMORY, ServedDoor, Serving, Visitors};
 use cli_databases::CopyFiles;
+use cli_words::{Address, Fault, MEMORY, ServedDoor, Serving, Visitors};
 use room_store::Store;
 use serve_log::{EventLog, LogFile};
 use serve_peers::{Copies, Served};
@@ -31,12 +31,22 @@ pub fn serve<W: Write>(rt: &HostRuntime, asked: &Serving<'_>, output: &mut W) ->
 }
 
 // The command, begun at a moment.
-#[derive(Drop)]
 struct Begun<'a> {
     asked: &'a Serving<'a>,
     moment: u64,
     /// Stays until the file is closed, so that a connection that asked for the end sees it last.
     hall: Option<Hall>,
+}
+
+// In the place of `#[derive(Drop)]`, so that no caller proves again how each part is dropped.
+impl Drop for Begun<'_> {
+    fn drop(self) {
+        let Begun {
+            asked: _,
+            moment: _,
+            hall: _,
+        } = self;
+    }
 }
 
 impl Front for Begun<'_> {

@@ -1,6 +1,6 @@
 //! Which program this is.
 
-use cli_commands::{VERSION, is_command};
+use cli_words::{VERSION, is_command};
 use std::io;
 use std::io::Write;
 

@@ -1,0 +1,14 @@
+//! The commands that ask a running process, over a connection that each opens: `send`, what asks an
+//! operator's address, as `report`, and what asks a queue, as `print`. They open no database.
+#![tactic(auto)]
+
+mod connected;
+mod errands;
+mod folder;
+mod owner;
+mod sending;
+
+pub use connected::{BUFFER, at_path, at_port};
+pub use errands::run_errand;
+pub use owner::run_owner_errand;
+pub use sending::send;

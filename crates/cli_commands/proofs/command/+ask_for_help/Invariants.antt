@@ -1,5 +1,0 @@
-use Rattle.std.proofs.Common.{length}
-use Rattle.cli_commands.proofs.command.+ask_for_help.Given as goal
-
-abbrev pub decreases-ask_for_help : goal.decreases-ask_for_help
-decreases-ask_for_help l = length l.words.now

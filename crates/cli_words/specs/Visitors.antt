@@ -1,0 +1,83 @@
+-- Who comes in by the doors of `serve`, and by which address (this project's own).
+use Rattle.std.specs.Prelude.{◌≡◌, ◌⊎◌, ◌&&◌, ◌||◌, ℕ, Bool, true, false, if◌then◌else◌, IsTrue, List, [], ◌∷◌, codes, Option, Some, None}
+use Rattle.std.specs.Str.{bytes_eq}
+use Rattle.cli_words.specs.Addresses.{IsAddressOf, has_digits_alone}
+use Rattle.cli_words.specs.ServedWords.{SaysPlace}
+use Rattle.cli_words.specs.declared.served_door.ServedDoor.{ServedDoor}
+use Rattle.cli_words.specs.declared.visitors.Visitors.{Visitors}
+use Rattle.cli_words.specs.declared.visitors.Visitors.TheVariants.{Clients, Operators, Pages, Station, Stations}
+
+abbrev pub name_of : Visitors → List ℕ
+name_of Clients = codes "clients"
+name_of Pages = codes "pages"
+name_of Stations = codes "stations"
+name_of Station = codes "station"
+name_of Operators = codes "operators"
+
+-- the word behind which an address of theirs stands
+abbrev pub option_of : Visitors → List ℕ
+option_of Clients = codes "--clients"
+option_of Pages = codes "--pages"
+option_of Stations = codes "--stations"
+option_of Station = codes "--station"
+option_of Operators = codes "--operators"
+
+-- who comes for some devices alone
+abbrev pub names_devices : Visitors → Bool
+names_devices Clients = false
+names_devices Pages = false
+names_devices Stations = false
+names_devices Station = true
+names_devices Operators = false
+
+-- the door is theirs, at the address in the word, and for the devices that it names there
+pub record IsDoorOf (whose : Visitors) (word : List ℕ) (door : ServedDoor) : Type 0 where
+  pub visitors : door.visitors ≡ whose
+  pub place : List ℕ
+  pub says : SaysPlace (names_devices whose) word door.devices.now place
+  pub address : IsAddressOf place 0 door.address
+
+-- the word behind which the file of the log stands, and that behind which `required` stands, where the
+-- pages are to take no file without a PIN
+abbrev pub log_option : List ℕ
+log_option = codes "--log"
+
+abbrev pub pin_option : List ℕ
+pin_option = codes "--pages-pin"
+
+abbrev pub is_required : (value : List ℕ) → Bool
+is_required value = bytes_eq value (codes "required")
+
+-- these two are no door
+abbrev pub is_no_door : (name value : List ℕ) → Bool
+is_no_door name value =
+    bytes_eq name log_option || (bytes_eq name pin_option && is_required value)
+
+-- options, each a name and its value, are these doors, in order
+abbrev pub AreOptions : (words : List (List ℕ)) (doors : List ServedDoor) → Type 0
+AreOptions [] doors = doors ≡ []
+AreOptions (word ∷ []) doors = ⊥
+AreOptions (name ∷ value ∷ words) doors =
+    (IsTrue (is_no_door name value) × AreOptions words doors)
+    ⊎ ((door : ServedDoor) × (more : List ServedDoor) × (doors ≡ door ∷ more)
+    × (name ≡ option_of door.visitors) × IsDoorOf door.visitors value door × AreOptions words more)
+
+-- the value of the first option of a name
+abbrev pub value_among : (option : List ℕ) (options : List (List ℕ)) → Option (List ℕ)
+value_among option [] = None
+value_among option (word ∷ []) = None
+value_among option (name ∷ value ∷ words) =
+    if bytes_eq name option then Some value else value_among option words
+
+-- behind the three addresses
+abbrev pub value_behind : (option : List ℕ) (words : List (List ℕ)) → Option (List ℕ)
+value_behind option (port ∷ stations ∷ operators ∷ options) = value_among option options
+value_behind option _ = None
+
+-- the port of clients, the addresses of stations and operators, and behind them options
+abbrev pub AreDoors : (words : List (List ℕ)) (doors : List ServedDoor) → Type 0
+AreDoors (port ∷ stations ∷ operators ∷ options) (first ∷ second ∷ third ∷ further) =
+    IsTrue (has_digits_alone port) × IsDoorOf Clients port first
+    × IsDoorOf Stations stations second × IsDoorOf Operators operators third
+    × AreOptions options further
+AreDoors _ _ = ⊥

@@ -1,0 +1,149 @@
+//! A door that `serve` opens, and the words that say it.
+ghost use Rattle.std.specs.Prelude.{◌≡◌, ◌++◌, IfOk, IsTrue, List, OnOk, is_some, option_map};
+ghost use Rattle.cli_words.specs.Addresses.{has_digits_alone};
+ghost use Rattle.cli_words.specs.Visitors.{AreDoors, AreOptions, IsDoorOf, is_no_door, is_required, log_option, pin_option, value_among, value_behind};
+ghost use Rattle.cli_words.specs.Words.{texts};
+ghost use Rattle.cli_words.specs.declared.served_door.ServedDoor.{ServedDoor as PlainDoor};
+ghost use Rattle.cli_words.specs.declared.visitors.Visitors.TheVariants.{Clients};
+
+use crate::address::Address;
+use crate::served_word::ServedWord;
+use crate::unfit::Unfit;
+use crate::visitors::Visitors;
+use std::alloc::Global;
+
+/// The word behind which the file of the log stands.
+const LOG: &str = "--log";
+
+/// The word behind which `required` stands, where the pages are to take no file without a PIN.
+const PAGES_PIN: &str = "--pages-pin";
+
+/// A door that `serve` opens. A port of 0 is a free one.
+#[derive(Clone, Copy)]
+pub struct ServedDoor<'a> {
+    pub visitors: Visitors,
+    /// The names of the devices that a station's own door is for, parted by commas.
+    pub devices: &'a str,
+    pub address: Address<'a>,
+}
+
+impl<'a> ServedDoor<'a> {
+    /// The door at the address that a word is, or has behind the names of devices.
+    fn read(visitors: Visitors, word: &'a str) -> Result<ServedDoor<'a>, Unfit>
+        ensures { IfOk result (IsDoorOf visitors word.now) }
+    {
+        let read = ServedWord::read(visitors, word)?;
+        match Address::read(read.address, 0) {
+            Some(address) => Ok(ServedDoor {
+                visitors,
+                devices: read.devices,
+                address,
+            }),
+            None => Err(Unfit::ServedAddress),
+        }
+    }
+
+    /// The door of clients at the port that a word is.
+    fn at_port(word: &'a str) -> Result<ServedDoor<'a>, Unfit>
+        ensures door { IfOk result (IsDoorOf Clients word.now) }
+        ensures port { IfOk result (λ _. IsTrue (has_digits_alone word.now)) }
+    {
+        match Address::read(word, 0) {
+            Some(address @ Address::Port(_)) => {
+                let visitors = Visitors::Clients;
+                Ok(ServedDoor {
+                    visitors,
+                    devices: "",
+                    address,
+                })
+            }
+            Some(Address::Path(_)) | None => Err(Unfit::ServedPort),
+        }
+    }
+}
+
+/// The doors that the words behind the database say: three by their places, and further ones by
+/// options.
+pub(crate) fn doors_of<'a>(alloc: Global, words: &[&'a str]) -> Result<Vec<ServedDoor<'a>>, Unfit>
+    ensures { IfOk result (λ doors. AreDoors (texts words.now) doors.items) }
+{
+    let [port, stations, operators, options @ ..] = words else {
+        return Err(Unfit::Missing);
+    };
+    let mut doors = Vec::new(alloc);
+    doors.push(ServedDoor::at_port(port)?)?;
+    doors.push(ServedDoor::read(Visitors::Stations, stations)?)?;
+    doors.push(ServedDoor::read(Visitors::Operators, operators)?)?;
+    put_options(options, &mut doors)?;
+    Ok(doors)
+}
+
+/// The file of the log, if an option says one behind the three addresses.
+pub(crate) fn log_behind<'a>(words: &[&'a str]) -> Option<&'a str>
+    ensures { option_map (λ path. path.now) result ≡ value_behind log_option (texts words.now) }
+{
+    value_behind(LOG, words)
+}
+
+/// Whether an option says that the pages take no file without a PIN.
+pub(crate) fn needs_password(words: &[&str]) -> bool
+    ensures { result ≡ is_some (value_behind pin_option (texts words.now)) }
+{
+    value_behind(PAGES_PIN, words).is_some()
+}
+
+/// The value of the first option of that name behind the three addresses.
+fn value_behind<'a>(option: &str, words: &[&'a str]) -> Option<&'a str>
+    ensures { option_map (λ value. value.now) result ≡ value_behind option.now (texts words.now) }
+{
+    match words {
+        [_, _, _, options @ ..] => value_among(option, options),
+        _ => None,
+    }
+}
+
+fn value_among<'a>(option: &str, options: &[&'a str]) -> Option<&'a str>
+    ensures { option_map (λ value. value.now) result ≡ value_among option.now (texts options.now) }
+{
+    match options {
+        [name, value, ..] if *name == option => Some(*value),
+        [_, _, rest @ ..] => value_among(option, rest),
+        _ => None,
+    }
+}
+
+/// Whether an option names the file of the log, or that a PIN is required, and no door.
+fn is_no_door(name: &str, value: &str) -> bool
+    ensures { result ≡ is_no_door name.now value.now }
+{
+    name == LOG || (name == PAGES_PIN && is_required(value))
+}
+
+fn is_required(value: &str) -> bool
+    ensures { result ≡ is_required value.now }
+{
+    value == "required"
+}
+
+/// Puts the doors that options say behind those that are there.
+fn put_options<'a>(options: &[&'a str], doors: &mut Vec<ServedDoor<'a>>) -> Result<(), Unfit>
+    ensures { OnOk result ((further : List PlainDoor)
+        × (doors.new.items ≡ doors.old.items ++ further) × AreOptions (texts options.now) further) }
+{
+    let Some((name, behind)) = options.split_first() else {
+        return Ok(());
+    };
+    let Some((value, rest)) = behind.split_first() else {
+        return Err(Unfit::Option);
+    };
+    if is_no_door(name, value) {
+        return put_options(rest, doors);
+    }
+    if *name == PAGES_PIN {
+        return Err(Unfit::PagesPin);
+    }
+    let visitors = Visitors::of_option(name).ok_or(Unfit::Option)?;
+    let door = ServedDoor::read(visitors, value)?;
+    doors.push(door)?;
+    put_options(rest, doors)
+}
