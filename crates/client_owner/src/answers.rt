@@ -75,7 +75,7 @@ fn told_by(
 }
 
 /// Whether the status-code is one of success.
-pub fn is_success(code: u16) -> bool
+fn is_success(code: u16) -> bool
     ensures { result ≡ is_success code }
 {
     code < 0x0100
@@ -102,7 +102,7 @@ fn done_text(
 }
 
 /// The number of the job that was made.
-pub fn job_made(message: &Message<'_>) -> Option<u32>
+fn job_made(message: &Message<'_>) -> Option<u32>
     ensures { result ≡ job_made (plain_message message.now) }
 {
     number_named(job_group(message.groups.as_slice())?, b"job-id")
@@ -122,7 +122,7 @@ fn reason_line(alloc: Global, message: &Message<'_>) -> Result<Vec<u8>, ClientFa
 }
 
 /// The word that tells why what was asked was refused.
-pub fn reason<'a>(message: &Message<'a>) -> Option<&'a [u8]>
+fn reason<'a>(message: &Message<'a>) -> Option<&'a [u8]>
     ensures { option_map (λ word. word.now) result ≡ reason (plain_message message.now) }
 {
     let group = operation_group(message.groups.as_slice())?;

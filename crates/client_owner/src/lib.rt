@@ -19,7 +19,6 @@ mod queue;
 mod requests;
 
 pub use acts::JobAct;
-pub use answers::{is_success, job_made, reason};
 pub use asked::{Asked, perform};
 pub use documents::format_of;
 pub use new_job::NewJob;

@@ -1,5 +1,5 @@
--- The words of IPP in a line: the operation, the status and its word.
-use Rattle.std.specs.Prelude.{ℕ, ◌+◌, ◌*◌, ◌/◌, ◌%◌, Bool, ◌==◌, nat_lt, if◌then◌else◌, List, [], ◌∷◌, ◌++◌, codes, drop, length, slice_index, take, Option, Some, None}
+-- The words of IPP in a line: the operation, the job, and the keyword of a status.
+use Rattle.std.specs.Prelude.{ℕ, ◌+◌, ◌*◌, ◌/◌, ◌%◌, ◌==◌, nat_lt, if◌then◌else◌, List, [], ◌∷◌, ◌++◌, codes, length, slice_index, Option, Some, None}
 use Rattle.std.specs.Fmt.{decimal}
 
 -- ---- a code of two bytes, as 0x000a
@@ -12,11 +12,11 @@ code_text code =
     codes "0x" ++ hex_digit (code / 4096 % 16) ∷ hex_digit (code / 256 % 16)
     ∷ hex_digit (code / 16 % 16) ∷ hex_digit (code % 16) ∷ []
 
--- operation-id and status-code stand behind the version (RFC 8010 section 3.1.1)
-abbrev pub code_of : (message : List ℕ) → ℕ
-code_of message = slice_index message 2 * 256 + slice_index message 3
-
 -- ---- the operation
+
+-- the operation-id stands behind the version (RFC 8010 section 3.1.1)
+abbrev pub code_of : (body : List ℕ) → ℕ
+code_of body = slice_index body 2 * 256 + slice_index body 3
 
 -- those that are served (RFC 8011 section 5.4.15)
 abbrev pub operation_text : (code : ℕ) → List ℕ
@@ -46,22 +46,6 @@ job_field (Some job) = decimal job
 
 -- ---- the status
 
--- a status, in two bytes, is one of success, 0x0000 to 0x00FF (RFC 8011 section B.1.2)
-abbrev pub is_successful : (answer : List ℕ) → Bool
-is_successful answer = slice_index answer 2 == 0
-
--- where the text of status-message stands in a refusal: behind the header, the tag of a group,
--- attributes-charset `utf-8`, attributes-natural-language `en`, and its own tag, name and length
-abbrev pub message_place : ℕ
-message_place = 90
-
--- the two bytes before it
-abbrev pub message_length : (answer : List ℕ) → ℕ
-message_length answer = slice_index answer 88 * 256 + slice_index answer 89
-
-abbrev pub status_message : (answer : List ℕ) → List ℕ
-status_message answer = take (message_length answer) (drop message_place answer)
-
 -- the keyword of a success (RFC 8011 sections B.1.2.1 to B.1.2.3)
 abbrev pub success_word : (code : ℕ) → List ℕ
 success_word code =
@@ -69,8 +53,3 @@ success_word code =
     else if code == 1 then codes "successful-ok-ignored-or-substituted-attributes"
     else if code == 2 then codes "successful-ok-conflicting-attributes"
     else codes "successful"
-
--- of a refusal the text of its status-message
-abbrev pub status_word : (answer : List ℕ) → List ℕ
-status_word answer =
-    if is_successful answer then success_word (code_of answer) else status_message answer

@@ -1,5 +1,5 @@
 pub mod IppWords
-pub mod Abouts
+pub mod RequestJobs
 pub mod LogLines
 pub mod LogLaws
 pub mod Books

@@ -4,9 +4,13 @@ use Rattle.std.specs.Prelude.{ℕ, ◌+◌, ◌/◌, ◌%◌, Bool, ◌&&◌, na
 use Rattle.std.specs.Fmt.{decimal}
 use Rattle.account_machine.specs.declared.event.Reply.{Reply}
 use Rattle.account_machine.specs.declared.event.Reply.TheVariants as reply_is
+use Rattle.account_machine.specs.declared.verdict.Answered.{Answered}
+use Rattle.account_machine.specs.declared.verdict.Verdict.{Verdict}
+use Rattle.account_machine.specs.declared.verdict.Verdict.TheVariants.{Done, Refused}
 use Rattle.account_machine.specs.Events.{PlainEvent, OfAccount, OfDevice, Open, Ipp, Release, Start, Settle, Grant, Turn, Rate}
-use Rattle.serve_log.specs.Abouts.{about}
-use Rattle.serve_log.specs.IppWords.{code_of, code_text, job_field, operation_field, status_word}
+use Rattle.account_replies.specs.Words.{word_text}
+use Rattle.serve_log.specs.IppWords.{code_text, job_field, operation_field, success_word}
+use Rattle.serve_log.specs.RequestJobs.{job_of}
 use Rattle.serve_log.specs.declared.door.Door.{Door}
 use Rattle.serve_log.specs.declared.door.Door.TheVariants as door_is
 use Rattle.serve_log.specs.declared.refusal.LineRefusal.{LineRefusal}
@@ -55,9 +59,9 @@ abbrev pub ipp_fields : (account body : List ℕ) (job : Option ℕ) → List �
 ipp_fields account body job =
     account ++ codes " " ++ operation_field body ++ codes " " ++ job_field job
 
--- with the number of the job that the request is about
-abbrev pub request_fields : {F : Type 0} → (account body : List ℕ) (told : Result Reply F) → List ℕ
-request_fields account body told = ipp_fields account body (about account body told)
+abbrev pub request_fields :
+    {F : Type 0} → (account body : List ℕ) (told : Result Answered F) → List ℕ
+request_fields account body told = ipp_fields account body (job_of account body told)
 
 abbrev pub turn_fields : (device : List ℕ) (on : Bool) → List ℕ
 turn_fields device on =
@@ -66,7 +70,7 @@ turn_fields device on =
 abbrev pub rate_fields : (device : List ℕ) (units : ℕ) → List ℕ
 rate_fields device units = codes "rate " ++ device ++ codes " " ++ decimal units
 
-abbrev pub event_fields : {F : Type 0} → PlainEvent → (told : Result Reply F) → List ℕ
+abbrev pub event_fields : {F : Type 0} → PlainEvent → (told : Result Answered F) → List ℕ
 event_fields (OfAccount account Open) told = codes "open " ++ account
 event_fields (OfAccount account (Ipp body)) told = request_fields account body told
 event_fields (OfAccount account (Release device job password impressions)) told =
@@ -88,21 +92,29 @@ shown_byte byte = if nat_le 32 byte && nat_le byte 126 then byte else 63
 abbrev pub shown : List ℕ → List ℕ
 shown text = map shown_byte text
 
+-- the status, and its keyword or the word that tells why
+abbrev pub verdict_field : Verdict → List ℕ
+verdict_field (Done status job) = code_text status ++ codes " " ++ success_word status
+verdict_field (Refused refusal job) =
+    code_text refusal.status ++ codes " " ++ word_text refusal.word
+
+abbrev pub answer_field : Reply → Verdict → List ℕ
+answer_field (reply_is.Line text) verdict = shown text
+answer_field (reply_is.Documents parts) verdict = codes "documents " ++ decimal (length parts)
+answer_field (reply_is.Ipp answer) verdict = verdict_field verdict
+answer_field reply_is.NoAccount verdict = codes "no-account"
+answer_field reply_is.Short verdict = codes "short"
+
 -- `failed` for any error of the store
-abbrev pub outcome_field : {F : Type 0} → Result Reply F → List ℕ
-outcome_field (Ok (reply_is.Line text)) = shown text
-outcome_field (Ok (reply_is.Documents parts)) = codes "documents " ++ decimal (length parts)
-outcome_field (Ok (reply_is.Ipp answer)) =
-    code_text (code_of answer) ++ codes " " ++ shown (status_word answer)
-outcome_field (Ok reply_is.NoAccount) = codes "no-account"
-outcome_field (Ok reply_is.Short) = codes "short"
+abbrev pub outcome_field : {F : Type 0} → Result Answered F → List ℕ
+outcome_field (Ok it) = answer_field it.reply it.verdict
 outcome_field (Err fault) = codes "failed"
 
 -- ---- the line
 
 -- the moment in seconds since 1970-01-01T00:00:00Z
 abbrev pub line_text : {F : Type 0} →
-    (moment : ℕ) → Door → PlainEvent → (told : Result Reply F) → List ℕ
+    (moment : ℕ) → Door → PlainEvent → (told : Result Answered F) → List ℕ
 line_text moment door event told =
     decimal moment ++ codes " " ++ door_word door ++ codes " " ++ event_fields event told
     ++ codes " " ++ outcome_field told ++ codes "\n"

@@ -9,7 +9,7 @@ use crate::file::LogFile;
 use crate::line::{put_beyond, put_line};
 use crate::refusal::{LineRefusal, put_refused_line, put_refused_request};
 use crate::waiting::Waiting;
-use account_machine::{Event, Name, Reply};
+use account_machine::{Answered, Event, Name};
 use std::alloc::{AllocError, Global};
 use std::fs::{File, Files};
 use std::marker::Model;
@@ -71,7 +71,13 @@ impl EventLog {
 
     /// Notes an event and what it came to: its line goes to the file, or waits. It is left out where
     /// a round is under way.
-    pub fn note<F>(&mut self, moment: u64, door: Door, event: &Event<'_>, told: &Result<Reply, F>)
+    pub fn note<F>(
+        &mut self,
+        moment: u64,
+        door: Door,
+        event: &Event<'_>,
+        told: &Result<Answered, F>,
+    )
         ensures notes { Takes
             (missed_of self.old) (missed_of self.new)
             (logged_of self.old) (logged_of self.new)
@@ -87,7 +93,13 @@ impl EventLog {
     }
 
     /// Notes an event of a round that is under way. Its line waits for the round's end.
-    pub fn draft<F>(&mut self, moment: u64, door: Door, event: &Event<'_>, told: &Result<Reply, F>)
+    pub fn draft<F>(
+        &mut self,
+        moment: u64,
+        door: Door,
+        event: &Event<'_>,
+        told: &Result<Answered, F>,
+    )
         ensures drafts { Takes
             (missed_of self.old) (missed_of self.new)
             (drafts_of self.old) (drafts_of self.new)
@@ -228,7 +240,7 @@ fn line_of<F>(
     moment: u64,
     door: Door,
     event: &Event<'_>,
-    told: &Result<Reply, F>,
+    told: &Result<Answered, F>,
 ) -> Result<Vec<u8>, AllocError>
     ensures { IfOk result (λ line. line.items
         ≡ line_text moment door (plain_event event.now) told.now) }

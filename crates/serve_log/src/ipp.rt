@@ -1,12 +1,9 @@
 //! The words of IPP in a line.
-ghost use Rattle.std.specs.Prelude.{◌≡◌, ◌<◌, ◌++◌, OnOk, slice_index};
-ghost use Rattle.serve_log.specs.IppWords.{code_of, code_text, hex_digit, is_successful, job_field, operation_field, operation_text, status_message, status_word, success_word};
+ghost use Rattle.std.specs.Prelude.{◌≡◌, ◌<◌, ◌≤◌, ◌++◌, OnOk, length};
+ghost use Rattle.serve_log.specs.IppWords.{code_of, code_text, hex_digit, job_field, operation_field, operation_text, success_word};
 
 use crate::text::put_number;
 use std::alloc::AllocError;
-
-/// Where the text of the status-message stands in the refusals that the rooms answer.
-const MESSAGE_PLACE: usize = 90;
 
 /// Puts the operation that a request asks for: its name, or its operation-id as `0x000a` where it
 /// is none of the profile, or a dash where the request ends before it.
@@ -47,11 +44,11 @@ pub(crate) fn put_job(output: &mut Vec<u8>, job: Option<u32>) -> Result<(), Allo
     }
 }
 
-/// The operation-id of a request, the status-code of a response.
-pub(crate) fn code_of(message: &[u8]) -> u16
-    ensures { result ≡ code_of message.now }
+fn code_of(body: &[u8]) -> u16
+    requires { 4 ≤ length body.now }
+    ensures { result ≡ code_of body.now }
 {
-    u16::from(byte_at(message, 2)) * 256 + u16::from(byte_at(message, 3))
+    u16::from(body[2]) * 256 + u16::from(body[3])
 }
 
 /// Puts a code of two bytes as `0x000a`.
@@ -73,19 +70,8 @@ fn hex_digit(digit: u8) -> u8
     if digit < 10 { 48 + digit } else { 87 + digit }
 }
 
-/// The word of a response's status: its keyword where it is a success, else the text of its
-/// status-message, which is the word of the refusal.
-pub(crate) fn status_word(answer: &[u8]) -> &[u8]
-    ensures { result.now ≡ status_word answer.now }
-{
-    if byte_at(answer, 2) == 0 {
-        success_word(code_of(answer))
-    } else {
-        status_message(answer)
-    }
-}
-
-fn success_word(code: u16) -> &'static [u8]
+/// The keyword of a status of success.
+pub(crate) fn success_word(code: u16) -> &'static [u8]
     ensures { result.now ≡ success_word code }
 {
     match code {
@@ -94,19 +80,4 @@ fn success_word(code: u16) -> &'static [u8]
         2 => b"successful-ok-conflicting-attributes",
         _ => b"successful",
     }
-}
-
-fn status_message(answer: &[u8]) -> &[u8]
-    ensures { result.now ≡ status_message answer.now }
-{
-    let length = usize::from(byte_at(answer, 88)) * 256 + usize::from(byte_at(answer, 89));
-    let behind = &answer[MESSAGE_PLACE.min(answer.len())..];
-    &behind[..length.min(behind.len())]
-}
-
-/// The byte at a place, and 0 where there is none.
-fn byte_at(bytes: &[u8], place: usize) -> u8
-    ensures { result ≡ slice_index bytes.now place }
-{
-    bytes.get(place).copied().unwrap_or(0)
 }

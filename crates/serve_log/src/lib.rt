@@ -1,7 +1,6 @@
 //! The lines of the log that tells what was asked of the rooms, and what it came to.
 #![tactic(auto)]
 
-mod about;
 mod door;
 mod event_log;
 mod file;
@@ -10,6 +9,7 @@ mod laws;
 mod line;
 mod outcome;
 mod refusal;
+mod request_job;
 mod text;
 mod waiting;
 

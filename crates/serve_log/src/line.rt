@@ -3,12 +3,12 @@ ghost use Rattle.std.specs.Prelude.{◌≡◌, ◌++◌, codes, OnOk};
 ghost use Rattle.account_machine.specs.Events.{plain_event};
 ghost use Rattle.serve_log.specs.LogLines.{act_fields, beyond_text, event_fields, grant_fields, ipp_fields, line_text, month_text, rate_fields, request_fields, settle_fields, turn_fields};
 
-use crate::about::about;
 use crate::door::Door;
 use crate::ipp::{put_job, put_operation};
 use crate::outcome::put_outcome;
+use crate::request_job::job_of;
 use crate::text::{put_four_digits, put_number, put_two_digits};
-use account_machine::{Event, Reply};
+use account_machine::{Answered, Event};
 use account_rules::Name;
 use std::alloc::AllocError;
 
@@ -20,7 +20,7 @@ pub fn put_line<F>(
     moment: u64,
     door: Door,
     event: &Event<'_>,
-    told: &Result<Reply, F>,
+    told: &Result<Answered, F>,
 ) -> Result<(), AllocError>
     ensures { OnOk result (output.new.items ≡ output.old.items
         ++ line_text moment door (plain_event event.now) told.now) }
@@ -59,7 +59,7 @@ pub(crate) fn put_beyond(
 fn put_event<F>(
     output: &mut Vec<u8>,
     event: &Event<'_>,
-    told: &Result<Reply, F>,
+    told: &Result<Answered, F>,
 ) -> Result<(), AllocError>
     ensures { OnOk result (output.new.items ≡ output.old.items
         ++ event_fields (plain_event event.now) told.now) }
@@ -106,12 +106,12 @@ fn put_request<F>(
     output: &mut Vec<u8>,
     account: Name,
     body: &[u8],
-    told: &Result<Reply, F>,
+    told: &Result<Answered, F>,
 ) -> Result<(), AllocError>
     ensures { OnOk result (output.new.items ≡ output.old.items
         ++ request_fields account body.now told.now) }
 {
-    let job = about(*output.allocator(), account, body, told)?;
+    let job = job_of(*output.allocator(), account, body, told)?;
     put_ipp(output, account.bytes(), body, job)
 }
 

@@ -1,34 +1,58 @@
 //! What an event came to.
 ghost use Rattle.std.specs.Prelude.{◌≡◌, ◌++◌, OnOk};
-ghost use Rattle.serve_log.specs.LogLines.{outcome_field, shown, shown_byte};
+ghost use Rattle.serve_log.specs.LogLines.{answer_field, outcome_field, shown, shown_byte, verdict_field};
 
-use crate::ipp::{code_of, put_code, status_word};
+use crate::ipp::{put_code, success_word};
 use crate::text::put_number;
-use account_machine::Reply;
+use account_machine::{Answered, Reply, Verdict, line};
 use std::alloc::AllocError;
 
 /// Puts what an event came to: `failed` where the store failed.
 pub(crate) fn put_outcome<F>(
     output: &mut Vec<u8>,
-    told: &Result<Reply, F>,
+    told: &Result<Answered, F>,
 ) -> Result<(), AllocError>
     ensures { OnOk result
         (output.new.items ≡ output.old.items ++ outcome_field told.now) }
 {
     match told {
-        Ok(Reply::Line(text)) => put_shown(output, text.items.as_slice()),
-        Ok(Reply::Documents(parts)) => {
+        Ok(answered) => put_answer(output, &answered.reply, answered.verdict),
+        Err(_) => output.extend_from_slice(b"failed"),
+    }
+}
+
+fn put_answer(output: &mut Vec<u8>, reply: &Reply, verdict: Verdict) -> Result<(), AllocError>
+    ensures { OnOk result
+        (output.new.items ≡ output.old.items ++ answer_field reply.now verdict) }
+{
+    match reply {
+        Reply::Line(text) => put_shown(output, text.items.as_slice()),
+        Reply::Documents(parts) => {
             output.extend_from_slice(b"documents ")?;
             put_number(output, parts.items.len() as u64)
         }
-        Ok(Reply::Ipp(answer)) => {
-            put_code(output, code_of(answer.items.as_slice()))?;
+        Reply::Ipp(_) => put_verdict(output, verdict),
+        Reply::NoAccount => output.extend_from_slice(b"no-account"),
+        Reply::Short => output.extend_from_slice(b"short"),
+    }
+}
+
+/// Puts the status, and its keyword or the word that tells why.
+fn put_verdict(output: &mut Vec<u8>, verdict: Verdict) -> Result<(), AllocError>
+    ensures { OnOk result (output.new.items ≡ output.old.items ++ verdict_field verdict) }
+{
+    match verdict {
+        Verdict::Done { status, .. } => {
+            put_code(output, status)?;
             output.extend_from_slice(b" ")?;
-            put_shown(output, status_word(answer.items.as_slice()))
+            output.extend_from_slice(success_word(status))
         }
-        Ok(Reply::NoAccount) => output.extend_from_slice(b"no-account"),
-        Ok(Reply::Short) => output.extend_from_slice(b"short"),
-        Err(_) => output.extend_from_slice(b"failed"),
+        Verdict::Refused { refusal, .. } => {
+            put_code(output, refusal.status)?;
+            output.extend_from_slice(b" ")?;
+            let word = line(*output.allocator(), refusal.word)?;
+            output.extend_from_slice(word.items.as_slice())
+        }
     }
 }
 

@@ -7,6 +7,7 @@ use Rattle.http_server.specs.declared.response.Response.{Response}
 use Rattle.sqlite_trees.specs.declared.store.Store.{Ghosts}
 use Rattle.ipp_coding.specs.Spelling.{message_spelling}
 use Rattle.account_machine.specs.declared.event.Reply.{Reply}
+use Rattle.account_machine.specs.declared.verdict.Answered.{Answered}
 use Rattle.client_owner.specs.Requests.{act_message}
 use Rattle.client_owner.specs.declared.acts.JobAct.{JobAct}
 use Rattle.page_pages.specs.declared.outcome.Act.{Act as PageAct}
@@ -30,7 +31,7 @@ use Rattle.serve_web.specs.Messages.{IsFileMessage, lacks_password, queue_uri}
 use Rattle.serve_web.specs.Questions.{question_of}
 use Rattle.serve_web.specs.Requests.{asked}
 use Rattle.serve_web.specs.Responses.{IsDone, IsLost, IsRefusal, IsShown}
-use Rattle.serve_web.specs.Told.{page_act}
+use Rattle.serve_web.specs.Outcomes.{page_act}
 use Rattle.serve_web.specs.declared.asked.Asked.{Asked}
 use Rattle.serve_web.specs.declared.asked.Asked.TheVariants.{Style, Script, Room, Owner, Statement, Act, Print}
 use Rattle.serve_web.specs.declared.pages.Pages.{Pages}
@@ -105,7 +106,7 @@ module _ {S : Type 0} (store : Ghosts S) where
   -- the message is applied, once, at the moment, and stands in the journal; what came of it is told
   pub record Applies (account : List ℕ) (act : PageAct) (job : ℕ) (message : List ℕ) (closes : Bool)
       (old : Served S) (response : Response) (new : Served S) : Type 0 where
-    pub told : Result Reply StoreFault
+    pub told : Result Answered StoreFault
     pub next : AppliesNext store (entry.Message (moment_of old) account message) told old new
     pub tells : IsDone account act job closes told response ⊎ IsLost response
 

@@ -65,7 +65,7 @@ refused_of word act job = option_map (λ why. Refused act job why) word
 abbrev pub refused_behind : (rest : List ℕ) (act : Act) → Option Outcome
 refused_behind rest act =
     let digits = before 38 rest in
-    let word = option_and_then (word_in 43) (behind (codes "&why=") (drop (length digits) rest)) in
+    let word = option_and_then word_in (behind (codes "&why=") (drop (length digits) rest)) in
     option_and_then (refused_of word act) (number_said digits)
 
 abbrev pub refused_with : (rest : Option (List ℕ)) (act : Act) → Option Outcome

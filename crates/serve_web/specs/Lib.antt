@@ -8,7 +8,7 @@ pub mod Queries
 pub mod Requests
 pub mod Messages
 pub mod Questions
-pub mod Told
+pub mod Outcomes
 pub mod Fields
 pub mod Responses
 pub mod Answers

@@ -25,7 +25,7 @@ use Rattle.serve_web.specs.Answers.{Answers, AnswersAsked, AnswersIf, AnswersPag
 use Rattle.serve_web.specs.Messages.{IsFileMessage, lacks_password, queue_uri}
 use Rattle.serve_web.specs.Questions.{question_of}
 use Rattle.serve_web.specs.Requests.{asked}
-use Rattle.serve_web.specs.Told.{page_act}
+use Rattle.serve_web.specs.Outcomes.{page_act}
 use Rattle.serve_web.specs.declared.asked.Asked.{Asked}
 use Rattle.serve_web.specs.declared.asked.Asked.TheVariants as asked_is
 use Rattle.serve_web.specs.declared.pages.Pages.{Pages}

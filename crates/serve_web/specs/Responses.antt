@@ -4,6 +4,7 @@ use Rattle.http_server.specs.Response.{IsResponse}
 use Rattle.http_server.specs.declared.response.Response.{Response}
 use Rattle.account_machine.specs.declared.event.Reply.{Reply}
 use Rattle.account_machine.specs.declared.event.Reply.TheVariants as reply_is
+use Rattle.account_machine.specs.declared.verdict.Answered.{Answered}
 use Rattle.page_pages.specs.declared.outcome.Act.{Act}
 use Rattle.page_pages.specs.Refusals.{refusal_page}
 use Rattle.page_pages.specs.declared.outcome.Outcome.{Outcome}
@@ -11,7 +12,7 @@ use Rattle.room_store.specs.declared.fault.StoreFault.{StoreFault}
 use Rattle.serve_web.specs.Came.{outcome_text}
 use Rattle.serve_web.specs.Fields.{common_fields, more_fields, page_fields}
 use Rattle.serve_web.specs.Refusals.{status_of}
-use Rattle.serve_web.specs.Told.{outcome_told}
+use Rattle.serve_web.specs.Outcomes.{outcome_told}
 use Rattle.page_pages.specs.declared.refusal.Refusal.{Refusal}
 use Rattle.page_pages.specs.declared.refusal.Refusal.TheVariants.{Failed, NotFound}
 
@@ -51,9 +52,13 @@ abbrev pub IsRedirect : (place : List ℕ) (closes : Bool) → Response → Type
 IsRedirect place closes =
     IsResponse 303 ((codes "location", place) ∷ common_fields closes) []
 
-abbrev pub is_not_open : Result Reply StoreFault → Bool
-is_not_open (Ok reply_is.NoAccount) = true
-is_not_open _ = false
+abbrev pub tells_no_account : Reply → Bool
+tells_no_account reply_is.NoAccount = true
+tells_no_account _ = false
+
+abbrev pub is_not_open : Result Answered StoreFault → Bool
+is_not_open (Ok it) = tells_no_account it.reply
+is_not_open (Err fault) = false
 
 abbrev pub IsDoneIf : (is_none : Bool) (place : List ℕ) (closes : Bool) → Response → Type 0
 IsDoneIf true place closes = IsRefusal NotFound closes
@@ -61,6 +66,6 @@ IsDoneIf false place closes = IsRedirect place closes
 
 -- what came of an act: the owner's page tells it; or 404 where the account is not open
 abbrev pub IsDone : (account : List ℕ) (act : Act) (job : ℕ) (closes : Bool)
-    → Result Reply StoreFault → Response → Type 0
+    → Result Answered StoreFault → Response → Type 0
 IsDone account act job closes told =
     IsDoneIf (is_not_open told) (location account (outcome_told act job told)) closes

@@ -2,14 +2,14 @@
 ghost use Rattle.std.specs.Prelude.{◌≡◌, ◌⊎◌, IfOk, IsTrue, OnOk};
 ghost use Rattle.http_header.specs.FieldValue.{is_visible_text};
 ghost use Rattle.http_server.specs.Response.{IsBlank, IsResponse};
-ghost use Rattle.serve_web.specs.Responses.{IsDone, IsLost, IsPage, IsRedirect, IsRefusal, IsShown, is_no_account, is_not_open, location};
+ghost use Rattle.serve_web.specs.Responses.{IsDone, IsLost, IsPage, IsRedirect, IsRefusal, IsShown, is_no_account, is_not_open, location, tells_no_account};
 ghost use Rattle.serve_web.specs.Fields.{sheet_fields};
 
 use crate::came::put_outcome;
 use crate::fields::{put_common_fields, put_more_fields, put_page_fields, put_sheet_fields};
+use crate::outcome::outcome_told;
 use crate::refusal::status_of;
-use crate::told::outcome_told;
-use account_machine::Reply;
+use account_machine::{Answered, Reply};
 use account_rules::Name;
 use bytes::Bytes;
 use http::{HeaderValue, StatusCode, header};
@@ -119,7 +119,7 @@ pub(crate) fn tell(
     account: Name,
     act: Act,
     job: u32,
-    told: Result<Reply, StoreFault>,
+    told: Result<Answered, StoreFault>,
     closes: bool,
 )
     requires { IsBlank response.old }
@@ -135,7 +135,7 @@ fn put_told(
     account: Name,
     act: Act,
     job: u32,
-    told: &Result<Reply, StoreFault>,
+    told: &Result<Answered, StoreFault>,
     closes: bool,
 ) -> Result<(), AllocError>
     requires { IsBlank response.old }
@@ -144,14 +144,23 @@ fn put_told(
     if is_not_open(told) {
         return refuse(response, Refusal::NotFound, closes);
     }
-    let outcome = outcome_told(*response.headers.allocator(), act, job, told)?;
+    let outcome = outcome_told(act, job, told);
     redirect(response, account, &outcome, closes)
 }
 
-fn is_not_open(told: &Result<Reply, StoreFault>) -> bool
+fn is_not_open(told: &Result<Answered, StoreFault>) -> bool
     ensures { result ≡ is_not_open told.now }
 {
-    matches!(told, Ok(Reply::NoAccount))
+    match told {
+        Ok(answered) => tells_no_account(&answered.reply),
+        Err(_) => false,
+    }
+}
+
+fn tells_no_account(reply: &Reply) -> bool
+    ensures { result ≡ tells_no_account reply.now }
+{
+    matches!(reply, Reply::NoAccount)
 }
 
 /// `303 See Other`: the owner's page (RFC 9110 section 15.4.4).

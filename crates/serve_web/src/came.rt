@@ -47,10 +47,7 @@ fn refused_behind(act: Act, rest: &[u8]) -> Option<Outcome>
 {
     let digits = before(b'&', rest);
     let job = number(digits)?;
-    let word = word_in(
-        b'+',
-        rest[digits.len()..].strip_prefix(b"&why=".as_slice())?,
-    )?;
+    let word = word_in(rest[digits.len()..].strip_prefix(b"&why=".as_slice())?)?;
     Some(Outcome::Refused { act, job, word })
 }
 

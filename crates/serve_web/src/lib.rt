@@ -10,13 +10,13 @@ mod digits;
 mod fields;
 mod laws;
 mod message;
+mod outcome;
 mod pages;
 mod place;
 mod query;
 mod questions;
 mod refusal;
 mod replaced;
-mod told;
 mod turn;
 mod word;
 

@@ -1,6 +1,6 @@
-//! The word that tells why something was refused, read from its text.
-ghost use Rattle.std.specs.Prelude.{◌≡◌, find, option_copied, option_map};
-ghost use Rattle.serve_web.specs.Words.{behind_mark, names_word, quota_behind, quota_in, word_in, word_named};
+//! The word that tells why something was refused, as the query of a page has it.
+ghost use Rattle.std.specs.Prelude.{◌≡◌, find, option_copied};
+ghost use Rattle.serve_web.specs.Words.{names_word, quota_in, word_in, word_named};
 ghost use Rattle.serve_web.specs.Numbers.{signed_said};
 ghost use Rattle.serve_web.specs.declared.word.TheConstants.{WORDS};
 
@@ -51,12 +51,12 @@ const WORDS: [Word; 38] = [
     Word::Same,
 ];
 
-/// The word of a text in which its numbers, if it has some, stand behind a mark each.
-pub(crate) fn word_in(mark: u8, text: &[u8]) -> Option<Word>
-    ensures { result ≡ word_in mark text.now }
+/// The word of a text. A quota's numbers stand behind it, each behind a `+`.
+pub(crate) fn word_in(text: &[u8]) -> Option<Word>
+    ensures { result ≡ word_in text.now }
 {
-    match text.strip_prefix(b"quota".as_slice()) {
-        Some(numbers) => quota_in(mark, numbers),
+    match text.strip_prefix(b"quota+".as_slice()) {
+        Some(numbers) => quota_in(numbers),
         None => word_named(text),
     }
 }
@@ -80,29 +80,13 @@ fn names_word(text: &[u8], word: &Word) -> bool
 }
 
 /// The units that were needed, and those that were left.
-fn quota_in(mark: u8, numbers: &[u8]) -> Option<Word>
-    ensures { result ≡ quota_in mark numbers.now }
+fn quota_in(numbers: &[u8]) -> Option<Word>
+    ensures { result ≡ quota_in numbers.now }
 {
-    quota_behind(mark, behind_mark(mark, numbers)?)
-}
-
-fn quota_behind(mark: u8, numbers: &[u8]) -> Option<Word>
-    ensures { result ≡ quota_behind mark numbers.now }
-{
-    let digits = before(mark, numbers);
+    let digits = before(b'+', numbers);
     let need = large_number(digits)?;
-    let left = signed(behind_mark(mark, &numbers[digits.len()..])?)?;
+    let left = signed(numbers[digits.len()..].strip_prefix(b"+".as_slice())?)?;
     Some(Word::Quota { need, left })
-}
-
-/// What stands behind the mark, if the text begins with it.
-fn behind_mark(mark: u8, text: &[u8]) -> Option<&[u8]>
-    ensures { option_map (λ rest. rest.now) result ≡ behind_mark mark text.now }
-{
-    match text {
-        [first, rest @ ..] if *first == mark => Some(rest),
-        _ => None,
-    }
 }
 
 fn signed(text: &[u8]) -> Option<i64>
