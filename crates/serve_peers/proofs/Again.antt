@@ -6,19 +6,25 @@ use Rattle.sqlite.specs.State.{State, HasCleanDisk}
 use Rattle.sqlite_trees.specs.Tree.{Trees}
 use Rattle.account_machine.specs.Events.{PlainEvent}
 use Rattle.account_machine.specs.declared.event.Reply.{Reply}
+use Rattle.account_machine.specs.declared.verdict.Answered.{Answered}
 use Rattle.account_rules.specs.Limits.{last_moment}
-use Rattle.room_store.specs.Applied.{Applies, IsAnswered, IsDone}
+use Rattle.room_store.specs.Applied.{Applies, AppliesFully, HasVerdict, IsAnswered, IsDone}
 use Rattle.room_store.specs.Events.{IsShort}
 use Rattle.room_store.specs.Shut.{LeavesIfShut}
 use Rattle.room_store.specs.declared.fault.StoreFault.{StoreFault}
 use Rattle.room_store.specs.declared.fault.StoreFault.TheVariants.{Damaged, Memory, Moment, Storage}
 use Rattle.rows_tables.proofs.Going.{goes_on}
 use Rattle.rows_tables.specs.Keyed.{HasSchema}
-use Rattle.serve_peers.specs.Again.{told_at_last}
+use Rattle.serve_peers.specs.Again.{answer_at_last}
 
 -- a fault, as what is told
 abbrev as_told : StoreFault → Result Reply StoreFault
 as_told fault = Err fault
+
+-- what is told at last, without what it came to
+abbrev at_last : Result Reply StoreFault → Result Reply StoreFault
+at_last (Err Damaged) = Err Storage
+at_last told = told
 
 module _ (now : ℕ) (e : PlainEvent) (old mid new : State) (first : Applies now e old mid (Err Storage)) where
   not_short : IsShort e → ⊥
@@ -65,7 +71,7 @@ module _ (now : ℕ) (e : PlainEvent) (old mid new : State) (first : Applies now
     connection = goes_on old mid new first.connection second.connection;
   }
 
-  pub again : (told : Result Reply StoreFault) → Applies now e mid new told → Applies now e old new (told_at_last told)
+  again : (told : Result Reply StoreFault) → Applies now e mid new told → Applies now e old new (at_last told)
   again (Ok reply) second = record {
     answered = λ clean schema. let is_open = second.asked not_short clean in
         subst (λ (db : Database). IsAnswered now e db new.now reply) (same (was_clean (Ok reply) second clean) schema is_open) (second.answered clean (still_schema (Ok reply) second clean schema is_open));
@@ -84,3 +90,15 @@ module _ (now : ℕ) (e : PlainEvent) (old mid new : State) (first : Applies now
   again (Err Memory) second = failed Memory Memory second (λ is. cc) second.moment
   again (Err Moment) second = failed Moment Moment second (λ is. cc) second.moment
   again (Err Damaged) second = failed Damaged Storage second (λ is. cc) first.moment
+
+  -- and what it came to
+  pub again_fully : (told : Result Answered StoreFault) → AppliesFully now e mid new told → AppliesFully now e old new (answer_at_last told)
+  again_fully (Ok it) second = record {
+    applies = again (Ok it.reply) second.applies;
+    verdict = λ clean schema. let is_open = second.applies.asked not_short clean in
+        subst (λ (db : Database). HasVerdict now e db it.verdict) (same (was_clean (Ok it.reply) second.applies clean) schema is_open) (second.verdict clean (still_schema (Ok it.reply) second.applies clean schema is_open));
+  }
+  again_fully (Err Storage) second = record { applies = again (Err Storage) second.applies; verdict = λ clean schema. tt }
+  again_fully (Err Memory) second = record { applies = again (Err Memory) second.applies; verdict = λ clean schema. tt }
+  again_fully (Err Moment) second = record { applies = again (Err Moment) second.applies; verdict = λ clean schema. tt }
+  again_fully (Err Damaged) second = record { applies = again (Err Damaged) second.applies; verdict = λ clean schema. tt }

@@ -1,13 +1,15 @@
--- What is done for a backup is nothing that is applied.
-use Rattle.std.proofs.Common.{◌≡◌, [], ◌∷◌, Option, None, refl, sym, ap, subst}
+-- What goes on in the background is nothing that is applied.
+use Rattle.std.proofs.Common.{◌≡◌, ◌∙◌, Bool, true, false, [], ◌∷◌, Option, None, refl, sym, ap, subst}
+use Rattle.sqlite.specs.Held.{Held}
 use Rattle.sqlite_trees.specs.declared.store.Store.{Ghosts}
-use Rattle.serve_peers.proofs.Journaling.{backup_only}
+use Rattle.serve_peers.proofs.Journaling.{background_only}
 use Rattle.serve_peers.specs.Applying.{DoesEach}
 use Rattle.serve_peers.specs.Journals.{Notes, asked_of, is_lost_of, shares_of, store_of}
-use Rattle.serve_peers.specs.Keeping.{DoesSlice, OnlyKeeps}
+use Rattle.serve_peers.specs.Keeping.{DoesSlice, IsKeptIn, KeepsBy, KeepsOn, OnlyKeeps, is_begun, is_wanted, stage_in}
 use Rattle.serve_peers.specs.ProofServices.{stays}
-use Rattle.serve_peers.specs.declared.backup.Backup.{Backup}
+use Rattle.serve_peers.specs.declared.background.Background.{Background}
 use Rattle.serve_peers.specs.declared.copies.Copied.{Copied}
+use Rattle.serve_peers.specs.declared.journal.Journal.{Journal}
 use Rattle.serve_peers.specs.declared.served.Served.{Served}
 
 module _ {S : Type 0} (store : Ghosts S) where
@@ -15,18 +17,35 @@ module _ {S : Type 0} (store : Ghosts S) where
   unfolding stays
   nothing served = (stays store served, refl)
 
-  pub another_backup : (old new : Served S) (backup : Option Backup) → new ≡ record old { backup = backup } → OnlyKeeps store old new
-  unfolding backup_only
-  another_backup old new backup is = subst (λ (served : Served S). OnlyKeeps store old served) (sym is) (backup_only store old backup, refl)
+  another_background : (old new : Served S) (background : Background) → new ≡ record old { background = background } → OnlyKeeps store old new
+  unfolding background_only
+  another_background old new background is = subst (λ (served : Served S). OnlyKeeps store old served) (sym is) (background_only store old background, refl)
 
-  pub a_slice : {T : Type 0} (copy_store : Ghosts T) (old new : Served S) (was now : Option (Copied T)) → DoesSlice store copy_store old new was now → OnlyKeeps store old new
-  a_slice copy_store old new was now is = (
+  -- where nothing was read or noted
+  pub only_background : (old new : Served S) → IsKeptIn old new → store_of new ≡ store_of old → new.journal ≡ old.journal → OnlyKeeps store old new
+  only_background old new is same_store same_journal = another_background old new new.background
+      (is
+      ∙ ap (λ (held : Held S). record old { rounds = held; journal = new.journal; background = new.background }) same_store
+      ∙ ap (λ (journal : Journal). record old { journal = journal; background = new.background }) same_journal)
+
+  a_slice : {T : Type 0} (copy_store : Ghosts T) (old new : Served S) (was now : Option (Copied T)) → shares_of old ≡ false → DoesSlice store copy_store old.background new.background (store_of old) (store_of new) old.journal new.journal was now → IsKeptIn old new → OnlyKeeps store old new
+  a_slice copy_store old new was now alone is same = (
     record {
       more = None ∷ [];
-      notes = subst (λ b. Notes b (None ∷ []) old new) (sym is.alone) (is.over, is.none_more, ap (λ (served : Served S). asked_of served) is.same);
-      does = subst (λ b. DoesEach store b (store_of old) (None ∷ []) (store_of new)) (sym is.alone) (store_of new, is.copies.looks, refl);
-      shares = ap (λ (served : Served S). shares_of served) is.same;
-      is_lost = ap (λ (served : Served S). is_lost_of served) is.same;
+      notes = subst (λ b. Notes b (None ∷ []) old new) (sym alone) (is.over, is.none_more, ap (λ (served : Served S). asked_of served) same);
+      does = subst (λ b. DoesEach store b (store_of old) (None ∷ []) (store_of new)) (sym alone) (store_of new, is.copies.looks, refl);
+      shares = ap (λ (served : Served S). shares_of served) same;
+      is_lost = ap (λ (served : Served S). is_lost_of served) same;
     },
     refl,
   )
+
+  module _ {T : Type 0} (copy_store : Ghosts T) (old new : Served S) (was now : Option (Copied T)) (alone : shares_of old ≡ false) (same : IsKeptIn old new) where
+    by : (begun wanted : Bool) → KeepsBy store copy_store begun wanted old.background new.background (store_of old) (store_of new) old.journal new.journal was now → OnlyKeeps store old new
+    by true wanted made = only_background old new same made.1 made.2
+    by false true slice = a_slice copy_store old new was now alone slice same
+    by false false none = only_background old new same none.1 none.2
+
+    -- what is done for a backup
+    pub kept : KeepsOn store copy_store old.background new.background (store_of old) (store_of new) old.journal new.journal was now → OnlyKeeps store old new
+    kept keeps = by (is_begun (stage_in old.background.backup)) (is_wanted (stage_in old.background.backup)) keeps

@@ -1,5 +1,5 @@
 -- A slice of a copy, by what the calls that make it say.
-use Rattle.std.proofs.Common.{◌≡◌, ℕ, Bool, true, false, IsTrue, Option, None, Result, Ok, IfOk, IfSome, refl, sym, subst, ◌∙◌, ◌⊎◌, inl, inr}
+use Rattle.std.proofs.Common.{◌≡◌, ℕ, Bool, true, false, IsTrue, Option, None, Result, Ok, IfOk, IfSome, refl, sym, ap, subst, ◌∙◌, ◌⊎◌, inl, inr}
 use Rattle.sqlite.specs.Held.{Held, state}
 use Rattle.sqlite.specs.State.{State}
 use Rattle.sqlite_trees.specs.declared.store.Store.{Ghosts}
@@ -18,6 +18,13 @@ use Rattle.serve_peers.specs.declared.copies.Done.TheVariants.{Failed, Whole}
 unchanged : (old new : State) → old.in_transaction ≡ false → (IsTrue old.is_open → old.now ≡ old.committed) → UnchangedOrUndone old new → IsTrue new.is_open → IsUnchanged old new
 unchanged old new alone settled (inl is) shown = is
 unchanged old new alone settled (inr undone) shown = record { now = undone.now shown ∙ sym (settled (undone.was_open shown)); committed = undone.committed shown; mode = undone.mode ∙ sym alone }
+
+-- a copy of its parts
+abbrev pub of_parts : {T : Type 0} → Held T × Progress × ℕ → Copied T
+of_parts parts = record { rows = parts.0; progress = parts.1; anew = parts.2 }
+
+pub parted : {T : Type 0} (copy : Copied T) (parts : Held T × Progress × ℕ) → parts ≡ (copy.rows, copy.progress, copy.anew) → copy ≡ of_parts parts
+parted {T} copy parts is = ap (λ (it : Held T × Progress × ℕ). of_parts it) (sym is)
 
 module _ {S : Type 0} (store : Ghosts S) where
   pub only_looks : {A E : Type 0} (old new : Held S) (result : Result A E) → (state store old).in_transaction ≡ false → (IsTrue (state store old).is_open → (state store old).now ≡ (state store old).committed) → LeavesSource store old new result → OnlyLooks store old new

@@ -7,6 +7,7 @@ use Rattle.sqlite.specs.State.{HasCleanDisk}
 use Rattle.sqlite_trees.specs.Tree.{Trees}
 use Rattle.sqlite_trees.specs.declared.store.Store.{Ghosts}
 use Rattle.account_laws.specs.Lives.{Life}
+use Rattle.account_machine.specs.Verdicts.{reply_of}
 use Rattle.room_serve.proofs.FoundLives.{found_of, under_way_is_found}
 use Rattle.room_serve.proofs.LivesOn.{lives_go_on_in_runs}
 use Rattle.room_serve.proofs.RunLemmas.{begins, still_shown}
@@ -193,7 +194,7 @@ module _ {S : Type 0} (store : Ghosts S) where
     leads_found (told ∷ more) old new settled (next, applied, rest) clean =
         let later = (leads_on store more [] [] next next new (begins (state store next)) rest).connection in
         let next_clean : HasCleanDisk (state store next) = omega (arith, later.clean, clean) in
-        leads_found more next new (applied.on_disk next_clean (applied.connection.mode next_clean settled.mode)) rest clean
+        leads_found more next new (applied.applies.on_disk next_clean (applied.applies.connection.mode next_clean settled.mode)) rest clean
 
     settle_found : (round : Round) (old new : Held S) → IsOnDisk (state store old) → Settles store round old new → HasCleanDisk (state store new) → HasSchema (state store old).now → IsTrue (state store new).is_open
         → (found : Trees) → (state store new).may_leave found → found ≡ (state store new).now.trees
@@ -226,10 +227,10 @@ module _ {S : Type 0} (store : Ghosts S) where
 
     pub alone_is_found : AloneIsFound store
     alone_is_found rounds old mid new settled settles shown entry told applied clean has name life lived found may =
-        let mid_clean : HasCleanDisk (state store mid) = omega (arith, applied.connection.clean, clean) in
+        let mid_clean : HasCleanDisk (state store mid) = omega (arith, applied.applies.connection.clean, clean) in
         let before = life ++ told_to name (kept_in rounds) in
-        subst (λ (l : Life). IsFoundAfter name l (timed entry) told (state store new).is_open found) (append-nil before)
-        (under_way_is_found store [] [] mid mid new (all_settled rounds old mid settled settles mid_clean has shown) refl shown (timed entry) told applied clean (schema_there rounds old mid settles mid_clean has shown name life lived) name before (life_there rounds old mid settles mid_clean has shown name life lived) found may)
+        subst (λ (l : Life). IsFoundAfter name l (timed entry) (reply_of told) (state store new).is_open found) (append-nil before)
+        (under_way_is_found store [] [] mid mid new (all_settled rounds old mid settled settles mid_clean has shown) refl shown (timed entry) (reply_of told) applied.applies clean (schema_there rounds old mid settles mid_clean has shown name life lived) name before (life_there rounds old mid settles mid_clean has shown name life lived) found may)
 
 -- the library's laws of a store
 pub lasts_by : {S : Type 0} (store : Ghosts S) → ((s : S) (db : Trees) → IsTrue (store.view s).is_open → store.recovers s db → db ≡ (store.view s).committed) → ((s : S) → IsTrue (store.view s).is_open → store.recovers s (store.view s).committed) → CrashesFindLastCommit store

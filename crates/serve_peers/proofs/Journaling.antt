@@ -10,7 +10,7 @@ use Rattle.room_store.specs.Questions.{AnswersQuestion}
 use Rattle.room_store.specs.declared.fault.StoreFault.{StoreFault}
 use Rattle.input_lines.specs.declared.backup.BackupLine.{BackupLine}
 use Rattle.serve_peers.specs.Keeping.{AsksNext, backup_of}
-use Rattle.serve_peers.specs.declared.backup.Backup.{Backup}
+use Rattle.serve_peers.specs.declared.background.Background.{Background}
 use Rattle.serve_peers.specs.declared.backup.BackupTold.{BackupTold}
 use Rattle.serve_peers.specs.declared.entry.Entry.{Entry}
 use Rattle.serve_peers.specs.declared.served.Served.{Served}
@@ -52,14 +52,14 @@ module _ {S : Type 0} where
     grown (asked_of old) (asked_of mid) (asked_of new) (entries first) (entries more) one.2 two.2 ∙ ap (λ x. asked_of old ++ x) (sym (entries_then first more)),
   )
 
--- nothing but the backup that is asked for is another
-pub backup_noted : {S : Type 0} → (shares : Bool) (served : Served S) (backup : Option Backup) → Notes shares [] served (record served { backup = backup })
-backup_noted false served backup = (sym (append-nil (rounds_of served)), refl, refl)
-backup_noted true served backup = (refl, sym (append-nil (open_of served)), sym (append-nil (asked_of served)))
+-- nothing but what goes on in the background is another
+pub background_noted : {S : Type 0} → (shares : Bool) (served : Served S) (background : Background) → Notes shares [] served (record served { background = background })
+background_noted false served background = (sym (append-nil (rounds_of served)), refl, refl)
+background_noted true served background = (refl, sym (append-nil (open_of served)), sym (append-nil (asked_of served)))
 
 module _ {S : Type 0} (store : Ghosts S) where
-  unfoldable pub backup_only : (served : Served S) (backup : Option Backup) → Continues store served (record served { backup = backup })
-  backup_only served backup = record { more = []; notes = backup_noted (shares_of served) served backup; does = refl; shares = refl; is_lost = refl }
+  unfoldable pub background_only : (served : Served S) (background : Background) → Continues store served (record served { background = background })
+  background_only served background = record { more = []; notes = background_noted (shares_of served) served background; does = refl; shares = refl; is_lost = refl }
 
   pub looks_only : (question : Question) (told : Result Reply StoreFault) (old new : Held S) → AnswersQuestion store question old new told → OnlyLooks store old new
   looks_only question told old new answers = record { unchanged = answers.same; connection = answers.connection }
@@ -77,7 +77,7 @@ module _ {S : Type 0} (store : Ghosts S) where
   -- a line of a backup
   unfoldable pub backup_asked : (line : BackupLine) (told : BackupTold) (old new : Served S) → AsksNext line told old new → Continues store old new
   unfolding stays
-  backup_asked line told old new next = subst (λ (served : Served S). Continues store old served) (sym next.same) (backup_only old (backup_of new))
+  backup_asked line told old new next = subst (λ (served : Served S). Continues store old served) (sym next.same) (background_only old (record old.background { backup = backup_of new }))
 
   pub does_then : (shares : Bool) (first more : List (Option Told)) (old mid new : Held S) → DoesEach store shares old first mid → DoesEach store shares mid more new → DoesEach store shares old (first ++ more) new
   does_then shares [] more old mid new is later = subst (λ (held : Held S). DoesEach store shares held more new) is later

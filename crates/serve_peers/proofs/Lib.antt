@@ -15,4 +15,4 @@ pub mod Ends
 pub mod Finding
 pub mod LastSteps
 pub mod Services
-pub mod Words
+pub mod LineLaws

@@ -5,6 +5,7 @@ use Rattle.std.proofs.lemmas.List.{take_more}
 use Rattle.std.proofs.lemmas.List.Quantifiers.{position-Some}
 use Rattle.sqlite_trees.specs.declared.store.Store.{Ghosts}
 use Rattle.account_machine.specs.declared.event.Reply.{Reply}
+use Rattle.account_machine.specs.declared.verdict.Answered.{Answered}
 use Rattle.room_store.specs.declared.fault.StoreFault.{StoreFault}
 use Rattle.account_questions.specs.declared.question.Question.{Question}
 use Rattle.account_questions.specs.declared.question.Question.TheVariants.{Ping, End, Devices, Accounts, Check, Account}
@@ -35,7 +36,7 @@ ends_with_feed input end is =
 
 module _ {S : Type 0} (store : Ghosts S) where
   -- a line of its side's was applied
-  pub takes_entry : (before after : LineConnection) (old new : Served S) (end : ℕ) (entry : Entry) (told : Result Reply StoreFault) → line_end (input_of before) ≡ Some end → input_of after ≡ drop (end + 1) (input_of before)
+  pub takes_entry : (before after : LineConnection) (old new : Served S) (end : ℕ) (entry : Entry) (told : Result Answered StoreFault) → line_end (input_of before) ≡ Some end → input_of after ≡ drop (end + 1) (input_of before)
       → is_own (side_of before) (take end (input_of before)) ≡ true → IsEntryOf (grammar_of (side_of before) (moment_of old)) (take end (input_of before)) entry → AppliesNext store entry told old new
       → TakesLine store before after old (line_text told) new
   takes_entry before after old new end entry told first rest own said next = record {

@@ -7,6 +7,7 @@ use Rattle.sqlite.specs.Held.{Held, state}
 use Rattle.sqlite.specs.State.{State, HasCleanDisk}
 use Rattle.sqlite_trees.specs.declared.store.Store.{Ghosts}
 use Rattle.account_machine.specs.Events.{Timed}
+use Rattle.account_machine.specs.Verdicts.{reply_of}
 use Rattle.room_serve.proofs.RunLemmas.{Shows, SoFar, begins, next_schema, one_more, one_shown, still_shown}
 use Rattle.room_serve.specs.Outcomes.{outcome_of}
 use Rattle.room_serve.specs.declared.outcome.Outcome.{Outcome}
@@ -40,8 +41,8 @@ module _ {S : Type 0} (store : Ghosts S) where
   leads_on [] events outcomes old mid new so_far is = rw (append-nil events, append-nil outcomes) (subst (λ (held : Held S). SoFar events outcomes (state store old) (state store held)) (sym is) so_far)
   leads_on (told ∷ more) events outcomes old mid new so_far leads =
       let e = timed told.0 in
-      let o = outcome_of told.1 in
-      let next = one_more events outcomes e (state store old) (state store mid) (state store leads.0) told.1 so_far leads.1 in
+      let o = outcome_of (reply_of told.1) in
+      let next = one_more events outcomes e (state store old) (state store mid) (state store leads.0) (reply_of told.1) so_far leads.1.applies in
       let on = leads_on more (events ++ e ∷ []) (outcomes ++ o ∷ []) old leads.0 new next leads.2 in
       rw (append_assoc events (e ∷ []) (events_of more), append_assoc outcomes (o ∷ []) (outcomes_of more)) at on
 
@@ -71,13 +72,13 @@ module _ {S : Type 0} (store : Ghosts S) where
   round_shown [] events outcomes old mid new shown is clean inside = rw (append-nil events, append-nil outcomes) (subst (λ (held : Held S). Shows events outcomes (state store old) (state store held)) (sym is) shown)
   round_shown (told ∷ more) events outcomes old mid new shown (next, applies, leads) clean inside =
       let e = timed told.0 in
-      let o = outcome_of told.1 in
+      let o = outcome_of (reply_of told.1) in
       let later = leads_keep more next new leads in
       let next_clean = was_clean next new later clean in
       let next_inside = was_inside next new later clean inside in
       let mid_inside = was_inside mid next (entry_keeps told mid next applies) next_clean next_inside in
       let there : Shows (events ++ e ∷ []) (outcomes ++ o ∷ []) (state store old) (state store next) = elim applies [
-        | inl shared ↦ one_shown events outcomes e (state store old) (state store mid) (state store next) told.1 shown (shared.applies (λ _. on_err told.1 _ (next_inside ∙ sym mid_inside)))
+        | inl shared ↦ one_shown events outcomes e (state store old) (state store mid) (state store next) (reply_of told.1) shown (shared.applies (λ _. on_err told.1 _ (next_inside ∙ sym mid_inside))).applies
         | inr late ↦ absurd (true≢false (sym mid_inside ∙ late.lost))
       ] in
       let on = round_shown more (events ++ e ∷ []) (outcomes ++ o ∷ []) old next new there leads clean inside in
@@ -157,7 +158,7 @@ module _ {S : Type 0} (store : Ghosts S) where
       elim (cases_Bool (state store new).in_transaction) [
         | inl inside ↦ inl (record {
           inside = inside;
-          schema = λ shown. next_schema (moment_at told.0) (event_of_entry told.0) (state store old) (state store new) told.1 (shared.applies (λ _. on_err told.1 _ (inside ∙ sym goes.inside))) clean goes.schema shown;
+          schema = λ shown. next_schema (moment_at told.0) (event_of_entry told.0) (state store old) (state store new) (reply_of told.1) (shared.applies (λ _. on_err told.1 _ (inside ∙ sym goes.inside))).applies clean goes.schema shown;
           committed = λ shown. (shared.within clean (goes.schema (back shown))).committed goes.inside shown ∙ goes.committed (back shown);
         })
         | inr outside ↦
@@ -254,7 +255,7 @@ module _ {S : Type 0} (store : Ghosts S) where
       let all_events : (events ++ events_of these) ++ events_of (kept_in more) ≡ events ++ events_of (these ++ kept_in more) =
       append_assoc events (events_of these) (events_of (kept_in more)) ∙ ap (λ x. events ++ x) (sym (map-append (λ (told : Told). timed told.0) these (kept_in more))) in
       let all_outcomes : (outcomes ++ outcomes_of these) ++ outcomes_of (kept_in more) ≡ outcomes ++ outcomes_of (these ++ kept_in more) =
-      append_assoc outcomes (outcomes_of these) (outcomes_of (kept_in more)) ∙ ap (λ x. outcomes ++ x) (sym (map-append (λ (told : Told). outcome_of told.1) these (kept_in more))) in
+      append_assoc outcomes (outcomes_of these) (outcomes_of (kept_in more)) ∙ ap (λ x. outcomes ++ x) (sym (map-append (λ (told : Told). outcome_of (reply_of told.1)) these (kept_in more))) in
       rw (all_events, all_outcomes) at on
 
   pub runs : AlwaysRuns store

@@ -4,7 +4,7 @@ use Rattle.std.proofs.lemmas.Grind.{flat_map-append}
 use Rattle.std.proofs.lemmas.List.{map-append}
 use Rattle.std.specs.Option.{ForSome}
 use Rattle.http_server.specs.declared.log.Log.{Log}
-use Rattle.account_machine.specs.declared.event.Reply.{Reply}
+use Rattle.account_machine.specs.declared.verdict.Answered.{Answered}
 use Rattle.room_store.specs.declared.fault.StoreFault.{StoreFault}
 use Rattle.serve_log.specs.Books.{Takes, counted}
 use Rattle.serve_log.specs.Waits.{drafts_of, logged_of, missed_of}
@@ -108,13 +108,13 @@ tells_nothing rounds under_way log tells = λ waiting is.
 
 -- ---- rounds, as the journal has them
 
-pub rounds_then : (over over2 : List (Log Entry (Result Reply StoreFault) × Bool)) (round : Log Entry (Result Reply StoreFault)) (kept : Bool) → over2 ≡ over ++ (round, kept) ∷ [] → map round_in over2 ≡ map round_in over ++ (round.items, kept) ∷ []
-rounds_then over over2 round kept is = ap (λ (them : List (Log Entry (Result Reply StoreFault) × Bool)). map round_in them) is ∙ map-append round_in over ((round, kept) ∷ [])
+pub rounds_then : (over over2 : List (Log Entry (Result Answered StoreFault) × Bool)) (round : Log Entry (Result Answered StoreFault)) (kept : Bool) → over2 ≡ over ++ (round, kept) ∷ [] → map round_in over2 ≡ map round_in over ++ (round.items, kept) ∷ []
+rounds_then over over2 round kept is = ap (λ (them : List (Log Entry (Result Answered StoreFault) × Bool)). map round_in them) is ∙ map-append round_in over ((round, kept) ∷ [])
 
 -- ---- what a journal's log tells, once it has changed
 
 -- what came was applied by itself
-pub told_alone : (log log2 : Option Waiting) (over over2 : List (Log Entry (Result Reply StoreFault) × Bool)) (round : Log Entry (Result Reply StoreFault)) (under_way : List Told) (told : Told) → ForSome log (λ (waiting : Waiting). TellsRounds waiting (map round_in over) under_way) → Becomes (LogsOne told) log log2 → over2 ≡ over ++ (round, true) ∷ [] → round.items ≡ told ∷ [] → ForSome log2 (λ (waiting : Waiting). TellsRounds waiting (map round_in over2) under_way)
+pub told_alone : (log log2 : Option Waiting) (over over2 : List (Log Entry (Result Answered StoreFault) × Bool)) (round : Log Entry (Result Answered StoreFault)) (under_way : List Told) (told : Told) → ForSome log (λ (waiting : Waiting). TellsRounds waiting (map round_in over) under_way) → Becomes (LogsOne told) log log2 → over2 ≡ over ++ (round, true) ∷ [] → round.items ≡ told ∷ [] → ForSome log2 (λ (waiting : Waiting). TellsRounds waiting (map round_in over2) under_way)
 told_alone log log2 over over2 round under_way told is logs grows one =
     becomes (LogsOne told) (λ (waiting : Waiting). TellsRounds waiting (map round_in over) under_way) (λ (waiting : Waiting). TellsRounds waiting (map round_in over2) under_way) log log2 logs is
     (λ was now this tells. subst (λ (rounds : List Round). TellsRounds now rounds under_way) (sym (rounds_then over over2 round true grows ∙ ap (λ (items : List Told). map round_in over ++ (items, true) ∷ []) one)) (tells_one told (map round_in over) under_way was now this tells))
@@ -126,13 +126,13 @@ told_shared log log2 rounds under_way under_way2 told is drafts grows =
     (λ was now this tells. subst (λ (more : List Told). TellsRounds now rounds more) (sym grows) (tells_draft told rounds under_way was now this tells))
 
 -- the round is over
-pub told_settled : (log log2 : Option Waiting) (kept : Bool) (over over2 : List (Log Entry (Result Reply StoreFault) × Bool)) (round : Log Entry (Result Reply StoreFault)) (under_way2 : List Told) → ForSome log (λ (waiting : Waiting). TellsRounds waiting (map round_in over) round.items) → Becomes (SettlesDrafts kept) log log2 → over2 ≡ over ++ (round, kept) ∷ [] → under_way2 ≡ [] → ForSome log2 (λ (waiting : Waiting). TellsRounds waiting (map round_in over2) under_way2)
+pub told_settled : (log log2 : Option Waiting) (kept : Bool) (over over2 : List (Log Entry (Result Answered StoreFault) × Bool)) (round : Log Entry (Result Answered StoreFault)) (under_way2 : List Told) → ForSome log (λ (waiting : Waiting). TellsRounds waiting (map round_in over) round.items) → Becomes (SettlesDrafts kept) log log2 → over2 ≡ over ++ (round, kept) ∷ [] → under_way2 ≡ [] → ForSome log2 (λ (waiting : Waiting). TellsRounds waiting (map round_in over2) under_way2)
 told_settled log log2 kept over over2 round under_way2 is settles grows none =
     becomes (SettlesDrafts kept) (λ (waiting : Waiting). TellsRounds waiting (map round_in over) round.items) (λ (waiting : Waiting). TellsRounds waiting (map round_in over2) under_way2) log log2 settles is
     (λ was now this tells. subst (λ (more : List Told). TellsRounds now (map round_in over2) more) (sym none) (subst (λ (rounds : List Round). TellsRounds now rounds []) (sym (rounds_then over over2 round kept grows)) (tells_settled kept (map round_in over) round.items was now this tells)))
 
 -- nothing was applied
-pub told_nothing : (log : Option Waiting) (over over2 : List (Log Entry (Result Reply StoreFault) × Bool)) (round : Log Entry (Result Reply StoreFault)) (under_way : List Told) → ForSome log (λ (waiting : Waiting). TellsRounds waiting (map round_in over) under_way) → over2 ≡ over ++ (round, false) ∷ [] → round.items ≡ [] → ForSome log (λ (waiting : Waiting). TellsRounds waiting (map round_in over2) under_way)
+pub told_nothing : (log : Option Waiting) (over over2 : List (Log Entry (Result Answered StoreFault) × Bool)) (round : Log Entry (Result Answered StoreFault)) (under_way : List Told) → ForSome log (λ (waiting : Waiting). TellsRounds waiting (map round_in over) under_way) → over2 ≡ over ++ (round, false) ∷ [] → round.items ≡ [] → ForSome log (λ (waiting : Waiting). TellsRounds waiting (map round_in over2) under_way)
 told_nothing log over over2 round under_way is grows none =
     subst (λ (rounds : List Round). ForSome log (λ (waiting : Waiting). TellsRounds waiting rounds under_way)) (sym (rounds_then over over2 round false grows ∙ ap (λ (items : List Told). map round_in over ++ (items, false) ∷ []) none)) (tells_nothing (map round_in over) under_way log is)
 

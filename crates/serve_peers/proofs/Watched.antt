@@ -5,7 +5,7 @@ use Rattle.std.proofs.lemmas.Grind.{flat_map-append}
 use Rattle.std.proofs.lemmas.List.{map-append}
 use Rattle.std.proofs.lemmas.List.Folds.{list_any-append}
 use Rattle.http_server.specs.declared.log.Log.{Log}
-use Rattle.account_machine.specs.declared.event.Reply.{Reply}
+use Rattle.account_machine.specs.declared.verdict.Answered.{Answered}
 use Rattle.room_store.specs.declared.fault.StoreFault.{StoreFault}
 use Rattle.serve_peers.specs.Tolds.{Round, Told, round_in}
 use Rattle.serve_peers.specs.Watching.{Watches, seen_by, since_by, told_in, touched_in, touches}
@@ -35,7 +35,7 @@ pub nothing_noted : (watch : Watch) → Notes watch watch []
 nothing_noted watch untouched = (untouched, refl)
 
 abbrev Items : Type 0
-Items = List (Log Entry (Result Reply StoreFault) × Bool)
+Items = List (Log Entry (Result Answered StoreFault) × Bool)
 
 -- the rounds of a longer list
 rounds_then : (items : Items) (more : Items) → map round_in (items ++ more) ≡ map round_in items ++ map round_in more
@@ -56,7 +56,7 @@ begun watch over under_way seen since if_none =
 -- what is known of two lists of rounds, and of what is under way behind each
 module _ (was now : Watch) (over over2 : Items) (under_way under_way2 : List Told) (kept : Watches was (map round_in over) under_way) (account : now.account ≡ was.account) (seen : now.seen ≡ was.seen) where
   -- a round is over, of which this was noted
-  pub closed : (round : Log Entry (Result Reply StoreFault)) (is_kept : Bool) → now.since.items ≡ was.since.items ++ (round, is_kept) ∷ [] → over2 ≡ over ++ (round, is_kept) ∷ []
+  pub closed : (round : Log Entry (Result Answered StoreFault)) (is_kept : Bool) → now.since.items ≡ was.since.items ++ (round, is_kept) ∷ [] → over2 ≡ over ++ (round, is_kept) ∷ []
       → (now.touched ≡ false → (was.touched ≡ false) × (touched_in was.account (told_in (since_by was) ++ under_way) ≡ false → touched_in was.account ((told_in (since_by was) ++ round.items) ++ under_way2) ≡ false))
       → Watches now (map round_in over2) under_way2
   closed round is_kept since grows none =
@@ -66,7 +66,7 @@ module _ (was now : Watch) (over over2 : Items) (under_way under_way2 : List Tol
       record {
         rounds =
             ap (λ (items : Items). map round_in items) grows ∙ rounds_then over ((round, is_kept) ∷ []) ∙ ap (λ (rounds : List Round). rounds ++ one) kept.rounds ∙ append_assoc (seen_by was) (since_by was) one
-            ∙ ap (λ (rounds : List Round). seen_by was ++ rounds) (sym since_is) ∙ ap (λ (log : Log (Log Entry (Result Reply StoreFault)) Bool). map round_in log.items ++ since_by now) (sym seen);
+            ∙ ap (λ (rounds : List Round). seen_by was ++ rounds) (sym since_is) ∙ ap (λ (log : Log (Log Entry (Result Answered StoreFault)) Bool). map round_in log.items ++ since_by now) (sym seen);
         untouched = λ untouched.
             let is = none untouched in
             ap (λ (told : List Told). touched_in now.account (told ++ under_way2)) told_is ∙ ap (λ (account : Option (List ℕ)). touched_in account ((told_in (since_by was) ++ round.items) ++ under_way2)) account ∙ is.1 (kept.untouched is.0);
@@ -77,9 +77,9 @@ module _ (was now : Watch) (over over2 : Items) (under_way under_way2 : List Tol
       → (now.touched ≡ false → (was.touched ≡ false) × (touched_in was.account (told_in (since_by was) ++ under_way) ≡ false → touched_in was.account (told_in (since_by was) ++ under_way2) ≡ false))
       → Watches now (map round_in over2) under_way2
   grown since grows none =
-      let since_is : since_by now ≡ since_by was = ap (λ (log : Log (Log Entry (Result Reply StoreFault)) Bool). map round_in log.items) since in
+      let since_is : since_by now ≡ since_by was = ap (λ (log : Log (Log Entry (Result Answered StoreFault)) Bool). map round_in log.items) since in
       record {
-        rounds = ap (λ (items : Items). map round_in items) grows ∙ kept.rounds ∙ ap (λ (rounds : List Round). seen_by was ++ rounds) (sym since_is) ∙ ap (λ (log : Log (Log Entry (Result Reply StoreFault)) Bool). map round_in log.items ++ since_by now) (sym seen);
+        rounds = ap (λ (items : Items). map round_in items) grows ∙ kept.rounds ∙ ap (λ (rounds : List Round). seen_by was ++ rounds) (sym since_is) ∙ ap (λ (log : Log (Log Entry (Result Answered StoreFault)) Bool). map round_in log.items ++ since_by now) (sym seen);
         untouched = λ untouched.
             let is = none untouched in
             ap (λ (rounds : List Round). touched_in now.account (told_in rounds ++ under_way2)) since_is ∙ ap (λ (account : Option (List ℕ)). touched_in account (told_in (since_by was) ++ under_way2)) account ∙ is.1 (kept.untouched is.0);

@@ -8,8 +8,10 @@ use Rattle.http_server.specs.declared.response.Response.{Response}
 use Rattle.sqlite_trees.specs.declared.store.Store.{Ghosts}
 use Rattle.ipp_coding.specs.Reading.{header_in}
 use Rattle.ipp_coding.specs.declared.message.Header.{Header}
+use Rattle.account_machine.specs.Verdicts.{reply_of}
 use Rattle.account_machine.specs.declared.event.Reply.{Reply}
 use Rattle.account_machine.specs.declared.event.Reply.TheVariants as reply_is
+use Rattle.account_machine.specs.declared.verdict.Answered.{Answered}
 use Rattle.input_http.specs.Texts.{status_of}
 use Rattle.input_http.specs.declared.refusal.Refusal.{Refusal}
 use Rattle.input_http.specs.declared.refusal.Refusal.TheVariants.{MethodNotAllowed, NoSpace, NotFound}
@@ -61,11 +63,11 @@ module _ {S : Type 0} (store : Ghosts S) where
   -- the message is applied, once, at the moment, and stands in the journal; what it came to is told
   pub record Sends (account : List ℕ) (old : Served S) (request : Request (List ℕ))
       (response : Response) (new : Served S) : Type 0 where
-    pub told : Result Reply StoreFault
+    pub told : Result Answered StoreFault
     pub next : AppliesNext store (entry.Message (moment_of old) account (body_of request)) told
         old new
-    pub tells : IsTold (header_in (body_of request)) (has_long_body request) told response
-        ⊎ IsLost response
+    pub tells : IsTold (header_in (body_of request)) (has_long_body request) (reply_of told)
+        response ⊎ IsLost response
 
   abbrev pub Gives : (wants : Result (List ℕ) Refusal) (old : Served S) (request : Request (List ℕ))
       (response : Response) (new : Served S) → Type 0

@@ -3,8 +3,8 @@ use Rattle.std.specs.Prelude.{◌≡◌, ◌⊎◌, Bool, true, false, List, [],
 use Rattle.sqlite.specs.Held.{Held, state}
 use Rattle.sqlite.specs.State.{HasCleanDisk}
 use Rattle.sqlite_trees.specs.declared.store.Store.{Ghosts}
-use Rattle.account_machine.specs.declared.event.Reply.{Reply}
-use Rattle.room_store.specs.Applied.{Applies}
+use Rattle.account_machine.specs.declared.verdict.Answered.{Answered}
+use Rattle.room_store.specs.Applied.{AppliesFully}
 use Rattle.room_store.specs.Rounds.{IsLost, StaysInRound}
 use Rattle.room_store.specs.Shut.{LeavesIfShut}
 use Rattle.room_store.specs.declared.fault.StoreFault.{StoreFault}
@@ -19,13 +19,13 @@ module _ {S : Type 0} (store : Ghosts S) where
 
   -- what came was applied, at its moment
   abbrev pub AppliesAlone :
-      (entry : Entry) (old new : Held S) (told : Result Reply StoreFault) →
+      (entry : Entry) (old new : Held S) (told : Result Answered StoreFault) →
       Type 0
   AppliesAlone entry old new told =
-      Applies (moment_at entry) (event_of_entry entry) (state store old) (state store new) told
+      AppliesFully (moment_at entry) (event_of_entry entry) (state store old) (state store new) told
 
   -- the same in a round, which it may have lost
-  pub record AppliesShared (entry : Entry) (old new : Held S) (told : Result Reply StoreFault)
+  pub record AppliesShared (entry : Entry) (old new : Held S) (told : Result Answered StoreFault)
       : Type 0 where
     pub inside : IsTrue (state store old).in_transaction
     pub applies : (HasCleanDisk (state store new) → OnErr told
@@ -38,13 +38,13 @@ module _ {S : Type 0} (store : Ghosts S) where
     pub connection : KeepsConnection (state store old) (state store new)
 
   -- once the round is lost nothing is applied in it
-  pub record IsTooLate (old new : Held S) (told : Result Reply StoreFault) : Type 0 where
+  pub record IsTooLate (old new : Held S) (told : Result Answered StoreFault) : Type 0 where
     pub lost : (state store old).in_transaction ≡ false
     pub same : new ≡ old
     pub fails : told ≡ Err Storage
 
   abbrev pub AppliesEntry : (shares : Bool) (entry : Entry) (old new : Held S)
-      (told : Result Reply StoreFault) → Type 0
+      (told : Result Answered StoreFault) → Type 0
   AppliesEntry false entry old new told = AppliesAlone entry old new told
   AppliesEntry true entry old new told = AppliesShared entry old new told ⊎ IsTooLate old new told
 

@@ -3,6 +3,7 @@ use Rattle.std.specs.Prelude.{◌≡◌, ℕ, Bool, true, false, List, [], ◌�
 use Rattle.std.specs.List.{flat_map}
 use Rattle.sqlite.specs.Held.{Held}
 use Rattle.account_machine.specs.Events.{Timed}
+use Rattle.account_machine.specs.Verdicts.{reply_of}
 use Rattle.room_serve.specs.Outcomes.{outcome_of}
 use Rattle.room_serve.specs.declared.outcome.Outcome.{Outcome}
 use Rattle.serve_peers.specs.Entries.{timed}
@@ -45,7 +46,7 @@ abbrev pub events_of : List Told → List Timed
 events_of more = map (λ (told : Told). timed told.0) more
 
 abbrev pub outcomes_of : List Told → List Outcome
-outcomes_of more = map (λ (told : Told). outcome_of told.1) more
+outcomes_of more = map (λ (told : Told). outcome_of (reply_of told.1)) more
 
 abbrev pub store_of : {S : Type 0} → Served S → Held S
 store_of served = served.rounds
@@ -63,11 +64,11 @@ is_lost_of served = served.is_lost
 
 -- an operator asked that serving ends
 abbrev pub ends_of : {S : Type 0} → Served S → Bool
-ends_of served = served.ends
+ends_of served = served.background.ends
 
 -- the pages take no file without a password
 abbrev pub needs_password_of : {S : Type 0} → Served S → Bool
-needs_password_of served = served.needs_password
+needs_password_of served = served.background.needs_password
 
 -- lines wait that the file of the log has not taken
 abbrev pub log_lags_of : {S : Type 0} → Served S → Bool

@@ -3,7 +3,7 @@
 use Rattle.std.specs.Prelude.{◌≡◌, ◌⊎◌, ℕ, List, [], ◌++◌, drop, take, Option, Result}
 use Rattle.std.specs.Io.KnownBytes.{Appends}
 use Rattle.sqlite_trees.specs.declared.store.Store.{Ghosts}
-use Rattle.account_machine.specs.declared.event.Reply.{Reply}
+use Rattle.account_machine.specs.declared.verdict.Answered.{Answered}
 use Rattle.input_http.specs.Texts.{refusal_text}
 use Rattle.input_http.specs.declared.refusal.Refusal.{Refusal}
 use Rattle.room_store.specs.declared.fault.StoreFault.{StoreFault}
@@ -26,7 +26,7 @@ module _ {S : Type 0} (store : Ghosts S) where
   -- what was asked in a round that was lost is applied again, by itself, and what that comes to is
   -- all that is still to go; or there was no memory for it, and nothing is
   pub record IsToldAgain (asked : Entry) (peer : LastPeer) (old new : Served S) : Type 0 where
-    pub told : Result Reply StoreFault
+    pub told : Result Answered StoreFault
     pub next : AppliesNext store asked told old new
     pub left : (left_of peer ≡ last_text asked told) ⊎ (left_of peer ≡ [])
 

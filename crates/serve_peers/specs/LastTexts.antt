@@ -4,8 +4,10 @@ use Rattle.std.specs.Prelude.{ℕ, List, true, if◌then◌else◌, length, nat_
 use Rattle.ipp_coding.specs.Limits.{header_length}
 use Rattle.ipp_coding.specs.Reading.{header_in}
 use Rattle.ipp_coding.specs.declared.message.Header.{Header}
+use Rattle.account_machine.specs.Verdicts.{reply_of}
 use Rattle.account_machine.specs.declared.event.Reply.{Reply}
 use Rattle.account_machine.specs.declared.event.Reply.TheVariants as reply_is
+use Rattle.account_machine.specs.declared.verdict.Answered.{Answered}
 use Rattle.input_http.specs.Texts.{answer_text, refusal_text}
 use Rattle.input_http.specs.declared.refusal.Refusal.TheVariants.{BadRequest, NotFound}
 use Rattle.account_replies.specs.Replies.{internal_error_text}
@@ -28,6 +30,6 @@ answer_to body told = if nat_lt (length body) header_length then refusal_text Ba
     else response_text (header_in body) told
 
 -- over HTTP, or as the answer to a line
-abbrev pub last_text : (asked : Entry) (told : Result Reply StoreFault) → List ℕ
-last_text (entry_is.Message moment account body) told = answer_to body told
+abbrev pub last_text : (asked : Entry) (told : Result Answered StoreFault) → List ℕ
+last_text (entry_is.Message moment account body) told = answer_to body (reply_of told)
 last_text (entry_is.Line line) told = line_text told

@@ -22,6 +22,7 @@ pub mod Again
 pub mod Answers
 pub mod LineTexts
 pub mod LastTexts
+pub mod LineLaws
 pub mod LastPeers
 pub mod OwnDevices
 pub mod Lines

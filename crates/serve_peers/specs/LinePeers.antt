@@ -1,4 +1,4 @@
--- What a connection of lines has taken and told (all this project's own).
+-- What a connection of lines has taken and answered (all this project's own).
 use Rattle.std.specs.Prelude.{◌≡◌, ◌≢◌, ◌⊎◌, ℕ, Bool, List, [], ◌∷◌, ◌++◌, None, IsTrue}
 use Rattle.std.specs.List.{flat_map}
 use Rattle.sqlite_trees.specs.declared.store.Store.{Ghosts}

@@ -1,9 +1,13 @@
 -- What is sent for a line (all this project's own).
-use Rattle.std.specs.Prelude.{ℕ, ◌+◌, ◌*◌, ◌==◌, Bool, false, if◌then◌else◌, List, ◌++◌, codes, decimal, drop, length, slice_index, take, Result, Ok, Err}
+use Rattle.std.specs.Prelude.{ℕ, Bool, false, if◌then◌else◌, List, ◌++◌, codes, decimal, length, Option, Some, None, Result, Ok, Err}
 use Rattle.std.specs.List.{flat_map}
+use Rattle.account_replies.specs.Words.{word_text}
 use Rattle.account_replies.specs.declared.part.Part.{Part}
 use Rattle.account_machine.specs.declared.event.Reply.{Reply}
 use Rattle.account_machine.specs.declared.event.Reply.TheVariants as reply_is
+use Rattle.account_machine.specs.declared.verdict.Answered.{Answered}
+use Rattle.account_machine.specs.declared.verdict.Verdict.{Verdict}
+use Rattle.account_machine.specs.declared.verdict.Verdict.TheVariants.{Done, Refused}
 use Rattle.serve_log.specs.declared.refusal.LineRefusal.{LineRefusal}
 use Rattle.serve_log.specs.declared.refusal.LineRefusal.TheVariants.{BadLine, NotYourDevice}
 use Rattle.account_questions.specs.declared.question.Question.{Question}
@@ -31,35 +35,25 @@ abbrev pub parts_text : List Part → List ℕ
 parts_text parts =
     codes "documents " ++ decimal (length parts) ++ codes "\n" ++ flat_map part_text parts
 
--- ---- what is told of a response, to what an operator asks in the place of an account's owner
-
--- its status, in two bytes, is one of success, 0x0000 to 0x00FF (RFC 8011 section B.1.2)
-abbrev pub is_successful : (answer : List ℕ) → Bool
-is_successful answer = slice_index answer 2 == 0
-
--- where the text of status-message stands in a refusal: behind the header, the tag of a group,
--- attributes-charset `utf-8`, attributes-natural-language `en`, and its own tag, name and length
-abbrev pub message_place : ℕ
-message_place = 90
-
--- the two bytes before it
-abbrev pub message_length : (answer : List ℕ) → ℕ
-message_length answer = slice_index answer 88 * 256 + slice_index answer 89
-
-abbrev pub status_message : (answer : List ℕ) → List ℕ
-status_message answer = take (message_length answer) (drop message_place answer)
-
-abbrev pub told_of : (answer : List ℕ) → List ℕ
-told_of answer = if is_successful answer then codes "ok" else status_message answer
-
 -- ---- what is sent
 
-abbrev pub line_text : Result Reply StoreFault → List ℕ
-line_text (Ok (reply_is.Line text)) = text ++ codes "\n"
-line_text (Ok (reply_is.Documents parts)) = parts_text parts
-line_text (Ok reply_is.NoAccount) = codes "no-account\n"
-line_text (Ok reply_is.Short) = codes "short\n"
-line_text (Ok (reply_is.Ipp answer)) = told_of answer ++ codes "\n"
+-- An operator who asks in the place of an account's owner is told `ok`, or the word that tells why
+-- not. A question has no verdict: no response answers it.
+abbrev pub verdict_text : Option Verdict → List ℕ
+verdict_text (Some (Done status job)) = codes "ok"
+verdict_text (Some (Refused refusal job)) = word_text refusal.word
+verdict_text None = codes "failed"
+
+-- a response is not told, but what it came to
+abbrev pub reply_text : Option Verdict → Reply → List ℕ
+reply_text verdict (reply_is.Line text) = text ++ codes "\n"
+reply_text verdict (reply_is.Documents parts) = parts_text parts
+reply_text verdict reply_is.NoAccount = codes "no-account\n"
+reply_text verdict reply_is.Short = codes "short\n"
+reply_text verdict (reply_is.Ipp answer) = verdict_text verdict ++ codes "\n"
+
+abbrev pub line_text : Result Answered StoreFault → List ℕ
+line_text (Ok it) = reply_text (Some it.verdict) it.reply
 line_text (Err fault) = codes "failed\n"
 
 -- the answer to `ping` warns where lines wait for the log's file
@@ -68,5 +62,9 @@ has_to_warn Ping log_lags = log_lags
 has_to_warn _ log_lags = false
 
 -- for a question
+abbrev pub question_text : Result Reply StoreFault → List ℕ
+question_text (Ok reply) = reply_text None reply
+question_text (Err fault) = codes "failed\n"
+
 abbrev pub answer_text : (warns : Bool) → Result Reply StoreFault → List ℕ
-answer_text warns told = if warns then codes "log-fails\n" else line_text told
+answer_text warns told = if warns then codes "log-fails\n" else question_text told

@@ -4,6 +4,7 @@ use Rattle.std.specs.Io.KnownBytes.{Appends, Consumes}
 use Rattle.std.specs.List.{flat_map, position, starts_with}
 use Rattle.sqlite_trees.specs.declared.store.Store.{Ghosts}
 use Rattle.account_machine.specs.declared.event.Reply.{Reply}
+use Rattle.account_machine.specs.declared.verdict.Answered.{Answered}
 use Rattle.input_lines.specs.Lines.{IsAllowed}
 use Rattle.input_lines.specs.Asking.{IsQuestionOf, is_of_station}
 use Rattle.input_lines.specs.Backups.{IsBackupOf}
@@ -127,7 +128,7 @@ module _ {S : Type 0} (store : Ghosts S) where
     pub entry : Entry
     pub own : is_own side line ≡ true
     pub said : IsEntryOf (grammar_of side (moment_of old)) line entry
-    pub told : Result Reply StoreFault
+    pub told : Result Answered StoreFault
     pub next : AppliesNext store entry told old new
     pub says : text ≡ line_text told
 

@@ -5,7 +5,7 @@ use Rattle.http.specs.declared.request.Request.{Request}
 use Rattle.http_server.specs.declared.response.Response.{Response}
 use Rattle.sqlite.specs.Held.{Held}
 use Rattle.sqlite_trees.specs.declared.store.Store.{Ghosts}
-use Rattle.account_machine.specs.declared.event.Reply.{Reply}
+use Rattle.account_machine.specs.declared.verdict.Answered.{Answered}
 use Rattle.room_store.specs.declared.fault.StoreFault.{StoreFault}
 use Rattle.input_http.specs.declared.refusal.Refusal.{Refusal}
 use Rattle.serve_peers.specs.Answers.{Answers, Gives}
@@ -24,11 +24,11 @@ module _ {S : Type 0} (store : Ghosts S) where
   unfoldable pub stays : (served : Served S) → Continues store served served
   stays served = record { more = []; notes = nothing_noted (shares_of served) served; does = refl; shares = refl; is_lost = refl }
 
-  pub does_one : (shares : Bool) (entry : Entry) (told : Result Reply StoreFault) (old new : Held S) → AppliesEntry store shares entry old new told → DoesOne store shares (Some (entry, told)) old new
+  pub does_one : (shares : Bool) (entry : Entry) (told : Result Answered StoreFault) (old new : Held S) → AppliesEntry store shares entry old new told → DoesOne store shares (Some (entry, told)) old new
   does_one false entry told old new is = is
   does_one true entry told old new is = is
 
-  unfoldable pub one_more : (entry : Entry) (told : Result Reply StoreFault) (old new : Served S) → AppliesNext store entry told old new → Continues store old new
+  unfoldable pub one_more : (entry : Entry) (told : Result Answered StoreFault) (old new : Served S) → AppliesNext store entry told old new → Continues store old new
   one_more entry told old new next = record { more = Some (entry, told) ∷ []; notes = next.notes; does = (store_of new, does_one (shares_of old) entry told (store_of old) (store_of new) next.applies, refl); shares = next.shares; is_lost = next.is_lost }
 
   gives : (wants : Result (List ℕ) Refusal) (old : Served S) (request : Request (List ℕ)) (response : Response) (new : Served S) → Gives store wants old request response new → Continues store old new

@@ -1,10 +1,11 @@
--- What each account was told in the rounds that were kept, and what a crash finds of it (all this
+-- What each account was answered in the rounds that were kept, and what a crash finds of it (all this
 -- project's own).
 use Rattle.std.specs.Prelude.{◌≡◌, ◌⊎◌, ℕ, Bool, true, false, List, ◌++◌, IsTrue, Result}
 use Rattle.sqlite.specs.Held.{Held, state}
 use Rattle.sqlite_trees.specs.Tree.{Trees}
 use Rattle.sqlite_trees.specs.declared.store.Store.{Ghosts}
-use Rattle.account_machine.specs.declared.event.Reply.{Reply}
+use Rattle.account_machine.specs.Verdicts.{reply_of}
+use Rattle.account_machine.specs.declared.verdict.Answered.{Answered}
 use Rattle.account_laws.specs.Lives.{Life}
 use Rattle.room_store.specs.declared.fault.StoreFault.{StoreFault}
 use Rattle.rows_tables.specs.Calls.{IfOurTables}
@@ -85,8 +86,8 @@ module _ {S : Type 0} (store : Ghosts S) where
   abbrev pub AloneIsFound : Type 0
   AloneIsFound = (rounds : List Round) (old mid new : Held S) → IsOnDisk (state store old)
       → AllSettle store old rounds mid → IsTrue (state store mid).is_open
-      → (entry : Entry) (told : Result Reply StoreFault) → AppliesAlone store entry mid new told
+      → (entry : Entry) (told : Result Answered StoreFault) → AppliesAlone store entry mid new told
       → IfOurTables store old new (λ db. (name : List ℕ) (life : Life)
       → IsLifeIn db true name life → (found : Trees) → (state store new).may_leave found
-      → IsFoundAfter name (life ++ told_to name (kept_in rounds)) (timed entry) told
+      → IsFoundAfter name (life ++ told_to name (kept_in rounds)) (timed entry) (reply_of told)
       (state store new).is_open found)

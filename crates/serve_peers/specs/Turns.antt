@@ -2,6 +2,7 @@
 use Rattle.std.specs.Prelude.{◌≡◌, ◌||◌, false, List, [], ◌∷◌, ◌++◌, Option, Some, Result}
 use Rattle.sqlite_trees.specs.declared.store.Store.{Ghosts}
 use Rattle.account_machine.specs.declared.event.Reply.{Reply}
+use Rattle.account_machine.specs.declared.verdict.Answered.{Answered}
 use Rattle.account_questions.specs.Questions.{asks_end}
 use Rattle.account_questions.specs.declared.question.Question.{Question}
 use Rattle.room_store.specs.Questions.{AnswersQuestion}
@@ -13,7 +14,7 @@ use Rattle.serve_peers.specs.Applying.{AppliesEntry, DoesEach}
 
 module _ {S : Type 0} (store : Ghosts S) where
   -- what came was applied, once, or came too late in a round that is lost; and it is noted
-  pub record AppliesNext (entry : Entry) (told : Result Reply StoreFault) (old new : Served S)
+  pub record AppliesNext (entry : Entry) (told : Result Answered StoreFault) (old new : Served S)
       : Type 0 where
     pub notes : Notes (shares_of old) (Some (entry, told) ∷ []) old new
     pub applies : AppliesEntry store (shares_of old) entry (store_of old) (store_of new) told
@@ -30,7 +31,11 @@ module _ {S : Type 0} (store : Ghosts S) where
     pub over : rounds_of new ≡ rounds_of old ++ ([], false) ∷ []
     pub none_more : open_of new ≡ open_of old
     pub ends : ends_of new ≡ ends_of old || asks_end question
-    pub same : new ≡ record old { rounds = store_of new; journal = new.journal; ends = new.ends }
+    pub same : new ≡ record old {
+      rounds = store_of new;
+      journal = new.journal;
+      background = record old.background { ends = ends_of new };
+    }
 
   -- what came is noted, and it, and nothing else, made of the tables what they are
   pub record Continues (old new : Served S) : Type 0 where

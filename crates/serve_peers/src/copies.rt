@@ -18,12 +18,45 @@ const MOST_JOBS: u32 = 32;
 const MOST_ANEW: u32 = 3;
 
 /// A copy that is under way, and how far it has come.
-#[derive(Drop)]
 pub struct Copied<T: Alter> {
     pub(crate) rows: Connection<T>,
     pub(crate) progress: Progress,
     /// How often the account that is under way has begun anew.
     pub(crate) anew: u32,
+}
+
+impl<T: Alter + Drop> Drop for Copied<T> {
+    fn drop(self) {
+        let Copied {
+            rows: _,
+            progress: _,
+            anew: _,
+        } = self;
+    }
+}
+
+impl<T: Alter> Copied<T> {
+    fn into_rows(self) -> Connection<T>
+        ensures { result ≡ self.rows }
+    {
+        let Copied {
+            rows,
+            progress: _,
+            anew: _,
+        } = self;
+        rows
+    }
+
+    fn into_parts(self) -> (Connection<T>, Progress, u32)
+        ensures { result ≡ (self.rows, self.progress, self.anew) }
+    {
+        let Copied {
+            rows,
+            progress,
+            anew,
+        } = self;
+        (rows, progress, anew)
+    }
 }
 
 /// Who makes the files of copies, and the copy that is under way.
@@ -32,7 +65,6 @@ pub struct Copies<T: Alter, K> {
     pub(crate) copy: Option<Copied<T>>,
 }
 
-// In the place of `#[derive(Drop)]`, so that no caller proves again how each part is dropped.
 impl<T: Alter + Drop, K: Drop> Drop for Copies<T, K> {
     fn drop(self) {
         let Copies { maker: _, copy: _ } = self;
@@ -64,7 +96,7 @@ impl<T: Alter, K: CopyMaker<Rows = Connection<T>>> Copies<T, K> {
         ensures none { IsFalse result → copy_in self.new ≡ None }
     {
         if let Some(older) = self.copy.take() {
-            self.maker.give_up(older.rows);
+            self.maker.give_up(older.into_rows());
         }
         match self.maker.make(file) {
             Some(rows) => self.begin(rows),
@@ -97,7 +129,7 @@ impl<T: Alter, K: CopyMaker<Rows = Connection<T>>> Copies<T, K> {
         ensures { copy_in self.new ≡ Some copied }
     {
         if let Some(older) = self.copy.replace(copied) {
-            self.maker.give_up(older.rows);
+            self.maker.give_up(older.into_rows());
         }
     }
 
@@ -115,11 +147,7 @@ impl<T: Alter, K: CopyMaker<Rows = Connection<T>>> Copies<T, K> {
         let Some(copied) = self.copy.take() else {
             return Done::Failed;
         };
-        let Copied {
-            mut rows,
-            progress,
-            anew,
-        } = copied;
+        let (mut rows, progress, anew) = copied.into_parts();
         let anew = begun_anew(touched, anew);
         match slice_on(alloc, source, &mut rows, progress, touched, most_at(anew)) {
             Ok(Some(progress)) => {

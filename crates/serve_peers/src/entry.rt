@@ -26,7 +26,6 @@ pub enum Entry {
     Line(Line),
 }
 
-// In the place of `#[derive(Drop)]`, so that no caller proves again how each part is dropped.
 impl Drop for Entry {
     fn drop(self) {
         match self {

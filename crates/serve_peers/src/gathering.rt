@@ -23,7 +23,6 @@ pub struct Gathered {
     pub(crate) under_way: Option<Gathering>,
 }
 
-// In the place of `#[derive(Drop)]`, so that no caller proves again how each part is dropped.
 impl Drop for Gathered {
     fn drop(self) {
         let Gathered {
@@ -41,7 +40,6 @@ pub enum Gathering {
     Adds(Adding),
 }
 
-// In the place of `#[derive(Drop)]`, so that no caller proves again how each part is dropped.
 impl Drop for Gathering {
     fn drop(self) {
         match self {

@@ -28,7 +28,6 @@ pub struct HttpPeer {
     load: Load,
 }
 
-// In the place of `#[derive(Drop)]`, so that no caller proves again how each part is dropped.
 impl Drop for HttpPeer {
     fn drop(self) {
         let HttpPeer {

@@ -11,8 +11,8 @@ use crate::logging::{
     draft, look, note, push_out, refuse_line, refuse_request, settle, tell_beyond,
 };
 use crate::watch::Watch;
-use account_machine::{Name, Reply};
-use http_server::Log;
+use account_machine::{Answered, Name};
+use http_server::Log as History;
 use room_store::StoreFault;
 use serve_log::{Door, EventLog, LineRefusal};
 use std::fs::{File, Files};
@@ -23,9 +23,9 @@ pub struct Journal {
     /// The rounds that are over, each with whether it was kept. What is applied by itself is a round
     /// of one that was kept. A question, and a round that could not begin, is an empty one that was
     /// not.
-    pub(crate) over: Log<Log<Entry, Result<Reply, StoreFault>>, bool>,
+    pub(crate) over: History<History<Entry, Result<Answered, StoreFault>>, bool>,
     /// The round that is under way.
-    pub(crate) under_way: Log<Entry, Result<Reply, StoreFault>>,
+    pub(crate) under_way: History<Entry, Result<Answered, StoreFault>>,
     pub(crate) log: Option<EventLog>,
     /// Whether something was asked in the round that is under way.
     pub(crate) is_open: bool,
@@ -37,7 +37,6 @@ pub struct Journal {
     pub ghost watched: { Watches watch (map round_in over.items) under_way.items },
 }
 
-// In the place of `#[derive(Drop)]`, so that no caller proves again how each part is dropped.
 impl Drop for Journal {
     fn drop(self) {
         let Journal {
@@ -60,11 +59,11 @@ impl Journal {
         ensures under_way { under_way_in result ≡ [] }
     {
         Journal {
-            over: Log::new(),
-            under_way: Log::new(),
+            over: History::new(),
+            under_way: History::new(),
             log: None,
             is_open: false,
-            watch: Watch::begin(None, false, Log::new()),
+            watch: Watch::begin(None, false, History::new()),
         }
     }
 
@@ -81,20 +80,20 @@ impl Journal {
     }
 
     /// What came was applied by itself.
-    pub(crate) fn add_alone(&mut self, entry: &Entry, told: &Result<Reply, StoreFault>)
+    pub(crate) fn add_alone(&mut self, entry: &Entry, told: &Result<Answered, StoreFault>)
         ensures rounds { rounds_in self.new
             ≡ rounds_in self.old ++ ((entry.now, told.now) ∷ [], true) ∷ [] }
         ensures under_way { under_way_in self.new ≡ under_way_in self.old }
     {
         note(&mut self.log, entry, told);
         self.watch.note(entry);
-        let round = Log::new().and(entry, told);
+        let round = History::new().and(entry, told);
         self.watch.close(&round, true);
         self.over = self.over.and(&round, &true);
     }
 
     /// What came was applied in the round that is under way.
-    pub(crate) fn add_shared(&mut self, entry: &Entry, told: &Result<Reply, StoreFault>)
+    pub(crate) fn add_shared(&mut self, entry: &Entry, told: &Result<Answered, StoreFault>)
         ensures rounds { rounds_in self.new ≡ rounds_in self.old }
         ensures under_way { under_way_in self.new
             ≡ under_way_in self.old ++ (entry.now, told.now) ∷ [] }
@@ -110,7 +109,7 @@ impl Journal {
         ensures rounds { rounds_in self.new ≡ rounds_in self.old ++ ([], false) ∷ [] }
         ensures under_way { under_way_in self.new ≡ under_way_in self.old }
     {
-        let nothing = Log::new();
+        let nothing = History::new();
         self.watch.close(&nothing, false);
         self.over = self.over.and(&nothing, &false);
     }
@@ -122,7 +121,7 @@ impl Journal {
         ensures account { self.new.watch.account ≡ account }
         ensures seen { seen_by self.new.watch ≡ rounds_in self.new }
     {
-        let nothing = Log::new();
+        let nothing = History::new();
         let over = self.over.and(&nothing, &false);
         let seen = self.over.and(&nothing, &false);
         self.watch = Watch::begin(account, self.is_open, seen);
@@ -145,7 +144,7 @@ impl Journal {
         settle(&mut self.log, kept);
         self.watch.close(&self.under_way, kept);
         self.over = self.over.and(&self.under_way, &kept);
-        self.under_way = Log::new();
+        self.under_way = History::new();
         self.is_open = false;
     }
 

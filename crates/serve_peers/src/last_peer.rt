@@ -24,7 +24,6 @@ pub struct LastPeer {
     progress: Progress,
 }
 
-// In the place of `#[derive(Drop)]`, so that no caller proves again how each part is dropped.
 impl Drop for LastPeer {
     fn drop(self) {
         let LastPeer {
@@ -48,7 +47,7 @@ impl LastPeer {
         requires { shares_of served.old ≡ false }
         ensures { IsToldAgain S.Store asked.now result served.old served.new }
     {
-        let told = served.apply_alone(asked);
+        let told = served.apply_in_own_round(asked);
         let mut output = Rope::new(alloc);
         if put_last(alloc, &mut output, asked, told).is_err() {
             output.clear();

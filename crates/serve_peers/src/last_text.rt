@@ -2,10 +2,11 @@
 ghost use Rattle.std.specs.Prelude.{◌≡◌, ◌++◌, OnOk};
 ghost use Rattle.serve_peers.specs.LastTexts.{answer_to, last_text, response_text};
 
+use crate::answers::reply_of;
 use crate::entry::Entry;
 use crate::line_text::put_told;
 use crate::shared::shared;
-use account_machine::{Reply, internal_error};
+use account_machine::{Answered, Reply, internal_error};
 use bytes::BufMut;
 use http_server::Rope;
 use input_http::{Refusal, last_answer_head, refusal_text};
@@ -18,12 +19,12 @@ pub(crate) fn put_last(
     alloc: Global,
     output: &mut Rope,
     asked: &Entry,
-    told: Result<Reply, StoreFault>,
+    told: Result<Answered, StoreFault>,
 ) -> Result<(), AllocError>
     ensures { OnOk result (output.new.items ≡ output.old.items ++ last_text asked.now told) }
 {
     match asked {
-        Entry::Message { body, .. } => put_answer(output, body.as_slice(), told),
+        Entry::Message { body, .. } => put_answer(output, body.as_slice(), reply_of(told)),
         Entry::Line(_) => put_told(alloc, output, told),
     }
 }

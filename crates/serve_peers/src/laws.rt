@@ -1,12 +1,6 @@
 //! What holds of all that was served.
-ghost use Rattle.std.specs.Prelude.{◌≡◌, ◌<◌, ◌≤◌, ◌^◌, List, codes, length};
-ghost use Rattle.ipp_coding.specs.Plain.{PlainAttribute, PlainGroup};
-ghost use Rattle.ipp_coding.specs.declared.message.Header.{Header};
-ghost use Rattle.account_replies.specs.Responses.{done_text, refused_text};
-ghost use Rattle.account_replies.specs.Words.{word_text};
-ghost use Rattle.account_rules.specs.declared.refusal.Refusal.{Refusal};
 ghost use Rattle.serve_peers.specs.BackupLaws.{BackupsHold};
-ghost use Rattle.serve_peers.specs.LineTexts.{told_of};
+ghost use Rattle.serve_peers.specs.LineLaws.{LinesTellVerdicts};
 ghost use Rattle.serve_peers.specs.LogLaws.{AlwaysLogged};
 ghost use Rattle.serve_peers.specs.ServedRuns.{AlwaysRuns};
 ghost use Rattle.serve_peers.specs.ServedLives.{AloneIsFound, AlwaysFound, AlwaysLives, KeptIsFound, RoundIsFound, RoundIsNotFound};
@@ -58,13 +52,9 @@ pub fn backups_hold<S: Alter, T: Alter>()
     ensures { BackupsHold S.Store T.Store }
 {}
 
-/// A line that asks in the place of an account's owner is told `ok` where the request was done, and
-/// where it was refused the word that tells why.
-pub fn lines_tell_words()
-    ensures done { (request : Header) (unsupported : List PlainAttribute) (groups : List PlainGroup)
-        → told_of (done_text request unsupported groups) ≡ codes "ok" }
-    ensures refused { (request : Header) (refusal : Refusal) (unsupported : List PlainAttribute)
-        → 0x0100 ≤ refusal.status → refusal.status < 2 ^ 16
-        → length (word_text refusal.word) < 2 ^ 16
-        → told_of (refused_text request refusal unsupported) ≡ word_text refusal.word }
+/// A line is told what the machine of its account gives: the reply, and where that is a response, as to
+/// who asks in the place of the account's owner, `ok` where it was done, or the word that tells why it
+/// was refused.
+pub fn lines_tell_words<S: Alter>()
+    ensures { LinesTellVerdicts S.Store }
 {}

@@ -2,11 +2,18 @@
 //! store and one journal of all that was applied to it; and one connection over any stream that may
 //! make it wait: what it reads, answers and writes in a turn, how long it may take, how much it
 //! holds.
+//!
+//! A type with a `drop` of its own has that in the place of `#[derive(Drop)]`, so that no caller proves
+//! again how each part is dropped.
 #![tactic(auto)]
 
+mod answers;
+mod applying;
+mod background;
 mod backup;
 mod copies;
 mod entry;
+mod full_disk;
 mod gathering;
 mod http_peer;
 mod journal;

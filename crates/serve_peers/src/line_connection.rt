@@ -14,7 +14,7 @@ use crate::own_devices::{device_of, is_named};
 use crate::served::Served;
 use account_questions::Question;
 use bytes::{Buf, BufMut, BytesMut};
-use http_server::{Log, Rope};
+use http_server::{Log as History, Rope};
 use input_fields::FieldFault;
 use input_lines::{BackupLine, Grammar, read_backup, read_question, read_station_question};
 use serve_log::{Door, LineRefusal};
@@ -89,12 +89,11 @@ pub struct LineConnection {
     pub(crate) output: Rope,
     /// Each read: what waited after it, and how much of that had waited before. Only proofs read
     /// it, and what was written.
-    pub(crate) reads: Log<BytesMut, usize>,
+    pub(crate) reads: History<BytesMut, usize>,
     /// Each write: what waited, and how much of it went.
-    pub(crate) writes: Log<Rope, usize>,
+    pub(crate) writes: History<Rope, usize>,
 }
 
-// In the place of `#[derive(Drop)]`, so that no caller proves again how each part is dropped.
 impl Drop for LineConnection {
     fn drop(self) {
         let LineConnection {
@@ -118,8 +117,8 @@ impl LineConnection {
             side,
             input: BytesMut::new(alloc),
             output: Rope::new(alloc),
-            reads: Log::new(),
-            writes: Log::new(),
+            reads: History::new(),
+            writes: History::new(),
         }
     }
 

@@ -22,7 +22,6 @@ pub struct LinePeer {
     has_ended: bool,
 }
 
-// In the place of `#[derive(Drop)]`, so that no caller proves again how each part is dropped.
 impl Drop for LinePeer {
     fn drop(self) {
         let LinePeer {

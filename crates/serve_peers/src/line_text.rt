@@ -1,32 +1,25 @@
 //! What is sent for a line.
-ghost use Rattle.std.specs.Prelude.{◌≡◌, ◌++◌, codes, slice_index, OnOk};
-ghost use Rattle.serve_peers.specs.LineTexts.{answer_text, bad_line_text, line_text, part_text, parts_text, refused_line, status_message, told_of};
+ghost use Rattle.std.specs.Prelude.{◌≡◌, ◌++◌, codes, OnOk};
+ghost use Rattle.serve_peers.specs.LineTexts.{answer_text, bad_line_text, line_text, part_text, parts_text, question_text, refused_line, reply_text, verdict_text};
 
 use crate::shared::shared;
-use account_machine::{Part, Reply};
+use account_machine::{Answered, Part, Reply, Verdict, line};
 use bytes::BufMut;
 use http_server::Rope;
 use room_store::StoreFault;
 use serve_log::LineRefusal;
 use std::alloc::{AllocError, Global};
 
-/// Where the text of the status-message stands in the refusals that the rooms answer.
-const MESSAGE_PLACE: usize = 90;
-
 /// Puts what a line came to after what waits to go.
 pub(crate) fn put_told(
     alloc: Global,
     output: &mut Rope,
-    told: Result<Reply, StoreFault>,
+    told: Result<Answered, StoreFault>,
 ) -> Result<(), AllocError>
     ensures { OnOk result (output.new.items ≡ output.old.items ++ line_text told) }
 {
     match told {
-        Ok(Reply::Line(text)) => put_line(output, text.items.as_slice()),
-        Ok(Reply::Documents(parts)) => put_parts(alloc, output, parts.items),
-        Ok(Reply::NoAccount) => output.put_slice(b"no-account\n"),
-        Ok(Reply::Short) => output.put_slice(b"short\n"),
-        Ok(Reply::Ipp(answer)) => put_line(output, told_of(answer.items.as_slice())),
+        Ok(Answered { reply, verdict }) => put_reply(alloc, output, reply, Some(verdict)),
         Err(_) => output.put_slice(b"failed\n"),
     }
 }
@@ -43,7 +36,53 @@ pub(crate) fn put_answer(
     if warns {
         output.put_slice(b"log-fails\n")
     } else {
-        put_told(alloc, output, told)
+        put_question_told(alloc, output, told)
+    }
+}
+
+fn put_question_told(
+    alloc: Global,
+    output: &mut Rope,
+    told: Result<Reply, StoreFault>,
+) -> Result<(), AllocError>
+    ensures { OnOk result (output.new.items ≡ output.old.items ++ question_text told) }
+{
+    match told {
+        Ok(reply) => put_reply(alloc, output, reply, None),
+        Err(_) => output.put_slice(b"failed\n"),
+    }
+}
+
+/// Puts a reply, and in the place of a response what it came to.
+fn put_reply(
+    alloc: Global,
+    output: &mut Rope,
+    reply: Reply,
+    verdict: Option<Verdict>,
+) -> Result<(), AllocError>
+    ensures { OnOk result (output.new.items ≡ output.old.items ++ reply_text verdict reply) }
+{
+    match reply {
+        Reply::Line(text) => put_line(output, text.items.as_slice()),
+        Reply::Documents(parts) => put_parts(alloc, output, parts.items),
+        Reply::NoAccount => output.put_slice(b"no-account\n"),
+        Reply::Short => output.put_slice(b"short\n"),
+        Reply::Ipp(_) => put_verdict(alloc, output, verdict),
+    }
+}
+
+/// Puts `ok`, or the word that tells why it was refused. No question is answered by a response.
+fn put_verdict(alloc: Global, output: &mut Rope, verdict: Option<Verdict>) -> Result<(), AllocError>
+    ensures { OnOk result
+        (output.new.items ≡ output.old.items ++ verdict_text verdict ++ codes "\n") }
+{
+    match verdict {
+        Some(Verdict::Done { .. }) => put_line(output, b"ok"),
+        Some(Verdict::Refused { refusal, .. }) => {
+            let word = line(alloc, refusal.word)?;
+            put_line(output, word.items.as_slice())
+        }
+        None => put_line(output, b"failed"),
     }
 }
 
@@ -73,33 +112,6 @@ fn put_part(output: &mut Rope, part: Part) -> Result<(), AllocError>
     put_line(output, part.line.items.as_slice())?;
     output.push(shared(part.bytes.items)?)?;
     output.put_slice(b"\n")
-}
-
-/// What is told of a response: `ok`, or the text of its status-message, which is the word of the
-/// refusal.
-fn told_of(answer: &[u8]) -> &[u8]
-    ensures { result.now ≡ told_of answer.now }
-{
-    if byte_at(answer, 2) == 0 {
-        b"ok"
-    } else {
-        status_message(answer)
-    }
-}
-
-fn status_message(answer: &[u8]) -> &[u8]
-    ensures { result.now ≡ status_message answer.now }
-{
-    let length = usize::from(byte_at(answer, 88)) * 256 + usize::from(byte_at(answer, 89));
-    let behind = &answer[MESSAGE_PLACE.min(answer.len())..];
-    &behind[..length.min(behind.len())]
-}
-
-/// The byte at a place, and 0 where there is none.
-fn byte_at(bytes: &[u8], place: usize) -> u8
-    ensures { result ≡ slice_index bytes.now place }
-{
-    bytes.get(place).copied().unwrap_or(0)
 }
 
 /// Puts the answer to a line that is refused after what waits to go.

@@ -3,13 +3,13 @@ ghost use Rattle.std.specs.Prelude.{◌≡◌};
 ghost use Rattle.serve_peers.specs.Logging.{Becomes, DraftsOne, KeepsLines, LogsOne, SettlesDrafts};
 
 use crate::entry::Entry;
-use account_machine::Reply;
+use account_machine::Answered;
 use room_store::StoreFault;
 use serve_log::{Door, EventLog, LineRefusal};
 use std::fs::{File, Files};
 
 /// What came was applied by itself.
-pub(crate) fn note(log: &mut Option<EventLog>, entry: &Entry, told: &Result<Reply, StoreFault>)
+pub(crate) fn note(log: &mut Option<EventLog>, entry: &Entry, told: &Result<Answered, StoreFault>)
     ensures { Becomes (LogsOne (entry.now, told.now)) log.old log.new }
 {
     if let Some(log) = log {
@@ -18,7 +18,7 @@ pub(crate) fn note(log: &mut Option<EventLog>, entry: &Entry, told: &Result<Repl
 }
 
 /// What came was applied in the round that is under way.
-pub(crate) fn draft(log: &mut Option<EventLog>, entry: &Entry, told: &Result<Reply, StoreFault>)
+pub(crate) fn draft(log: &mut Option<EventLog>, entry: &Entry, told: &Result<Answered, StoreFault>)
     ensures { Becomes (DraftsOne (entry.now, told.now)) log.old log.new }
 {
     if let Some(log) = log {

@@ -1,26 +1,29 @@
-//! The rooms as one process serves them to everybody.
-ghost use Rattle.std.specs.Prelude.{◌≡◌, ◌≢◌, ◌+◌, ◌≤◌, ◌⊎◌, ◌++◌, ℕ, List, [], true, false, IsTrue, None, Some, Err, IfOk, OnErr, OnOk};
+//! The rooms as one process serves them to everybody: the tables, the journal of what is applied to
+//! them, in rounds or by itself, and the space that is kept for a full disk. What goes on beside that
+//! is `Background`.
+ghost use Rattle.std.specs.Prelude.{◌≡◌, ◌≢◌, ◌⊎◌, ◌≤◌, ◌++◌, ℕ, List, [], false, IsTrue, None, IfOk, OnErr, OnOk};
 ghost use Rattle.serve_log.specs.Waits.{drafts_of, logged_of};
 ghost use Rattle.serve_peers.specs.Journals.{asked_of, ends_of, is_full_of, is_lost_of, log_lags_of, moment_of, needs_password_of, open_of, rounds_of, shares_of, store_of};
-ghost use Rattle.serve_peers.specs.Applying.{AppliesAlone, AppliesEntry};
-ghost use Rattle.serve_peers.specs.Again.{IsOneMore, told_at_last};
-ghost use Rattle.serve_peers.specs.Space.{entry_needs_space, lacks_space, length_of_entry, spare_of};
-ghost use Rattle.serve_space.specs.Spares.{any_length, held_of, kept_back, kept_beside, takes_of};
+ghost use Rattle.serve_peers.specs.Space.{lacks_space, spare_of};
+ghost use Rattle.serve_space.specs.Spares.{any_length, held_of, takes_of};
 ghost use Rattle.serve_peers.specs.Copies.{copy_in};
 ghost use Rattle.page_overview.specs.Pages.{IsPage};
 ghost use Rattle.serve_peers.specs.Gathering.{asked_at, gathers};
-ghost use Rattle.serve_peers.specs.Overviews.{Gathers, GathersOn, gathered_of, shown_of};
-ghost use Rattle.serve_peers.specs.Keeping.{AsksNext, DoesSlice, KeepsBackup, MakesCopy, OnlyKeeps, backup_of, is_begun, is_wanted, stage_of};
+ghost use Rattle.serve_peers.specs.Overviews.{Gathers, gathered_of, shown_of, with_gathered};
+ghost use Rattle.serve_peers.specs.Keeping.{AsksNext, KeepsBackup, OnlyKeeps, backup_of};
 ghost use Rattle.serve_peers.specs.Turns.{AnswersNext, AppliesNext};
 ghost use Rattle.serve_peers.specs.Rounds.{IsBegun, IsNotBegun, IsSettled};
 
-use crate::backup::{Backup, BackupTold, Stage, ask_slice, begin_backup};
-use crate::copies::{Copies, Done};
+use crate::answers::{is_done, size_of};
+use crate::applying::apply_unless_lost;
+use crate::background::Background;
+use crate::backup::BackupTold;
+use crate::copies::Copies;
 use crate::entry::Entry;
-use crate::gathering::{Gathered, Gathering};
+use crate::full_disk::{apply_or_free_space, log_from_space, note_space};
 use crate::journal::Journal;
 use crate::request::needs_space;
-use account_machine::{Name, Part, Reply};
+use account_machine::{Answered, Name, Reply};
 use account_questions::Question;
 use bytes::Bytes;
 use http::Request;
@@ -36,13 +39,6 @@ use store_copy::CopyMaker;
 
 /// A round is full once more bytes than this were told in it.
 const MOST_TOLD: usize = 8_388_608;
-
-/// The bytes that a small change is given first where the disk is full. The log grows by 256 KiB at
-/// once.
-const FIRST_PIECE: usize = 524_288;
-
-/// The bytes that the log is given where the disk is full: the most that waits for it, and a block.
-const LOG_PIECE: usize = 1_052_672;
 
 /// The shared tables, the clock's moment, and a journal of all that was applied to them.
 pub struct Served<S: Alter> {
@@ -61,17 +57,10 @@ pub struct Served<S: Alter> {
     pub(crate) bytes_told: usize,
     /// The space that is kept for a full disk.
     pub(crate) spare: Spare,
-    /// Whether an operator asked that serving ends.
-    pub(crate) ends: bool,
-    /// The backup that an operator asked for last.
-    pub(crate) backup: Option<Backup>,
-    /// What the print room's page shows.
-    pub(crate) gathered: Gathered,
-    /// Whether the pages take no file without a password.
-    pub(crate) needs_password: bool,
+    /// What goes on beside what is applied.
+    pub(crate) background: Background,
 }
 
-// In the place of `#[derive(Drop)]`, so that no caller proves again how each part is dropped.
 impl<S: Alter + Drop> Drop for Served<S> {
     fn drop(self) {
         let Served {
@@ -84,10 +73,7 @@ impl<S: Alter + Drop> Drop for Served<S> {
             asked: _,
             bytes_told: _,
             spare: _,
-            ends: _,
-            backup: _,
-            gathered: _,
-            needs_password: _,
+            background: _,
         } = self;
     }
 }
@@ -118,10 +104,7 @@ impl<S: Alter> Served<S> {
             asked: None,
             bytes_told: 0,
             spare: Spare::none(),
-            ends: false,
-            backup: None,
-            gathered: Gathered::nothing(alloc, moment),
-            needs_password: false,
+            background: Background::new(alloc, moment),
         }
     }
 
@@ -130,20 +113,6 @@ impl<S: Alter> Served<S> {
         ensures { self.new ≡ record self.old { spare = spare } }
     {
         self.spare = spare;
-    }
-
-    /// From now on the pages take no file without a password, or take one.
-    pub fn set_needs_password(&mut self, needs_password: bool)
-        ensures { self.new ≡ record self.old { needs_password = needs_password } }
-    {
-        self.needs_password = needs_password;
-    }
-
-    /// Whether the pages take no file without a password.
-    pub fn needs_password(&self) -> bool
-        ensures { result ≡ needs_password_of self.now }
-    {
-        self.needs_password
     }
 
     /// From now on what is applied is logged there. Nothing was asked yet.
@@ -258,7 +227,7 @@ impl<S: Alter> Served<S> {
             return;
         }
         self.settle_round();
-        self.log_from_space();
+        log_from_space(&mut self.journal, &mut self.spare);
     }
 
     fn settle_round(&mut self)
@@ -294,13 +263,6 @@ impl<S: Alter> Served<S> {
         self.is_lost
     }
 
-    /// Whether an operator asked that serving ends.
-    pub fn has_to_end(&self) -> bool
-        ensures { result ≡ ends_of self.now }
-    {
-        self.ends
-    }
-
     /// A peer's turn begins that has asked this in the round.
     pub fn set_asked(&mut self, asked: Option<Entry>)
         ensures { self.new ≡ record self.old { asked = asked } }
@@ -318,147 +280,38 @@ impl<S: Alter> Served<S> {
 
     /// Applies what came, once, and answers what that came to. In a round a peer can ask one thing
     /// before that is settled; another is not applied, as if there were no memory for it.
-    pub fn apply(&mut self, entry: Entry) -> Result<Result<Reply, StoreFault>, AllocError>
-        ensures applies { IfOk result (λ told. AppliesNext S.Store entry told self.old self.new) }
+    pub fn apply(&mut self, entry: Entry) -> Result<Result<Answered, StoreFault>, AllocError>
+        ensures applies { IfOk result (λ answer. AppliesNext S.Store entry answer self.old self.new) }
         ensures unchanged { OnErr result (self.new ≡ self.old) }
         ensures second { OnErr result
             (IsTrue (shares_of self.old) × (asked_of self.old ≢ [])) }
     {
         if self.shares {
-            return self.apply_shared(entry);
+            return self.apply_in_shared_round(entry);
         }
-        Ok(self.apply_alone(&entry))
+        Ok(self.apply_in_own_round(&entry))
     }
 
-    pub(crate) fn apply_alone(&mut self, entry: &Entry) -> Result<Reply, StoreFault>
+    /// Applies what came by itself, and notes it as a round of one.
+    pub(crate) fn apply_in_own_round(&mut self, entry: &Entry) -> Result<Answered, StoreFault>
         requires { shares_of self.old ≡ false }
         ensures { AppliesNext S.Store entry.now result self.old self.new }
     {
-        let told = self.apply_with_spare(entry);
-        self.note_space(entry, &told);
-        self.tell_beyond(entry, &told);
-        self.journal.add_alone(entry, &told);
-        self.log_from_space();
-        told
+        let answer = apply_or_free_space(self.alloc, &mut self.rounds, &mut self.spare, entry);
+        note_space(&mut self.spare, entry, &answer);
+        self.log_beyond(entry, &answer);
+        self.journal.add_alone(entry, &answer);
+        log_from_space(&mut self.journal, &mut self.spare);
+        answer
     }
 
-    /// Has the log tell what a settlement charged beyond what its job had reserved.
-    fn tell_beyond(&mut self, entry: &Entry, told: &Result<Reply, StoreFault>)
-        ensures { self.new ≡ self.old }
-    {
-        let units = self.rounds.take_beyond();
-        if units > 0 && is_done(told) {
-            self.journal.tell_beyond(entry, units);
-        }
-    }
-
-    /// Where lines wait for the log's file it is given a piece of the space that is kept, and what that
-    /// leaves is taken back.
-    fn log_from_space(&mut self)
-        ensures rounds { rounds_of self.new ≡ rounds_of self.old }
-        ensures none_more { open_of self.new ≡ open_of self.old }
-        ensures same { self.new ≡ record self.old {
-          journal = self.new.journal;
-          spare = spare_of self.new;
-        } }
-    {
-        if self.journal.log_lags() && self.spare.give_up(LOG_PIECE) {
-            self.journal.push_out();
-            self.spare.fill();
-        }
-    }
-
-    /// Applies what came. Where the storage fails it is applied once more from the space that is kept,
-    /// with a piece of that, and then with all of it.
-    fn apply_with_spare(&mut self, entry: &Entry) -> Result<Reply, StoreFault>
-        ensures applies { AppliesAlone S.Store entry.now
-            (store_of self.old) (store_of self.new) result }
-        ensures same { self.new ≡ record self.old {
-          rounds = store_of self.new;
-          spare = spare_of self.new;
-        } }
-    {
-        let told = self.apply_once(entry);
-        let told = self.apply_from_space(entry, told, FIRST_PIECE);
-        self.apply_from_space(entry, told, usize::MAX)
-    }
-
-    /// Applies what failed once more, if space could be given up for it. What it leaves of that is
-    /// taken back at once, before somebody else's file takes it.
-    fn apply_from_space(
+    /// Applies what came in the round that is under way, and notes it in that, for its peer too.
+    fn apply_in_shared_round(
         &mut self,
-        entry: &Entry,
-        told: Result<Reply, StoreFault>,
-        most: usize,
-    ) -> Result<Reply, StoreFault>
-        ensures again { IsOneMore S.Store entry.now
-            (store_of self.old) told (store_of self.new) result }
-        ensures same { self.new ≡ record self.old {
-          rounds = store_of self.new;
-          spare = spare_of self.new;
-        } }
-    {
-        if !self.frees_space(entry, &told, most) {
-            return told;
-        }
-        let told = told_at_last(self.apply_once(entry));
-        self.spare.fill();
-        told
-    }
-
-    /// Gives up space that is kept where the storage failed: for what brings no job or document so
-    /// many bytes at most, and else what is lent for it. Answers whether there was some.
-    fn frees_space(&mut self, entry: &Entry, told: &Result<Reply, StoreFault>, most: usize) -> bool
-        ensures failed { IsTrue result → told.now ≡ Err StoreFault.Storage }
-        ensures left { IsTrue result → IsTrue (entry_needs_space entry.now)
-            → length_of_entry entry.now + (kept_back + kept_beside) ≤ held_of (spare_of self.new) }
-        ensures same { self.new ≡ record self.old { spare = spare_of self.new } }
-    {
-        match told {
-            Err(StoreFault::Storage) => self.gives_up_for(entry, most),
-            _ => false,
-        }
-    }
-
-    fn gives_up_for(&mut self, entry: &Entry, most: usize) -> bool
-        ensures left { IsTrue result → IsTrue (entry_needs_space entry.now)
-            → length_of_entry entry.now + (kept_back + kept_beside) ≤ held_of (spare_of self.new) }
-        ensures same { self.new ≡ record self.old { spare = spare_of self.new } }
-    {
-        if entry.needs_space() {
-            let length = entry.length();
-            self.spare.lend(length, most.saturating_add(length))
-        } else {
-            self.spare.give_up(most)
-        }
-    }
-
-    /// Notes for the space that is kept whether a job ended, or a job or a document came.
-    fn note_space(&mut self, entry: &Entry, told: &Result<Reply, StoreFault>)
-        ensures { self.new ≡ record self.old { spare = spare_of self.new } }
-    {
-        if !is_done(told) {
-            return;
-        }
-        if entry.needs_space() {
-            self.spare.took();
-        } else if entry.ends_job() {
-            self.spare.ended();
-        }
-    }
-
-    fn apply_once(&mut self, entry: &Entry) -> Result<Reply, StoreFault>
-        ensures applies { AppliesAlone S.Store entry.now
-            (store_of self.old) (store_of self.new) result }
-        ensures same { self.new ≡ record self.old { rounds = store_of self.new } }
-    {
-        self.rounds
-            .apply_alone(self.alloc, entry.moment(), &entry.event())
-    }
-
-    fn apply_shared(&mut self, entry: Entry) -> Result<Result<Reply, StoreFault>, AllocError>
+        entry: Entry,
+    ) -> Result<Result<Answered, StoreFault>, AllocError>
         requires { IsTrue (shares_of self.old) }
-        ensures applies { IfOk result (λ told. AppliesNext S.Store entry told self.old self.new) }
+        ensures applies { IfOk result (λ answer. AppliesNext S.Store entry answer self.old self.new) }
         ensures unchanged { OnErr result (self.new ≡ self.old) }
         ensures second { OnErr result
             (IsTrue (shares_of self.old) × (asked_of self.old ≢ [])) }
@@ -466,26 +319,23 @@ impl<S: Alter> Served<S> {
         if self.asked.is_some() {
             return Err(AllocError);
         }
-        let told = self.apply_in_round(&entry);
-        self.note_space(&entry, &told);
-        self.bytes_told = self.bytes_told.saturating_add(size_of(&told));
-        self.tell_beyond(&entry, &told);
-        self.journal.add_shared(&entry, &told);
+        let answer = apply_unless_lost(self.alloc, &mut self.rounds, &entry);
+        note_space(&mut self.spare, &entry, &answer);
+        self.bytes_told = self.bytes_told.saturating_add(size_of(&answer));
+        self.log_beyond(&entry, &answer);
+        self.journal.add_shared(&entry, &answer);
         self.asked = Some(entry);
-        Ok(told)
+        Ok(answer)
     }
 
-    /// Once the round is lost nothing is applied in it.
-    fn apply_in_round(&mut self, entry: &Entry) -> Result<Reply, StoreFault>
-        ensures applies { AppliesEntry S.Store true entry.now
-            (store_of self.old) (store_of self.new) result }
-        ensures same { self.new ≡ record self.old { rounds = store_of self.new } }
+    /// Has the log tell what a settlement charged beyond what its job had reserved.
+    fn log_beyond(&mut self, entry: &Entry, answer: &Result<Answered, StoreFault>)
+        ensures { self.new ≡ self.old }
     {
-        if !self.rounds.is_under_way() {
-            return Err(StoreFault::Storage);
+        let units = self.rounds.take_beyond();
+        if units > 0 && is_done(answer) {
+            self.journal.tell_beyond(entry, units);
         }
-        self.rounds
-            .apply(self.alloc, entry.moment(), &entry.event())
     }
 
     /// Answers a question by the tables as they are. No round is under way: what one has changed may
@@ -495,10 +345,35 @@ impl<S: Alter> Served<S> {
         ensures { AnswersNext S.Store question result self.old self.new }
     {
         let ends = question.asks_end();
-        let told = self.rounds.answer(self.alloc, question);
+        let answer = self.rounds.answer(self.alloc, question);
         self.journal.add_nothing();
-        self.ends = self.ends || ends;
-        told
+        self.background.ends = self.background.ends || ends;
+        answer
+    }
+
+    // ---- in the background
+
+    /// Whether an operator asked that serving ends.
+    pub fn has_to_end(&self) -> bool
+        ensures { result ≡ ends_of self.now }
+    {
+        self.background.ends
+    }
+
+    /// From now on the pages take no file without a password, or take one.
+    pub fn set_needs_password(&mut self, needs_password: bool)
+        ensures { self.new ≡ record self.old {
+          background = record self.old.background { needs_password = needs_password };
+        } }
+    {
+        self.background.needs_password = needs_password;
+    }
+
+    /// Whether the pages take no file without a password.
+    pub fn needs_password(&self) -> bool
+        ensures { result ≡ needs_password_of self.now }
+    {
+        self.background.needs_password
     }
 
     /// Takes a line of a backup, and answers what it is told.
@@ -506,13 +381,7 @@ impl<S: Alter> Served<S> {
         ensures asks { IfOk result (λ told. AsksNext line.entry told self.old self.new) }
         ensures unchanged { OnErr result (self.new ≡ self.old) }
     {
-        let moment = self.moment;
-        match line {
-            BackupLine::Begin { file } => {
-                begin_backup(self.alloc, &mut self.backup, file, moment)
-            }
-            BackupLine::Slice { file } => Ok(ask_slice(&mut self.backup, file, moment)),
-        }
+        self.background.ask_backup(self.alloc, line, self.moment)
     }
 
     /// Does what the lines of a backup ask for: makes the copy's file, or does one slice, where no
@@ -528,68 +397,24 @@ impl<S: Alter> Served<S> {
         if self.shares {
             return;
         }
-        let stage = self.backup_stage();
-        if is_begun(stage) {
-            self.make_copy(copies);
-        } else if is_wanted(stage) {
-            self.do_slice(copies);
-        }
-    }
-
-    fn backup_stage(&self) -> Option<Stage>
-        ensures { result ≡ stage_of self.now }
-    {
-        match &self.backup {
-            Some(backup) => Some(backup.stage),
-            None => None,
-        }
-    }
-
-    fn make_copy<T: Alter, K: CopyMaker<Rows = Connection<T>>>(&mut self, copies: &mut Copies<T, K>)
-        requires { IsTrue (is_begun (stage_of self.old)) }
-        ensures { MakesCopy T.Store self.old self.new (copy_in copies.new) }
-    {
-        if let Some(backup) = &mut self.backup {
-            backup.stage = if copies.make(backup.file.as_slice()) {
-                Stage::Ready
-            } else {
-                Stage::Failed
-            };
-        }
-    }
-
-    fn do_slice<T: Alter, K: CopyMaker<Rows = Connection<T>>>(&mut self, copies: &mut Copies<T, K>)
-        requires { shares_of self.old ≡ false }
-        ensures { DoesSlice S.Store T.Store self.old self.new
-            (copy_in copies.old) (copy_in copies.new) }
-    {
-        let touched = self.journal.is_touched();
-        let (stage, account) = match copies.slice(self.alloc, &mut self.rounds, touched) {
-            Done::Part(account) => (Stage::Ready, account),
-            Done::Whole => (Stage::Whole, None),
-            Done::Failed => (Stage::Failed, None),
-        };
-        self.journal.add_slice(account);
-        if let Some(backup) = &mut self.backup {
-            backup.stage = stage;
-        }
+        self.background
+            .keep_backup(self.alloc, &mut self.rounds, &mut self.journal, copies);
     }
 
     /// Somebody asks for the print room's page: all accounts are gathered for it, if what it shows is
     /// not of the last seconds.
     pub fn ask_overview(&mut self)
-        ensures { self.new ≡ record self.old {
-          gathered = asked_at (moment_of self.old) (gathered_of self.old);
-        } }
+        ensures { self.new ≡ with_gathered self.old
+            (asked_at (moment_of self.old) (gathered_of self.old)) }
     {
-        self.gathered.ask(self.moment);
+        self.background.gathered.ask(self.moment);
     }
 
     /// Whether accounts are being gathered for the print room's page.
     pub fn gathers(&self) -> bool
         ensures { result ≡ gathers (gathered_of self.now) }
     {
-        self.gathered.under_way.is_some()
+        self.background.gathered.under_way.is_some()
     }
 
     /// Appends the print room's page, by what was gathered last. Of the accounts it lists those whose
@@ -604,7 +429,8 @@ impl<S: Alter> Served<S> {
             × IsPage (shown_of self.now) (gathers (gathered_of self.now)) front behind page
             × (out.new.items ≡ out.old.items ++ page)) }
     {
-        self.gathered
+        self.background
+            .gathered
             .shown
             .put_page(out, self.gathers(), front, behind)
     }
@@ -618,18 +444,8 @@ impl<S: Alter> Served<S> {
         if self.shares {
             return;
         }
-        if let Some(gathering) = self.gathered.under_way.take() {
-            self.go_on(gathering);
-        }
-    }
-
-    fn go_on(&mut self, gathering: Gathering)
-        requires { shares_of self.old ≡ false }
-        ensures { GathersOn S.Store gathering self.old self.new }
-    {
-        let stepped = gathering.step(self.alloc, &mut self.rounds);
-        self.journal.add_nothing();
-        self.gathered.keep(stepped);
+        self.background
+            .gather(self.alloc, &mut self.rounds, &mut self.journal);
     }
 
     /// The connection to the tables as they are. What a round that is under way has changed is on the
@@ -647,60 +463,8 @@ impl<S: Alter> Served<S> {
             asked: _,
             bytes_told: _,
             spare: _,
-            ends: _,
-            backup: _,
-            gathered: _,
-            needs_password: _,
+            background: _,
         } = self;
         rounds.close()
     }
-}
-
-fn is_begun(stage: Option<Stage>) -> bool
-    ensures { result ≡ is_begun stage }
-{
-    matches!(stage, Some(Stage::Begun))
-}
-
-fn is_wanted(stage: Option<Stage>) -> bool
-    ensures { result ≡ is_wanted stage }
-{
-    matches!(stage, Some(Stage::Wanted))
-}
-
-/// What is told of an event that was applied once more: rows that were found damaged only then are
-/// a failure of the storage, as it was at first.
-fn told_at_last(told: Result<Reply, StoreFault>) -> Result<Reply, StoreFault>
-    ensures { result ≡ told_at_last told }
-{
-    match told {
-        Err(StoreFault::Damaged) => Err(StoreFault::Storage),
-        told => told,
-    }
-}
-
-/// Whether what was asked was done: of an answer of IPP, by the first byte of its status.
-fn is_done(told: &Result<Reply, StoreFault>) -> bool {
-    match told {
-        Ok(Reply::Ipp(answer)) => answer.items.get(2) == Some(&0),
-        Ok(Reply::Line(text)) => text.items.starts_with(b"ok"),
-        _ => false,
-    }
-}
-
-/// About how many bytes it takes to tell the outcome.
-fn size_of(told: &Result<Reply, StoreFault>) -> usize {
-    match told {
-        Ok(Reply::Ipp(answer)) => answer.items.len(),
-        Ok(Reply::Documents(parts)) => size_of_parts(parts.items.as_slice()),
-        _ => 0,
-    }
-}
-
-fn size_of_parts(parts: &[Part]) -> usize {
-    let mut size: usize = 0;
-    for part in parts {
-        size = size.saturating_add(part.bytes.items.len());
-    }
-    size
 }

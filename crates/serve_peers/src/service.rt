@@ -7,6 +7,7 @@ ghost use Rattle.account_replies.specs.Replies.{internal_error_text};
 ghost use Rattle.serve_peers.specs.Requests.{has_long_body};
 ghost use Rattle.serve_peers.specs.Answers.{Answers, IsLost, IsRefusal, IsTold, Sends, answer_fields, close_fields};
 
+use crate::answers::reply_of;
 use crate::entry::Entry;
 use crate::request::{asked, has_long_body};
 use crate::served::Served;
@@ -30,9 +31,9 @@ impl<S: Alter> Service for Served<S> {
         response: &mut Response,
     ) -> Result<(), AllocError> {
         match asked(request) {
-            Err(refusal) => self.turn_away(refusal, request, response),
+            Err(refusal) => self.refuse_and_log(refusal, request, response),
             Ok(_) if self.lacks_space(request) => {
-                self.turn_away(Refusal::NoSpace, request, response)
+                self.refuse_and_log(Refusal::NoSpace, request, response)
             }
             Ok(account) => self.answer(account, request, response),
         }
@@ -41,7 +42,7 @@ impl<S: Alter> Service for Served<S> {
 
 impl<S: Alter> Served<S> {
     /// Refuses a request, which changes nothing, and has the log tell it.
-    fn turn_away(
+    fn refuse_and_log(
         &mut self,
         refusal: Refusal,
         request: &Request<Bytes>,
@@ -77,7 +78,7 @@ impl<S: Alter> Served<S> {
         };
         let told = self.apply(entry)?;
         let header = header_in(request.body().as_slice());
-        tell(response, told, header, has_long_body(request));
+        tell(response, reply_of(told), header, has_long_body(request));
         Ok(())
     }
 }

@@ -3,12 +3,12 @@ ghost use Rattle.std.specs.Prelude.{◌≡◌, ◌||◌, ◌∷◌, ◌++◌, []
 ghost use Rattle.serve_peers.specs.Watching.{touches};
 
 use crate::entry::Entry;
-use account_machine::{Name, Reply};
-use http_server::Log;
+use account_machine::{Answered, Name};
+use http_server::Log as History;
 use room_store::StoreFault;
 
 /// What was asked in rounds that are over, each with whether it was kept.
-pub(crate) type Rounds = Log<Log<Entry, Result<Reply, StoreFault>>, bool>;
+pub(crate) type Rounds = History<History<Entry, Result<Answered, StoreFault>>, bool>;
 
 /// An account that is watched, and whether anything was asked of it. Only proofs read the rounds.
 #[derive(Drop)]
@@ -34,7 +34,7 @@ impl Watch {
             account,
             touched,
             seen,
-            since: Log::new(),
+            since: History::new(),
         }
     }
 
@@ -57,7 +57,7 @@ impl Watch {
     }
 
     /// A round is over.
-    pub(crate) fn close(&mut self, round: &Log<Entry, Result<Reply, StoreFault>>, kept: bool)
+    pub(crate) fn close(&mut self, round: &History<Entry, Result<Answered, StoreFault>>, kept: bool)
         ensures account { self.new.account ≡ self.old.account }
         ensures touched { self.new.touched ≡ self.old.touched }
         ensures seen { self.new.seen ≡ self.old.seen }

@@ -1,6 +1,6 @@
 use Rattle.std.proofs.Common.{Bool, ap, sym, ◌∙◌}
 use Rattle.http_server.specs.declared.log.Log.{Log}
-use Rattle.account_machine.specs.declared.event.Reply.{Reply}
+use Rattle.account_machine.specs.declared.verdict.Answered.{Answered}
 use Rattle.room_store.specs.declared.fault.StoreFault.{StoreFault}
 use Rattle.std.specs.Prelude.{Result}
 use Rattle.serve_peers.proofs.Telling.{told_nothing}
@@ -14,5 +14,5 @@ invariant_of-self c =
     record {
       told = told_nothing c.args.self.now.log c.args.self.now.over.items c.and-over.result.items c.new-nothing.result under_way c.args.self.now.told c.and-over.ensures c.new-nothing.ensures;
       none_open = c.args.self.now.none_open;
-      watched = begun c.begin-self.result c.and-over.result.items under_way (ap (λ (log : Log (Log Entry (Result Reply StoreFault)) Bool). log.items) c.begin-self.ensures.seen ∙ c.and-seen.ensures ∙ sym c.and-over.ensures) c.begin-self.ensures.since (λ untouched. c.args.self.now.none_open (sym c.begin-self.ensures.touched ∙ untouched));
+      watched = begun c.begin-self.result c.and-over.result.items under_way (ap (λ (log : Log (Log Entry (Result Answered StoreFault)) Bool). log.items) c.begin-self.ensures.seen ∙ c.and-seen.ensures ∙ sym c.and-over.ensures) c.begin-self.ensures.since (λ untouched. c.args.self.now.none_open (sym c.begin-self.ensures.touched ∙ untouched));
     }

@@ -1,0 +1,123 @@
+//! What is done where the disk is full: space is given up that is kept for that.
+ghost use Rattle.std.specs.Prelude.{◌≡◌, ◌+◌, ◌≤◌, Err, IsTrue};
+ghost use Rattle.serve_peers.specs.Again.{IsOneMore, answer_at_last};
+ghost use Rattle.serve_peers.specs.Applying.{AppliesAlone};
+ghost use Rattle.serve_peers.specs.Space.{entry_needs_space, length_of_entry};
+ghost use Rattle.serve_peers.specs.Writing.{rounds_in, under_way_in};
+ghost use Rattle.serve_space.specs.Spares.{held_of, kept_back, kept_beside};
+
+use crate::answers::is_done;
+use crate::applying::apply_in_own_transaction;
+use crate::entry::Entry;
+use crate::journal::Journal;
+use account_machine::Answered;
+use room_store::{Rounds, StoreFault};
+use serve_space::Spare;
+use sqlite::Alter;
+use std::alloc::Global;
+
+/// The bytes that a small change is given first. SQLite's write-ahead log grows by 256 KiB at once.
+const FIRST_PIECE: usize = 524_288;
+
+/// The bytes that the log of events is given: the most that waits for it, and a block.
+const LOG_PIECE: usize = 1_052_672;
+
+/// Applies what came. Where the storage fails it is applied once more from the space that is kept,
+/// with a piece of that, and then with all of it.
+pub(crate) fn apply_or_free_space<S: Alter>(
+    alloc: Global,
+    rounds: &mut Rounds<S>,
+    spare: &mut Spare,
+    entry: &Entry,
+) -> Result<Answered, StoreFault>
+    ensures { AppliesAlone S.Store entry.now rounds.old rounds.new result }
+{
+    let answer = apply_in_own_transaction(alloc, rounds, entry);
+    let answer = apply_again_from_space(alloc, rounds, spare, entry, answer, FIRST_PIECE);
+    apply_again_from_space(alloc, rounds, spare, entry, answer, usize::MAX)
+}
+
+/// Applies what failed once more, if space could be given up for it. What it leaves of that is taken
+/// back at once, before somebody else's file takes it.
+fn apply_again_from_space<S: Alter>(
+    alloc: Global,
+    rounds: &mut Rounds<S>,
+    spare: &mut Spare,
+    entry: &Entry,
+    answer: Result<Answered, StoreFault>,
+    most: usize,
+) -> Result<Answered, StoreFault>
+    ensures { IsOneMore S.Store entry.now rounds.old answer rounds.new result }
+{
+    if !frees_space(spare, entry, &answer, most) {
+        return answer;
+    }
+    let answer = answer_at_last(apply_in_own_transaction(alloc, rounds, entry));
+    spare.fill();
+    answer
+}
+
+/// Gives up space that is kept where the storage failed: for what brings no job or document so many
+/// bytes at most, and else what is lent for it. Answers whether there was some.
+fn frees_space(
+    spare: &mut Spare,
+    entry: &Entry,
+    answer: &Result<Answered, StoreFault>,
+    most: usize,
+) -> bool
+    ensures failed { IsTrue result → answer.now ≡ Err StoreFault.Storage }
+    ensures left { IsTrue result → IsTrue (entry_needs_space entry.now)
+        → length_of_entry entry.now + (kept_back + kept_beside) ≤ held_of spare.new }
+{
+    match answer {
+        Err(StoreFault::Storage) => gives_up_for(spare, entry, most),
+        _ => false,
+    }
+}
+
+fn gives_up_for(spare: &mut Spare, entry: &Entry, most: usize) -> bool
+    ensures { IsTrue result → IsTrue (entry_needs_space entry.now)
+        → length_of_entry entry.now + (kept_back + kept_beside) ≤ held_of spare.new }
+{
+    if entry.needs_space() {
+        let length = entry.length();
+        spare.lend(length, most.saturating_add(length))
+    } else {
+        spare.give_up(most)
+    }
+}
+
+/// What is answered to an event that was applied once more: rows that were found damaged only then are
+/// a failure of the storage, as it was at first.
+fn answer_at_last(answer: Result<Answered, StoreFault>) -> Result<Answered, StoreFault>
+    ensures { result ≡ answer_at_last answer }
+{
+    match answer {
+        Err(StoreFault::Damaged) => Err(StoreFault::Storage),
+        answer => answer,
+    }
+}
+
+/// Notes for the space that is kept whether a job ended, or a job or a document came.
+pub(crate) fn note_space(spare: &mut Spare, entry: &Entry, answer: &Result<Answered, StoreFault>) {
+    if !is_done(answer) {
+        return;
+    }
+    if entry.needs_space() {
+        spare.took();
+    } else if entry.ends_job() {
+        spare.ended();
+    }
+}
+
+/// Where lines wait for the log's file it is given a piece of the space that is kept, and what that
+/// leaves is taken back.
+pub(crate) fn log_from_space(journal: &mut Journal, spare: &mut Spare)
+    ensures rounds { rounds_in journal.new ≡ rounds_in journal.old }
+    ensures under_way { under_way_in journal.new ≡ under_way_in journal.old }
+{
+    if journal.log_lags() && spare.give_up(LOG_PIECE) {
+        journal.push_out();
+        spare.fill();
+    }
+}
