@@ -35,7 +35,7 @@ def cases():
         for name, words, ending in endings():
             yield f'{name}: {words}', functools.partial(ends, words=words.split(), **ending)
     for descriptor, name in enumerate(('input', 'output', 'error')):
-        yield f'without standard {name}, on a file', functools.partial(keeps_files, descriptor)
+        yield f'without standard {name}, on a file', functools.partial(keeps_files, descriptor=descriptor)
 
 
 def long_inputs():
@@ -93,7 +93,8 @@ def keeps_files(folder, descriptor):
     printed = {'status': 4, 'told': IO} if descriptor == 1 else {'printed': b'ok\n'}
     ends(folder, ['create', 'room.db'], **streams, **printed)
     ends(folder, ['open', 'room.db', 'alice'], **streams, **printed)
-    ends(folder, ['open', 'room.db', 'bob'], **streams, moment=LATE, status=3, told=b'' if descriptor == 2 else STORE)
+    ends(folder, ['open', 'room.db', 'bob'], **streams, moment=LATE, status=3,
+         printed=b'' if descriptor == 1 else b'failed\n', told=b'' if descriptor == 2 else STORE)
     words = ['serve', 'room.db', '0', 'stations', 'operators', '--log', 'log']
     with subprocess.Popen([PROGRAM, *words], cwd=folder, stdin=subprocess.DEVNULL, stdout=subprocess.PIPE, stderr=subprocess.PIPE,
                           preexec_fn=functools.partial(os.close, descriptor)) as serving:

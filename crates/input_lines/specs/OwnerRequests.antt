@@ -24,7 +24,7 @@ operation_id Hold = 0x000C
 abbrev pub request_header : OwnerAct → Header
 request_header act = record { major = 1; minor = 1; code = operation_id act; request_id = 1 }
 
--- a uri of the account's queue
+-- the address of an account's queue; its host is not looked at
 abbrev pub queue_uri : (account : List ℕ) → List ℕ
 queue_uri account = codes "ipp://localhost" ++ queue_path account
 

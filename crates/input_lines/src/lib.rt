@@ -17,6 +17,6 @@ pub use backup::{BackupLine, read_backup};
 pub use fault::LineFault;
 pub use line::{Line, events_of};
 pub use lines::Grammar;
-pub use owner_request::{OwnerAct, OwnerRequest};
+pub use owner_request::{OwnerAct, OwnerRequest, queue_uri};
 pub use printing::print_answer;
 pub use questions::{read_question, read_station_question};

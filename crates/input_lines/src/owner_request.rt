@@ -95,8 +95,8 @@ fn request_text(
     Ok(text)
 }
 
-/// A uri of the account's queue.
-fn queue_uri(alloc: Global, account: Name) -> Result<Vec<u8>, AllocError>
+/// The address of an account's queue. Its host is not looked at.
+pub fn queue_uri(alloc: Global, account: Name) -> Result<Vec<u8>, AllocError>
     ensures uri { IfOk result (λ uri. uri.items ≡ queue_uri account) }
     ensures short { IfOk result (λ uri. length uri.items ≤ 58) }
 {

@@ -31,7 +31,7 @@ short_reply room devices now account (Grant month pages) short = absurd short
 
 -- and leaves it as it was
 pub short_room : (room : Option RoomValue) (devices : Devices) (now : ℕ) (account : List ℕ) (it : AccountEvent) → IsShort (OfAccount account it) → (answered room devices now (OfAccount account it)).room ≡ room
-short_room None devices now account (Ipp body) short = refl
+short_room None devices now account (Ipp body) short = let is : nat_lt (length body) 8 ≡ true = grind (arith, nat_tests) in rw is refl
 short_room (Some room) devices now account (Ipp body) short = let is : nat_lt (length body) 8 ≡ true = grind (arith, nat_tests) in rw is refl
 short_room room devices now account Open short = absurd short
 short_room room devices now account (Release device job password impressions) short = absurd short

@@ -5,8 +5,8 @@ use Rattle.std.specs.Map.{lookup, lookup_entry, remove_entry}
 use Rattle.std.specs.Option.{option_map_or}
 use Rattle.lru.specs.LruCache.{LruCache, lru_cache, put_entries}
 use Rattle.lru.proofs.CallerLemmas.{Contains-lookup_entry}
-use Rattle.room_store.specs.Kept.{is_of, kept_of, SetsKept}
-use Rattle.room_store.specs.declared.cache.Kept.{Kept}
+use Rattle.room_store.specs.Kept.{is_of, kept_of, SetsKnown}
+use Rattle.room_store.specs.declared.cache.Known.{Known}
 use Rattle.room_store.specs.declared.cache.Key.{Key}
 
 module _ {K V : Type 0} (mine other : K → Bool) (apart : (k : K) → mine k ≡ true → other k ≡ false) where
@@ -33,17 +33,17 @@ unlike other name apart = (elim (bytes_eq other name) as (λ b. bytes_eq other n
   | false ↦ λ e. refl
 ]) refl
 
-module _ (c : LruCache Key Kept) (name : List ℕ) (it : Kept) where
+module _ (c : LruCache Key Known) (name : List ℕ) (it : Known) where
   abbrev key : Key
   key = record { name = name }
 
   abbrev same : Key → Key → Bool
   same x y = bytes_eq x.name y.name
 
-  abbrev put_by : Option (Key × Kept) → List (Key × Kept)
+  abbrev put_by : Option (Key × Known) → List (Key × Known)
   put_by o = option_map_or (λ e. (e.0, it) ∷ remove_entry (same key) c.entries) o ((key, it) ∷ take (c.cap - 1) c.entries)
 
-  own_by : (o : Option (Key × Kept)) → lookup_entry (same key) c.entries ≡ o → kept_of (put_by o) name ≡ Some it
+  own_by : (o : Option (Key × Known)) → lookup_entry (same key) c.entries ≡ o → kept_of (put_by o) name ≡ Some it
   own_by None h = ap (λ b. cond b (Some it) (kept_of (take (c.cap - 1) c.entries) name)) ((bytes_eq-Decides name name).1 refl)
   own_by (Some f) h = ap (λ b. cond b (Some it) (kept_of (remove_entry (same key) c.entries) name)) (Contains-lookup_entry (same key) c.entries f h).1
 
@@ -51,7 +51,7 @@ module _ (c : LruCache Key Kept) (name : List ℕ) (it : Kept) where
     apart_keys : (k : Key) → same key k ≡ true → is_of other k ≡ false
     apart_keys k is = unlike other k.name (λ e. apart (e ∙ sym ((bytes_eq-Decides name k.name).0 is)))
 
-    other_by : (o : Option (Key × Kept)) → lookup_entry (same key) c.entries ≡ o → (is : Kept) → kept_of (put_by o) other ≡ Some is → kept_of c.entries other ≡ Some is
+    other_by : (o : Option (Key × Known)) → lookup_entry (same key) c.entries ≡ o → (is : Known) → kept_of (put_by o) other ≡ Some is → kept_of c.entries other ≡ Some is
     other_by None h is there = found_in_front (is_of other) (c.cap - 1) c.entries is (sym (ap (λ b. cond b (Some it) (kept_of (take (c.cap - 1) c.entries) other)) (unlike other name apart)) ∙ there)
     other_by (Some f) h is there =
         let here : same key f.0 ≡ true = (Contains-lookup_entry (same key) c.entries f h).1 in
@@ -61,25 +61,25 @@ module _ (c : LruCache Key Kept) (name : List ℕ) (it : Kept) where
   told P None each = tt
   told P (Some x) each = each x refl
 
-  pub put_sets : SetsKept name it c.entries (put_entries same c key it)
+  pub put_sets : SetsKnown name it c.entries (put_entries same c key it)
   put_sets =
-      let o : Option (Key × Kept) = lookup_entry (same key) c.entries in
+      let o : Option (Key × Known) = lookup_entry (same key) c.entries in
       record {
-        own = subst (λ (found : Option Kept). IfSome found (λ is. is ≡ it)) (sym (own_by o refl)) refl;
+        own = subst (λ (found : Option Known). IfSome found (λ is. is ≡ it)) (sym (own_by o refl)) refl;
         others = λ other apart. told (λ is. kept_of c.entries other ≡ Some is) (kept_of (put_entries same c key it) other) (other_by other apart o refl);
       }
 
-  none_then : (o : Option Kept) → (IsSome o → ⊥) → IfSome o (λ is. is ≡ it)
+  none_then : (o : Option Known) → (IsSome o → ⊥) → IfSome o (λ is. is ≡ it)
   none_then None never = tt
   none_then (Some is) never = absurd (never refl)
 
   -- where it could not be put nothing was there
-  not_put : (IsSome (kept_of c.entries name) → ⊥) → SetsKept name it c.entries c.entries
+  not_put : (IsSome (kept_of c.entries name) → ⊥) → SetsKnown name it c.entries c.entries
   not_put never = record {
     own = none_then (kept_of c.entries name) never;
     others = λ other apart. told (λ is. kept_of c.entries other ≡ Some is) (kept_of c.entries other) (λ is there. there);
   }
 
-  pub put_result : {E : Type 0} (r : Result (Option Kept) E) (after : LruCache Key Kept) → OnOk r (after ≡ lru_cache (put_entries same c key it) c.cap) → OnErr r (after ≡ c) → (IsSome (kept_of c.entries name) → IsOk r) → SetsKept name it c.entries after.entries
-  put_result (Ok was) after ok err succeeds = subst (λ (l : LruCache Key Kept). SetsKept name it c.entries l.entries) (sym ok) put_sets
-  put_result (Err e) after ok err succeeds = subst (λ (l : LruCache Key Kept). SetsKept name it c.entries l.entries) (sym err) (not_put (λ some. let fails = succeeds some in absurd (let it = fails in cc)))
+  pub put_result : {E : Type 0} (r : Result (Option Known) E) (after : LruCache Key Known) → OnOk r (after ≡ lru_cache (put_entries same c key it) c.cap) → OnErr r (after ≡ c) → (IsSome (kept_of c.entries name) → IsOk r) → SetsKnown name it c.entries after.entries
+  put_result (Ok was) after ok err succeeds = subst (λ (l : LruCache Key Known). SetsKnown name it c.entries l.entries) (sym ok) put_sets
+  put_result (Err e) after ok err succeeds = subst (λ (l : LruCache Key Known). SetsKnown name it c.entries l.entries) (sym err) (not_put (λ some. let fails = succeeds some in absurd (let it = fails in cc)))

@@ -1,4 +1,4 @@
--- What is kept in memory stays so, whatever a call came to.
+-- What is kept stays so, whatever a call came to.
 use Rattle.std.proofs.Common.{◌≡◌, ◌≢◌, ◌≤◌, ◌+◌, ℕ, Bool, true, false, List, [], Option, Some, None, IfSome, unwrap_or, Result, Ok, Err, IfOk, OnOk, OnErr, IsTrue, option_map, pos, refl, sym, subst, ◌∙◌, inl, inr, arith, bytes_eq, ℤ}
 use Rattle.std.proofs.lemmas.Slice.Eq.{bytes_eq-Decides}
 use Rattle.sqlite_trees.specs.View.{doubt}
@@ -21,14 +21,14 @@ use Rattle.rows_statements.proofs.CountWalk.{count_of_room}
 use Rattle.rows_statements.specs.JobSums.{IsCounted, IsSum, MovesCount, MovesSum, charges, counts, reserves}
 use Rattle.rows_statements.specs.Rounds.{BeginsRound, EndsRound}
 use Rattle.rows_statements.specs.Queues.{IsNumbered}
-use Rattle.room_store.specs.Kept.{AreRight, HasCount, HasRow, HasSums, HaveSums, IsKept, IsMoved, IsNothing, IsRight, IsSeen, KeepsKept, MindsAccount, MindsCount, MindsJob, MindsMaking, MindsMove, MindsOpening, MindsSums, Outlasts, SetsKept, WhereOpen, kept_in, kept_of, known_of, unknown}
+use Rattle.room_store.specs.Kept.{AreRight, HasCount, HasRow, HasSums, HaveSums, IsKept, IsMoved, IsNothing, IsRight, IsSeen, KeepsKnown, KeepsAccount, KeepsCount, KeepsJob, FollowsMaking, FollowsMove, FollowsOpening, KeepsSums, ForgetsAfterFault, SetsKnown, WhereOpen, kept_in, kept_of, known_of, unknown}
 use Rattle.room_store.specs.ProofKnown.{HasAccountRow, HasJobRow}
 use Rattle.room_store.specs.Serving.{LooksUp}
-use Rattle.room_store.specs.declared.memory.Added.{Added}
-use Rattle.room_store.specs.declared.memory.Memory.{Memory}
-use Rattle.room_store.specs.declared.memory.Seen.{Seen}
-use Rattle.room_store.specs.declared.memory.Sums.{Sums}
-use Rattle.room_store.specs.declared.cache.Kept.{Kept}
+use Rattle.room_store.specs.declared.kept.Added.{Added}
+use Rattle.room_store.specs.declared.kept.Kept.{Kept}
+use Rattle.room_store.specs.declared.kept.Seen.{Seen}
+use Rattle.room_store.specs.declared.kept.Sums.{Sums}
+use Rattle.room_store.specs.declared.cache.Known.{Known}
 use Rattle.room_store.specs.declared.cache.Key.{Key}
 use Rattle.rows_tables.specs.Accounts.{AgreeOnRows, HoldsRoom, account_at, job_at}
 use Rattle.rows_tables.specs.Calls.{ChangesWhole, IsUnchanged, IsUndone, KeepsConnection, ReadsStore, UnchangedOrUndone}
@@ -37,7 +37,7 @@ use Rattle.rows_tables.specs.Keyed.{HasSchema}
 use Rattle.rows_tables.specs.declared.fault.TableFault.{TableFault}
 
 abbrev Entries : Type 0
-Entries = List (Key × Kept)
+Entries = List (Key × Known)
 
 none_right : (db : Database) (accounts : Entries) → accounts ≡ [] → AreRight db accounts
 none_right db accounts none = subst (AreRight db) (sym none) (λ name. tt)
@@ -54,7 +54,7 @@ if_so P Q (Some x) each held = each x held
 unknown_right : (db : Database) (name : List ℕ) → IsRight db name unknown
 unknown_right db name = record { row = tt; reserved = tt; charged = tt; unfinished = tt }
 
-known_so : (db : Database) (name : List ℕ) (o : Option Kept) → IfSome o (IsRight db name) → IsRight db name (unwrap_or o unknown)
+known_so : (db : Database) (name : List ℕ) (o : Option Known) → IfSome o (IsRight db name) → IsRight db name (unwrap_or o unknown)
 known_so db name None right = unknown_right db name
 known_so db name (Some it) right = right
 
@@ -68,32 +68,32 @@ same_or_other P other name same apart = (elim (bytes_eq other name) as (λ b. by
 ]) refl
 
 -- where one is put that is right, and the others are right as they were
-set_right : (old new : Database) (name : List ℕ) (it : Kept) (before after : Entries) → ((other : List ℕ) → other ≢ name → (is : Kept) → IsRight old other is → IsRight new other is) → IsRight new name it → AreRight old before → SetsKept name it before after → AreRight new after
+set_right : (old new : Database) (name : List ℕ) (it : Known) (before after : Entries) → ((other : List ℕ) → other ≢ name → (is : Known) → IsRight old other is → IsRight new other is) → IsRight new name it → AreRight old before → SetsKnown name it before after → AreRight new after
 set_right old new name it before after others own right sets other =
     same_or_other (IfSome (kept_of after other) (IsRight new other)) other name
     (λ same. subst (λ (n : List ℕ). IfSome (kept_of after n) (IsRight new n)) (sym same) (if_so (λ is. is ≡ it) (IsRight new name) (kept_of after name) (λ is e. subst (IsRight new name) (sym e) own) sets.own))
     (λ apart. if_so (λ is. kept_of before other ≡ Some is) (IsRight new other) (kept_of after other)
-    (λ is e. others other apart is (subst (λ (o : Option Kept). IfSome o (IsRight old other)) e (right other))) (sets.others other apart))
+    (λ is e. others other apart is (subst (λ (o : Option Known). IfSome o (IsRight old other)) e (right other))) (sets.others other apart))
 
 -- nothing is kept
-pub nothing_kept : (now : State) (memory : Memory) → HasSchema now.now → (IsTrue now.in_transaction → HasSchema now.committed) → IsNothing memory → IsKept now memory
-nothing_kept now memory schema committed none = record {
+pub nothing_kept : (now : State) (all : Kept) → HasSchema now.now → (IsTrue now.in_transaction → HasSchema now.committed) → IsNothing all → IsKept now all
+nothing_kept now all schema committed none = record {
   schema = schema;
   committed = committed;
-  accounts = none_right now.now (kept_in memory.accounts) none.accounts;
-  job = none_so (IsSeen now.now) memory.job none.job;
+  accounts = none_right now.now (kept_in all.accounts) none.accounts;
+  job = none_so (IsSeen now.now) all.job none.job;
 }
 
-pub unchanged_kept : (old new : State) (memory : Memory) → IsUnchanged old new → IsKept old memory → IsKept new memory
-unchanged_kept old new memory same kept = record {
+pub unchanged_kept : (old new : State) (all : Kept) → IsUnchanged old new → IsKept old all → IsKept new all
+unchanged_kept old new all same kept = record {
   schema = subst HasSchema (sym same.now) kept.schema;
   committed = λ mode. subst HasSchema (sym same.committed) (kept.committed (sym same.mode ∙ mode));
-  accounts = subst (λ db. AreRight db (kept_in memory.accounts)) (sym same.now) kept.accounts;
-  job = subst (λ db. IfSome memory.job (IsSeen db)) (sym same.now) kept.job;
+  accounts = subst (λ db. AreRight db (kept_in all.accounts)) (sym same.now) kept.accounts;
+  job = subst (λ db. IfSome all.job (IsSeen db)) (sym same.now) kept.job;
 }
 
 -- accounts may be kept
-pub opened_kept : (now : State) (before after : Memory) → kept_in after.accounts ≡ kept_in before.accounts → after.job ≡ before.job → IsKept now before → IsKept now after
+pub opened_kept : (now : State) (before after : Kept) → kept_in after.accounts ≡ kept_in before.accounts → after.job ≡ before.job → IsKept now before → IsKept now after
 opened_kept now before after accounts job kept = record {
   schema = kept.schema;
   committed = kept.committed;
@@ -102,7 +102,7 @@ opened_kept now before after accounts job kept = record {
 }
 
 -- this is kept of an account, of which it is right
-put_kept : (now : State) (before after : Memory) (name : List ℕ) (it : Kept) → IsRight now.now name it → KeepsKept name it before after → IsKept now before → IsKept now after
+put_kept : (now : State) (before after : Kept) (name : List ℕ) (it : Known) → IsRight now.now name it → KeepsKnown name it before after → IsKept now before → IsKept now after
 put_kept now before after name it right keeps kept = record {
   schema = kept.schema;
   committed = kept.committed;
@@ -112,7 +112,7 @@ put_kept now before after name it right keeps kept = record {
 
 -- ---- a call that did not change the tables
 
-module _ (old new : State) (before after : Memory) (keeps : KeepsConnection old new) (settled : IsTrue old.is_open → old.in_transaction ≡ false → old.now ≡ old.committed) (was : WhereOpen old (IsKept old before)) where
+module _ (old new : State) (before after : Kept) (keeps : KeepsConnection old new) (settled : IsTrue old.is_open → old.in_transaction ≡ false → old.now ≡ old.committed) (was : WhereOpen old (IsKept old before)) where
   kept_then : HasCleanDisk new → IsTrue new.is_open → IsKept old before
   kept_then clean opened = was (omega (arith, keeps.clean, clean)) (keeps.back clean opened)
 
@@ -129,14 +129,14 @@ module _ (old new : State) (before after : Memory) (keeps : KeepsConnection old 
         | inr lost ↦ nothing_kept new after (subst HasSchema (sym (lost.now opened)) (committed_schema old.in_transaction refl (settled (keeps.back clean opened)) kept)) (λ mode. absurd (let no = sym mode ∙ lost.mode in cc)) none
       ]
 
-  pub told_kept : {T E : Type 0} (r : Result T E) → (HasCleanDisk new → HasSchema old.now → OnOk r (IsUnchanged old new)) → (HasCleanDisk new → HasSchema old.now → OnErr r (UnchangedOrUndone old new)) → Outlasts r before after → WhereOpen new (IsKept new after)
+  pub told_kept : {T E : Type 0} (r : Result T E) → (HasCleanDisk new → HasSchema old.now → OnOk r (IsUnchanged old new)) → (HasCleanDisk new → HasSchema old.now → OnErr r (UnchangedOrUndone old new)) → ForgetsAfterFault r before after → WhereOpen new (IsKept new after)
   told_kept (Ok it) same undone out clean opened =
       let kept = kept_then clean opened in
       subst (IsKept new) (sym out) (unchanged_kept old new before (same clean kept.schema) kept)
   told_kept (Err e) same undone none clean opened = failed_kept undone none clean opened
 
   pub account_kept : (name : List ℕ) (r : Result (Option Account) TableFault) → (HasCleanDisk new → HasSchema old.now → OnOk r (IsUnchanged old new)) → (HasCleanDisk new → HasSchema old.now → UnchangedOrUndone old new)
-      → (HasCleanDisk new → IsKept old before → IfOk r (λ found. account_at old.now name ≡ option_map (account_cells name) found)) → MindsAccount name r before after → WhereOpen new (IsKept new after)
+      → (HasCleanDisk new → IsKept old before → IfOk r (λ found. account_at old.now name ≡ option_map (account_cells name) found)) → KeepsAccount name r before after → WhereOpen new (IsKept new after)
   account_kept name (Ok None) same undone found out clean opened =
       let kept = kept_then clean opened in
       subst (IsKept new) (sym out) (unchanged_kept old new before (same clean kept.schema) kept)
@@ -155,7 +155,7 @@ module _ (old new : State) (before after : Memory) (keeps : KeepsConnection old 
 
   pub job_kept : (name : List ℕ) (number : ℕ) (r : Result (Option Job) TableFault) → (HasCleanDisk new → HasSchema old.now → OnOk r (IsUnchanged old new)) → (HasCleanDisk new → HasSchema old.now → OnErr r (UnchangedOrUndone old new))
       → (HasCleanDisk new → HasSchema old.now → IfOk r (λ found. IfSome found (λ job. HasJobRow name job old.now))) → IfOk r (λ found. IfSome found (λ job. (job.job ≡ number) × IsNumbered job))
-      → MindsJob name number r before after → WhereOpen new (IsKept new after)
+      → KeepsJob name number r before after → WhereOpen new (IsKept new after)
   job_kept name number (Ok None) same undone found numbered out clean opened =
       let kept = kept_then clean opened in
       subst (IsKept new) (sym out) (unchanged_kept old new before (same clean kept.schema) kept)
@@ -173,7 +173,7 @@ module _ (old new : State) (before after : Memory) (keeps : KeepsConnection old 
 
   -- one was added up, or was kept
   pub sums_kept : (name : List ℕ) (r : Result Sums TableFault) → (HasCleanDisk new → HasSchema old.now → OnOk r (IsUnchanged old new)) → (HasCleanDisk new → HasSchema old.now → UnchangedOrUndone old new)
-      → (HasCleanDisk new → IsKept old before → IfOk r (HaveSums old.now name)) → MindsSums name r before after → WhereOpen new (IsKept new after)
+      → (HasCleanDisk new → IsKept old before → IfOk r (HaveSums old.now name)) → KeepsSums name r before after → WhereOpen new (IsKept new after)
   sums_kept name (Ok sums) same undone summed out clean opened =
       let kept = kept_then clean opened in
       let still = same clean kept.schema in
@@ -190,7 +190,7 @@ module _ (old new : State) (before after : Memory) (keeps : KeepsConnection old 
 
   -- one was counted, or its count was kept
   pub count_kept : (name : List ℕ) (r : Result ℕ TableFault) → (HasCleanDisk new → HasSchema old.now → OnOk r (IsUnchanged old new)) → (HasCleanDisk new → HasSchema old.now → UnchangedOrUndone old new)
-      → (HasCleanDisk new → IsKept old before → IfOk r (λ count. IsCounted old.now name count)) → MindsCount name r before after → WhereOpen new (IsKept new after)
+      → (HasCleanDisk new → IsKept old before → IfOk r (λ count. IsCounted old.now name count)) → KeepsCount name r before after → WhereOpen new (IsKept new after)
   count_kept name (Ok count) same undone counted out clean opened =
       let kept = kept_then clean opened in
       let still = same clean kept.schema in
@@ -206,7 +206,7 @@ module _ (old new : State) (before after : Memory) (keeps : KeepsConnection old 
 
   -- ---- rounds
 
-  pub ended_kept : {E : Type 0} (r : Result (Unit {0}) E) → (HasCleanDisk new → OnOk r (EndsRound old new)) → (HasCleanDisk new → OnErr r (UnchangedOrUndone old new)) → Outlasts r before after → WhereOpen new (IsKept new after)
+  pub ended_kept : {E : Type 0} (r : Result (Unit {0}) E) → (HasCleanDisk new → OnOk r (EndsRound old new)) → (HasCleanDisk new → OnErr r (UnchangedOrUndone old new)) → ForgetsAfterFault r before after → WhereOpen new (IsKept new after)
   ended_kept (Ok done) ends stays out clean opened =
       let kept = kept_then clean opened in
       let over = ends clean in
@@ -219,8 +219,8 @@ module _ (old new : State) (before after : Memory) (keeps : KeepsConnection old 
   ended_kept (Err e) ends stays none clean opened = failed_kept (λ clean has. stays clean) none clean opened
 
 -- a round that is begun
-pub begun_kept : (old new : State) (before after : Memory) → doubt old.is_clean ≤ doubt new.is_clean → (IsTrue old.is_open → old.in_transaction ≡ false → old.now ≡ old.committed) → WhereOpen old (IsKept old before) → {E : Type 0} (r : Result (Unit {0}) E)
-    → (HasCleanDisk new → OnOk r (BeginsRound old new)) → (HasCleanDisk new → OnErr r (IsTrue new.is_open → IsUnchanged old new)) → OnErr r (KeepsConnection old new) → Outlasts r before after → WhereOpen new (IsKept new after)
+pub begun_kept : (old new : State) (before after : Kept) → doubt old.is_clean ≤ doubt new.is_clean → (IsTrue old.is_open → old.in_transaction ≡ false → old.now ≡ old.committed) → WhereOpen old (IsKept old before) → {E : Type 0} (r : Result (Unit {0}) E)
+    → (HasCleanDisk new → OnOk r (BeginsRound old new)) → (HasCleanDisk new → OnErr r (IsTrue new.is_open → IsUnchanged old new)) → OnErr r (KeepsConnection old new) → ForgetsAfterFault r before after → WhereOpen new (IsKept new after)
 begun_kept old new before after less settled was (Ok done) begins stays keeps out clean opened =
     let begun = begins clean in
     let kept = was (omega (arith, less, clean)) begun.opened.0 in
@@ -241,7 +241,7 @@ counted_alike : (name : List ℕ) (a b : Database) → HasSchema a → HasSchema
 counted_alike name a b was has agree count = same_counted name a b was has agree.same_jobs count
 
 -- where its rows agree what is kept of the account is right
-right_alike : (name : List ℕ) (a b : Database) → HasSchema a → HasSchema b → AgreeOnRows name a b → (it : Kept) → IsRight a name it → IsRight b name it
+right_alike : (name : List ℕ) (a b : Database) → HasSchema a → HasSchema b → AgreeOnRows name a b → (it : Known) → IsRight a name it → IsRight b name it
 right_alike name a b was has agree it right = record {
   row = if_so (λ row. HasAccountRow name row a) (λ row. HasAccountRow name row b) it.row (λ row there. agree.same_account ∙ there) right.row;
   reserved = if_so (IsSum reserves a name) (IsSum reserves b name) it.reserved (sum_alike reserves name a b agree) right.reserved;
@@ -250,7 +250,7 @@ right_alike name a b was has agree it right = record {
 }
 
 -- so it is of an account that is granted pages
-granted_right : (name : List ℕ) (a b : Database) → HasSchema a → HasSchema b → account_at b name ≡ account_at a name → ((n : ℤ) → job_at b name n ≡ job_at a name n) → (it : Kept) → IsRight a name it → IsRight b name it
+granted_right : (name : List ℕ) (a b : Database) → HasSchema a → HasSchema b → account_at b name ≡ account_at a name → ((n : ℤ) → job_at b name n ≡ job_at a name n) → (it : Known) → IsRight a name it → IsRight b name it
 granted_right name a b was has same_account same_jobs it right = record {
   row = if_so (λ row. HasAccountRow name row a) (λ row. HasAccountRow name row b) it.row (λ row there. same_account ∙ there) right.row;
   reserved = if_so (IsSum reserves a name) (IsSum reserves b name) it.reserved (same_sum reserves name a b same_jobs) right.reserved;
@@ -266,7 +266,7 @@ seen_alike : (a b : Database) → ((name : List ℕ) → AgreeOnRows name a b) �
 seen_alike a b agree None held = tt
 seen_alike a b agree (Some seen) held = (held.0, held.1, held.2, (agree seen.account).same_jobs (pos held.0.job) ∙ held.3)
 
-module _ {S : Type 0} (store : Ghosts S) (old new : Held S) (before after : Memory) (changed : Database → Database → Type 0) (settled : IsTrue (state store old).is_open → (state store old).in_transaction ≡ false → (state store old).now ≡ (state store old).committed)
+module _ {S : Type 0} (store : Ghosts S) (old new : Held S) (before after : Kept) (changed : Database → Database → Type 0) (settled : IsTrue (state store old).is_open → (state store old).in_transaction ≡ false → (state store old).now ≡ (state store old).committed)
     (was : WhereOpen (state store old) (IsKept (state store old) before)) where
   abbrev first : State
   first = state store old
@@ -298,7 +298,7 @@ module _ {S : Type 0} (store : Ghosts S) (old new : Held S) (before after : Memo
     not_changed_kept none = failed_kept first last before after changes.whole.keeps settled was (λ clean has. changes.whole.undone clean) none
 
   -- of an account that is opened, of which nothing is kept then
-  pub account_opened : {E : Type 0} (name : List ℕ) (r : Result (Unit {0}) E) → ((a b : Database) → changed a b → OnlyAccount name a b) → ChangesWhole store old new r changed → MindsOpening name r before after → WhereOpen last (IsKept last after)
+  pub account_opened : {E : Type 0} (name : List ℕ) (r : Result (Unit {0}) E) → ((a b : Database) → changed a b → OnlyAccount name a b) → ChangesWhole store old new r changed → FollowsOpening name r before after → WhereOpen last (IsKept last after)
   account_opened name (Ok done) alone changes minds clean opened =
       let kept = kept_before changes clean opened in
       let only = alone first.now last.now (change_after changes clean opened) in
@@ -315,7 +315,7 @@ module _ {S : Type 0} (store : Ghosts S) (old new : Held S) (before after : Memo
   -- of an account that is granted pages: its row and those of its jobs stay
   pub account_granted : {E : Type 0} (name : List ℕ) (r : Result (Unit {0}) E)
       → ((a b : Database) → changed a b → OnlyAccount name a b × (account_at b name ≡ account_at a name) × ((n : ℤ) → job_at b name n ≡ job_at a name n))
-      → ChangesWhole store old new r changed → Outlasts r before after → WhereOpen last (IsKept last after)
+      → ChangesWhole store old new r changed → ForgetsAfterFault r before after → WhereOpen last (IsKept last after)
   account_granted name (Ok done) leaves changes out clean opened =
       let kept = kept_before changes clean opened in
       let has = schema_after changes clean opened in
@@ -342,7 +342,7 @@ module _ {S : Type 0} (store : Ghosts S) (old new : Held S) (before after : Memo
   -- of an account that has one job more
   pub job_made : {E : Type 0} (name : List ℕ) (row : Option Account) (job : Job) (r : Result (Unit {0}) E) → (IsKept first before → IfSome row (λ it. HasAccountRow name it first.now))
       → ((it : Account) → HasAccountRow name it first.now → changed first.now last.now → OnlyAccount name first.now last.now × HasAccountRow name (record it { next_job = job.job + 1 }) last.now × MovesSum reserves name 0 job.standing.reserved first.now last.now × MovesSum charges name 0 job.standing.charged first.now last.now × MovesCount name 0 (counts job.standing) first.now last.now)
-      → ChangesWhole store old new r changed → MindsMaking name row job r before after → WhereOpen last (IsKept last after)
+      → ChangesWhole store old new r changed → FollowsMaking name row job r before after → WhereOpen last (IsKept last after)
   job_made name (Some it) job (Ok done) there moves changes minds clean opened =
       let kept = kept_before changes clean opened in
       let made = moves it (there kept) (change_after changes clean opened) in
@@ -367,7 +367,7 @@ module _ {S : Type 0} (store : Ghosts S) (old new : Held S) (before after : Memo
   -- of an account, of which what is kept is moved
   pub job_changed : {E : Type 0} (name : List ℕ) (was_added : Option Added) (is : Standing) (r : Result (Unit {0}) E)
       → ((added : Added) → was_added ≡ Some added → IsKept first before → changed first.now last.now → OnlyAccount name first.now last.now × (account_at last.now name ≡ account_at first.now name) × MovesSum reserves name added.reserved is.reserved first.now last.now × MovesSum charges name added.charged is.charged first.now last.now × MovesCount name added.unfinished (counts is) first.now last.now)
-      → ChangesWhole store old new r changed → MindsMove name was_added is r before after → WhereOpen last (IsKept last after)
+      → ChangesWhole store old new r changed → FollowsMove name was_added is r before after → WhereOpen last (IsKept last after)
   job_changed name (Some added) is (Ok done) moves changes minds clean opened =
       let kept = kept_before changes clean opened in
       let made = moves added refl kept (change_after changes clean opened) in
@@ -391,7 +391,7 @@ module _ {S : Type 0} (store : Ghosts S) (old new : Held S) (before after : Memo
   job_changed name (Some added) is (Err e) moves changes none clean opened = not_changed_kept e changes none clean opened
 
   -- of devices
-  pub devices_changed : {E : Type 0} (r : Result (Unit {0}) E) → ((a b : Database) → changed a b → OnlyDevices a b) → ChangesWhole store old new r changed → Outlasts r before after → WhereOpen last (IsKept last after)
+  pub devices_changed : {E : Type 0} (r : Result (Unit {0}) E) → ((a b : Database) → changed a b → OnlyDevices a b) → ChangesWhole store old new r changed → ForgetsAfterFault r before after → WhereOpen last (IsKept last after)
   devices_changed (Ok done) alone changes out clean opened =
       let kept = kept_before changes clean opened in
       let only = alone first.now last.now (change_after changes clean opened) in
@@ -410,26 +410,26 @@ pub sum_there : (of : Job → ℕ) (db : Database) (name : List ℕ) (room : Roo
 sum_there of db name room held units right = right room.jobs (record { rows = held.rows.job_rows; numbered = λ n it is. (held.is_room.jobs n it is).numbered })
 
 -- what is known of an account where that is kept
-pub row_known : (now : State) (memory : Memory) (ours : Type 0) (name : List ℕ) (known : Option Account) → IfSome known (λ row. ours × HasRow memory name row) → IsKept now memory → IfSome known (λ row. HasAccountRow name row now.now)
-row_known now memory ours name None found kept = tt
-row_known now memory ours name (Some row) found kept = subst (λ (o : Option Account). IfSome o (λ row. HasAccountRow name row now.now)) found.1 (known_right now.now (kept_in memory.accounts) name kept.accounts).row
+pub row_known : (now : State) (all : Kept) (ours : Type 0) (name : List ℕ) (known : Option Account) → IfSome known (λ row. ours × HasRow all name row) → IsKept now all → IfSome known (λ row. HasAccountRow name row now.now)
+row_known now all ours name None found kept = tt
+row_known now all ours name (Some row) found kept = subst (λ (o : Option Account). IfSome o (λ row. HasAccountRow name row now.now)) found.1 (known_right now.now (kept_in all.accounts) name kept.accounts).row
 
-pub sums_known : (now : State) (memory : Memory) (ours : Type 0) (name : List ℕ) (known : Option Sums) → IfSome known (λ sums. ours × HasSums memory name sums) → IsKept now memory → IfSome known (HaveSums now.now name)
-sums_known now memory ours name None found kept = tt
-sums_known now memory ours name (Some sums) found kept =
-    let right = known_right now.now (kept_in memory.accounts) name kept.accounts in (
+pub sums_known : (now : State) (all : Kept) (ours : Type 0) (name : List ℕ) (known : Option Sums) → IfSome known (λ sums. ours × HasSums all name sums) → IsKept now all → IfSome known (HaveSums now.now name)
+sums_known now all ours name None found kept = tt
+sums_known now all ours name (Some sums) found kept =
+    let right = known_right now.now (kept_in all.accounts) name kept.accounts in (
       subst (λ (o : Option ℕ). IfSome o (IsSum reserves now.now name)) found.1.0 right.reserved,
       subst (λ (o : Option ℕ). IfSome o (IsSum charges now.now name)) found.1.1 right.charged,
     )
 
-pub count_known : (now : State) (memory : Memory) (ours : Type 0) (name : List ℕ) (known : Option ℕ) → IfSome known (λ count. ours × HasCount memory name count) → IsKept now memory → IfSome known (IsCounted now.now name)
-count_known now memory ours name None found kept = tt
-count_known now memory ours name (Some count) found kept = subst (λ (o : Option ℕ). IfSome o (IsCounted now.now name)) found.1 (known_right now.now (kept_in memory.accounts) name kept.accounts).unfinished
+pub count_known : (now : State) (all : Kept) (ours : Type 0) (name : List ℕ) (known : Option ℕ) → IfSome known (λ count. ours × HasCount all name count) → IsKept now all → IfSome known (IsCounted now.now name)
+count_known now all ours name None found kept = tt
+count_known now all ours name (Some count) found kept = subst (λ (o : Option ℕ). IfSome o (IsCounted now.now name)) found.1 (known_right now.now (kept_in all.accounts) name kept.accounts).unfinished
 
 -- a new job of an account whose row is kept
-pub row_there : (now : State) (memory : Memory) (name : List ℕ) (known : Option Account) → IfSome known (HasRow memory name) → IsKept now memory → IfSome known (λ row. HasAccountRow name row now.now)
-row_there now memory name None found kept = tt
-row_there now memory name (Some row) found kept = subst (λ (o : Option Account). IfSome o (λ row. HasAccountRow name row now.now)) found (known_right now.now (kept_in memory.accounts) name kept.accounts).row
+pub row_there : (now : State) (all : Kept) (name : List ℕ) (known : Option Account) → IfSome known (HasRow all name) → IsKept now all → IfSome known (λ row. HasAccountRow name row now.now)
+row_there now all name None found kept = tt
+row_there now all name (Some row) found kept = subst (λ (o : Option Account). IfSome o (λ row. HasAccountRow name row now.now)) found (known_right now.now (kept_in all.accounts) name kept.accounts).row
 
 pub found_seen : (db : Database) (name : List ℕ) (number : ℕ) (found : Option Seen) (was : Option Added) (added : Added) → was ≡ Some added → IfSome was (λ a. found ≡ Some (record { account = name; number = number; added = a })) → IfSome found (IsSeen db)
     → IsSeen db (record { account = name; number = number; added = added })
@@ -438,14 +438,14 @@ found_seen db name number found was added is told held =
     subst (λ (o : Option Seen). IfSome o (IsSeen db)) one held
 
 -- what was added up, or kept, is what the rows come to
-pub sums_so : (old new : State) (memory : Memory) (ours : Bool) (name : List ℕ) (known : Option Sums) → IfSome known (λ sums. IsTrue ours × HasSums memory name sums) → (IsTrue ours → WhereOpen old (IsKept old memory)) → (r : Result Sums TableFault)
+pub sums_so : (old new : State) (all : Kept) (ours : Bool) (name : List ℕ) (known : Option Sums) → IfSome known (λ sums. IsTrue ours × HasSums all name sums) → (IsTrue ours → WhereOpen old (IsKept old all)) → (r : Result Sums TableFault)
     → KeepsConnection old new → (HasCleanDisk new → OnOk r (IsTrue old.is_open × IsTrue new.is_open)) → (HasCleanDisk new → HasSchema old.now → IfSome known (HaveSums old.now name) → IfOk r (HaveSums old.now name))
     → HasCleanDisk new → HasSchema old.now → IfOk r (HaveSums old.now name)
-sums_so old new memory ours name None found was (Ok sums) keeps opens told clean has = told clean has tt
-sums_so old new memory ours name (Some known) found was (Ok sums) keeps opens told clean has =
+sums_so old new all ours name None found was (Ok sums) keeps opens told clean has = told clean has tt
+sums_so old new all ours name (Some known) found was (Ok sums) keeps opens told clean has =
     let kept = was found.0 (omega (arith, keeps.clean, clean)) (opens clean).0 in
-    told clean has (sums_known old memory (IsTrue ours) name (Some known) found kept)
-sums_so old new memory ours name known found was (Err e) keeps opens told clean has = tt
+    told clean has (sums_known old all (IsTrue ours) name (Some known) found kept)
+sums_so old new all ours name known found was (Err e) keeps opens told clean has = tt
 
 pub reserved_told : (old new : State) (name : List ℕ) (r : Result Sums TableFault) → (HasCleanDisk new → HasSchema old.now → IfOk r (HaveSums old.now name)) → HasCleanDisk new → HasSchema old.now → (room : RoomValue) → HoldsRoom old.now name room → IfOk r (λ sums. sums.reserved ≡ reserved_in room)
 reserved_told old new name (Ok sums) told clean has room held = sum_there reserves old.now name room held sums.reserved (told clean has).0
@@ -456,24 +456,24 @@ charged_told old new name (Ok sums) told clean has room held = sum_there charges
 charged_told old new name (Err e) told clean has room held = tt
 
 -- the row that was read, or kept, is the account's
-pub row_so : (old new : State) (memory : Memory) (ours : Bool) (name : List ℕ) (known : Option Account) → IfSome known (λ row. IsTrue ours × HasRow memory name row) → (IsTrue ours → WhereOpen old (IsKept old memory)) → (r : Result (Option Account) TableFault)
+pub row_so : (old new : State) (all : Kept) (ours : Bool) (name : List ℕ) (known : Option Account) → IfSome known (λ row. IsTrue ours × HasRow all name row) → (IsTrue ours → WhereOpen old (IsKept old all)) → (r : Result (Option Account) TableFault)
     → KeepsConnection old new → (HasCleanDisk new → OnOk r (IsTrue old.is_open × IsTrue new.is_open)) → (HasCleanDisk new → HasSchema old.now → IfSome known (λ row. HasAccountRow name row old.now) → IfOk r (λ found. account_at old.now name ≡ option_map (account_cells name) found))
     → HasCleanDisk new → HasSchema old.now → IfOk r (λ found. account_at old.now name ≡ option_map (account_cells name) found)
-row_so old new memory ours name None found was (Ok row) keeps opens told clean has = told clean has tt
-row_so old new memory ours name (Some known) found was (Ok row) keeps opens told clean has =
+row_so old new all ours name None found was (Ok row) keeps opens told clean has = told clean has tt
+row_so old new all ours name (Some known) found was (Ok row) keeps opens told clean has =
     let kept = was found.0 (omega (arith, keeps.clean, clean)) (opens clean).0 in
-    told clean has (row_known old memory (IsTrue ours) name (Some known) found kept)
-row_so old new memory ours name known found was (Err e) keeps opens told clean has = tt
+    told clean has (row_known old all (IsTrue ours) name (Some known) found kept)
+row_so old new all ours name known found was (Err e) keeps opens told clean has = tt
 
 -- what was counted, or kept, is how many there are
-pub count_so : (old new : State) (memory : Memory) (ours : Bool) (name : List ℕ) (known : Option ℕ) → IfSome known (λ count. IsTrue ours × HasCount memory name count) → (IsTrue ours → WhereOpen old (IsKept old memory)) → (r : Result ℕ TableFault)
+pub count_so : (old new : State) (all : Kept) (ours : Bool) (name : List ℕ) (known : Option ℕ) → IfSome known (λ count. IsTrue ours × HasCount all name count) → (IsTrue ours → WhereOpen old (IsKept old all)) → (r : Result ℕ TableFault)
     → KeepsConnection old new → (HasCleanDisk new → OnOk r (IsTrue old.is_open × IsTrue new.is_open)) → (HasCleanDisk new → HasSchema old.now → IfSome known (IsCounted old.now name) → IfOk r (IsCounted old.now name))
     → HasCleanDisk new → HasSchema old.now → IfOk r (IsCounted old.now name)
-count_so old new memory ours name None found was (Ok count) keeps opens told clean has = told clean has tt
-count_so old new memory ours name (Some known) found was (Ok count) keeps opens told clean has =
+count_so old new all ours name None found was (Ok count) keeps opens told clean has = told clean has tt
+count_so old new all ours name (Some known) found was (Ok count) keeps opens told clean has =
     let kept = was found.0 (omega (arith, keeps.clean, clean)) (opens clean).0 in
-    told clean has (count_known old memory (IsTrue ours) name (Some known) found kept)
-count_so old new memory ours name known found was (Err e) keeps opens told clean has = tt
+    told clean has (count_known old all (IsTrue ours) name (Some known) found kept)
+count_so old new all ours name known found was (Err e) keeps opens told clean has = tt
 
 pub count_told : (old new : State) (name : List ℕ) (r : Result ℕ TableFault) → (HasCleanDisk new → HasSchema old.now → IfOk r (IsCounted old.now name)) → HasCleanDisk new → HasSchema old.now → (room : RoomValue) → HoldsRoom old.now name room → IfOk r (λ count. count ≡ unfinished_count room)
 count_told old new name (Ok count) counted clean has room held = counted clean has ∙ count_of_room old.now has name room held

@@ -7,7 +7,7 @@ use Rattle.sqlite_trees.specs.View.{IsOrdered, IsShaped}
 use Rattle.sqlite_trees.specs.declared.store.Shape.{Shape}
 use Rattle.sqlite.specs.Effect.{Database}
 use Rattle.sqlite.specs.State.{State, HasCleanDisk}
-use Rattle.room_store.proofs.Kept.{opened_devices, opened_rows, opened_schema}
+use Rattle.room_store.proofs.TablesKept.{opened_devices, opened_rows, opened_schema}
 use Rattle.room_store.specs.Shapes.{AreTables}
 use Rattle.rows_tables.specs.Accounts.{AgreeOnRows, account_at, document_at, grant_at, job_at}
 use Rattle.rows_tables.specs.Devices.{AgreeOnDevices, device_at, rate_at}

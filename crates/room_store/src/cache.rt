@@ -1,7 +1,7 @@
 //! What is kept of some accounts.
 
 ghost use Rattle.std.specs.Prelude.{◌≡◌, [], IfSome};
-ghost use Rattle.room_store.specs.Kept.{kept_of, SetsKept};
+ghost use Rattle.room_store.specs.Kept.{kept_of, SetsKnown};
 
 use account_machine::{Account, Name};
 use lru::LruCache;
@@ -12,9 +12,9 @@ use std::num::NonZeroUsize;
 /// So many accounts are kept at most.
 const MOST_KEPT: usize = 4096;
 
-/// What is kept of an account.
+/// What is known of an account.
 #[derive(Clone, Copy)]
-pub(crate) struct Kept {
+pub(crate) struct Known {
     /// Its row.
     pub row: Option<Account>,
     /// What its jobs reserve.
@@ -67,7 +67,7 @@ impl Hash for Key {
 }
 
 /// The accounts of which something is kept. The one that was kept longest ago is forgotten first.
-pub(crate) type Accounts = LruCache<Key, Kept>;
+pub(crate) type Accounts = LruCache<Key, Known>;
 
 /// None yet. `None` where there is no memory for any.
 pub(crate) fn no_accounts(alloc: Global) -> Option<Accounts>
@@ -78,15 +78,15 @@ pub(crate) fn no_accounts(alloc: Global) -> Option<Accounts>
 }
 
 /// What is kept of the account.
-pub(crate) fn find(accounts: &Accounts, account: Name) -> Option<Kept>
+pub(crate) fn find(accounts: &Accounts, account: Name) -> Option<Known>
     ensures { result ≡ kept_of accounts.now.entries account }
 {
     accounts.peek(&Key { name: account }).copied()
 }
 
 /// Keeps this of the account. Where there is no memory nothing is kept of it.
-pub(crate) fn set(accounts: &mut Accounts, account: Name, kept: Kept)
-    ensures { SetsKept account kept accounts.old.entries accounts.new.entries }
+pub(crate) fn set(accounts: &mut Accounts, account: Name, known: Known)
+    ensures { SetsKnown account known accounts.old.entries accounts.new.entries }
 {
-    let _before = accounts.put(Key { name: account }, kept);
+    let _before = accounts.put(Key { name: account }, known);
 }

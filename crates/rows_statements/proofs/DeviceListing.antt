@@ -97,10 +97,10 @@ module _ (db : Database) (has : HasSchema db) where
   pub shows_devices : (rows : List Row) → IsShownBy list_query db.trees [] rows → ShowsDevices db rows
   shows_devices rows answer = record {
     of_map = λ devices held.
-        shown_by_name 9 [] list_shows list_query.limit [] device_in device_key (λ db has r there. text_at device_in db has r there 0 (codes "name") refl) (λ (d : Device). d.name) device_cells db has rows answer (values devices)
+        shown_by_name device_tree [] list_shows list_query.limit [] device_in device_key (λ db has r there. text_at device_in db has r there 0 (codes "name") refl) (λ (d : Device). d.name) device_cells db has rows answer (values devices)
         (values_rise devices (λ (d : Device). d.name) (under_its_name devices held)) (λ r there _. row_found devices held r there) (row_from devices held);
     are_rows = λ row h.
-        let r = shown_of_row 9 [] list_shows list_query.limit [] db.trees rows answer row h in
+        let r = shown_of_row device_tree [] list_shows list_query.limit [] db.trees rows answer row h in
         (drop 1 r.0, mapped_has (drop 1) (db.trees device_tree) r.0 r.1, r.3 ∙ ap (λ (o : Output). o.1) (outputs_are r.0));
   }
 

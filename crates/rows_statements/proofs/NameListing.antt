@@ -128,11 +128,11 @@ module _ (db : Database) (has : HasSchema db) where
       let start = from_name behind in
       record {
         of_names = λ names are.
-            shown_by_name 1 names_tests names_shows names_limit (name_cells start) account_in account_key (λ db has r there. text_at account_in db has r there 0 (codes "name") refl) (λ (name : List ℕ). name) name_cells db has rows answer
+            shown_by_name account_tree names_tests names_shows names_limit (name_cells start) account_in account_key (λ db has r there. text_at account_in db has r there 0 (codes "name") refl) (λ (name : List ℕ). name) name_cells db has rows answer
             (filter (comes_behind start) names) (ascending-filter (λ a b. name_cmp a b ≡ Less) (comes_behind start) names (rise_so names are.rise)) (row_found start names are) (row_from start names are)
             ∙ take-map name_cells most_names (filter (comes_behind start) names);
         are_accounts = λ row h.
-            let r = shown_of_row 1 names_tests names_shows names_limit (name_cells start) db.trees rows answer row h in
+            let r = shown_of_row account_tree names_tests names_shows names_limit (name_cells start) db.trees rows answer row h in
             let name = row_named r.0 r.1 in
             (name.0, row_there r.0 r.1 name.0 name.1, r.3 ∙ ap (λ v. v ∷ []) name.1);
       }

@@ -14,6 +14,7 @@ use Rattle.sqlite_schema.specs.Rules.{agree, clashes}
 use Rattle.sqlite_schema.specs.Rules as rules_of
 use Rattle.sqlite_rules.specs.Keys.{conflicts}
 use Rattle.sqlite_rules.specs.Lists.{Has}
+use Rattle.rows_tables.specs.Places.{account_tree, job_tree, document_tree, grants_tree, device_tree, rates_tree}
 use Rattle.rows_tables.specs.Tables.{room_schema, keyed, account, job, document, grants, device, rates}
 use Rattle.rows_tables.proofs.Columns.{AreExact, text_is, integer_is}
 use Rattle.rows_tables.proofs.Statements.{IsGuarded}
@@ -38,7 +39,7 @@ module _ (at : ℕ) (name : List ℕ) (tree width : ℕ) (columns : List Column)
     -- no index but that of the key finds a row in the way
     pub conflict : (new r : Row) → conflicts (Some (places_from width 1)) room_schema.indexes (keyed name tree (places_from width 1) columns) new r ≡ agree plain (places_from width 1) r (places_from width 1) new
 
-pub account_in : IsInSchema 1 account.name 1 1 account.columns
+pub account_in : IsInSchema 1 account.name account_tree 1 account.columns
 account_in = record {
   place = refl;
   listed = inr (inl refl);
@@ -52,7 +53,7 @@ account_in = record {
 pub account_key : (name : List ℕ) → AreExact account.columns (Text name ∷ [])
 account_key name = ((λ v. text_is v name), tt)
 
-pub job_in : IsInSchema 2 job.name 3 2 job.columns
+pub job_in : IsInSchema 2 job.name job_tree 2 job.columns
 job_in = record {
   place = refl;
   listed = inr (inr (inl refl));
@@ -66,7 +67,7 @@ job_in = record {
 pub job_key : (name : List ℕ) (n : ℤ) → AreExact job.columns (Text name ∷ Int n ∷ [])
 job_key name n = ((λ v. text_is v name), ((λ v. integer_is v n), tt))
 
-pub document_in : IsInSchema 3 document.name 5 3 document.columns
+pub document_in : IsInSchema 3 document.name document_tree 3 document.columns
 document_in = record {
   place = refl;
   listed = inr (inr (inr (inl refl)));
@@ -80,7 +81,7 @@ document_in = record {
 pub document_key : (name : List ℕ) (m n : ℤ) → AreExact document.columns (Text name ∷ Int m ∷ Int n ∷ [])
 document_key name m n = ((λ v. text_is v name), ((λ v. integer_is v m), ((λ v. integer_is v n), tt)))
 
-pub grants_in : IsInSchema 4 grants.name 7 2 grants.columns
+pub grants_in : IsInSchema 4 grants.name grants_tree 2 grants.columns
 grants_in = record {
   place = refl;
   listed = inr (inr (inr (inr (inl refl))));
@@ -94,7 +95,7 @@ grants_in = record {
 pub grants_key : (name : List ℕ) (n : ℤ) → AreExact grants.columns (Text name ∷ Int n ∷ [])
 grants_key name n = ((λ v. text_is v name), ((λ v. integer_is v n), tt))
 
-pub device_in : IsInSchema 5 device.name 9 1 device.columns
+pub device_in : IsInSchema 5 device.name device_tree 1 device.columns
 device_in = record {
   place = refl;
   listed = inr (inr (inr (inr (inr (inl refl)))));
@@ -108,7 +109,7 @@ device_in = record {
 pub device_key : (name : List ℕ) → AreExact device.columns (Text name ∷ [])
 device_key name = ((λ v. text_is v name), tt)
 
-pub rates_in : IsInSchema 6 rates.name 11 1 rates.columns
+pub rates_in : IsInSchema 6 rates.name rates_tree 1 rates.columns
 rates_in = record {
   place = refl;
   listed = inr (inr (inr (inr (inr (inr (inl refl))))));

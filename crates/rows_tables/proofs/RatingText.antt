@@ -12,7 +12,7 @@ use Rattle.sqlite_schema.specs.declared.command.Source.TheVariants.{Query}
 use Rattle.sqlite_rules.specs.Cast.{cast_row}
 use Rattle.sqlite.specs.Listing.{understood}
 use Rattle.sqlite.proofs.Callers.{IsPlain, command_of}
-use Rattle.rows_tables.specs.Places.{device_column}
+use Rattle.rows_tables.specs.Places.{device_tree, device_column}
 use Rattle.rows_tables.specs.Tables.{room_schema, rates}
 use Rattle.rows_tables.specs.Queries.{shows_of}
 use Rattle.rows_tables.specs.Cells.{units_cells}
@@ -29,7 +29,7 @@ abbrev pub by_bytes : List Collation
 by_bytes = Binary ∷ Binary ∷ Binary ∷ []
 
 abbrev pub of_devices : Program
-of_devices = record { lets = []; body = collated 9 [] rate_shows [] by_bytes }
+of_devices = record { lets = []; body = collated device_tree [] rate_shows [] by_bytes }
 
 pub rate_is : command_of (understood room_schema rate_text) ≡ Insert 6 (Query of_devices)
 unfolding understood everything

@@ -1,7 +1,7 @@
 //! Whether a database is one of ours, and of which version.
 
 ghost use Rattle.std.specs.Prelude.{◌≡◌, ◌≢◌, ◌⊎◌, ⊤, ℤ, false, [], ◌∷◌, pos, IfOk, IfErr, OnOk, IsTrue, MatchOption};
-ghost use Rattle.rows_tables.specs.Places.{meta_column};
+ghost use Rattle.rows_tables.specs.Places.{meta_tree, meta_column};
 ghost use Rattle.rows_tables.specs.Tables.{first_version, room_version};
 ghost use Rattle.sqlite_value.specs.declared.value.Value.TheVariants.{Int};
 ghost use Rattle.sqlite_value.specs.Order.{column};
@@ -154,7 +154,7 @@ fn find_version<S: Alter>(connection: &mut Connection<S>) -> Result<Option<i64>,
 fn version_row<S: Alter>(connection: &mut Connection<S>) -> Result<Option<Row>, Error>
     ensures finds { HasCleanDisk (state S.Store connection.new)
         → KeepsVersion (state S.Store connection.old).now.schema
-        → FindsRow (state S.Store connection.old) (state S.Store connection.new) 0 version_tests
+        → FindsRow (state S.Store connection.old) (state S.Store connection.new) meta_tree version_tests
         (col 1 meta_column.version ∷ []) [] result }
     ensures connection { KeepsOpen S.Store connection.old connection.new result }
 {

@@ -445,11 +445,11 @@ module _ {S : Type 0} (store : Ghosts S) where
       let after : All (λ key. IsServedFirst key steps) more = All-weaker (λ key. IsServedFirst key later.0) (λ key. IsServedFirst key steps) (λ key is. spared_then_first key first.0 later.0 (first.3 key) is) more later.4 in
       (steps, all_then first.0 later.0 a b c old mid new first.1 later.1, only_serve_then first.0 later.0 first.2 later.2, (λ key. spared_then key first.0 later.0 (first.3 key) (later.3 key)), All-append (λ key. IsServedFirst key steps) keys more before after)
 
-  -- ---- a turn of the hall
+  -- ---- a pass, behind its wait
 
   -- some share a round, and then each is served
-  pub turn_serves : (keys : List ℕ) (a b c d : Slab Guest) (old mid new : Served S) → NobodyWaits a → SharesRound store keys a b old mid → ServesEach store keys b c mid new → GoesOn store c d new new → ServesThose store keys a d old new
-  turn_serves keys a b c d old mid new nobody shares serves rest =
+  pub told_serves : (keys : List ℕ) (a b c d : Slab Guest) (old mid new : Served S) → NobodyWaits a → SharesRound store keys a b old mid → ServesEach store keys b c mid new → GoesOn store c d new new → ServesThose store keys a d old new
+  told_serves keys a b c d old mid new nobody shares serves rest =
       let first = shares nobody in
       let then_serves = serves first.2 in
       let steps : List Step = first.0 ++ then_serves.0 in
@@ -462,8 +462,8 @@ module _ {S : Type 0} (store : Ghosts S) where
       )
 
   -- and whoever asked in it has heard
-  pub turn_told : (keys : List ℕ) (a b c : Slab Guest) (old mid new : Served S) → NobodyWaits a → SharesRound store keys a b old mid → ServesEach store keys b c mid new → NobodyWaits c
-  turn_told keys a b c old mid new nobody shares serves key =
+  pub told_hears : (keys : List ℕ) (a b c : Slab Guest) (old mid new : Served S) → NobodyWaits a → SharesRound store keys a b old mid → ServesEach store keys b c mid new → NobodyWaits c
+  told_hears keys a b c old mid new nobody shares serves key =
       let first = shares nobody in
       let is = serves first.2 in
       not_true (is_waiting (get c key)) (λ waits.

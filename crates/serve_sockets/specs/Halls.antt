@@ -188,7 +188,7 @@ module _ {S : Type 0} (store : Ghosts S) where
       × DoesAll steps old new before after × StaysAlone before after
       × All (λ key. IsServedFirst key steps) keys
 
-  -- ---- the parts of a turn
+  -- ---- the parts of a pass
 
   -- some peers of these keys ask in the round that is under way, and nothing else goes on
   abbrev pub OnlyAsk : (keys : List ℕ) (old new : Slab Guest) (before after : Served S) → Type 0

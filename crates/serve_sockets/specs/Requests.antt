@@ -4,6 +4,7 @@ use Rattle.http.specs.Request.{body_of}
 use Rattle.http_server.specs.Connection.{config_of, history}
 use Rattle.http_server.specs.Exchange.{Call}
 use Rattle.http_server.specs.History as http
+use Rattle.account_machine.specs.Verdicts.{reply_of}
 use Rattle.ipp_coding.specs.Reading.{header_in}
 use Rattle.input_http.specs.declared.refusal.Refusal.{Refusal}
 use Rattle.input_http.specs.declared.refusal.Refusal.TheVariants.{NoSpace}
@@ -20,7 +21,7 @@ use Rattle.serve_sockets.specs.Places.{StandAt}
 pub record TellsCall (account : List ℕ) (call : Call) (told : Told) : Type 0 where
   pub moment : ℕ
   pub asked : told.0 ≡ entry.Message moment account (body_of call.0)
-  pub tells : IsTold (header_in (body_of call.0)) (has_long_body call.0) told.1 call.1
+  pub tells : IsTold (header_in (body_of call.0)) (has_long_body call.0) (reply_of told.1) call.1
       ⊎ IsLost call.1
 
 -- A request is refused and asks nothing, or it is answered by the first of these. One that needs space

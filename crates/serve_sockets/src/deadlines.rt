@@ -7,8 +7,8 @@ use crate::hall::Peers;
 pub(crate) const TICK: u64 = 250;
 
 impl Peers {
-    /// From time to time drops who took too long, where others wait for room who rests on it, and
-    /// where too much is held who hardly reads what it asked for.
+    /// Once a tick, drops who took too long. Where others wait for room, it also drops who rests on
+    /// some, and where too much is held, who hardly reads what it asked for.
     pub(crate) fn drop_late(&mut self, ticks: u64)
         ensures { OnlyLeave self.old.guests self.new.guests }
     {

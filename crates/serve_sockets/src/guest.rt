@@ -12,7 +12,7 @@ use http_server::Log;
 use input_http::Refusal;
 use mio::{Interest, Registry, Token};
 use serve_peers::{Entry, HttpPeer, LARGE, LastPeer, LinePeer, Next, Patience, Served, Turn};
-use serve_web::drive_pages;
+use serve_web::drive_browser;
 use sqlite::Alter;
 use std::alloc::Global;
 use std::io;
@@ -25,7 +25,7 @@ pub(crate) enum Peer {
     /// A browser at the pages.
     Pages(HttpPeer),
     Lines(LinePeer),
-    /// Its round was lost: it is told what it asked in it came to, and nothing more.
+    /// Its round was lost. It is told what became of what it asked in that, and nothing more.
     Last(LastPeer),
 }
 
@@ -59,7 +59,7 @@ impl Peer {
     {
         match self {
             Peer::Http(peer) => peer.drive(reader, writer, served, turn),
-            Peer::Pages(peer) => drive_pages(peer, reader, writer, served, turn),
+            Peer::Pages(peer) => drive_browser(peer, reader, writer, served, turn),
             Peer::Lines(peer) => peer.drive(reader, writer, served, turn),
             Peer::Last(peer) => peer.drive(reader, writer, turn),
         }
@@ -110,10 +110,9 @@ impl Guest {
         self.door
     }
 
-    /// Has a turn: what came by its socket is taken. In a round nothing is written to it; otherwise
-    /// what it is told is, and where the round in which it asked was lost that is asked again
-    /// first.
-    pub(crate) fn drive<S: Alter>(
+    /// Takes what came by the socket. Outside a round it also writes what the peer is told. Where a
+    /// round was lost, it first asks again what the peer asked in that.
+    pub(crate) fn take_turn<S: Alter>(
         &mut self,
         alloc: Global,
         served: &mut Served<S>,
@@ -141,7 +140,7 @@ impl Guest {
         next
     }
 
-    /// A turn outside a round. Who hears now what it asked in one reads nothing more.
+    /// A turn outside a round. A peer that hears now of what it asked in one reads nothing more.
     fn go_on<S: Alter>(&mut self, alloc: Global, served: &mut Served<S>, turn: Turn) -> Next
         requires { shares_of served.old ≡ false }
         ensures { HasTurn S.Store turn result self.old self.new served.old served.new }
@@ -158,9 +157,9 @@ impl Guest {
         next
     }
 
-    /// Where the round was lost, what it asked in it is asked again, by itself. From then on it
-    /// only hears what that came to, whatever it spoke. A client of whose request more has come than
-    /// there is space for is turned away.
+    /// Where the round was lost, asks again, by itself, what the peer asked in it. From then on the
+    /// peer only hears what that came to, whatever it spoke. A client that has sent more of a request
+    /// than there is space for is turned away.
     fn ask_again<S: Alter>(&mut self, alloc: Global, served: &mut Served<S>, ticks: u64)
         requires { shares_of served.old ≡ false }
         ensures again { AsksAgain S.Store (is_lost_of served.old) (asked_in self.old)
@@ -178,8 +177,8 @@ impl Guest {
         }
     }
 
-    /// Turns it away where it is a client of whose request more has come than there is space for,
-    /// and has the log tell it. The path may not have come yet.
+    /// Turns the peer away where it is a client that has sent more of a request than there is space
+    /// for, and has the log tell it. The path may not have come yet.
     fn turn_away<S: Alter>(&mut self, alloc: Global, served: &mut Served<S>, ticks: u64)
         ensures turned { StaysOrTurnsAway (takes_of (spare_of served.old))
             (peer_of self.old) (peer_of self.new) }
@@ -193,7 +192,7 @@ impl Guest {
         }
     }
 
-    /// Whether it is a client of whose request more has come than this.
+    /// Whether it is a client that has sent more of a request than this.
     fn outgrows(&self, most: usize) -> bool
         ensures { IsTrue result → HasSentMore most (peer_of self.now) }
     {

@@ -206,13 +206,14 @@ impl Hall {
         Ok(())
     }
 
-    /// Waits until something comes, or a tick is over. What the lines of a backup have asked for is
-    /// done, at most a slice of it. Where accounts are gathered for the print room's page nothing is
-    /// waited for, and one of them is read. Then each of whom the system told is served; where it told
-    /// of several, what they ask shares a commit, and nobody is answered before it.
-    /// Who waits at a door is let in, who was held back goes on where there is room, and who took
-    /// too long is dropped. A log whose file was moved away goes on in a new one, and one that can't be
-    /// written is told once on standard error. It fails where the system can't wait, or has no clock.
+    /// Waits until something comes, or a tick is over. Does what the lines of a backup have asked for,
+    /// at most a slice of it. Where it gathers accounts for the print room's page, it waits for
+    /// nothing, and reads one of them. Then it serves each of whom the system told; where the system
+    /// told of several, what they ask shares a commit, and nobody is answered before that. It lets in
+    /// who waits at a door, has those go on who were held back where there is room, and drops who took
+    /// too long. Where the log's file was moved away, the log goes on in a new one. That the log can't
+    /// be written is told once, on standard error. It fails where the system can't wait, or has no
+    /// clock.
     pub fn pass<
         S: Alter,
         T: Alter,
@@ -231,13 +232,14 @@ impl Hall {
         served.look_at_log(rt, moment(rt));
         served.keep_backup(copies);
         served.gather();
-        let ended = self.turn(rt, served);
+        let ended = self.serve_told(rt, served);
         self.log_lags = tell_failure(rt, self.log_lags, served.log_lags());
         ended
     }
 
-    /// What follows what the system told.
-    fn turn<S: Alter>(&mut self, clock: &impl Clock, served: &mut Served<S>) -> io::Result<()>
+    /// Serves those of whom the system told. Then it lets in who waits, has those go on who were held
+    /// back, and drops who is late.
+    fn serve_told<S: Alter>(&mut self, clock: &impl Clock, served: &mut Served<S>) -> io::Result<()>
         ensures goes_on { GoesOn S.Store (guests_of self.old) (guests_of self.new)
             served.old served.new }
         ensures follows { shares_of served.old ≡ false → open_of served.old ≡ []
@@ -281,8 +283,8 @@ impl Peers {
         Ok(self.pace.look(ticks(clock)?))
     }
 
-    /// Where nobody is there, nothing but what comes is waited for, and where there is something to go
-    /// on with, nothing is.
+    /// How long a pass waits for what comes: no time where there is something to go on with, and else
+    /// a tick. Where nobody is there, it waits until somebody comes.
     fn timeout(&self, goes_on: bool) -> Option<Duration> {
         if goes_on {
             return Some(Duration::ZERO);
@@ -381,7 +383,7 @@ impl Peers {
             return;
         };
         let before = guest.bytes_held();
-        let next = guest.drive(alloc, served, turn);
+        let next = guest.take_turn(alloc, served, turn);
         self.stock
             .changed(key, before, guest.bytes_held(), guest.is_large());
         self.after_turn(key, next, shares, rests);
@@ -414,8 +416,8 @@ impl Peers {
     }
 
     /// Whether the peer stays after a turn. A turn in a round is followed by another, so the system
-    /// need not tell again. Of a browser that rested in its turn it has to, since what it asks is
-    /// still to be read.
+    /// need not tell again. Where a browser rested in its turn the system has to, since what the
+    /// browser asks is still to be read.
     fn goes_on_after(&mut self, key: usize, next: Next, shares: bool, rests: bool) -> bool
         ensures same { SameValues self.old.guests self.new.guests }
         ensures goes { IsFalse result → MayLeave next }

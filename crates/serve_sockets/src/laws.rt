@@ -4,8 +4,8 @@ ghost use Rattle.serve_sockets.specs.Hearing.{AlwaysHear};
 
 use sqlite::Alter;
 
-/// Whoever hears of a round asked in that one: what waits to be heard of was asked in the round that is
-/// under way, or in the one that was settled last, by whose end it is told.
+/// Whoever is told how a round ended has asked in it. What waits for that was asked in the round that
+/// is under way, or in the one that was settled last.
 pub fn always_hear<S: Alter>()
     ensures { AlwaysHear S.Store }
 {}

@@ -20,14 +20,15 @@ use Rattle.page_overview.specs.Pages.{IsPage}
 use Rattle.page_overview.specs.declared.overview.Overview.{Overview}
 use Rattle.serve_peers.specs.Gathering.{asked_at, gathers}
 use Rattle.serve_peers.specs.Journals.{moment_of, needs_password_of, shares_of}
-use Rattle.serve_peers.specs.Overviews.{gathered_of, shown_of}
+use Rattle.serve_peers.specs.Overviews.{gathered_of, shown_of, with_gathered}
 use Rattle.serve_peers.specs.Requests.{has_long_body}
 use Rattle.serve_peers.specs.Space.{spare_of}
 use Rattle.serve_peers.specs.Turns.{AnswersNext, AppliesNext}
 use Rattle.serve_peers.specs.declared.entry.Entry.TheVariants as entry
 use Rattle.serve_peers.specs.declared.served.Served.{Served}
 use Rattle.serve_web.specs.Fields.{page_fields, sheet_fields}
-use Rattle.serve_web.specs.Messages.{IsFileMessage, lacks_password, queue_uri}
+use Rattle.input_lines.specs.OwnerRequests.{queue_uri}
+use Rattle.serve_web.specs.Messages.{IsFileMessage, lacks_password}
 use Rattle.serve_web.specs.Questions.{question_of}
 use Rattle.serve_web.specs.Requests.{asked}
 use Rattle.serve_web.specs.Responses.{IsDone, IsLost, IsRefusal, IsShown}
@@ -154,7 +155,7 @@ module _ {S : Type 0} (store : Ghosts S) where
       (response : Response) (new : Served S) → Type 0
   ShowsRoom front behind closes old response new =
       IsRoomPage (shown_of old) (gathers (gathered_of old)) front behind closes response
-      × (new ≡ record old { gathered = asked_at (moment_of old) (gathered_of old) })
+      × (new ≡ with_gathered old (asked_at (moment_of old) (gathered_of old)))
 
   -- what a request asks for
   abbrev pub AnswersAsked : Asked → (old : Served S) (request : Request (List ℕ))

@@ -1,6 +1,6 @@
 -- The messages of IPP that a browser's acts are, as any client could send them (all this project's
 -- own).
-use Rattle.std.specs.Prelude.{◌≡◌, ℕ, Bool, ◌&&◌, not, List, [], ◌++◌, map, Option, Some, None, codes, if◌then◌else◌, is_some, length, nat_lt, option_map}
+use Rattle.std.specs.Prelude.{◌≡◌, ℕ, Bool, ◌&&◌, not, List, [], map, Option, Some, None, codes, if◌then◌else◌, is_some, length, nat_lt, option_map}
 use Rattle.std.specs.Borrow.{Bor}
 use Rattle.http.specs.Request.{body_of}
 use Rattle.http.specs.declared.request.Request.{Request}
@@ -11,15 +11,11 @@ use Rattle.client_owner.specs.Documents.{format_of}
 use Rattle.client_owner.specs.Requests.{print_message}
 use Rattle.client_owner.specs.declared.new_job.NewJob.{NewJob}
 use Rattle.input_http.specs.Words.{before}
-use Rattle.account_rules.specs.QueuePaths.{behind, queue_path}
+use Rattle.input_lines.specs.OwnerRequests.{queue_uri}
+use Rattle.account_rules.specs.QueuePaths.{behind}
 use Rattle.input_http.specs.Origins.{value_in}
 use Rattle.serve_web.specs.Parts.{replaced}
 use Rattle.serve_web.specs.Requests.{query_of}
-use Rattle.serve_web.specs.declared.message.TheConstants.{BEFORE_PATH}
-
--- the address of an account's queue; its host is not looked at
-unfoldable pub queue_uri : (account : List ℕ) → List ℕ
-queue_uri account = BEFORE_PATH.now ++ queue_path account
 
 -- ---- the name of the file, which the query has as a form writes it (URL Standard section 5.1)
 

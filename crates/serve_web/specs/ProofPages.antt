@@ -14,7 +14,7 @@ use Rattle.serve_peers.proofs.GatheringKept.{gathered_only}
 use Rattle.serve_peers.proofs.Journaling.{looked}
 use Rattle.serve_peers.specs.Gathering.{asked_at, gathers}
 use Rattle.serve_peers.specs.Journals.{moment_of, needs_password_of, shares_of}
-use Rattle.serve_peers.specs.Overviews.{gathered_of, shown_of}
+use Rattle.serve_peers.specs.Overviews.{gathered_of, shown_of, with_gathered}
 use Rattle.serve_peers.specs.ProofServices.{one_more}
 use Rattle.serve_peers.specs.Requests.{has_long_body}
 use Rattle.serve_peers.specs.Space.{spare_of}
@@ -22,7 +22,8 @@ use Rattle.serve_peers.specs.Turns.{Continues}
 use Rattle.serve_peers.specs.declared.gathering.Gathered.{Gathered}
 use Rattle.serve_peers.specs.declared.served.Served.{Served}
 use Rattle.serve_web.specs.Answers.{Answers, AnswersAsked, AnswersIf, AnswersPages, Applies, Gives, IsMessage, IsStill, PrintsIf, PrintsUnless, Shows, rooms_of}
-use Rattle.serve_web.specs.Messages.{IsFileMessage, lacks_password, queue_uri}
+use Rattle.input_lines.specs.OwnerRequests.{queue_uri}
+use Rattle.serve_web.specs.Messages.{IsFileMessage, lacks_password}
 use Rattle.serve_web.specs.Questions.{question_of}
 use Rattle.serve_web.specs.Requests.{asked}
 use Rattle.serve_web.specs.Outcomes.{page_act}
@@ -53,12 +54,12 @@ module _ {S : Type 0} (store : Ghosts S) where
 
   -- nothing is asked of the rooms; an overview may be gathered from now on
   abbrev pub IsLeft : (wants : Result Asked Refusal) (old : Served S) (request : Request (List ℕ)) (response : Response) (new : Served S) → Type 0
-  IsLeft wants old request response new = IsStill wants request response × ((gathered : Gathered) × (new ≡ record old { gathered = gathered }))
+  IsLeft wants old request response new = IsStill wants request response × ((gathered : Gathered) × (new ≡ with_gathered old gathered))
 
   abbrev pub Comes : (wants : Result Asked Refusal) (old : Served S) (request : Request (List ℕ)) (response : Response) (new : Served S) → Type 0
   Comes wants old request response new = IsApplied wants old request response new ⊎ (IsLookedAt wants old request response new ⊎ IsLeft wants old request response new)
 
-  same_gathered : (old new : Served S) → new ≡ old → (gathered : Gathered) × (new ≡ record old { gathered = gathered })
+  same_gathered : (old new : Served S) → new ≡ old → (gathered : Gathered) × (new ≡ with_gathered old gathered)
   same_gathered old new is = (gathered_of old, is)
 
   file_comes : (lacks : Bool) (account : List ℕ) (copies : ℕ) (pages : Option ℕ) (message : List ℕ) (old : Served S) (request : Request (List ℕ)) (response : Response) (new : Served S) → IsFileMessage account request copies pages message →

@@ -21,4 +21,4 @@ mod turn;
 mod word;
 
 pub use laws::{foreign_forms_do_nothing, without_origin_nothing_is_applied};
-pub use turn::drive_pages;
+pub use turn::drive_browser;

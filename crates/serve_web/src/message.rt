@@ -3,20 +3,19 @@ ghost use Rattle.std.specs.Prelude.{◌≡◌, IfOk, option_copied, option_map};
 ghost use Rattle.ipp_coding.specs.Spelling.{message_spelling};
 ghost use Rattle.percent_encoding.specs.Percent.{percent_decode};
 ghost use Rattle.client_owner.specs.Requests.{act_message, request as message_asked};
-ghost use Rattle.serve_web.specs.Messages.{IsFileMessage, IsJobOf, file_name, lacks_password, name_part, password_in, password_sent, queue_uri, word_of};
+ghost use Rattle.input_lines.specs.OwnerRequests.{queue_uri};
+ghost use Rattle.serve_web.specs.Messages.{IsFileMessage, IsJobOf, file_name, lacks_password, name_part, password_in, password_sent, word_of};
 
 use crate::asked::query_of;
 use crate::replaced::put_replaced;
-use account_rules::{Name, QUEUES};
+use account_rules::Name;
 use bytes::Bytes;
 use client_owner::{Asked, JobAct, NewJob, format_of, request_text};
 use http::{HeaderValue, Request};
 use input_http::before;
+use input_lines::queue_uri;
 use percent_encoding::percent_decode;
 use std::alloc::{AllocError, Global};
-
-/// What stands before the path of an address.
-const BEFORE_PATH: &[u8] = b"ipp://localhost";
 
 /// The message that does something with a job.
 pub(crate) fn act_message(
@@ -87,18 +86,6 @@ fn text_of(alloc: Global, uri: &[u8], asked: &Asked<'_>) -> Result<Vec<u8>, Allo
         Ok(text) => Ok(text),
         Err(_) => Err(AllocError),
     }
-}
-
-/// The address of an account's queue. Its host is not looked at.
-#[tactic(auto, using(std::proofs::Common::append_assoc), unfolding(crate::specs::Messages::queue_uri))]
-fn queue_uri(alloc: Global, account: Name) -> Result<Vec<u8>, AllocError>
-    ensures { IfOk result (λ uri. uri.items ≡ queue_uri account) }
-{
-    let mut uri = Vec::new(alloc);
-    uri.extend_from_slice(BEFORE_PATH)?;
-    uri.extend_from_slice(QUEUES)?;
-    uri.extend_from_slice(account.bytes())?;
-    Ok(uri)
 }
 
 /// The name of the file, which the query has as a form writes it.

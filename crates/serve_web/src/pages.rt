@@ -70,12 +70,12 @@ fn answer<S: Alter>(
     }
     match asked_by(request) {
         Ok(asked) => answer_asked(served, &asked, request, response),
-        Err(refusal) => turn_away(served, refusal, request, response),
+        Err(refusal) => refuse_and_log(served, refusal, request, response),
     }
 }
 
 /// Refuses a request, which changes nothing, and has the log tell it.
-fn turn_away<S: Alter>(
+fn refuse_and_log<S: Alter>(
     served: &mut Served<S>,
     refusal: Refusal,
     request: &Request<Bytes>,
@@ -211,7 +211,7 @@ fn print<S: Alter>(
 {
     let alloc = *response.headers.allocator();
     if lacks_password(alloc, served.needs_password(), request)? {
-        return turn_away(served, Refusal::NoPassword, request, response);
+        return refuse_and_log(served, Refusal::NoPassword, request, response);
     }
     print_file(served, account, copies, pages, request, response)
 }
@@ -234,7 +234,7 @@ fn print_file<S: Alter>(
     let alloc = *response.headers.allocator();
     let message = file_message(alloc, account, request, copies, pages)?;
     if served.takes() < message.len() {
-        turn_away(served, Refusal::NoSpace, request, response)?;
+        refuse_and_log(served, Refusal::NoSpace, request, response)?;
         return Ok(());
     }
     let closes = has_long_body(request);

@@ -10,7 +10,7 @@ use sqlite::Alter;
 use std::io::{Read, Write};
 
 /// One turn of a browser, whose requests are answered by the service of pages.
-pub fn drive_pages<S: Alter, R: Read, W: Write>(
+pub fn drive_browser<S: Alter, R: Read, W: Write>(
     peer: &mut HttpPeer,
     reader: &mut R,
     writer: &mut W,
@@ -25,10 +25,10 @@ pub fn drive_pages<S: Alter, R: Read, W: Write>(
     ensures holds { result ≡ Next.HeldBack → IsFalse turn.has_room }
 {
     let mut pages = Pages { served };
-    drive_by(peer, reader, writer, &mut pages, turn)
+    drive_with_pages(peer, reader, writer, &mut pages, turn)
 }
 
-fn drive_by<S: Alter, R: Read, W: Write>(
+fn drive_with_pages<S: Alter, R: Read, W: Write>(
     peer: &mut HttpPeer,
     reader: &mut R,
     writer: &mut W,

@@ -1,5 +1,5 @@
-//! What is changed in the tables, and in what is kept of them in memory. After a fault nothing is
-//! kept: what was changed before may be undone.
+//! What is changed in the tables, and in what is kept of them. After a fault nothing is kept: what
+//! was changed before may be undone.
 
 ghost use Rattle.std.specs.Prelude.{◌≡◌, ◌<◌, pos, None, Err, IsTrue, OnErr, OnOk};
 ghost use Rattle.sqlite.specs.Held.{state};
@@ -14,8 +14,8 @@ ghost use Rattle.rows_statements.specs.Rows.{IsFree};
 ghost use Rattle.rows_tables.specs.Accounts.{job_at};
 ghost use Rattle.rows_tables.specs.Calls.{IsUnchanged, IsUndone, KeepsConnection, UnchangedOrUndone};
 
-use crate::memory::Added;
-use crate::rounds::Rounds;
+use crate::kept::Added;
+use crate::rounds::{Rounds, note_settled};
 use account_machine::{Job, Moment, Name, Standing};
 use rows_statements::NewDocument;
 use rows_tables::TableFault;
@@ -30,9 +30,9 @@ pub(crate) fn open_account<S: Alter>(
     ensures opens { ChangesWhole S.Store connection.old connection.new result
         (OpensAccount account now) }
 {
-    let _alone = connection.connection.is_autocommit();
+    note_settled(&connection.connection);
     let made = rows_statements::open_account(&mut connection.connection, account, now);
-    connection.memory.mind_opening(account, &made);
+    connection.kept.follow_opening(account, &made);
     made
 }
 
@@ -46,9 +46,9 @@ pub(crate) fn add_grant<S: Alter>(
     ensures grants { ChangesWhole S.Store connection.old connection.new result
         (GrantsPages account month pages) }
 {
-    let _alone = connection.connection.is_autocommit();
+    note_settled(&connection.connection);
     let made = rows_statements::add_grant(&mut connection.connection, account, month, pages);
-    connection.memory.mind(&made);
+    connection.kept.forget_after_fault(&made);
     made
 }
 
@@ -68,10 +68,10 @@ pub(crate) fn make_job<S: Alter>(
         (λ db. result ≡ Err TableFault.Damaged → job_at db account (pos job.now.job) ≡ None →
         IsFree account (first_of job.now.job document.entry) db → ⊥) }
 {
-    let _alone = connection.connection.is_autocommit();
-    let was = connection.memory.row(account);
+    note_settled(&connection.connection);
+    let was = connection.kept.row(account);
     let made = rows_statements::make_job(&mut connection.connection, account, job, document);
-    connection.memory.mind_making(account, was, job, &made);
+    connection.kept.follow_making(account, was, job, &made);
     made
 }
 
@@ -91,8 +91,8 @@ pub(crate) fn restand_job<S: Alter>(
         (λ db. result ≡ Err TableFault.Damaged →
         IsFree account (first_of number document.entry) db → ⊥) }
 {
-    let _alone = connection.connection.is_autocommit();
-    let was = connection.memory.added_before(account, number);
+    note_settled(&connection.connection);
+    let was = connection.kept.added_before(account, number);
     let made = rows_statements::restand_job(
         &mut connection.connection,
         account,
@@ -100,7 +100,7 @@ pub(crate) fn restand_job<S: Alter>(
         standing,
         document,
     );
-    connection.memory.mind_move(account, was, standing, &made);
+    connection.kept.follow_move(account, was, standing, &made);
     made
 }
 
@@ -115,10 +115,10 @@ pub(crate) fn end_job<S: Alter>(
     ensures ends { ChangesWhole S.Store connection.old connection.new result
         (FinishesJob account number standing.now) }
 {
-    let _alone = connection.connection.is_autocommit();
-    let was = connection.memory.added_before(account, number);
+    note_settled(&connection.connection);
+    let was = connection.kept.added_before(account, number);
     let made = rows_statements::end_job(&mut connection.connection, account, number, standing);
-    connection.memory.mind_move(account, was, standing, &made);
+    connection.kept.follow_move(account, was, standing, &made);
     connection.beyond = beyond(was, standing);
     made
 }
@@ -141,9 +141,9 @@ pub(crate) fn turn_device<S: Alter>(
     ensures turns { ChangesWhole S.Store connection.old connection.new result
         (SwitchesDevice name on is_new) }
 {
-    let _alone = connection.connection.is_autocommit();
+    note_settled(&connection.connection);
     let made = rows_statements::turn_device(&mut connection.connection, name, on, is_new);
-    connection.memory.mind(&made);
+    connection.kept.forget_after_fault(&made);
     made
 }
 
@@ -157,9 +157,9 @@ pub(crate) fn rate_device<S: Alter>(
     ensures rates { ChangesWhole S.Store connection.old connection.new result
         (RatesDevice name units) }
 {
-    let _alone = connection.connection.is_autocommit();
+    note_settled(&connection.connection);
     let made = rows_statements::rate_device(&mut connection.connection, name, units);
-    connection.memory.mind(&made);
+    connection.kept.forget_after_fault(&made);
     made
 }
 
@@ -176,9 +176,9 @@ pub(crate) fn begin_round<S: Alter>(connection: &mut Rounds<S>) -> Result<(), Er
     ensures survives { Survives (state S.Store connection.old) (state S.Store connection.new)
         (λ _. ⊥) }
 {
-    let _alone = connection.connection.is_autocommit();
+    note_settled(&connection.connection);
     let made = rows_statements::begin_round(&mut connection.connection);
-    connection.memory.mind(&made);
+    connection.kept.forget_after_fault(&made);
     made
 }
 
@@ -196,8 +196,8 @@ pub(crate) fn commit_round<S: Alter>(connection: &mut Rounds<S>) -> Result<(), E
     ensures survives { Survives (state S.Store connection.old) (state S.Store connection.new)
         (λ found. found ≡ (state S.Store connection.old).now.trees) }
 {
-    let _alone = connection.connection.is_autocommit();
+    note_settled(&connection.connection);
     let made = rows_statements::commit_round(&mut connection.connection);
-    connection.memory.mind(&made);
+    connection.kept.forget_after_fault(&made);
     made
 }

@@ -20,7 +20,7 @@ ghost use Rattle.rows_tables.specs.Accounts.{account_at, job_at, IsSound};
 ghost use Rattle.rows_tables.specs.Cells.{grant_cells, job_cells};
 ghost use Rattle.rows_tables.specs.Devices.{HoldsDevices};
 
-use crate::rounds::Rounds;
+use crate::rounds::{Rounds, note_settled};
 use account_machine::{Job, Name};
 use account_rules::{Device, Grant};
 use account_state::Summary;
@@ -47,9 +47,9 @@ pub fn find_job<S: Alter>(
         (job_at db account (pos number)) → ⊥) }
     ensures reads { ReadsStore S.Store connection.old connection.new result }
 {
-    let _alone = connection.connection.is_autocommit();
+    note_settled(&connection.connection);
     let found = rows_statements::find_job(&mut connection.connection, account, number);
-    connection.memory.mind(&found);
+    connection.kept.forget_after_fault(&found);
     found
 }
 
@@ -70,9 +70,9 @@ pub fn list_grants<S: Alter>(
         (λ grant. IsGrant grant.0 grant.1) (grant_rows db account) → ⊥) }
     ensures reads { ReadsStore S.Store connection.old connection.new result }
 {
-    let _alone = connection.connection.is_autocommit();
+    note_settled(&connection.connection);
     let found = rows_statements::list_grants(alloc, &mut connection.connection, account);
-    connection.memory.mind(&found);
+    connection.kept.forget_after_fault(&found);
     found
 }
 
@@ -93,9 +93,9 @@ pub(crate) fn summarize<S: Alter>(
         (λ db. result ≡ Err TableFault.Damaged → CanBeSummed account (job_rows db account) → ⊥) }
     ensures reads { ReadsStore S.Store connection.old connection.new result }
 {
-    let _alone = connection.connection.is_autocommit();
+    note_settled(&connection.connection);
     let found = rows_statements::summarize(&mut connection.connection, account, month);
-    connection.memory.mind(&found);
+    connection.kept.forget_after_fault(&found);
     found
 }
 
@@ -112,9 +112,9 @@ pub(crate) fn check_account<S: Alter>(
         (λ db. result ≡ Err TableFault.Damaged → IsSound db account → ⊥) }
     ensures reads { ReadsStore S.Store connection.old connection.new result }
 {
-    let _alone = connection.connection.is_autocommit();
+    note_settled(&connection.connection);
     let found = rows_checks::check_account(alloc, &mut connection.connection, account);
-    connection.memory.mind(&found);
+    connection.kept.forget_after_fault(&found);
     found
 }
 
@@ -130,9 +130,9 @@ pub fn list_devices<S: Alter>(
         (λ db. result ≡ Err TableFault.Damaged → CanBeListed db → ⊥) }
     ensures reads { ReadsStore S.Store connection.old connection.new result }
 {
-    let _alone = connection.connection.is_autocommit();
+    note_settled(&connection.connection);
     let found = rows_statements::list_devices(alloc, &mut connection.connection);
-    connection.memory.mind(&found);
+    connection.kept.forget_after_fault(&found);
     found
 }
 
@@ -150,9 +150,9 @@ pub fn next_accounts<S: Alter>(
         (λ db. result ≡ Err TableFault.Damaged → AreNamed db → ⊥) }
     ensures reads { ReadsStore S.Store connection.old connection.new result }
 {
-    let _alone = connection.connection.is_autocommit();
+    note_settled(&connection.connection);
     let found = rows_statements::next_accounts(alloc, &mut connection.connection, behind);
-    connection.memory.mind(&found);
+    connection.kept.forget_after_fault(&found);
     found
 }
 
@@ -171,8 +171,8 @@ pub fn survey<S: Alter>(
         (λ db. result ≡ Err TableFault.Damaged → SurveyIsReadable account month db → ⊥) }
     ensures reads { ReadsStore S.Store connection.old connection.new result }
 {
-    let _alone = connection.connection.is_autocommit();
+    note_settled(&connection.connection);
     let found = rows_survey::survey(alloc, &mut connection.connection, account, month);
-    connection.memory.mind(&found);
+    connection.kept.forget_after_fault(&found);
     found
 }

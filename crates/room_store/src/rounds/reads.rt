@@ -1,5 +1,4 @@
-//! What is read of the tables. After a fault nothing is kept in memory: what was changed may be
-//! undone.
+//! What is read of the tables. After a fault nothing is kept: what was changed may be undone.
 
 ghost use Rattle.std.specs.Prelude.{◌≡◌, ◌≤◌, ◌<◌, ◌↔◌, ⊤, ℕ, Bool, List, Option, length, option_map, pos, true, Some, Err, IfOk, IfSome, IsTrue, OnErr, OnOk};
 ghost use Rattle.std.specs.FinMap.{get, values};
@@ -27,8 +26,8 @@ ghost use Rattle.rows_tables.specs.Calls.{IsUnchanged, IsUndone};
 ghost use Rattle.rows_tables.specs.Cells.{account_cells, document_cells, grant_cells, job_cells, on_cells, units_cells};
 ghost use Rattle.rows_tables.specs.Devices.{HoldsDevices, device_at, rate_at};
 
-use crate::memory::{Memory, Sums};
-use crate::rounds::Rounds;
+use crate::kept::{Kept, Sums};
+use crate::rounds::{Rounds, note_settled};
 use crate::{events, lookup};
 use account_machine::{Account, Document, Job, Name, Tally};
 use ipp_coding::List;
@@ -50,10 +49,10 @@ pub fn find_account<S: Alter>(
         → IsRowOf (account_cells account) IsAccount (account_at db account) → ⊥) }
     ensures reads { ReadsStore S.Store connection.old connection.new result }
 {
-    let _alone = connection.connection.is_autocommit();
-    let known = row(connection.is_ours, &connection.memory, account);
+    note_settled(&connection.connection);
+    let known = row(connection.is_ours, &connection.kept, account);
     let found = find_knowing(&mut connection.connection, account, known);
-    connection.memory.mind_account(account, &found);
+    connection.kept.keep_account(account, &found);
     found
 }
 
@@ -101,9 +100,9 @@ pub(crate) fn look_up<S: Alter>(
         (λ db. result ≡ Err TableFault.Damaged → JobIsReadable account number db → ⊥) }
     ensures looks { LooksUp S.Store connection.old connection.new result }
 {
-    let _alone = connection.connection.is_autocommit();
+    note_settled(&connection.connection);
     let found = lookup::look_up(&mut connection.connection, account, number);
-    connection.memory.mind_job(account, number, &found);
+    connection.kept.keep_job(account, number, &found);
     found
 }
 
@@ -120,9 +119,9 @@ pub(crate) fn find_device<S: Alter>(
         → IsRowOf (on_cells name) (λ _. ⊤) (device_at db name) → ⊥) }
     ensures reads { ReadsStore S.Store connection.old connection.new result }
 {
-    let _alone = connection.connection.is_autocommit();
+    note_settled(&connection.connection);
     let found = rows_statements::find_device(&mut connection.connection, name);
-    connection.memory.mind(&found);
+    connection.kept.forget_after_fault(&found);
     found
 }
 
@@ -137,9 +136,9 @@ pub(crate) fn is_device_on<S: Alter>(connection: &mut Rounds<S>) -> Result<bool,
         → AreRowsOf (λ (it : List ℕ × Bool). on_cells it.0 it.1) (λ _. ⊤) (device_rows db) → ⊥) }
     ensures reads { ReadsStore S.Store connection.old connection.new result }
 {
-    let _alone = connection.connection.is_autocommit();
+    note_settled(&connection.connection);
     let found = rows_statements::is_device_on(&mut connection.connection);
-    connection.memory.mind(&found);
+    connection.kept.forget_after_fault(&found);
     found
 }
 
@@ -159,9 +158,9 @@ pub(crate) fn find_rate<S: Alter>(
         → ⊥) }
     ensures reads { ReadsStore S.Store connection.old connection.new result }
 {
-    let _alone = connection.connection.is_autocommit();
+    note_settled(&connection.connection);
     let found = rows_statements::find_rate(&mut connection.connection, name);
-    connection.memory.mind(&found);
+    connection.kept.forget_after_fault(&found);
     found
 }
 
@@ -182,9 +181,9 @@ pub fn find_documents<S: Alter>(
         (document_rows db account job) → ⊥) }
     ensures reads { ReadsStore S.Store connection.old connection.new result }
 {
-    let _alone = connection.connection.is_autocommit();
+    note_settled(&connection.connection);
     let found = rows_statements::find_documents(alloc, &mut connection.connection, account, job);
-    connection.memory.mind(&found);
+    connection.kept.forget_after_fault(&found);
     found
 }
 
@@ -204,9 +203,9 @@ pub(crate) fn find_grant<S: Alter>(
         (grant_at db account (pos month)) → ⊥) }
     ensures reads { ReadsStore S.Store connection.old connection.new result }
 {
-    let _alone = connection.connection.is_autocommit();
+    note_settled(&connection.connection);
     let found = rows_statements::find_grant(&mut connection.connection, account, month);
-    connection.memory.mind(&found);
+    connection.kept.forget_after_fault(&found);
     found
 }
 
@@ -225,9 +224,9 @@ pub(crate) fn granted_to<S: Alter>(
         → CanBeAdded account month (grant_rows db account) → ⊥) }
     ensures reads { ReadsStore S.Store connection.old connection.new result }
 {
-    let _alone = connection.connection.is_autocommit();
+    note_settled(&connection.connection);
     let found = rows_statements::granted_to(&mut connection.connection, account, month);
-    connection.memory.mind(&found);
+    connection.kept.forget_after_fault(&found);
     found
 }
 
@@ -252,9 +251,9 @@ pub(crate) fn tally_unfinished<S: Alter>(
         → CanBeCounted account (unfinished_rows db account) → ⊥) }
     ensures reads { ReadsStore S.Store connection.old connection.new result }
 {
-    let _alone = connection.connection.is_autocommit();
+    note_settled(&connection.connection);
     let found = rows_statements::tally_unfinished(&mut connection.connection, account);
-    connection.memory.mind(&found);
+    connection.kept.forget_after_fault(&found);
     found
 }
 
@@ -275,10 +274,10 @@ pub(crate) fn count_unfinished<S: Alter>(
         → most_unfinished < length (unfinished_rows db account)) }
     ensures reads { ReadsStore S.Store connection.old connection.new result }
 {
-    let _alone = connection.connection.is_autocommit();
-    let known = unfinished(connection.is_ours, &connection.memory, account);
+    note_settled(&connection.connection);
+    let known = unfinished(connection.is_ours, &connection.kept, account);
     let found = count_knowing(&mut connection.connection, account, known);
-    connection.memory.mind_count(account, &found);
+    connection.kept.keep_count(account, &found);
     found
 }
 
@@ -325,9 +324,9 @@ pub(crate) fn unfinished_jobs<S: Alter>(
         (unfinished_rows db account) → ⊥) }
     ensures reads { ReadsStore S.Store connection.old connection.new result }
 {
-    let _alone = connection.connection.is_autocommit();
+    note_settled(&connection.connection);
     let found = rows_statements::unfinished_jobs(alloc, &mut connection.connection, account, limit);
-    connection.memory.mind(&found);
+    connection.kept.forget_after_fault(&found);
     found
 }
 
@@ -350,9 +349,9 @@ pub(crate) fn ended_jobs<S: Alter>(
         (ended_rows db account) → ⊥) }
     ensures reads { ReadsStore S.Store connection.old connection.new result }
 {
-    let _alone = connection.connection.is_autocommit();
+    note_settled(&connection.connection);
     let found = rows_statements::ended_jobs(alloc, &mut connection.connection, account, limit);
-    connection.memory.mind(&found);
+    connection.kept.forget_after_fault(&found);
     found
 }
 
@@ -372,10 +371,10 @@ pub(crate) fn sum_up<S: Alter>(
         (λ db. result ≡ Err TableFault.Damaged → CanBeCounted account (job_rows db account) → ⊥) }
     ensures reads { ReadsStore S.Store connection.old connection.new result }
 {
-    let _alone = connection.connection.is_autocommit();
-    let known = sums(connection.is_ours, &connection.memory, account);
+    note_settled(&connection.connection);
+    let known = sums(connection.is_ours, &connection.kept, account);
     let found = sums_knowing(&mut connection.connection, account, known);
-    connection.memory.mind_sums(account, &found);
+    connection.kept.keep_sums(account, &found);
     found
 }
 
@@ -425,21 +424,21 @@ fn added_up<S: Alter>(connection: &mut Connection<S>, account: Name) -> Result<S
 }
 
 /// The account's own row, where the tables are known to be the store's and it is kept.
-fn row(is_ours: bool, memory: &Memory, account: Name) -> Option<Account>
-    ensures kept { IfSome result (λ row. IsTrue is_ours × HasRow memory.now account row) }
+fn row(is_ours: bool, kept: &Kept, account: Name) -> Option<Account>
+    ensures kept { IfSome result (λ row. IsTrue is_ours × HasRow kept.now account row) }
     ensures in_range { IfSome result IsAccount }
 {
-    if is_ours { memory.row(account) } else { None }
+    if is_ours { kept.row(account) } else { None }
 }
 
 /// How many jobs of the account have not ended, where the tables are known to be the store's and it is
 /// kept.
-fn unfinished(is_ours: bool, memory: &Memory, account: Name) -> Option<u32>
-    ensures kept { IfSome result (λ count. IsTrue is_ours × HasCount memory.now account count) }
+fn unfinished(is_ours: bool, kept: &Kept, account: Name) -> Option<u32>
+    ensures kept { IfSome result (λ count. IsTrue is_ours × HasCount kept.now account count) }
     ensures few { IfSome result (λ count. count ≤ most_unfinished) }
 {
     if is_ours {
-        memory.unfinished(account)
+        kept.unfinished(account)
     } else {
         None
     }
@@ -447,12 +446,12 @@ fn unfinished(is_ours: bool, memory: &Memory, account: Name) -> Option<u32>
 
 /// What the jobs of the account reserve and were charged, where the tables are known to be the store's
 /// and it is kept.
-fn sums(is_ours: bool, memory: &Memory, account: Name) -> Option<Sums>
-    ensures kept { IfSome result (λ sums. IsTrue is_ours × HasSums memory.now account sums) }
+fn sums(is_ours: bool, kept: &Kept, account: Name) -> Option<Sums>
+    ensures kept { IfSome result (λ sums. IsTrue is_ours × HasSums kept.now account sums) }
     ensures bounds { IfSome result
         (λ sums. (sums.reserved ≤ most_units) × (sums.charged ≤ most_units)) }
 {
-    if is_ours { memory.sums(account) } else { None }
+    if is_ours { kept.sums(account) } else { None }
 }
 
 /// Whether the connection is open, as `events::knock` tells it.
@@ -468,9 +467,9 @@ pub(crate) fn knock<S: Alter>(connection: &mut Rounds<S>) -> Result<(), TableFau
         (λ _. ⊥) }
     ensures damaged { result ≡ Err TableFault.Damaged → ⊥ }
 {
-    let _alone = connection.connection.is_autocommit();
+    note_settled(&connection.connection);
     let found = events::knock(&mut connection.connection);
-    connection.memory.mind(&found);
+    connection.kept.forget_after_fault(&found);
     found
 }
 
@@ -488,9 +487,9 @@ pub(crate) fn ready<S: Alter>(alloc: Global, connection: &mut Rounds<S>) -> Resu
         (λ _. ⊥) }
     ensures damaged { result ≡ Err TableFault.Damaged → ⊥ }
 {
-    let _alone = connection.connection.is_autocommit();
+    note_settled(&connection.connection);
     let found = events::knock(&mut connection.connection);
-    connection.memory.mind(&found);
-    connection.memory.open(alloc);
+    connection.kept.forget_after_fault(&found);
+    connection.kept.open(alloc);
     found
 }

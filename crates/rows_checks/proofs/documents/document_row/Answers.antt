@@ -12,4 +12,4 @@ returns-clause-gets g c clean has =
     let means = subst (λ s. Means s one_text (of_table document_tree one_tests one_shows []) one_names 3) (sym has.schema_is) one_is in
     let takes = subst (λ s. TakesParams s (of_table document_tree one_tests one_shows []) (Text c.args.account ∷ number c.args.job ∷ number c.args.document ∷ []) 3) (sym has.schema_is) (one_takes c.args.account c.args.job c.args.document) in
     gets_document (state g.S.Store c.args.connection.now) (state g.S.Store c.find_row.new.connection) c.args.account c.args.job c.args.document has c.find_row.result
-    ((rw (c.bytes.ensures.value, c.number.ensures, c.number-2.ensures) at (c.find_row.ensures.finds clean)) 5 one_tests one_shows one_names 3 means takes)
+    ((rw (c.bytes.ensures.value, c.number.ensures, c.number-2.ensures) at (c.find_row.ensures.finds clean)) document_tree one_tests one_shows one_names 3 means takes)

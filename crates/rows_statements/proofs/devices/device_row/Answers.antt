@@ -13,4 +13,4 @@ returns-clause-gets g c clean has =
     let means = subst (λ s. Means s find_text (of_table device_tree tests shows []) names 1) (sym has.schema_is) find_is in
     let takes = subst (λ s. TakesParams s (of_table device_tree tests shows []) (Text c.args.name ∷ []) 1) (sym has.schema_is) (find_takes c.args.name) in
     gets_row device_in (state g.S.Store c.args.connection.now) (state g.S.Store c.find_row.new.connection) c.args.name has c.find_row.result
-    ((rw c.bytes.ensures.value at (c.find_row.ensures.finds clean)) 9 tests shows names 1 means takes)
+    ((rw c.bytes.ensures.value at (c.find_row.ensures.finds clean)) device_tree tests shows names 1 means takes)

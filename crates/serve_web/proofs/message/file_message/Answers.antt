@@ -3,14 +3,15 @@ use Rattle.http.specs.Request.{body_of}
 use Rattle.ipp_coding.specs.Spelling.{message_spelling}
 use Rattle.client_owner.specs.Documents.{format_of}
 use Rattle.client_owner.specs.Requests.{print_message}
-use Rattle.serve_web.specs.Messages.{file_name, queue_uri}
+use Rattle.input_lines.specs.OwnerRequests.{queue_uri}
+use Rattle.serve_web.specs.Messages.{file_name}
 use Rattle.serve_web.proofs.message.file_message.Goals as goal
 
 pub returns : goal.returns
 returns c =
     let job = c.new_job-job.ensures in
     let body : c.as_slice-2.result.now ≡ body_of c.args.request.now = search rules in
-    let uri : c.as_slice-3.result.now ≡ queue_uri c.args.account = c.as_slice-3.ensures.value ∙ c.in_ok-uri.ensures in (
+    let uri : c.as_slice-3.result.now ≡ queue_uri c.args.account = c.as_slice-3.ensures.value ∙ c.in_ok-uri.ensures.uri in (
       c.new_job-job.result,
       record {
         name_is = job.name_is ∙ c.as_slice.ensures.value ∙ c.in_ok-name.ensures ∙ ap file_name c.query_of.ensures;

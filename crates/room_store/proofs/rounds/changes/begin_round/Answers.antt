@@ -1,4 +1,3 @@
-use Rattle.std.proofs.Common.{not, ap, ◌∙◌}
 use Rattle.sqlite.specs.Held.{state}
 use Rattle.room_store.proofs.KeptLemmas.{begun_kept}
 use Rattle.room_store.proofs.rounds.changes.begin_round.Goals as goal
@@ -7,5 +6,5 @@ pub invariant_of-connection : goal.invariant_of-connection
 invariant_of-connection g c ours =
     let told = c.begin_round-made.ensures in
     begun_kept (state g.S.Store c.connection.inside.connection) (state g.S.Store c.begin_round-made.new.connection) _ _ told.survives.clean
-    (λ opened mode. c.is_autocommit-alone.ensures.settled (c.is_autocommit-alone.ensures.value ∙ ap not mode) opened)
-    (c.connection.invariant ours) c.begin_round-made.result told.begins told.unchanged told.connection c.mind.ensures
+    c.note_settled.ensures
+    (c.connection.invariant ours) c.begin_round-made.result told.begins told.unchanged told.connection c.forget_after_fault.ensures

@@ -1,4 +1,3 @@
-use Rattle.std.proofs.Common.{not, ap, ◌∙◌}
 use Rattle.sqlite.specs.Held.{state}
 use Rattle.room_store.proofs.KeptLemmas.{ended_kept}
 use Rattle.room_store.proofs.rounds.changes.commit_round.Goals as goal
@@ -7,5 +6,5 @@ pub invariant_of-connection : goal.invariant_of-connection
 invariant_of-connection g c ours =
     let told = c.commit_round-made.ensures in
     ended_kept (state g.S.Store c.connection.inside.connection) (state g.S.Store c.commit_round-made.new.connection) _ _ told.connection
-    (λ opened mode. c.is_autocommit-alone.ensures.settled (c.is_autocommit-alone.ensures.value ∙ ap not mode) opened)
-    (c.connection.invariant ours) c.commit_round-made.result told.ends told.refused c.mind.ensures
+    c.note_settled.ensures
+    (c.connection.invariant ours) c.commit_round-made.result told.ends told.refused c.forget_after_fault.ensures

@@ -1,4 +1,3 @@
-use Rattle.std.proofs.Common.{not, ap, ◌∙◌}
 use Rattle.sqlite.specs.Held.{state}
 use Rattle.room_store.proofs.KeptLemmas.{job_made, row_there}
 use Rattle.room_store.proofs.rounds.changes.make_job.Goals as goal
@@ -7,8 +6,8 @@ pub invariant_of-connection : goal.invariant_of-connection
 invariant_of-connection g c ours =
     let old = state g.S.Store c.connection.inside.connection in
     job_made g.S.Store c.connection.inside.connection c.make_job-made.new.connection _ _ _
-    (λ opened mode. c.is_autocommit-alone.ensures.settled (c.is_autocommit-alone.ensures.value ∙ ap not mode) opened)
+    c.note_settled.ensures
     (c.connection.invariant ours) c.args.account c.row-was.result c.args.job.now c.make_job-made.result
-    (row_there old c.connection.inside.memory c.args.account c.row-was.result c.row-was.ensures.kept)
+    (row_there old c.connection.inside.kept c.args.account c.row-was.result c.row-was.ensures.kept)
     (λ row there made. (made.alone row there, made.account row there, made.reserved row there, made.charged row there, made.counted row there))
-    c.make_job-made.ensures.makes c.mind_making.ensures
+    c.make_job-made.ensures.makes c.follow_making.ensures

@@ -1,9 +1,8 @@
-use Rattle.std.proofs.Common.{not, ap, ◌∙◌}
 use Rattle.room_store.proofs.KeptLemmas.{account_opened}
 use Rattle.room_store.proofs.rounds.changes.open_account.Goals as goal
 
 pub invariant_of-connection : goal.invariant_of-connection
 invariant_of-connection g c ours =
     account_opened g.S.Store c.connection.inside.connection c.open_account-made.new.connection _ _ _
-    (λ opened mode. c.is_autocommit-alone.ensures.settled (c.is_autocommit-alone.ensures.value ∙ ap not mode) opened)
-    (c.connection.invariant ours) c.args.account c.open_account-made.result (λ a b made. made.alone) c.open_account-made.ensures.opens c.mind_opening.ensures
+    c.note_settled.ensures
+    (c.connection.invariant ours) c.args.account c.open_account-made.result (λ a b made. made.alone) c.open_account-made.ensures.opens c.follow_opening.ensures

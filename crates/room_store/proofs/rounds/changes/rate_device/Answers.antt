@@ -1,9 +1,8 @@
-use Rattle.std.proofs.Common.{not, ap, ◌∙◌}
 use Rattle.room_store.proofs.KeptLemmas.{devices_changed}
 use Rattle.room_store.proofs.rounds.changes.rate_device.Goals as goal
 
 pub invariant_of-connection : goal.invariant_of-connection
 invariant_of-connection g c ours =
     devices_changed g.S.Store c.connection.inside.connection c.rate_device-made.new.connection _ _ _
-    (λ opened mode. c.is_autocommit-alone.ensures.settled (c.is_autocommit-alone.ensures.value ∙ ap not mode) opened)
-    (c.connection.invariant ours) c.rate_device-made.result (λ a b made. made.alone) c.rate_device-made.ensures.rates c.mind.ensures
+    c.note_settled.ensures
+    (c.connection.invariant ours) c.rate_device-made.result (λ a b made. made.alone) c.rate_device-made.ensures.rates c.forget_after_fault.ensures

@@ -1,4 +1,4 @@
-use Rattle.std.proofs.Common.{IfOk, not, ap, subst, ◌∙◌}
+use Rattle.std.proofs.Common.{IfOk, subst}
 use Rattle.sqlite.specs.Held.{state}
 use Rattle.sqlite.specs.State.{HasCleanDisk}
 use Rattle.rows_checks.specs.Checks.{IsSoundAs}
@@ -11,8 +11,8 @@ pub invariant_of-connection : goal.invariant_of-connection
 invariant_of-connection g c ours =
     let reads = c.check_account-found.ensures.reads in
     told_kept (state g.S.Store c.connection.inside.connection) (state g.S.Store c.check_account-found.new.connection) _ _ reads.keeps
-    (λ opened mode. c.is_autocommit-alone.ensures.settled (c.is_autocommit-alone.ensures.value ∙ ap not mode) opened)
-    (c.connection.invariant ours) c.check_account-found.result reads.same (looks_read g.S.Store _ _ _ reads).undone c.mind.ensures
+    c.note_settled.ensures
+    (c.connection.invariant ours) c.check_account-found.result reads.same (looks_read g.S.Store _ _ _ reads).undone c.forget_after_fault.ensures
 
 pub returns-clause-sound : goal.returns-clause-sound
 returns-clause-sound g c =

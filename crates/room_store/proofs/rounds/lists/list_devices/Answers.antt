@@ -1,4 +1,3 @@
-use Rattle.std.proofs.Common.{not, ap, ◌∙◌}
 use Rattle.sqlite.specs.Held.{state}
 use Rattle.room_store.proofs.KeptLemmas.{told_kept}
 use Rattle.room_store.proofs.ServingLemmas.{looks_read}
@@ -8,5 +7,5 @@ pub invariant_of-connection : goal.invariant_of-connection
 invariant_of-connection g c ours =
     let reads = c.list_devices-found.ensures.reads in
     told_kept (state g.S.Store c.connection.inside.connection) (state g.S.Store c.list_devices-found.new.connection) _ _ reads.keeps
-    (λ opened mode. c.is_autocommit-alone.ensures.settled (c.is_autocommit-alone.ensures.value ∙ ap not mode) opened)
-    (c.connection.invariant ours) c.list_devices-found.result reads.same (looks_read g.S.Store _ _ _ reads).undone c.mind.ensures
+    c.note_settled.ensures
+    (c.connection.invariant ours) c.list_devices-found.result reads.same (looks_read g.S.Store _ _ _ reads).undone c.forget_after_fault.ensures

@@ -1,4 +1,3 @@
-use Rattle.std.proofs.Common.{Ok, Err}
 use Rattle.room_store.proofs.KeptLemmas.{asked_open, asked_shut}
 use Rattle.room_store.proofs.rounds.reads.count_knowing.Goals as goal
 

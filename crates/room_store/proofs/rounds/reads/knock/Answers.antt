@@ -1,4 +1,3 @@
-use Rattle.std.proofs.Common.{not, ap, ◌∙◌}
 use Rattle.sqlite.specs.Held.{state}
 use Rattle.room_store.proofs.KeptLemmas.{told_kept}
 use Rattle.room_store.proofs.rounds.reads.knock.Goals as goal
@@ -7,5 +6,5 @@ pub invariant_of-connection : goal.invariant_of-connection
 invariant_of-connection g c ours =
     let looks = c.knock-found.ensures.looks in
     told_kept (state g.S.Store c.connection.inside.connection) (state g.S.Store c.knock-found.new.connection) _ _ looks.connection.keeps
-    (λ opened mode. c.is_autocommit-alone.ensures.settled (c.is_autocommit-alone.ensures.value ∙ ap not mode) opened)
-    (c.connection.invariant ours) c.knock-found.result looks.same looks.undone c.mind.ensures
+    c.note_settled.ensures
+    (c.connection.invariant ours) c.knock-found.result looks.same looks.undone c.forget_after_fault.ensures

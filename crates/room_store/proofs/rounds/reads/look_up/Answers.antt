@@ -1,4 +1,3 @@
-use Rattle.std.proofs.Common.{not, ap, ◌∙◌}
 use Rattle.sqlite.specs.Held.{state}
 use Rattle.room_store.proofs.KeptLemmas.{job_kept}
 use Rattle.room_store.proofs.rounds.reads.look_up.Goals as goal
@@ -7,5 +6,5 @@ pub invariant_of-connection : goal.invariant_of-connection
 invariant_of-connection g c ours =
     let told = c.look_up-found.ensures in
     job_kept (state g.S.Store c.connection.inside.connection) (state g.S.Store c.look_up-found.new.connection) _ _ told.looks.connection.keeps
-    (λ opened mode. c.is_autocommit-alone.ensures.settled (c.is_autocommit-alone.ensures.value ∙ ap not mode) opened)
-    (c.connection.invariant ours) c.args.account c.args.number c.look_up-found.result told.looks.same told.looks.undone told.is_there told.in_range c.mind_job.ensures
+    c.note_settled.ensures
+    (c.connection.invariant ours) c.args.account c.args.number c.look_up-found.result told.looks.same told.looks.undone told.is_there told.in_range c.keep_job.ensures

@@ -19,17 +19,17 @@ returns-in_err-poll-clause-serves g c = serves_none g.S.Store (keys_told (items 
 pub returns-clause-goes_on : goal.returns-clause-goes_on
 returns-clause-goes_on g c =
     let a = guests_of c.args.self.now in
-    let b = guests_of c.turn-ended.new.self in
-    kept_first g.S.Store a b c.args.served.now c.keep_backup.new.self c.turn-ended.new.served (subst (λ (served : Served g.row.S.Denot). OnlyKeeps g.S.Store served c.keep_backup.new.self) c.look_at_log.ensures c.keep_backup.ensures.nothing)
-    (kept_first g.S.Store a b c.keep_backup.new.self c.gather.new.self c.turn-ended.new.served c.gather.ensures.nothing c.turn-ended.ensures.goes_on)
+    let b = guests_of c.serve_told-ended.new.self in
+    kept_first g.S.Store a b c.args.served.now c.keep_backup.new.self c.serve_told-ended.new.served (subst (λ (served : Served g.row.S.Denot). OnlyKeeps g.S.Store served c.keep_backup.new.self) c.look_at_log.ensures c.keep_backup.ensures.nothing)
+    (kept_first g.S.Store a b c.keep_backup.new.self c.gather.new.self c.serve_told-ended.new.served c.gather.ensures.nothing c.serve_told-ended.ensures.goes_on)
 
 pub returns-clause-follows : goal.returns-clause-follows
-returns-clause-follows g c = follows g.S.Store (guests_of c.args.self.now) (guests_of c.turn-ended.new.self) c.args.served.now c.turn-ended.new.served (returns-clause-goes_on g c)
+returns-clause-follows g c = follows g.S.Store (guests_of c.args.self.now) (guests_of c.serve_told-ended.new.self) c.args.served.now c.serve_told-ended.new.served (returns-clause-goes_on g c)
 
 pub returns-clause-serves : goal.returns-clause-serves
 returns-clause-serves g c =
     let a = guests_of c.args.self.now in
-    let b = guests_of c.turn-ended.new.self in
-    let keys = told_by c.turn-ended.new.self in
-    kept_then_served g.S.Store keys a b c.args.served.now c.keep_backup.new.self c.turn-ended.new.served (subst (λ (served : Served g.row.S.Denot). OnlyKeeps g.S.Store served c.keep_backup.new.self) c.look_at_log.ensures c.keep_backup.ensures.nothing)
-    (kept_then_served g.S.Store keys a b c.keep_backup.new.self c.gather.new.self c.turn-ended.new.served c.gather.ensures.nothing c.turn-ended.ensures.serves)
+    let b = guests_of c.serve_told-ended.new.self in
+    let keys = told_by c.serve_told-ended.new.self in
+    kept_then_served g.S.Store keys a b c.args.served.now c.keep_backup.new.self c.serve_told-ended.new.served (subst (λ (served : Served g.row.S.Denot). OnlyKeeps g.S.Store served c.keep_backup.new.self) c.look_at_log.ensures c.keep_backup.ensures.nothing)
+    (kept_then_served g.S.Store keys a b c.keep_backup.new.self c.gather.new.self c.serve_told-ended.new.served c.gather.ensures.nothing c.serve_told-ended.ensures.serves)

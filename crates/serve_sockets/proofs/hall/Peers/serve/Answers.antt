@@ -13,13 +13,13 @@ returns-in_default-clause-serves g c = let_go g.S.Store _ _ _ c.close.ensures.go
 
 pub returns-clause-serves : goal.returns-clause-serves
 returns-clause-serves g c =
-    let written = Updates-with_value c.ticks.new.self.guests c.args.key c.drive-next.new.self (subst (λ (slot : Option Guest). IsSome slot) c.in-Some.ensures.value refl) in
+    let written = Updates-with_value c.ticks.new.self.guests c.args.key c.take_turn-next.new.self (subst (λ (slot : Option Guest). IsSome slot) c.in-Some.ensures.value refl) in
     had_turn g.S.Store _ _ c.in-Some.guest.now _ _ (ap (λ (guests : Slab Guest). get guests c.args.key) (sym c.ticks.ensures) ∙ sym c.in-Some.ensures.value) (record {
       begun = c.mend_space.new.self;
       moment = (c.in-Some-Ok.moment, c.mend_space.ensures.same ∙ ap (λ (served : Served g.row.S.Denot). record served { spare = spare_of c.mend_space.new.self }) c.set_moment.ensures);
       turn = record { ticks = c.in-Some-Ok.ticks; has_room = c.has_room.result; is_last = c.args.is_last; reads = c.may_read.result };
-      next = c.drive-next.result;
-      left = c.drive-next.new.self;
-      driven = c.drive-next.ensures;
-      stays = subst (λ (slot : Option Guest). StaysAfter c.drive-next.result slot (get c.after_turn.new.self.guests c.args.key)) written.changed c.after_turn.ensures.stays;
+      next = c.take_turn-next.result;
+      left = c.take_turn-next.new.self;
+      driven = c.take_turn-next.ensures;
+      stays = subst (λ (slot : Option Guest). StaysAfter c.take_turn-next.result slot (get c.after_turn.new.self.guests c.args.key)) written.changed c.after_turn.ensures.stays;
     })

@@ -1,11 +1,11 @@
-//! What is kept in memory of the tables, so that it is not read again.
+//! What is kept of the tables, so that it is not read again.
 
 ghost use Rattle.std.specs.Prelude.{◌≡◌, ◌≤◌, ◌<◌, ◌+◌, ℕ, [], IfSome, None, Some, bytes_eq};
 ghost use Rattle.account_rules.specs.Limits.{last_next_job, most_unfinished, most_units};
-ghost use Rattle.room_store.specs.Kept.{added_by, kept_in, kept_of, known_of, unknown, HasCount, HasRow, HasSums, IsMoved, IsNothing, KeepsKept, MakesKept, MindsAccount, MindsCount, MindsJob, MindsMaking, MindsMove, MindsOpening, MindsSums, MovesKept, MovesTo, Outlasts};
+ghost use Rattle.room_store.specs.Kept.{added_by, kept_in, kept_of, known_of, unknown, HasCount, HasRow, HasSums, IsMoved, IsNothing, KeepsKnown, MakesKept, KeepsAccount, KeepsCount, KeepsJob, FollowsMaking, FollowsMove, FollowsOpening, KeepsSums, MovesKept, MovesTo, ForgetsAfterFault};
 ghost use Rattle.rows_tables.specs.Accounts.{IsAccount};
 
-use crate::cache::{Accounts, Kept, find, no_accounts, set};
+use crate::cache::{Accounts, Known, find, no_accounts, set};
 use account_machine::{Account, Job, Name, Standing};
 use account_rules::{LAST_JOB, LAST_MOMENT, MOST_UNFINISHED, MOST_UNITS};
 use rows_tables::TableFault;
@@ -38,17 +38,17 @@ pub(crate) struct Seen {
 /// What was read of the tables and is so yet: rows of accounts, what their jobs reserve and were
 /// charged and how many of these have not ended, and the job that was found last.
 #[derive(Drop)]
-pub(crate) struct Memory {
+pub(crate) struct Kept {
     pub accounts: Option<Accounts>,
     pub job: Option<Seen>,
 }
 
-impl Memory {
+impl Kept {
     /// Nothing is kept.
-    pub(crate) fn new() -> Memory
+    pub(crate) fn new() -> Kept
         ensures { IsNothing result }
     {
-        Memory {
+        Kept {
             accounts: None,
             job: None,
         }
@@ -72,7 +72,7 @@ impl Memory {
         self.job = None;
     }
 
-    fn find(&self, account: Name) -> Option<Kept>
+    fn find(&self, account: Name) -> Option<Known>
         ensures { result ≡ kept_of (kept_in self.now.accounts) account }
     {
         match &self.accounts {
@@ -82,11 +82,11 @@ impl Memory {
     }
 
     /// What is known of the account, which may be nothing.
-    fn known(&self, account: Name) -> Kept
+    fn known(&self, account: Name) -> Known
         ensures { result ≡ known_of (kept_in self.now.accounts) account }
     {
         match self.find(account) {
-            Some(kept) => kept,
+            Some(known) => known,
             None => unknown(),
         }
     }
@@ -138,8 +138,8 @@ impl Memory {
     }
 
     /// After a fault nothing is kept: what was changed may be undone.
-    pub(crate) fn mind<T, E>(&mut self, told: &Result<T, E>)
-        ensures { Outlasts told.now self.old self.new }
+    pub(crate) fn forget_after_fault<T, E>(&mut self, told: &Result<T, E>)
+        ensures { ForgetsAfterFault told.now self.old self.new }
     {
         match told {
             Ok(_) => (),
@@ -148,25 +148,25 @@ impl Memory {
     }
 
     /// Keeps the account that was found.
-    pub(crate) fn mind_account(&mut self, account: Name, told: &Result<Option<Account>, TableFault>)
-        ensures { MindsAccount account told.now self.old self.new }
+    pub(crate) fn keep_account(&mut self, account: Name, told: &Result<Option<Account>, TableFault>)
+        ensures { KeepsAccount account told.now self.old self.new }
     {
         match told {
-            Ok(Some(row)) => self.keep_row(account, *row),
+            Ok(Some(row)) => self.set_row(account, *row),
             Ok(None) => (),
             Err(_) => self.forget_all(),
         }
     }
 
-    fn keep_row(&mut self, account: Name, row: Account)
-        ensures { KeepsKept account
+    fn set_row(&mut self, account: Name, row: Account)
+        ensures { KeepsKnown account
             (record (known_of (kept_in self.old.accounts) account) { row = Some row })
             self.old self.new }
     {
         let known = self.known(account);
         self.keep(
             account,
-            Kept {
+            Known {
                 row: Some(row),
                 ..known
             },
@@ -174,13 +174,13 @@ impl Memory {
     }
 
     /// Keeps the job that was found.
-    pub(crate) fn mind_job(
+    pub(crate) fn keep_job(
         &mut self,
         account: Name,
         number: u32,
         told: &Result<Option<Job>, TableFault>,
     )
-        ensures { MindsJob account number told.now self.old self.new }
+        ensures { KeepsJob account number told.now self.old self.new }
     {
         match told {
             Ok(Some(job)) => {
@@ -196,17 +196,17 @@ impl Memory {
     }
 
     /// Keeps what was added up.
-    pub(crate) fn mind_sums(&mut self, account: Name, told: &Result<Sums, TableFault>)
-        ensures { MindsSums account told.now self.old self.new }
+    pub(crate) fn keep_sums(&mut self, account: Name, told: &Result<Sums, TableFault>)
+        ensures { KeepsSums account told.now self.old self.new }
     {
         match told {
-            Ok(sums) => self.keep_sums(account, *sums),
+            Ok(sums) => self.set_sums(account, *sums),
             Err(_) => self.forget_all(),
         }
     }
 
-    fn keep_sums(&mut self, account: Name, sums: Sums)
-        ensures { KeepsKept account
+    fn set_sums(&mut self, account: Name, sums: Sums)
+        ensures { KeepsKnown account
             (record (known_of (kept_in self.old.accounts) account) {
               reserved = Some sums.reserved;
               charged = Some sums.charged;
@@ -216,7 +216,7 @@ impl Memory {
         let known = self.known(account);
         self.keep(
             account,
-            Kept {
+            Known {
                 reserved: Some(sums.reserved),
                 charged: Some(sums.charged),
                 ..known
@@ -225,17 +225,17 @@ impl Memory {
     }
 
     /// Keeps what was counted.
-    pub(crate) fn mind_count(&mut self, account: Name, told: &Result<u32, TableFault>)
-        ensures { MindsCount account told.now self.old self.new }
+    pub(crate) fn keep_count(&mut self, account: Name, told: &Result<u32, TableFault>)
+        ensures { KeepsCount account told.now self.old self.new }
     {
         match told {
-            Ok(count) => self.keep_unfinished(account, u64::from(*count)),
+            Ok(count) => self.set_count(account, u64::from(*count)),
             Err(_) => self.forget_all(),
         }
     }
 
-    fn keep_unfinished(&mut self, account: Name, count: u64)
-        ensures { KeepsKept account
+    fn set_count(&mut self, account: Name, count: u64)
+        ensures { KeepsKnown account
             (record (known_of (kept_in self.old.accounts) account) { unfinished = Some count })
             self.old self.new }
     {
@@ -243,7 +243,7 @@ impl Memory {
         let unfinished = Some(count);
         self.keep(
             account,
-            Kept {
+            Known {
                 unfinished,
                 ..known
             },
@@ -251,8 +251,8 @@ impl Memory {
     }
 
     /// Where the account was opened nothing is kept of it.
-    pub(crate) fn mind_opening<E>(&mut self, account: Name, made: &Result<(), E>)
-        ensures { MindsOpening account made.now self.old self.new }
+    pub(crate) fn follow_opening<E>(&mut self, account: Name, made: &Result<(), E>)
+        ensures { FollowsOpening account made.now self.old self.new }
     {
         match made {
             Ok(()) => {
@@ -265,7 +265,7 @@ impl Memory {
 
     /// After a new job of the account, which had this row: what is kept of the account is moved, if
     /// its row is known. Else nothing is kept.
-    pub(crate) fn mind_making<E>(
+    pub(crate) fn follow_making<E>(
         &mut self,
         account: Name,
         was: Option<Account>,
@@ -273,7 +273,7 @@ impl Memory {
         made: &Result<(), E>,
     )
         requires { job.now.job < last_next_job }
-        ensures { MindsMaking account was job.now made.now self.old self.new }
+        ensures { FollowsMaking account was job.now made.now self.old self.new }
     {
         match made {
             Ok(()) => match was {
@@ -299,20 +299,20 @@ impl Memory {
             ..row
         };
         let row = Some(next);
-        self.keep(account, Kept { row, ..moved });
+        self.keep(account, Known { row, ..moved });
         self.job = None;
     }
 
-    /// After a change of a job of the account, which now has this standing: what is kept of the account
-    /// is moved, if it is known what the job added before. Else nothing is kept.
-    pub(crate) fn mind_move<E>(
+    /// After a change of a job of the account, which now has this standing: what is kept of the
+    /// account is moved, if it is known what the job added before. Else nothing is kept.
+    pub(crate) fn follow_move<E>(
         &mut self,
         account: Name,
         was: Option<Added>,
         is: &Standing,
         made: &Result<(), E>,
     )
-        ensures { MindsMove account was is.now made.now self.old self.new }
+        ensures { FollowsMove account was is.now made.now self.old self.new }
     {
         match made {
             Ok(()) => match was {
@@ -331,21 +331,21 @@ impl Memory {
         self.job = None;
     }
 
-    fn keep(&mut self, account: Name, kept: Kept)
-        ensures { KeepsKept account kept self.old self.new }
+    fn keep(&mut self, account: Name, known: Known)
+        ensures { KeepsKnown account known self.old self.new }
     {
         match &mut self.accounts {
-            Some(accounts) => set(accounts, account, kept),
+            Some(accounts) => set(accounts, account, known),
             None => (),
         }
     }
 }
 
-/// What is kept of an account of which nothing is known.
-fn unknown() -> Kept
+/// That nothing is known of an account.
+fn unknown() -> Known
     ensures { result ≡ unknown }
 {
-    Kept {
+    Known {
         row: None,
         reserved: None,
         charged: None,
@@ -380,15 +380,15 @@ fn added_by(standing: &Standing) -> Added
     }
 }
 
-/// What is kept less what a job added, and with what it adds now.
-fn moved_by(kept: Kept, was: Added, is: Added) -> Kept
-    ensures { MovesTo was is kept result }
+/// What is known less what a job added, and with what it adds now.
+fn moved_by(known: Known, was: Added, is: Added) -> Known
+    ensures { MovesTo was is known result }
 {
-    Kept {
-        row: kept.row,
-        reserved: moved(kept.reserved, was.reserved, is.reserved),
-        charged: moved(kept.charged, was.charged, is.charged),
-        unfinished: moved(kept.unfinished, was.unfinished, is.unfinished),
+    Known {
+        row: known.row,
+        reserved: moved(known.reserved, was.reserved, is.reserved),
+        charged: moved(known.charged, was.charged, is.charged),
+        unfinished: moved(known.unfinished, was.unfinished, is.unfinished),
     }
 }
 
