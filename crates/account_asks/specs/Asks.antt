@@ -1,4 +1,4 @@
--- What a request asks, or why it is refused.
+-- Rule: What a request asks, or why it is refused.
 use Rattle.std.specs.Prelude.{◌≡◌, ℕ, ◌<◌, ◌≤◌, Bool, true, List, length, map, Option, option_map, Result, Ok, Err, IfSome}
 use Rattle.std.specs.List.{AllByRecursion}
 use Rattle.ipp_coding.specs.declared.message.Header.{Header}

@@ -1,4 +1,5 @@
--- The order of the checks of a request that need no row, 1 to 18: the first that fails is answered.
+-- Rule: The order of the checks of a request that need no row, 1 to 18: the first that fails is
+-- answered.
 use Rattle.std.specs.Prelude.{ℕ, Bool, List, [], ◌∷◌, ◌++◌, Option, unwrap_or}
 use Rattle.ipp_coding.specs.declared.message.Header.{Header}
 use Rattle.ipp_coding.specs.Plain.{PlainAttribute, PlainMessage}

@@ -1,4 +1,4 @@
--- The checks of a request that need no row, one by one. Their numbers are their order.
+-- Rule: The checks of a request that need no row, one by one. Their numbers are their order.
 use Rattle.std.specs.Prelude.{ℕ, Bool, true, false, not, ◌&&◌, nat_lt, List, [], ◌∷◌, length, Option, Some, None, is_none, is_some, codes, unwrap_or}
 use Rattle.std.specs.Str.{str_eq_ignore_ascii_case}
 use Rattle.ipp_coding.specs.declared.message.Header.{Header}

@@ -1,4 +1,4 @@
--- The operation attributes that are read: one table, and what they say.
+-- Rule: The operation attributes that are read: one table, and what they say.
 use Rattle.std.specs.Prelude.{ℕ, Bool, true, false, ◌==◌, ◌&&◌, not, if◌then◌else◌, List, [], ◌∷◌, map, Option, Some, None, codes, option_map, option_and_then, position, unwrap_or, bytes_eq}
 use Rattle.std.specs.List.{list_any}
 use Rattle.ipp_coding.specs.Plain.{PlainValue, PlainAttribute}

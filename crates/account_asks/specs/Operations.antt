@@ -1,4 +1,4 @@
--- The operations of the profile.
+-- Rule: The operations of the profile.
 use Rattle.std.specs.Prelude.{ℕ, Bool, true, false, ◌==◌, if◌then◌else◌, Option, Some, None, unwrap_or}
 use Rattle.ipp_coding.specs.declared.message.Header.{Header}
 use Rattle.account_asks.specs.declared.operation.Operation.{Operation}

@@ -1,4 +1,4 @@
--- Checks, of which the first that fails is the answer.
+-- Rule: Checks, of which the first that fails is the answer.
 use Rattle.std.specs.Prelude.{ℕ, Result, Ok, Err, Bool, if◌then◌else◌, List, [], ◌∷◌, Option, Some, None}
 use Rattle.ipp_coding.specs.Plain.{PlainAttribute}
 use Rattle.account_rules.specs.declared.refusal.Refusal.{Refusal}

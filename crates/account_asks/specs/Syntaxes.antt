@@ -1,5 +1,5 @@
--- What a value has to be under its attribute (RFC 8011 section 5.1). The tags are exact: a text is
--- no name, and an enum no integer.
+-- Rule: What a value has to be under its attribute (RFC 8011 section 5.1). The tags are exact: a
+-- text is no name, and an enum no integer.
 use Rattle.std.specs.Prelude.{ℕ, zero, suc, ℤ, pos, negsuc, Bool, false, ◌==◌, ◌||◌, if◌then◌else◌, List, Option, Some, None, is_some, option_and_then}
 use Rattle.std.specs.List.{list_all}
 use Rattle.ipp_coding.specs.Plain.{PlainValue}

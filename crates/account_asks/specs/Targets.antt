@@ -1,5 +1,5 @@
--- What a request is for: a queue, or a job of it (RFC 8011 section 4.1.5). Scheme and authority of
--- a URI are not looked at, and nothing is percent-decoded (this project's rules).
+-- Rule: What a request is for: a queue, or a job of it (RFC 8011 section 4.1.5). Scheme and
+-- authority of a URI are not looked at, and nothing is percent-decoded (this project's rules).
 use Rattle.std.specs.Prelude.{ℕ, ℤ, pos, negsuc, Bool, false, not, ◌&&◌, ◌==◌, if◌then◌else◌, nat_lt, nat_le, List, [], ◌∷◌, length, Option, Some, None, is_some, codes, option_map, option_and_then, bytes_eq}
 use Rattle.std.specs.Char.{is_ascii_digit}
 use Rattle.std.specs.List.{list_all}

@@ -1,5 +1,5 @@
--- The job template attributes: copies, job-hold-until, and all others, which are not supported (RFC
--- 8011 sections 4.1.7 and 5.2).
+-- Rule: The job template attributes: copies, job-hold-until, and all others, which are not
+-- supported (RFC 8011 sections 4.1.7 and 5.2).
 use Rattle.std.specs.Prelude.{ℕ, Bool, false, not, ◌||◌, ◌&&◌, ◌==◌, nat_le, if◌then◌else◌, List, [], ◌∷◌, map, filter, Option, Some, None, codes, is_some, option_and_then, unwrap_or, bytes_eq}
 use Rattle.ipp_coding.specs.Plain.{PlainValue, PlainAttribute, PlainMessage}
 use Rattle.account_rules.specs.Limits.{most_copies}

@@ -1,5 +1,5 @@
--- A URI in parts: a base, which is its scheme, "://" and its authority, the path, and a tail after
--- the path, which is left out. UriLaws says what the parts are.
+-- Rule: A URI in parts: a base, which is its scheme, "://" and its authority, the path, and a tail
+-- after the path, which is left out. UriLaws says what the parts are.
 use Rattle.std.specs.Prelude.{ℕ, Bool, ◌||◌, ◌==◌, if◌then◌else◌, nat_eq, List, [], ◌∷◌, ◌++◌, drop, Option, Some, None, codes, option_map, option_and_then, position, unwrap_or}
 use Rattle.std.specs.List.{starts_with}
 use Rattle.account_asks.specs.Requests.{up_to}

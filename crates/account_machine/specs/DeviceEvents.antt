@@ -1,4 +1,4 @@
--- What an event of a device is answered, and the devices afterwards (all this project's own).
+-- Rule: What an event of a device is answered, and the devices afterwards (all this project's own).
 use Rattle.std.specs.Prelude.{ℕ, Bool, List, if◌then◌else◌}
 use Rattle.std.specs.FinMap.{contains_key}
 use Rattle.account_machine.specs.Events.{PlainEvent, OfAccount, OfDevice, Turn, Rate}

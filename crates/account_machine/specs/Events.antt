@@ -1,4 +1,4 @@
--- What may happen to an account, or to a device (all this project's own).
+-- Rule: What may happen to an account, or to a device (all this project's own).
 use Rattle.std.specs.Prelude.{ℕ, Bool, List}
 use Rattle.account_machine.specs.declared.event.Event.{Event}
 use Rattle.account_machine.specs.declared.event.Event.TheVariants as lent

@@ -1,4 +1,4 @@
--- Which events lie within the limits (all this project's own).
+-- Rule: Which events lie within the limits (all this project's own).
 use Rattle.std.specs.Prelude.{Bool, true, ◌&&◌, nat_le}
 use Rattle.account_machine.specs.Events.{PlainEvent, OfAccount, OfDevice, Release, Settle, Grant, Rate}
 use Rattle.account_rules.specs.Limits.{most_impressions, most_rate, most_pages, first_month, last_month}

@@ -1,4 +1,4 @@
--- What a grant is answered (this project's own).
+-- Rule: What a grant is answered (this project's own).
 use Rattle.std.specs.Prelude.{ℕ}
 use Rattle.std.specs.FinMap.{get}
 use Rattle.account_replies.specs.Grants.{grant_refusal}

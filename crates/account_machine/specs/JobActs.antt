@@ -1,4 +1,4 @@
--- The job that an event names, and what an act makes of it, or the first refusal.
+-- Rule: The job that an event names, and what an act makes of it, or the first refusal.
 use Rattle.std.specs.Prelude.{ℕ, Option, Some, None, Result, Ok, Err}
 use Rattle.std.specs.FinMap.{get}
 use Rattle.account_machine.specs.Steps.{and_then}

@@ -1,5 +1,5 @@
--- The requests about one job (RFC 8011 section 4.3). Whether it is there is asked first, then the
--- table of states (Moves of account_rules).
+-- Rule: The requests about one job (RFC 8011 section 4.3). Whether it is there is asked first, then
+-- the table of states (Moves of account_rules).
 use Rattle.std.specs.Prelude.{ℕ, ◌+◌, Bool, not, ◌==◌, if◌then◌else◌, List, [], ◌∷◌, length, Option, Some, None, Result}
 use Rattle.account_asks.specs.Asks.{PlainAsk}
 use Rattle.account_machine.specs.JobActs.{job_in, act_on}

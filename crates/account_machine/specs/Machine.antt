@@ -1,4 +1,4 @@
--- One account's answer to one event, what that came to, and its room afterwards.
+-- Rule: One account's answer to one event, what that came to, and its room afterwards.
 use Rattle.std.specs.Prelude.{ℕ, nat_lt, if◌then◌else◌, List, length, Option, Some, None, Result, Ok, Err}
 use Rattle.ipp_coding.specs.declared.message.Header.{Header}
 use Rattle.ipp_coding.specs.Limits.{header_length}

@@ -1,5 +1,5 @@
--- Print-Job and Create-Job, and Validate-Job, which makes no job (RFC 8011 sections 4.2.1, 4.2.4
--- and 4.2.3).
+-- Rule: Print-Job and Create-Job, and Validate-Job, which makes no job (RFC 8011 sections 4.2.1,
+-- 4.2.4 and 4.2.3).
 use Rattle.std.specs.Prelude.{ℕ, if◌then◌else◌, List, [], ◌∷◌, Option, Some, None, Result, codes}
 use Rattle.account_replies.specs.Queues.{accepting_refusal}
 use Rattle.account_asks.specs.Asks.{PlainAsk}

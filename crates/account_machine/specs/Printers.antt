@@ -1,4 +1,4 @@
--- Get-Printer-Attributes (RFC 8011 section 4.2.5): what the printer is doing.
+-- Rule: Get-Printer-Attributes (RFC 8011 section 4.2.5): what the printer is doing.
 use Rattle.std.specs.Prelude.{ℕ, List, [], ◌∷◌}
 use Rattle.account_replies.specs.Queues.{printer_now}
 use Rattle.account_asks.specs.Asks.{PlainAsk}

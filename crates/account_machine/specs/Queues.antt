@@ -1,4 +1,4 @@
--- Get-Jobs (RFC 8011 section 4.2.6): which jobs, and in what order.
+-- Rule: Get-Jobs (RFC 8011 section 4.2.6): which jobs, and in what order.
 use Rattle.std.specs.Prelude.{ℕ, List, [], ◌∷◌, Option, Some, None, codes}
 use Rattle.std.specs.FinMap.{values}
 use Rattle.account_replies.specs.Responses.{job_groups}

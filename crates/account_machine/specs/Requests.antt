@@ -1,4 +1,4 @@
--- What every request shares: a response, what it came to, and the room after it.
+-- Rule: What every request shares: a response, what it came to, and the room after it.
 use Rattle.std.specs.Prelude.{ℕ, List, Result, Ok, Err}
 use Rattle.ipp_coding.specs.Plain.{PlainGroup}
 use Rattle.account_replies.specs.Responses.{refused_text, done_text, success_status}

@@ -1,5 +1,5 @@
--- What a station is answered (all this project's own). Its device is looked at first, then the job,
--- then the table of states (Moves of account_rules).
+-- Rule: What a station is answered (all this project's own). Its device is looked at first, then
+-- the job, then the table of states (Moves of account_rules).
 use Rattle.std.specs.Prelude.{ℕ, Bool, List, map, Result, Ok, Err}
 use Rattle.std.specs.FinMap.{get}
 use Rattle.account_replies.specs.Parts.{part_of}

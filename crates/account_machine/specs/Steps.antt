@@ -1,4 +1,5 @@
--- What an event does to an account that is open: a reply, what it came to, and the room after it.
+-- Rule: What an event does to an account that is open: a reply, what it came to, and the room after
+-- it.
 use Rattle.std.specs.Prelude.{ℕ, if◌then◌else◌, None, Result, Ok, Err}
 use Rattle.account_rules.specs.JobStates.{is_unfinished}
 use Rattle.account_machine.specs.declared.event.Reply.{Reply}

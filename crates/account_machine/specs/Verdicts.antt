@@ -1,4 +1,4 @@
--- What an event came to, beside the bytes of its reply.
+-- Rule: What an event came to, beside the bytes of its reply.
 use Rattle.std.specs.Prelude.{ℕ, ◌==◌, if◌then◌else◌, Option, Some, None, Result, Ok, Err}
 use Rattle.account_machine.specs.declared.event.Reply.{Reply}
 use Rattle.account_machine.specs.declared.verdict.Answered.{Answered}

@@ -1,4 +1,4 @@
--- Answers of several lines (all this project's own). None has a line feed at its end.
+-- Rule: Answers of several lines (all this project's own). None has a line feed at its end.
 use Rattle.std.specs.Prelude.{ℕ, Bool, true, false, List, ◌∷◌, ◌++◌, codes, decimal, length}
 use Rattle.std.specs.List.{flat_map}
 use Rattle.page_markup.specs.Moments.{month_text}

@@ -1,4 +1,4 @@
--- The pages of an account (all this project's own).
+-- Rule: The pages of an account (all this project's own).
 use Rattle.std.specs.Prelude.{ℕ, Bool, List, Option, Some}
 use Rattle.std.specs.FinMap.{values}
 use Rattle.page_pages.specs.declared.outcome.Outcome.{Outcome}

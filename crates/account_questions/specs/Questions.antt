@@ -1,4 +1,4 @@
--- What is asked and changes nothing, and what is answered (all this project's own).
+-- Rule: What is asked and changes nothing, and what is answered (all this project's own).
 use Rattle.std.specs.Prelude.{◌≡◌, ℕ, ⊤, Bool, true, false, List, map, Option, Some, None, codes}
 use Rattle.std.specs.FinMap.{entries, values}
 use Rattle.account_machine.specs.declared.event.Reply.{Reply}

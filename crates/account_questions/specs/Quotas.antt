@@ -1,4 +1,4 @@
--- How a quota and a statement are told (all this project's own).
+-- Rule: How a quota and a statement are told (all this project's own).
 use Rattle.std.specs.Prelude.{ℕ, pos, List, ◌++◌, codes}
 use Rattle.std.specs.Fmt.{decimal, signed_decimal}
 use Rattle.account_state.specs.declared.summary.Summary.{Summary}

@@ -1,5 +1,5 @@
--- What a station asks about an account (all this project's own). Its device is looked at first, then
--- the job, as when it settles.
+-- Rule: What a station asks about an account (all this project's own). Its device is looked at
+-- first, then the job, as when it settles.
 use Rattle.std.specs.Prelude.{ℕ, Bool, not, if◌then◌else◌, List, filter, map, Option, Some, None, Result, Ok, Err}
 use Rattle.std.specs.FinMap.{get, values}
 use Rattle.account_machine.specs.Steps.{and_then}

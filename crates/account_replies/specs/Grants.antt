@@ -1,4 +1,4 @@
--- Whether a grant is new (this project's own): a month has one grant, for good.
+-- Rule: Whether a grant is new (this project's own): a month has one grant, for good.
 use Rattle.std.specs.Prelude.{ℕ, ◌==◌, if◌then◌else◌, Option, Some, None, Result, Ok, Err}
 use Rattle.account_rules.specs.declared.refusal.Word.{Word}
 use Rattle.account_rules.specs.declared.refusal.Word.TheVariants.{Same, Conflict}

@@ -1,4 +1,4 @@
--- The attributes that a job shows (RFC 8011 sections 5.2 and 5.3).
+-- Rule: The attributes that a job shows (RFC 8011 sections 5.2 and 5.3).
 use Rattle.std.specs.Prelude.{ℕ, ◌/◌, Bool, ◌==◌, if◌then◌else◌, List, [], ◌∷◌, Option, codes}
 use Rattle.account_rules.specs.declared.job.Job.{Job}
 use Rattle.account_rules.specs.declared.job.Standing.{Standing}

@@ -1,5 +1,5 @@
--- Which attributes, places, jobs and printers can be shown (limits of this project's own, but for a
--- name's).
+-- Rule: Which attributes, places, jobs and printers can be shown (limits of this project's own, but
+-- for a name's).
 use Rattle.std.specs.Prelude.{ℕ, ◌*◌, ◌<◌, ◌≤◌, List, length, IfSome}
 use Rattle.account_replies.specs.PrinterStates.{idle, stopped}
 use Rattle.ipp_coding.specs.Spelling.{Fits}

@@ -1,4 +1,5 @@
--- The lines that a station is told (this project's own). A refusal's line is the text of its word.
+-- Rule: The lines that a station is told (this project's own). A refusal's line is the text of its
+-- word.
 use Rattle.std.specs.Prelude.{ℕ, List, ◌++◌, codes}
 use Rattle.std.specs.Fmt.{decimal, signed_decimal}
 use Rattle.account_rules.specs.Formats.{media_type}

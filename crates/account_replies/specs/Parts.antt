@@ -1,4 +1,4 @@
--- A document as it is handed to a device (this project's own).
+-- Rule: A document as it is handed to a device (this project's own).
 use Rattle.std.specs.Prelude.{ℕ, length}
 use Rattle.account_rules.specs.declared.job.Document.{Document}
 use Rattle.account_replies.specs.declared.part.Part.{Part}

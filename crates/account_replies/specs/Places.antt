@@ -1,4 +1,4 @@
--- Where a printer and its jobs are found.
+-- Rule: Where a printer and its jobs are found.
 use Rattle.std.specs.Prelude.{ℕ, List, ◌++◌, codes}
 use Rattle.std.specs.Fmt.{decimal}
 use Rattle.account_rules.specs.QueuePaths.{queue_path}

@@ -1,5 +1,5 @@
--- The attributes that a printer shows (RFC 8011 sections 5.2 and 5.4; those on passwords are of PWG
--- 5100.11).
+-- Rule: The attributes that a printer shows (RFC 8011 sections 5.2 and 5.4; those on passwords are
+-- of PWG 5100.11).
 use Rattle.std.specs.Prelude.{ℕ, true, ◌==◌, if◌then◌else◌, List, [], ◌∷◌, map, Option, codes}
 use Rattle.account_replies.specs.PrinterStates.{stopped}
 use Rattle.account_rules.specs.declared.format.Format.{Format}

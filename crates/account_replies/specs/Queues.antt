@@ -1,4 +1,4 @@
--- Whether a queue takes jobs, and what its printer is doing.
+-- Rule: Whether a queue takes jobs, and what its printer is doing.
 use Rattle.std.specs.Prelude.{ℕ, Bool, true, false, ◌&&◌, nat_lt, if◌then◌else◌, Result, Ok, Err}
 use Rattle.account_replies.specs.PrinterStates.{idle, processing, stopped}
 use Rattle.account_rules.specs.Limits.{most_unfinished, last_next_job}

@@ -1,4 +1,4 @@
--- The reply to a request, up to the groups of jobs or of the printer.
+-- Rule: The reply to a request, up to the groups of jobs or of the printer.
 use Rattle.std.specs.Prelude.{ℕ, ◌==◌, ◌||◌, if◌then◌else◌, List, [], ◌∷◌, ◌++◌, Option, Some, None, codes}
 use Rattle.std.specs.List.{flat_map}
 use Rattle.ipp_coding.specs.Tags.{end_tag}

@@ -1,5 +1,5 @@
--- Whole responses to requests: the reply, its groups of jobs or of the printer, and the end tag
--- (RFC 8010 section 3.1.1, RFC 8011 section 4.1.1).
+-- Rule: Whole responses to requests: the reply, its groups of jobs or of the printer, and the end
+-- tag (RFC 8010 section 3.1.1, RFC 8011 section 4.1.1).
 use Rattle.std.specs.Prelude.{ℕ, Bool, List, [], ◌∷◌, ◌++◌, map, Option, Some, None}
 use Rattle.std.specs.List.{flat_map}
 use Rattle.ipp_coding.specs.Tags.{end_tag}

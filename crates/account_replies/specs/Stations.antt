@@ -1,4 +1,4 @@
--- What a station may do (all this project's own).
+-- Rule: What a station may do (all this project's own).
 use Rattle.std.specs.Prelude.{ℕ, ◌+◌, ℤ, pos, ◌+ℤ◌, ◌-ℤ◌, Bool, true, false, if◌then◌else◌, Option, Some, None, Result, Ok, Err}
 use Rattle.account_rules.specs.declared.device.Device.{Device}
 use Rattle.account_rules.specs.declared.job.Standing.{Standing}

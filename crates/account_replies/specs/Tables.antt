@@ -1,4 +1,4 @@
--- Tables of attributes, and which of them a requester is shown.
+-- Rule: Tables of attributes, and which of them a requester is shown.
 use Rattle.std.specs.Prelude.{ℕ, Bool, true, ◌||◌, List, map, filter, Option, Some, None, codes, bytes_eq}
 use Rattle.std.specs.List.{list_any}
 use Rattle.ipp_coding.specs.Plain.{PlainValue, PlainAttribute}

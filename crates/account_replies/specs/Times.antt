@@ -1,4 +1,4 @@
--- Moments as a printer tells them.
+-- Rule: Moments as a printer tells them.
 use Rattle.std.specs.Prelude.{ℕ, ◌+◌, ◌-◌, min, max, Option, Some, None, List}
 use Rattle.ipp_coding.specs.Plain.{PlainValue}
 use Rattle.account_rules.specs.Limits.{greatest_integer}

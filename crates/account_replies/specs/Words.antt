@@ -1,4 +1,4 @@
--- The text of each word that tells why something is refused (this project's own).
+-- Rule: The text of each word that tells why something is refused (this project's own).
 use Rattle.std.specs.Prelude.{ℕ, List, [], ◌++◌, codes}
 use Rattle.std.specs.Fmt.{decimal, signed_decimal}
 use Rattle.account_rules.specs.declared.refusal.Word.{Word}

@@ -1,5 +1,5 @@
--- The devices: a map from names. A list of devices stands for the map in which the first record of
--- a name counts (all this project's own).
+-- Rule: The devices: a map from names. A list of devices stands for the map in which the first
+-- record of a name counts (all this project's own).
 use Rattle.std.specs.Prelude.{ℕ, Bool, false, List, map, bytes_eq}
 use Rattle.std.specs.declared.cmp.Ordering.{Ordering}
 use Rattle.std.specs.Option.{option_map_or}

@@ -1,6 +1,6 @@
--- What each act makes of a job in a state in which it has an effect, or the first refusal. A field
--- that is not named stays as it is. What has no section of RFC 8011 beside it is this project's
--- own.
+-- Rule: What each act makes of a job in a state in which it has an effect, or the first refusal. A
+-- field that is not named stays as it is. What has no section of RFC 8011 beside it is this
+-- project's own.
 use Rattle.std.specs.Prelude.{ℕ, ◌+◌, ◌*◌, ℤ, Bool, true, false, ◌&&◌, ◌||◌, not, ◌==◌, nat_lt, nat_le, if◌then◌else◌, List, length, Option, Some, None, is_none, Result, Ok, Err, bytes_eq}
 use Rattle.account_rules.specs.declared.job.JobState.{JobState}
 use Rattle.account_rules.specs.declared.job.JobState.TheVariants.{Held, Pending, Processing, Canceled, Aborted, Completed}

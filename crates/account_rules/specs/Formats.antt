@@ -1,4 +1,4 @@
--- The media type of each document format (RFC 8011 section 5.4.22).
+-- Rule: The media type of each document format (RFC 8011 section 5.4.22).
 use Rattle.std.specs.Prelude.{◌≡◌, ℕ, Bool, List, [], ◌∷◌, Option, Some, codes, find}
 use Rattle.std.specs.Str.{str_eq_ignore_ascii_case}
 use Rattle.account_rules.specs.declared.format.Format.{Format}

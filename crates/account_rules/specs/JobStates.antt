@@ -1,4 +1,4 @@
--- The states of a job (RFC 8011 section 5.3.7).
+-- Rule: The states of a job (RFC 8011 section 5.3.7).
 use Rattle.std.specs.Prelude.{ℕ, Bool, true, false, not}
 use Rattle.account_rules.specs.declared.job.JobState.{JobState}
 use Rattle.account_rules.specs.declared.job.JobState.TheVariants.{Held, Pending, Processing, Canceled, Aborted, Completed}

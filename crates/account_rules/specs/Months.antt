@@ -1,5 +1,5 @@
--- The month of a moment in UTC, by the Gregorian calendar (RFC 3339 section 1; that months are
--- numbered by the year times 12, and 0 for January to 11 for December, is this project's own).
+-- Rule: The month of a moment in UTC, by the Gregorian calendar (RFC 3339 section 1; that months
+-- are numbered by the year times 12, and 0 for January to 11 for December, is this project's own).
 use Rattle.std.specs.Prelude.{◌≡◌, ℕ, zero, suc, ◌+◌, ◌-◌, ◌/◌, ◌%◌, pos, ◌+ℤ◌, ◌*ℤ◌, nat_le, if◌then◌else◌}
 use Rattle.jiff_core.specs.declared.civil.date.Date.{Date}
 use Rattle.jiff_core.specs.Calendar.{day_count}

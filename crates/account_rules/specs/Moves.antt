@@ -1,4 +1,4 @@
--- The table of job states: what each act makes of a job in each state, or the first refusal
+-- Rule: The table of job states: what each act makes of a job in each state, or the first refusal
 -- (RFC 8011 sections 4.3 and 5.3.7; what a station does, and every refusal's word, is this
 -- project's own).
 use Rattle.std.specs.Prelude.{Result, Ok}

@@ -1,4 +1,4 @@
--- What the name of an account or a device is.
+-- Rule: What the name of an account or a device is.
 use Rattle.std.specs.Prelude.{ℕ, Bool, false, ◌&&◌, ◌||◌, ◌==◌, if◌then◌else◌, nat_le, nat_lt, slice_index, List, length, Option, IfSome, IsTrue}
 use Rattle.std.specs.List.{list_all}
 use Rattle.account_rules.specs.Limits.{longest_name}

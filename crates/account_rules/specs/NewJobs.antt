@@ -1,5 +1,5 @@
--- A job as it is made (RFC 8011 sections 4.2.1 and 4.2.4; that it waits to be released is this
--- project's own).
+-- Rule: A job as it is made (RFC 8011 sections 4.2.1 and 4.2.4; that it waits to be released is
+-- this project's own).
 use Rattle.std.specs.Prelude.{ℕ, ◌≤◌, Bool, not, if◌then◌else◌, false, None}
 use Rattle.account_rules.specs.Limits.{most_copies, most_impressions}
 use Rattle.account_rules.specs.declared.job.JobState.TheVariants.{Held}

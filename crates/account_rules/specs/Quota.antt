@@ -1,5 +1,5 @@
--- What a release needs of the quota, and what is left of it, in units (all this project's own). An
--- impression at rate 1 is one unit.
+-- Rule: What a release needs of the quota, and what is left of it, in units (all this project's
+-- own). An impression at rate 1 is one unit.
 use Rattle.std.specs.Prelude.{ℕ, ◌*◌, ℤ, pos, negsuc, neg_ℤ, ◌-ℤ◌, Bool, true, nat_lt}
 use Rattle.account_rules.specs.Limits.{most_units}
 

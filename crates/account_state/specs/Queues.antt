@@ -1,4 +1,4 @@
--- The two orders of Get-Jobs (RFC 8011 section 4.2.6.1), on the jobs of an account by rising
+-- Rule: The two orders of Get-Jobs (RFC 8011 section 4.2.6.1), on the jobs of an account by rising
 -- number. What `completed` gives is by QueueLaws the one list that IsCompletedQueue describes.
 use Rattle.std.specs.Prelude.{◌≡◌, ◌⊎◌, ℕ, ◌<◌, not, List, [], ◌∷◌, filter, take, Option, Some, None, unwrap_or}
 use Rattle.std.specs.List.{AllByRecursion}

@@ -1,5 +1,5 @@
--- What the jobs and the grants of a room come to, in units of the quota and as counts (all this
--- project's own). How many jobs are unfinished stands in RoomRules.
+-- Rule: What the jobs and the grants of a room come to, in units of the quota and as counts (all
+-- this project's own). How many jobs are unfinished stands in RoomRules.
 use Rattle.std.specs.Prelude.{ℕ, ℤ, pos, Bool, nat_le, if◌then◌else◌}
 use Rattle.std.specs.List.{sum_by, list_any}
 use Rattle.std.specs.FinMap.{entries, values}

@@ -1,4 +1,5 @@
--- What faults of lines, of a database and of its events are to a command (all this project's own).
+-- Rule: What faults of lines, of a database and of its events are to a command (all this project's
+-- own).
 use Rattle.input_lines.specs.declared.fault.LineFault.{LineFault}
 use Rattle.input_lines.specs.declared.fault.LineFault.TheVariants as lines
 use Rattle.room_store.specs.declared.fault.StoreFault.{StoreFault}

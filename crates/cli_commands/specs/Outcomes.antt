@@ -1,4 +1,4 @@
--- What a run prints of its events, and the fault that it ends with (all this project's own).
+-- Rule: What a run prints of its events, and the fault that it ends with (all this project's own).
 use Rattle.std.specs.Prelude.{ℕ, ◌+◌, List, [], ◌∷◌, ◌++◌, codes, decimal, drop, Option, None, Some}
 use Rattle.input_fields.specs.declared.grant_line.GrantLine.{GrantLine}
 use Rattle.input_fields.specs.declared.grant_line.GrantLine.TheVariants.{Good, Bad}

@@ -1,4 +1,4 @@
--- What a command does that ends well, and what it prints (all this project's own).
+-- Rule: What a command does that ends well, and what it prints (all this project's own).
 use Rattle.std.specs.Prelude.{◌≡◌, ℕ, false, All, List, [], ◌∷◌, codes, map, Option, None, Some}
 use Rattle.std.specs.Io.KnownBytes.{Appends}
 use Rattle.std.specs.List.{filter_map, flat_map}

@@ -1,4 +1,4 @@
--- What a command line says, and in which ranges its numbers lie (this project's own).
+-- Rule: What a command line says, and in which ranges its numbers lie (this project's own).
 use Rattle.std.specs.Prelude.{◌≡◌, ℕ, ◌==◌, Bool, true, not, ◌&&◌, ◌||◌, IsTrue, nat_le, bytes_eq, ⊤, List, [], ◌∷◌, codes, length, Option, None, Some, drop, take, slice_get, is_some, option_map}
 use Rattle.std.specs.List.{list_all, list_any}
 use Rattle.account_rules.specs.Limits.{last_job, last_month, longest_job_name, most_copies, most_impressions, most_pages, most_rate}

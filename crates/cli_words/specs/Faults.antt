@@ -1,4 +1,4 @@
--- What other faults are to a command (all this project's own).
+-- Rule: What other faults are to a command (all this project's own).
 use Rattle.std.specs.declared.io.ErrorKind.{ErrorKind}
 use Rattle.std.specs.declared.io.ErrorKind.TheVariants.{OutOfMemory}
 use Rattle.clap.specs.declared.error.Error.{Error}

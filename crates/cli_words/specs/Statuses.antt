@@ -1,4 +1,4 @@
--- The exit statuses of a run that ends early (this project's own).
+-- Rule: The exit statuses of a run that ends early (this project's own).
 use Rattle.std.specs.Prelude.{ℕ}
 use Rattle.cli_words.specs.declared.fault.Fault.{Fault}
 use Rattle.cli_words.specs.declared.fault.Fault.TheVariants.{Usage, Name, Input, Document, Pin, Line, Store, Memory, Io, Silent, Refused}

@@ -1,4 +1,4 @@
--- Who comes in by the doors of `serve`, and by which address (this project's own).
+-- Rule: Who comes in by the doors of `serve`, and by which address (this project's own).
 use Rattle.std.specs.Prelude.{◌≡◌, ◌⊎◌, ◌&&◌, ◌||◌, ℕ, Bool, true, false, if◌then◌else◌, IsTrue, List, [], ◌∷◌, codes, Option, Some, None}
 use Rattle.std.specs.Str.{bytes_eq}
 use Rattle.cli_words.specs.Addresses.{IsAddressOf, has_digits_alone}

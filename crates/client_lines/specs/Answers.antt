@@ -1,4 +1,4 @@
--- What the first line of an answer says (all this project's own).
+-- Rule: What the first line of an answer says (all this project's own).
 use Rattle.std.specs.Prelude.{ℕ, ◌-◌, Bool, ◌&&◌, ◌||◌, if◌then◌else◌, bytes_eq, nat_le, nat_lt, List, [], ◌∷◌, codes, drop, length, take, Option, None, Some, option_map}
 use Rattle.std.specs.List.{list_all}
 use Rattle.std.specs.Option.{option_or}

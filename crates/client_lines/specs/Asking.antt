@@ -1,4 +1,4 @@
--- What a line is answered that is asked for the sake of its answer (all this project's own).
+-- Rule: What a line is answered that is asked for the sake of its answer (all this project's own).
 use Rattle.std.specs.Prelude.{All, ◌≡◌, ℕ, List, length, Some}
 use Rattle.std.specs.List.{flat_map}
 use Rattle.std.specs.Io.KnownBytes.{Consumes}

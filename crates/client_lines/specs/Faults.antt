@@ -1,4 +1,4 @@
--- What other faults are to the client (all this project's own).
+-- Rule: What other faults are to the client (all this project's own).
 use Rattle.std.specs.declared.io.ErrorKind.{ErrorKind}
 use Rattle.std.specs.declared.io.ErrorKind.TheVariants.{OutOfMemory, WouldBlock}
 use Rattle.client_lines.specs.declared.fault.ClientFault.{ClientFault}

@@ -1,5 +1,5 @@
--- What answers a file of grants, what is printed of it, and what it comes to (all this project's
--- own).
+-- Rule: What answers a file of grants, what is printed of it, and what it comes to (all this
+-- project's own).
 use Rattle.std.specs.Prelude.{All, ◌≡◌, ℕ, ◌+◌, List, [], ◌∷◌, ◌++◌, codes, decimal, map, Some}
 use Rattle.std.specs.List.{flat_map}
 use Rattle.std.specs.Io.KnownBytes.{Appends, Consumes}

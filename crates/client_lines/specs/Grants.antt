@@ -1,4 +1,4 @@
--- The lines that records of grants ask for (all this project's own).
+-- Rule: The lines that records of grants ask for (all this project's own).
 use Rattle.std.specs.Prelude.{ℕ, ◌+◌, ◌/◌, ◌%◌, List, [], ◌∷◌, ◌++◌, codes, decimal, Option, None, Some}
 use Rattle.std.specs.List.{flat_map}
 use Rattle.std.specs.Io.KnownBytes.{Appends}

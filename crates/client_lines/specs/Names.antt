@@ -1,4 +1,4 @@
--- What a document is called that is kept (this project's own).
+-- Rule: What a document is called that is kept (this project's own).
 use Rattle.std.specs.Prelude.{ℕ, List, ◌++◌, codes, decimal}
 
 -- `ACCOUNT-JOB-NUMBER`

@@ -1,4 +1,4 @@
--- A connection, as contracts see it (all this project's own).
+-- Rule: A connection, as contracts see it (all this project's own).
 use Rattle.client_lines.specs.declared.peer.Peer.{Peer}
 
 abbrev pub reader_of : {R W : Type 0} → Peer R W → R

@@ -1,4 +1,4 @@
--- What answers lines, what is printed of it, and what it comes to (all this project's own).
+-- Rule: What answers lines, what is printed of it, and what it comes to (all this project's own).
 use Rattle.std.specs.Prelude.{All, ◌≡◌, ℕ, ◌+◌, List, [], ◌∷◌, ◌++◌, codes, length, IsTrue, Option, Some, IfSome, ⊤}
 use Rattle.std.specs.List.{flat_map}
 use Rattle.std.specs.Io.KnownBytes.{Appends, Consumes, prepend_known}

@@ -1,4 +1,4 @@
--- What is sent, and when nothing is left of an input (all this project's own).
+-- Rule: What is sent, and when nothing is left of an input (all this project's own).
 use Rattle.std.specs.Prelude.{◌≡◌, ◌≢◌, ◌+◌, All, length, ℕ, ◌==◌, if◌then◌else◌, List, [], ◌∷◌, ◌++◌, codes, Option, Some, IfSome, OnSome}
 use Rattle.std.specs.Io.KnownBytes.{Appends, IsAtEnd}
 

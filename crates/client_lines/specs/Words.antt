@@ -1,5 +1,5 @@
--- The words of lines that ask for documents, and of those that come with them (all this project's
--- own).
+-- Rule: The words of lines that ask for documents, and of those that come with them (all this
+-- project's own).
 use Rattle.std.specs.Prelude.{◌≡◌, ◌≢◌, ◌||◌, ℕ, All, Bool, IsTrue, List, ◌++◌, bytes_eq, codes}
 use Rattle.std.specs.Str.Parse.{digits_value}
 use Rattle.input_fields.specs.Fields.{IsDecimal}

@@ -1,4 +1,4 @@
--- How a backup is asked for (this project's own).
+-- Rule: How a backup is asked for (this project's own).
 use Rattle.std.specs.Prelude.{◌≡◌, ℕ, zero, suc, Bool, true, false, if◌then◌else◌, List, codes}
 use Rattle.client_operator.specs.Asked.{backup_asked, slice_asked}
 use Rattle.client_operator.specs.Talks.{At, Asks}

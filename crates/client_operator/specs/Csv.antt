@@ -1,4 +1,4 @@
--- Records of comma-separated values (RFC 4180 section 2).
+-- Rule: Records of comma-separated values (RFC 4180 section 2).
 use Rattle.std.specs.Prelude.{ℕ, ◌==◌, ◌||◌, Bool, if◌then◌else◌, List, [], ◌∷◌, ◌++◌, codes, map}
 use Rattle.std.specs.Borrow.{Bor}
 use Rattle.std.specs.List.{flat_map, list_any}

@@ -1,4 +1,4 @@
--- What `report --devices` asks and prints (this project's own).
+-- Rule: What `report --devices` asks and prints (this project's own).
 use Rattle.std.specs.Prelude.{ℕ, List, [], ◌∷◌, ◌++◌, codes, map}
 use Rattle.std.specs.List.{flat_map}
 use Rattle.client_operator.specs.Csv.{record_text}

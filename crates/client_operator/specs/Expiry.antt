@@ -1,4 +1,4 @@
--- What `expire` asks and prints (this project's own).
+-- Rule: What `expire` asks and prints (this project's own).
 use Rattle.std.specs.Prelude.{◌≡◌, ◌↔◌, IsTrue, ℕ, Bool, true, false, ◌&&◌, List, ◌++◌, codes}
 use Rattle.client_lines.specs.Asking.{IsDone}
 use Rattle.client_lines.specs.Replies.{whole_line}

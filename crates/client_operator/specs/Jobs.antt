@@ -1,4 +1,4 @@
--- What a line of the answer to `jobs` tells of a job (this project's own).
+-- Rule: What a line of the answer to `jobs` tells of a job (this project's own).
 use Rattle.std.specs.Prelude.{◌≡◌, ◌||◌, ℕ, Bool, List, [], ◌∷◌, bytes_eq, codes}
 use Rattle.client_operator.specs.Lines.{line_of}
 use Rattle.client_operator.specs.declared.job.TellsJob.{TellsJob}

@@ -1,4 +1,4 @@
--- Lines of words (this project's own).
+-- Rule: Lines of words (this project's own).
 use Rattle.std.specs.Prelude.{ℕ, List, [], ◌∷◌, ◌++◌, codes}
 
 -- a space between each two

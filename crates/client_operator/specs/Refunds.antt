@@ -1,4 +1,4 @@
--- Pages that are given back, by grants for months before 2000-01 (this project's own).
+-- Rule: Pages that are given back, by grants for months before 2000-01 (this project's own).
 use Rattle.std.specs.Prelude.{◌≡◌, ◌≢◌, ◌<◌, ◌≤◌, ℕ, ◌+◌, if◌then◌else◌, nat_lt, List, [], ◌∷◌, codes, ⊤, ◌⊎◌, Some}
 use Rattle.input_fields.specs.Fields.{month_said}
 use Rattle.account_rules.specs.Limits.{first_month}

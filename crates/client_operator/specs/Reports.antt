@@ -1,4 +1,4 @@
--- What `report` of a month asks and prints (this project's own).
+-- Rule: What `report` of a month asks and prints (this project's own).
 use Rattle.std.specs.Prelude.{◌≤◌, ℕ, ◌-◌, List, [], ◌∷◌, codes, decimal}
 use Rattle.client_operator.specs.Asked.{account_asked, statement_asked}
 use Rattle.client_operator.specs.Csv.{record_text}

@@ -1,4 +1,4 @@
--- What the answer to `statement` tells (this project's own).
+-- Rule: What the answer to `statement` tells (this project's own).
 use Rattle.std.specs.Prelude.{◌≡◌, ℕ, List, [], ◌∷◌, codes}
 use Rattle.client_lines.specs.Words.{IsNumber}
 use Rattle.client_operator.specs.Lines.{line_of}

@@ -1,4 +1,4 @@
--- Tables that are printed account by account (this project's own).
+-- Rule: Tables that are printed account by account (this project's own).
 use Rattle.std.specs.Prelude.{ℕ, List, []}
 use Rattle.client_operator.specs.Csv.{record_text}
 use Rattle.client_operator.specs.Names.{AsksNames}

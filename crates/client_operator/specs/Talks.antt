@@ -1,4 +1,4 @@
--- What is sent and heard over a connection, and printed meanwhile (this project's own).
+-- Rule: What is sent and heard over a connection, and printed meanwhile (this project's own).
 use Rattle.std.specs.Prelude.{◌≡◌, ℕ, List, [], ◌∷◌, codes}
 use Rattle.std.specs.Io.KnownBytes.{Appends, Consumes}
 use Rattle.client_lines.specs.Asking.{HearsList, IsDone}

@@ -1,4 +1,4 @@
--- What `waiting` asks and prints (this project's own).
+-- Rule: What `waiting` asks and prints (this project's own).
 use Rattle.std.specs.Prelude.{◌≡◌, ℕ, Bool, true, ◌&&◌, if◌then◌else◌, bytes_eq, List, [], ◌∷◌, ◌++◌, codes, Option, None, Some}
 use Rattle.std.specs.Str.Parse.{digits_value}
 use Rattle.client_operator.specs.Ages.{is_as_old}

@@ -1,4 +1,4 @@
--- What attributes of an answer tell (RFC 8011 section 4.1).
+-- Rule: What attributes of an answer tell (RFC 8011 section 4.1).
 use Rattle.std.specs.Prelude.{ℕ, Bool, if◌then◌else◌, nat_lt, List, codes, Option, Some, None, option_and_then}
 use Rattle.ipp_coding.specs.Plain.{PlainAttribute, PlainMessage, PlainValue}
 use Rattle.ipp_coding.specs.Values.{int_said, text_said}

@@ -1,5 +1,5 @@
--- The format that the first bytes of a document tell (this project's own; RFC 8011 section 5.4.22
--- has the formats).
+-- Rule: The format that the first bytes of a document tell (this project's own; RFC 8011 section
+-- 5.4.22 has the formats).
 use Rattle.std.specs.Prelude.{ℕ, Bool, if◌then◌else◌, bytes_eq, List, [], ◌∷◌, ◌++◌, codes, length, take}
 use Rattle.account_rules.specs.declared.format.Format.{Format}
 use Rattle.account_rules.specs.declared.format.Format.TheVariants.{OctetStream, Pdf, PostScript, Jpeg, PwgRaster, Urf}

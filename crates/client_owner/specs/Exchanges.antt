@@ -1,5 +1,5 @@
--- What is sent to a queue over HTTP/1.1, and what answers it (RFC 9112; RFC 8010 section 4; the most
--- bytes are this project's own).
+-- Rule: What is sent to a queue over HTTP/1.1, and what answers it (RFC 9112; RFC 8010 section 4;
+-- the most bytes are this project's own).
 use Rattle.std.specs.Prelude.{◌≡◌, ◌≤◌, ℕ, Bool, List, [], ◌∷◌, ◌++◌, codes, decimal, find, length, Option, Some, map, option_map}
 use Rattle.std.specs.List.{flat_map}
 use Rattle.std.specs.Io.KnownBytes.{Consumes}

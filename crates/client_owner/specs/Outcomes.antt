@@ -1,4 +1,4 @@
--- What is printed of an answer (this project's own).
+-- Rule: What is printed of an answer (this project's own).
 use Rattle.std.specs.Prelude.{◌≡◌, ◌≢◌, ◌⊎◌, ℕ, Bool, true, false, ◌==◌, if◌then◌else◌, List, [], ◌++◌, codes, decimal, is_some, IsTrue, Some}
 use Rattle.std.specs.Io.KnownBytes.{Appends}
 use Rattle.ipp_coding.specs.Plain.{PlainMessage}

@@ -1,4 +1,4 @@
--- The PIN of a job, as its owner types it (this project's own).
+-- Rule: The PIN of a job, as its owner types it (this project's own).
 use Rattle.std.specs.Prelude.{ℕ, ◌+◌, ◌&&◌, if◌then◌else◌, nat_le, nat_lt, List, length, take, Option, Some, None}
 use Rattle.std.specs.Io.BufRead.{strip_last, take_through}
 use Rattle.account_rules.specs.Limits.{longest_password}

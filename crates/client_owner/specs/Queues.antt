@@ -1,5 +1,5 @@
--- The address of an account's queue: `ipp://HOST[:PORT]/ipp/print/ACCOUNT`, or the same with `http`
--- (RFC 3510; which hosts it may name is this project's own).
+-- Rule: The address of an account's queue: `ipp://HOST[:PORT]/ipp/print/ACCOUNT`, or the same with
+-- `http` (RFC 3510; which hosts it may name is this project's own).
 use Rattle.std.specs.Prelude.{◌≡◌, ◌≤◌, ◌⊎◌, ℕ, Bool, false, List, [], ◌∷◌, codes, drop, length, IsTrue, Option, Some, None}
 use Rattle.std.specs.Net.Addr.{ipv4_octets}
 use Rattle.std.specs.Net.Grammar.{IsIpv4Text}

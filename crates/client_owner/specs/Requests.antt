@@ -1,4 +1,5 @@
--- The requests of an owner, as messages (RFC 8011 sections 4.2.1, 4.2.6, 4.3.3, 4.3.5 and 4.3.6).
+-- Rule: The requests of an owner, as messages (RFC 8011 sections 4.2.1, 4.2.6, 4.3.3, 4.3.5 and
+-- 4.3.6).
 use Rattle.std.specs.Prelude.{ℕ, List, [], ◌∷◌, ◌++◌, codes, Option, Some, None, map}
 use Rattle.std.specs.Borrow.{Bor}
 use Rattle.ipp_coding.specs.Plain.{PlainAttribute, PlainGroup, PlainMessage}

@@ -1,5 +1,5 @@
--- The table of an owner's jobs (this project's own; RFC 8011 sections 5.2 and 5.3 have what is told of
--- a job).
+-- Rule: The table of an owner's jobs (this project's own; RFC 8011 sections 5.2 and 5.3 have what
+-- is told of a job).
 use Rattle.std.specs.Prelude.{◌≡◌, ℕ, ◌-◌, ◌==◌, if◌then◌else◌, List, [], ◌∷◌, ◌++◌, codes, decimal, Option, Some, None, option_map}
 use Rattle.ipp_coding.specs.Plain.{PlainAttribute, PlainGroup}
 use Rattle.ipp_coding.specs.Reading.{◌>>=◌}

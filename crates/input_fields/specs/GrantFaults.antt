@@ -1,4 +1,4 @@
--- Why a file of grants was not read.
+-- Rule: Why a file of grants was not read.
 use Rattle.std.specs.Prelude.{ℕ, Result, Ok, Err, ⊤}
 use Rattle.csv.specs.declared.error.ErrorKind.{ErrorKind}
 use Rattle.csv.specs.declared.error.ErrorKind.TheVariants as kind

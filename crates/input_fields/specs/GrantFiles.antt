@@ -1,4 +1,4 @@
--- The records of a file of grants, and how many there may be.
+-- Rule: The records of a file of grants, and how many there may be.
 use Rattle.std.specs.Prelude.{ℕ, Bool, ◌||◌, nat_lt, List, length}
 use Rattle.csv.specs.Reading.{default_config, records, strip_bom}
 

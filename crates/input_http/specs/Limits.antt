@@ -1,4 +1,4 @@
--- How long the parts of a message may be, in bytes (all this project's own).
+-- Rule: How long the parts of a message may be, in bytes (all this project's own).
 use Rattle.std.specs.Prelude.{ℕ}
 
 abbrev pub longest_head : ℕ

@@ -1,4 +1,4 @@
--- The texts that are written: status lines (RFC 9112 section 4) and the fields after them.
+-- Rule: The texts that are written: status lines (RFC 9112 section 4) and the fields after them.
 use Rattle.std.specs.Prelude.{ℕ, Bool, true, false, List, [], ◌++◌, codes, decimal, if◌then◌else◌, length, unwrap_or}
 use Rattle.http.specs.StatusCode.{code_digits, reason_phrase}
 use Rattle.input_http.specs.declared.refusal.Refusal.{Refusal}

@@ -1,5 +1,5 @@
--- The numbers that a line may say, whose lines they are, and the events that they ask for (this
--- project's own).
+-- Rule: The numbers that a line may say, whose lines they are, and the events that they ask for
+-- (this project's own).
 use Rattle.std.specs.Prelude.{ℕ, Bool, true, false, ◌&&◌, nat_le, Option, Some, None, unwrap_or}
 use Rattle.account_machine.specs.Events as event
 use Rattle.account_machine.specs.Events.{PlainEvent, OfAccount, OfDevice}

@@ -1,4 +1,4 @@
--- What a line asks that changes nothing, and who may ask it (this project's own).
+-- Rule: What a line asks that changes nothing, and who may ask it (this project's own).
 use Rattle.std.specs.Prelude.{◌≡◌, ℕ, ◌≤◌, Bool, true, false, List, [], ◌∷◌, codes}
 use Rattle.input_lines.specs.Saying.{AreFields, SaysMonth, SaysNumber, name_said}
 use Rattle.account_questions.specs.declared.question.About.{About}

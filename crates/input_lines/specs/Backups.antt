@@ -1,4 +1,4 @@
--- The lines by which an operator has a backup made (this project's own).
+-- Rule: The lines by which an operator has a backup made (this project's own).
 use Rattle.std.specs.Prelude.{◌≡◌, ℕ, List, [], ◌∷◌, codes}
 use Rattle.input_lines.specs.Saying.{AreFields}
 use Rattle.input_lines.specs.declared.backup.BackupLine.{BackupLine}

@@ -1,6 +1,6 @@
--- What an operator asks about a job in the place of the account's owner: the message that the owner
--- could send (RFC 8010 section 3.1.1). The words, the host and the request-id are this project's
--- own.
+-- Rule: What an operator asks about a job in the place of the account's owner: the message that the
+-- owner could send (RFC 8010 section 3.1.1). The words, the host and the request-id are this
+-- project's own.
 use Rattle.std.specs.Prelude.{ℕ, List, [], ◌∷◌, ◌++◌, codes}
 use Rattle.ipp_coding.specs.declared.message.Header.{Header}
 use Rattle.ipp_coding.specs.Plain.{PlainGroup, PlainMessage}

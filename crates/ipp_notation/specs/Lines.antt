@@ -1,4 +1,4 @@
--- Which lines have a message (this project's own).
+-- Rule: Which lines have a message (this project's own).
 use Rattle.std.specs.Prelude.{◌≡◌, ◌≢◌, ◌<◌, ℕ, List, [], ◌∷◌, ◌++◌, length, slice_index, codes, Ok}
 use Rattle.hex.specs.Hex.{decode_of}
 use Rattle.ipp_notation.specs.declared.line.Origin.{Origin}

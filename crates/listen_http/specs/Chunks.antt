@@ -1,5 +1,5 @@
--- A body in chunks (RFC 9112 section 7.1): lines that tell a size, each with so many bytes and CR
--- LF after it.
+-- Rule: A body in chunks (RFC 9112 section 7.1): lines that tell a size, each with so many bytes
+-- and CR LF after it.
 use Rattle.std.specs.Prelude.{◌≡◌, ℕ, ◌+◌, ◌<◌, ◌≤◌, List, ◌++◌, length}
 use Rattle.std.specs.List.{flat_map, AllByRecursion}
 use Rattle.httparse.specs.Ascii.{crlf_bytes}

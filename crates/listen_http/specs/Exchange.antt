@@ -1,4 +1,4 @@
--- What a call takes of an input, and writes.
+-- Rule: What a call takes of an input, and writes.
 use Rattle.std.specs.Prelude.{◌≡◌, ℕ, ◌+◌, ◌*◌, ◌<◌, ◌≤◌, ⊤, Bool, true, List, [], ◌++◌, length, take, Option, Result, Ok, Err}
 use Rattle.std.specs.Io.KnownBytes.{Appends}
 use Rattle.input_http.specs.Limits.{longest_body, longest_head, longest_size_line, longest_trailers, shortest_body}

@@ -1,4 +1,4 @@
--- The fields of a head by their names, which are compared in any case (RFC 9110 section 5.1).
+-- Rule: The fields of a head by their names, which are compared in any case (RFC 9110 section 5.1).
 use Rattle.std.specs.Prelude.{ℕ, Bool, List, [], ◌∷◌, if◌then◌else◌}
 use Rattle.input_http.specs.Words.{is_same_word}
 use Rattle.listen_http.specs.declared.fields.Field.{Field}

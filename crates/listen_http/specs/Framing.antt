@@ -1,6 +1,6 @@
--- Where the body of a message ends (RFC 9112 section 6): one Content-Length of 1 to 18 digits, or
--- one Transfer-Encoding, which is chunked, or neither, and then there is none (narrower than
--- RFC 9112: this project's rule).
+-- Rule: Where the body of a message ends (RFC 9112 section 6): one Content-Length of 1 to 18
+-- digits, or one Transfer-Encoding, which is chunked, or neither, and then there is none (narrower
+-- than RFC 9112: this project's rule).
 use Rattle.std.specs.Prelude.{ℕ, ◌&&◌, Bool, List, [], ◌∷◌, Option, Some, None, codes, if◌then◌else◌, length, nat_le, nat_lt}
 use Rattle.std.specs.Char.{is_ascii_digit}
 use Rattle.std.specs.List.{list_all}

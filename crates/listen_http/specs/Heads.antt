@@ -1,5 +1,5 @@
--- Heads of requests (RFC 9112 sections 2 to 5, as `httparse` reads them): of 16384 bytes and 64
--- fields at most (this project's limits), and what stands in the place of one.
+-- Rule: Heads of requests (RFC 9112 sections 2 to 5, as `httparse` reads them): of 16384 bytes and
+-- 64 fields at most (this project's limits), and what stands in the place of one.
 use Rattle.std.specs.Prelude.{◌≡◌, ◌≢◌, ℕ, ◌<◌, ◌≤◌, List, [], ◌++◌, length}
 use Rattle.httparse.specs.Grammar.{RequestHead, IsRequestHead, print_request, HasNoRequest, MayBecomeRequest, NeverHasRequest}
 use Rattle.httparse.specs.Spans.{RequestExceeds, RequestOverflows}

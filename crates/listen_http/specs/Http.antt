@@ -1,5 +1,6 @@
--- What a whole input is: nothing, a message that is refused, or one that is carried out with what
--- follows it. The refusals stand in the order in which they are judged (all this project's own).
+-- Rule: What a whole input is: nothing, a message that is refused, or one that is carried out with
+-- what follows it. The refusals stand in the order in which they are judged (all this project's
+-- own).
 use Rattle.std.specs.Prelude.{◌≡◌, ℕ, ◌<◌, ◌≤◌, Bool, false, List, [], Ok, Err, length}
 use Rattle.httparse.specs.Grammar.{RequestHead}
 use Rattle.listen_http.specs.Bodies.{HasBody, IsNoBody, IsTooLongBody}

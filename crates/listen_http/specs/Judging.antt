@@ -1,6 +1,6 @@
--- What a whole head is refused for, the first of these that applies, or what it orders (all this
--- project's own): a body that cannot be told, another method than POST, a path of no queue, another
--- type of content, a body that is too long.
+-- Rule: What a whole head is refused for, the first of these that applies, or what it orders (all
+-- this project's own): a body that cannot be told, another method than POST, a path of no queue,
+-- another type of content, a body that is too long.
 use Rattle.std.specs.Prelude.{◌==◌, ◌&&◌, ◌||◌, ℕ, ◌≤◌, Bool, false, List, [], ◌∷◌, Option, Some, None, Result, Ok, Err, bytes_eq, codes, if◌then◌else◌, map, nat_lt, ⊤}
 use Rattle.std.specs.List.{list_any}
 use Rattle.httparse.specs.Grammar.{RequestHead}

@@ -1,5 +1,5 @@
--- The fields after a body in chunks (RFC 9112 section 7.1.2): 64 at most, of 4096 bytes at most
--- with the empty line after them (this project's limits). What they say is ignored.
+-- Rule: The fields after a body in chunks (RFC 9112 section 7.1.2): 64 at most, of 4096 bytes at
+-- most with the empty line after them (this project's limits). What they say is ignored.
 use Rattle.std.specs.Prelude.{◌≡◌, ℕ, ◌≤◌, List, ◌++◌, length, All}
 use Rattle.httparse.specs.Grammar.{Field, IsField, LineEnd, print_section}
 use Rattle.input_http.specs.Limits.{longest_trailers, most_fields}

@@ -1,5 +1,5 @@
--- Text as HTML shows it: a character reference in the place of each byte that could be markup (the
--- HTML standard, section 13.1.4).
+-- Rule: Text as HTML shows it: a character reference in the place of each byte that could be markup
+-- (the HTML standard, section 13.1.4).
 use Rattle.std.specs.Prelude.{ℕ, List, [], ◌∷◌, codes, ◌==◌, ◌||◌, nat_lt, Bool, if◌then◌else◌, flat_map}
 use Rattle.std.specs.Str.Lossy.{utf8_lossy}
 

@@ -1,4 +1,4 @@
--- The parts that a page is made of, and their bytes.
+-- Rule: The parts that a page is made of, and their bytes.
 use Rattle.std.specs.Prelude.{ℕ, ◌==◌, if◌then◌else◌, List, Option, Some, None, decimal, flat_map}
 use Rattle.page_markup.specs.Escaping.{escaped}
 use Rattle.page_markup.specs.Moments.{moment_text, month_text, month_words}

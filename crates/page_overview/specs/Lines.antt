@@ -1,5 +1,5 @@
--- What the print room's page tells of one account, and of its jobs that have not ended (all this
--- project's own).
+-- Rule: What the print room's page tells of one account, and of its jobs that have not ended (all
+-- this project's own).
 use Rattle.std.specs.Prelude.{ℕ, pos, if◌then◌else◌, length, List, Option, None, Some, filter_map}
 use Rattle.page_pages.specs.Phases.{phase_of}
 use Rattle.page_pages.specs.declared.accounts.AccountLine.{AccountLine}

@@ -1,4 +1,4 @@
--- What the surveys of accounts come to together (all this project's own).
+-- Rule: What the surveys of accounts come to together (all this project's own).
 use Rattle.std.specs.Prelude.{◌≡◌, ℕ, ◌<◌, List, [], ◌∷◌, map, fold, if◌then◌else◌, length, take, nat_lt, slice_index}
 use Rattle.std.specs.List.{flat_map, sum_by}
 use Rattle.page_overview.specs.Lines.{account_line, begun_lines, longest_lines}

@@ -1,4 +1,4 @@
--- The page that shows an overview (all this project's own).
+-- Rule: The page that shows an overview (all this project's own).
 use Rattle.std.specs.Prelude.{◌≡◌, ℕ, ◌+◌, ◌-◌, ◌/◌, ◌%◌, ◌==◌, ◌&&◌, pos, Bool, true, if◌then◌else◌, filter, length, min, nat_lt, List, [], ◌∷◌, Option, None, Some, option_map, slice_get, take}
 use Rattle.std.specs.List.{starts_with}
 use Rattle.std.specs.Ordering.{is_lt}

@@ -1,4 +1,4 @@
--- What the rows of one account come to for the print room's page (all this project's own).
+-- Rule: What the rows of one account come to for the print room's page (all this project's own).
 use Rattle.std.specs.Prelude.{◌≡◌, ℕ, ◌<◌, ◌≤◌, ◌-◌, ◌==◌, ◌&&◌, Bool, false, if◌then◌else◌, min, nat_le, Option, None, Some, slice_index}
 use Rattle.std.specs.Option.{option_map_or}
 use Rattle.std.specs.List.{sum_by}

@@ -1,4 +1,4 @@
--- Accounts, with what is left and what waits.
+-- Rule: Accounts, with what is left and what waits.
 use Rattle.std.specs.Prelude.{ℕ, ◌==◌, if◌then◌else◌, length, List, [], ◌∷◌, ◌++◌, Option, Some, None, codes, flat_map}
 use Rattle.std.specs.Fmt.{signed_decimal}
 use Rattle.page_pages.specs.Frames.{card, remark}

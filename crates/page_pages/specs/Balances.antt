@@ -1,4 +1,4 @@
--- What is left of an account's quota, as a bar and in numbers.
+-- Rule: What is left of an account's quota, as a bar and in numbers.
 use Rattle.std.specs.Prelude.{ℕ, pos, ◌-◌, ◌*◌, ◌/◌, ◌==◌, if◌then◌else◌, min, List, [], ◌∷◌, ◌++◌, codes}
 use Rattle.std.specs.Fmt.{signed_decimal}
 use Rattle.account_rules.specs.Quota.{left_of}

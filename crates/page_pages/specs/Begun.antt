@@ -1,4 +1,4 @@
--- What devices began and have not settled.
+-- Rule: What devices began and have not settled.
 use Rattle.std.specs.Prelude.{ℕ, ◌==◌, if◌then◌else◌, length, List, [], ◌∷◌, ◌++◌, codes, flat_map}
 use Rattle.page_pages.specs.Frames.{card, remark}
 use Rattle.page_markup.specs.Parts.{Part, html, Mark, Text, Number, Moment}

@@ -1,4 +1,4 @@
--- The units of each day of a month, as bars and as a table.
+-- Rule: The units of each day of a month, as bars and as a table.
 use Rattle.std.specs.Prelude.{ℕ, ◌-◌, max, fold, length, List, [], ◌∷◌, ◌++◌, codes, flat_map}
 use Rattle.page_pages.specs.Balances.{permille}
 use Rattle.page_markup.specs.Parts.{Part, html, Mark, Number, Month}

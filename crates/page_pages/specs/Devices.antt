@@ -1,4 +1,4 @@
--- The devices, and what a page costs on each.
+-- Rule: The devices, and what a page costs on each.
 use Rattle.std.specs.Prelude.{ℕ, Bool, true, false, if◌then◌else◌, List, [], ◌∷◌, ◌++◌, codes, flat_map}
 use Rattle.std.specs.List.{list_any}
 use Rattle.account_rules.specs.declared.device.Device.{Device}

@@ -1,4 +1,4 @@
--- The form to print a file. Its script (`print.js`) sends the file as it is.
+-- Rule: The form to print a file. Its script (`print.js`) sends the file as it is.
 use Rattle.std.specs.Prelude.{ℕ, Bool, List, [], ◌∷◌, ◌++◌, codes, if◌then◌else◌}
 use Rattle.page_markup.specs.Parts.{Part, html, Mark, Text}
 use Rattle.page_pages.specs.declared.texts.TheConstants.{COPIES, FILE, FILE_HELP, HAND_IN, PAGES_HELP, PAGES_OF_COPY, PASSWORD, PASSWORD_DUTY, PASSWORD_HELP, PRINT, SCRIPT_NEEDED, SENT_BROKEN, SENT_EMPTY, SENT_LARGE, SENT_REFUSED, SENT_SENDING}

@@ -1,4 +1,4 @@
--- What stands around the content of a page, and of a card of it.
+-- Rule: What stands around the content of a page, and of a card of it.
 use Rattle.std.specs.Prelude.{ℕ, List, [], ◌∷◌, codes}
 use Rattle.page_markup.specs.Parts.{Part, Mark, Text}
 use Rattle.page_pages.specs.declared.markup.TheConstants.{BODY, DOCUMENT, SIGNS}

@@ -1,4 +1,4 @@
--- What has waited longest.
+-- Rule: What has waited longest.
 use Rattle.std.specs.Prelude.{ℕ, ◌==◌, if◌then◌else◌, length, List, [], ◌∷◌, ◌++◌, codes, flat_map}
 use Rattle.page_pages.specs.Frames.{card, remark}
 use Rattle.page_markup.specs.Parts.{Part, html, Mark, Text, Number, Moment}

@@ -1,4 +1,4 @@
--- What came of the last act, in a sentence.
+-- Rule: What came of the last act, in a sentence.
 use Rattle.std.specs.Prelude.{ℕ, List, [], ◌∷◌, ◌++◌, Option, Some, None, codes}
 use Rattle.account_rules.specs.declared.refusal.Word.{Word}
 use Rattle.page_markup.specs.Parts.{Part, html, Mark, Number}

@@ -1,4 +1,4 @@
--- The owner's page.
+-- Rule: The owner's page.
 use Rattle.std.specs.Prelude.{ℕ, Bool, true, false, ◌&&◌, not, ◌==◌, if◌then◌else◌, length, List, [], ◌∷◌, ◌++◌, codes}
 use Rattle.page_pages.specs.Balances.{balance}
 use Rattle.page_pages.specs.Devices.{devices_on}

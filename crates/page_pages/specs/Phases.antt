@@ -1,4 +1,4 @@
--- How a job stands, as its owner is told.
+-- Rule: How a job stands, as its owner is told.
 use Rattle.std.specs.Prelude.{ℕ, ◌==◌, Bool, true, false, not, if◌then◌else◌, length, List, codes}
 use Rattle.account_rules.specs.Effects.{is_incomplete as lacks_documents}
 use Rattle.account_rules.specs.declared.job.Job.{Job}

@@ -1,4 +1,4 @@
--- The page that tells a browser why what it asked was refused.
+-- Rule: The page that tells a browser why what it asked was refused.
 use Rattle.std.specs.Prelude.{ℕ, List, [], ◌∷◌, ◌++◌, codes}
 use Rattle.page_pages.specs.Frames.{document, top}
 use Rattle.page_markup.specs.Parts.{Part, html, Mark}

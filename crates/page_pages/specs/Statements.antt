@@ -1,4 +1,4 @@
--- A statement for paper: one account, one month.
+-- Rule: A statement for paper: one account, one month.
 use Rattle.std.specs.Prelude.{ℕ, Bool, false, ◌==◌, if◌then◌else◌, min, List, [], ◌∷◌, ◌++◌, Option, Some, None, codes, flat_map}
 use Rattle.account_rules.specs.Limits.{last_moment}
 use Rattle.account_rules.specs.Months.{month_at}

@@ -1,4 +1,4 @@
--- What a reader of tags keeps of a page, and that no name is part of it.
+-- Rule: What a reader of tags keeps of a page, and that no name is part of it.
 use Rattle.std.specs.Prelude.{◌≡◌, ◌≤◌, ℕ, Bool, false, not, ◌==◌, ◌||◌, if◌then◌else◌, List, [], ◌∷◌, ◌++◌}
 use Rattle.account_rules.specs.Limits.{last_job}
 use Rattle.account_rules.specs.declared.job.Job.{Job}

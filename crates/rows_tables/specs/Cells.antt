@@ -1,5 +1,5 @@
--- The rows that stand for values: their cells, the key first. A flag is 0 or 1, a state has its
--- number (RFC 8011 section 5.3.7); that no device is the empty text, and no moment -1, is this
+-- Rule: The rows that stand for values: their cells, the key first. A flag is 0 or 1, a state has
+-- its number (RFC 8011 section 5.3.7); that no device is the empty text, and no moment -1, is this
 -- project's own.
 use Rattle.std.specs.Prelude.{if◌then◌else◌, ℕ, ℤ, pos, negsuc, Bool, List, [], ◌∷◌, Option, Some, None}
 use Rattle.sqlite_value.specs.declared.value.Value.{Value}

@@ -1,4 +1,5 @@
--- A database as it is made, and what it is found to be when it is opened (all this project's own).
+-- Rule: A database as it is made, and what it is found to be when it is opened (all this project's
+-- own).
 use Rattle.std.specs.Prelude.{◌≡◌, ◌≢◌, ◌⊎◌, ⊤, List, ℕ, ℤ, pos, true, [], ◌∷◌, Some, slice_get}
 use Rattle.std.specs.List.{AllByRecursion}
 use Rattle.std.specs.FinMap.{empty}

@@ -1,4 +1,4 @@
--- What migrating makes of a database of version 1 (all this project's own).
+-- Rule: What migrating makes of a database of version 1 (all this project's own).
 use Rattle.std.specs.Prelude.{◌≡◌, ◌≢◌, ◌⊎◌, ⊤, ℕ, ℤ, List, [], option_map, IfSome}
 use Rattle.std.specs.List.{AllByRecursion}
 use Rattle.std.specs.FinMap.{get}

@@ -1,5 +1,5 @@
--- The tree of each table in the file, and the places of the columns in its rows (all this project's
--- own). Places count from 1; place 0 is the row number.
+-- Rule: The tree of each table in the file, and the places of the columns in its rows (all this
+-- project's own). Places count from 1; place 0 is the row number.
 use Rattle.std.specs.Prelude.{ℕ, List, [], ◌∷◌}
 use Rattle.sqlite_value.specs.declared.value.Value.{Value}
 use Rattle.sqlite_value.specs.declared.value.Value.TheVariants.{Null}

@@ -1,4 +1,4 @@
--- When a line is taken (all this project's own).
+-- Rule: When a line is taken (all this project's own).
 use Rattle.std.specs.Prelude.{◌≡◌, ◌⊎◌, ℕ, ◌+◌, ◌-◌, ◌^◌, Bool, List, length, ◌++◌, nat_le, min, if◌then◌else◌}
 
 -- 1 MiB
@@ -6,12 +6,12 @@ abbrev pub most_waiting : ℕ
 most_waiting = 1048576
 
 -- bytes are taken where they come to 1 MiB at most with those that wait
-abbrev pub has_room : (waiting bytes : List ℕ) → Bool
-has_room waiting bytes = nat_le (length waiting + length bytes) most_waiting
+abbrev pub may_wait : (waiting bytes : List ℕ) → Bool
+may_wait waiting bytes = nat_le (length waiting + length bytes) most_waiting
 
 -- what stands behind a text then
 abbrev pub joined : (waiting text bytes : List ℕ) → List ℕ
-joined waiting text bytes = if has_room waiting bytes then text ++ bytes else text
+joined waiting text bytes = if may_wait waiting bytes then text ++ bytes else text
 
 -- one more, where a count of 64 bits stands still at its end
 abbrev pub counted : ℕ → ℕ

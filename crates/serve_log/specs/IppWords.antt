@@ -1,4 +1,4 @@
--- The words of IPP in a line: the operation, the job, and the keyword of a status.
+-- Rule: The words of IPP in a line: the operation, the job, and the keyword of a status.
 use Rattle.std.specs.Prelude.{ℕ, ◌+◌, ◌*◌, ◌/◌, ◌%◌, ◌==◌, nat_lt, if◌then◌else◌, List, [], ◌∷◌, ◌++◌, codes, length, slice_index, Option, Some, None}
 use Rattle.std.specs.Fmt.{decimal}
 

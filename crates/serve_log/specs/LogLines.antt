@@ -1,5 +1,5 @@
--- The lines of the log (all this project's own). One space parts their fields. No password is among
--- them, and no name of a job.
+-- Rule: The lines of the log (all this project's own). One space parts their fields. No password is
+-- among them, and no name of a job.
 use Rattle.std.specs.Prelude.{ℕ, ◌+◌, ◌/◌, ◌%◌, Bool, ◌&&◌, nat_le, if◌then◌else◌, List, ◌++◌, codes, length, map, take, [], ◌∷◌, Option, Result, Ok, Err}
 use Rattle.std.specs.Fmt.{decimal}
 use Rattle.account_machine.specs.declared.event.Reply.{Reply}

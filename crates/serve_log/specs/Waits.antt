@@ -1,4 +1,4 @@
--- What waits for the file, and what it has taken (all this project's own).
+-- Rule: What waits for the file, and what it has taken (all this project's own).
 use Rattle.std.specs.Prelude.{◌≡◌, ◌==◌, ℕ, Bool, List, ◌++◌, drop, length, not, take}
 use Rattle.std.specs.List.{flat_map}
 use Rattle.serve_log.specs.Books.{counted}

@@ -1,7 +1,7 @@
 //! Lines that wait for the file, those of a round that is under way behind the others.
 ghost use Rattle.std.specs.Prelude.{◌≡◌, ◌≤◌, [], if◌then◌else◌, ◌==◌, ◌++◌, not, drop, length, take, IfOk, OnErr, OnOk};
 ghost use Rattle.std.specs.Io.KnownBytes.{Appends, Keeps};
-ghost use Rattle.serve_log.specs.Books.{Takes, counted, has_room, joined};
+ghost use Rattle.serve_log.specs.Books.{Takes, counted, may_wait, joined};
 
 use http_server::Log;
 use std::alloc::{AllocError, Global};
@@ -81,7 +81,7 @@ impl Waiting {
         ensures drafts { OnOk result (drafts_of self.new
             ≡ joined (self.old.lines.items) (drafts_of self.old) line.now) }
         ensures missed { OnOk result (missed_of self.new
-            ≡ (if has_room self.old.lines.items line.now
+            ≡ (if may_wait self.old.lines.items line.now
             then missed_of self.old
             else counted (missed_of self.old))) }
         ensures refused { OnErr result ((drafts_of self.new ≡ drafts_of self.old)
@@ -89,7 +89,7 @@ impl Waiting {
         ensures waiting { waiting_of self.new ≡ waiting_of self.old }
         ensures written { written_of self.new ≡ written_of self.old }
     {
-        if !has_room(self.lines.as_slice(), line) {
+        if !may_wait(self.lines.as_slice(), line) {
             self.miss();
             return Ok(());
         }
@@ -169,8 +169,8 @@ impl Waiting {
     }
 }
 
-fn has_room(waiting: &[u8], bytes: &[u8]) -> bool
-    ensures { result ≡ has_room waiting.now bytes.now }
+fn may_wait(waiting: &[u8], bytes: &[u8]) -> bool
+    ensures { result ≡ may_wait waiting.now bytes.now }
 {
     waiting.len() <= MOST_WAITING && bytes.len() <= MOST_WAITING - waiting.len()
 }

@@ -1,4 +1,4 @@
--- Which request gets which response, and what it does to the rooms (all this project's own).
+-- Rule: Which request gets which response, and what it does to the rooms (all this project's own).
 use Rattle.std.specs.Prelude.{◌≡◌, ◌⊎◌, ℕ, Bool, List, [], ◌∷◌, codes, if◌then◌else◌, Result, Ok, Err}
 use Rattle.http.specs.Request.{body_of}
 use Rattle.http.specs.declared.request.Request.{Request}

@@ -1,4 +1,4 @@
--- A backup of what is served, as lines of an operator ask for it (all this project's own).
+-- Rule: A backup of what is served, as lines of an operator ask for it (all this project's own).
 use Rattle.std.specs.Prelude.{◌≡◌, ◌⊎◌, ℕ, ◌-◌, Bool, true, false, List, codes, Option, None, Some, bytes_eq, nat_lt}
 use Rattle.input_lines.specs.declared.backup.BackupLine.{BackupLine}
 use Rattle.input_lines.specs.declared.backup.BackupLine.TheVariants.{Begin, Slice}

@@ -1,4 +1,4 @@
--- What is sent for a line (all this project's own).
+-- Rule: What is sent for a line (all this project's own).
 use Rattle.std.specs.Prelude.{ℕ, Bool, false, if◌then◌else◌, List, ◌++◌, codes, decimal, length, Option, Some, None, Result, Ok, Err}
 use Rattle.std.specs.List.{flat_map}
 use Rattle.account_replies.specs.Words.{word_text}

@@ -1,4 +1,4 @@
--- What a line is answered, and what it does to the rooms (all this project's own).
+-- Rule: What a line is answered, and what it does to the rooms (all this project's own).
 use Rattle.std.specs.Prelude.{◌≡◌, ◌⊎◌, ◌==◌, ◌||◌, ◌+◌, ℕ, Bool, true, false, List, ◌∷◌, ◌++◌, [], codes, drop, length, take, Option, None, Some, IsTrue, Result}
 use Rattle.std.specs.Io.KnownBytes.{Appends, Consumes}
 use Rattle.std.specs.List.{flat_map, position, starts_with}

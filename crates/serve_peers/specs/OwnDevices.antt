@@ -1,4 +1,4 @@
--- The devices for which a door takes the lines of stations (this project's own).
+-- Rule: The devices for which a door takes the lines of stations (this project's own).
 use Rattle.std.specs.Prelude.{ℕ, ◌==◌, Bool, true, false, List, slice_get, Option, None, Some}
 use Rattle.std.specs.List.{list_any, slice_split}
 use Rattle.std.specs.Str.{bytes_eq}

@@ -1,4 +1,4 @@
--- How long a connection may take, in ticks of a millisecond (all this project's own).
+-- Rule: How long a connection may take, in ticks of a millisecond (all this project's own).
 use Rattle.std.specs.Prelude.{ℕ, ◌+◌, ◌-◌, Bool, nat_lt, if◌then◌else◌}
 use Rattle.serve_peers.specs.declared.patience.Doing.{Doing}
 use Rattle.serve_peers.specs.declared.patience.Doing.TheVariants.{Holds, Moves, Parts, Rests}

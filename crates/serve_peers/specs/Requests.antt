@@ -1,6 +1,6 @@
--- What a request over HTTP asks for, or the first refusal that applies (all this project's own):
--- another method than POST, a path of no queue, another type of content, a body that ends within
--- the header of its message.
+-- Rule: What a request over HTTP asks for, or the first refusal that applies (all this project's
+-- own): another method than POST, a path of no queue, another type of content, a body that ends
+-- within the header of its message.
 use Rattle.std.specs.Prelude.{ℕ, Bool, false, List, Option, Some, None, Result, Ok, Err, bytes_eq, codes, if◌then◌else◌, length, nat_lt}
 use Rattle.http.specs.Request.{body_of, head_of}
 use Rattle.http.specs.declared.request.Request.{Request}

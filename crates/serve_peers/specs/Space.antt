@@ -1,4 +1,5 @@
--- Which requests need space on the disk, and whether there is space for one (all this project's own).
+-- Rule: Which requests need space on the disk, and whether there is space for one (all this
+-- project's own).
 use Rattle.std.specs.Prelude.{◌==◌, ◌&&◌, ◌||◌, ℕ, Bool, true, false, List, length, nat_le, nat_lt, Result, Ok, Err}
 use Rattle.http.specs.Request.{body_of}
 use Rattle.http.specs.declared.request.Request.{Request}

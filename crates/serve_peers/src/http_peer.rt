@@ -73,7 +73,7 @@ impl HttpPeer {
             (R.remaining reader.new, W.contents writer.new) self.old self.new }
         ensures continues { Continues V.Kept.Store (V.rooms service.old) (V.rooms service.new) }
         ensures rests { result ≡ Next.Wait → IsAtRest self.new }
-        ensures holds { result ≡ Next.HeldBack → IsFalse turn.has_room }
+        ensures holds { result ≡ Next.HeldBack → IsFalse turn.has_memory }
         ensures limits { KeepsLimits self.old self.new }
     {
         if self.progress.parts {
@@ -104,7 +104,7 @@ impl HttpPeer {
             (R.remaining reader.new, W.contents writer.new)
             (history (connection_of self.old)) (history (connection_of self.new)) }
         ensures waits { result ≡ Some Next.Wait → IsStill self.old self.new }
-        ensures holds { result ≡ Some Next.HeldBack → IsFalse turn.has_room }
+        ensures holds { result ≡ Some Next.HeldBack → IsFalse turn.has_memory }
         ensures limits { KeepsLimits self.old self.new }
     {
         if self.connection.is_done() {
@@ -113,7 +113,7 @@ impl HttpPeer {
         if self.connection.wants_write() {
             return self.send(writer, turn.ticks);
         }
-        if self.load.is_large() && !turn.has_room {
+        if self.load.is_large() && !turn.has_memory {
             return Some(self.progress.hold_back(turn.ticks));
         }
         if self.progress.has_all {

@@ -62,7 +62,7 @@ impl LinePeer {
             served.old served.new }
         ensures continues { Continues S.Store served.old served.new }
         ensures rests { result ≡ Next.Wait → HasTaken (lines_of self.new) }
-        ensures holds { result ≡ Next.HeldBack → IsFalse turn.has_room }
+        ensures holds { result ≡ Next.HeldBack → IsFalse turn.has_memory }
     {
         if self.progress.parts {
             return drain(reader);
@@ -90,12 +90,12 @@ impl LinePeer {
             (lines_of self.old) (lines_of self.new) served.old served.new }
         ensures continues { Continues S.Store served.old served.new }
         ensures rests { result ≡ Some Next.Wait → HasTaken (lines_of self.new) }
-        ensures holds { result ≡ Some Next.HeldBack → IsFalse turn.has_room }
+        ensures holds { result ≡ Some Next.HeldBack → IsFalse turn.has_memory }
     {
         if self.connection.wants_write() {
             return self.send(writer, turn.ticks);
         }
-        if !turn.has_room && self.connection.asks_documents() {
+        if !turn.has_memory && self.connection.asks_documents() {
             return Some(self.progress.hold_back(turn.ticks));
         }
         self.progress.patience.let_on(turn.ticks);

@@ -13,7 +13,7 @@ const LONG: usize = 262_144;
 /// The most bytes of one request, with its head.
 pub const LONGEST: usize = HEAD_LIMIT + BODY_LIMIT;
 
-/// The bytes that a connection holds of what came. Its buffer keeps the room that it ever had,
+/// The bytes that a connection holds of what came. Its buffer keeps the memory that it ever had,
 /// until it is closed.
 #[derive(Clone, Copy, PartialEq, Eq)]
 pub(crate) struct Load {

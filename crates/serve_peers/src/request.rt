@@ -9,7 +9,7 @@ use http::{HeaderValue, Request, header};
 use input_http::{Refusal, account_of, is_ipp_type, is_post};
 use ipp_coding::{HEADER_LENGTH, header_in};
 
-/// A body of more bytes ends the connection, which would keep the room that it took.
+/// A body of more bytes ends the connection, which would keep the memory that it took.
 const LONG_BODY: usize = 1_048_576;
 
 /// Whose queue the message in the request is for, or the first refusal that applies:
@@ -48,7 +48,7 @@ fn is_ipp_value(value: Option<&HeaderValue>) -> bool
     }
 }
 
-/// Whether the body is so long that the connection ends behind it: the buffer would keep the room
+/// Whether the body is so long that the connection ends behind it: the buffer would keep the memory
 /// that it took.
 pub fn has_long_body(request: &Request<Bytes>) -> bool
     ensures { result ≡ has_long_body request.now }

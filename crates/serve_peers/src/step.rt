@@ -8,9 +8,9 @@ use std::io::{ErrorKind, Read};
 /// So many reads and writes of a connection make a turn, so that no peer holds up the others.
 pub(crate) const STEPS: u32 = 4;
 
-/// A read has room for so many bytes at least, so that one that brings fewer has brought all that
+/// A read has a buffer of so many bytes at least, so that one that brings fewer has brought all that
 /// was there.
-const LEAST_ROOM: usize = 4_096;
+const LEAST_BUFFER: usize = 4_096;
 
 /// How many bytes are read at once of what a peer sends that was told of the end.
 const DROPPED: usize = 16_384;
@@ -21,7 +21,7 @@ pub struct Turn {
     /// In milliseconds since any start that all turns share.
     pub ticks: u64,
     /// Whether a large request may go on coming.
-    pub has_room: bool,
+    pub has_memory: bool,
     /// Whether the system has told that the peer sends no more.
     pub is_last: bool,
     /// Whether it may read. A peer that hears what it asked in a round leaves what comes next to the
@@ -36,7 +36,7 @@ pub enum Next {
     Wait,
     /// It can go on at once, after the others.
     Again,
-    /// It can go on once there is room for it.
+    /// It can go on once there is memory for it.
     HeldBack,
     /// All was said: the peer is to be told so, and what it still sends is dropped until it ends
     /// too.
@@ -50,7 +50,7 @@ pub enum Next {
 /// Whether a read that brought so many bytes has brought all that was there. The system tells of
 /// what comes after it, and of the end as well, if it has not told of it yet.
 pub(crate) fn was_all(count: usize, turn: Turn) -> bool {
-    count < LEAST_ROOM && !turn.is_last
+    count < LEAST_BUFFER && !turn.is_last
 }
 
 /// What follows an error of a read or a write.

@@ -129,7 +129,7 @@ module _ {S : Type 0} (store : Ghosts S) where
     pub takes : TakesTurn of_socket of_socket next begun (peer_of after) mid new
     pub asked : asked_in after ≡ []
     pub rests : next ≡ Wait → IsAtRest (peer_of after)
-    pub holds : next ≡ HeldBack → IsFalse turn.has_room
+    pub holds : next ≡ HeldBack → IsFalse turn.has_memory
     pub turns : turns_of after ≡ turns_of before ++ (turn, next) ∷ []
 
   -- The same in a round, of which nothing goes to it. What it asks is kept with it, for its turn
@@ -141,7 +141,7 @@ module _ {S : Type 0} (store : Ghosts S) where
         (record old { asked = before.asked }) left
     pub asked : after.asked ≡ left.asked
     pub same : new ≡ record left { asked = None }
-    pub holds : next ≡ HeldBack → IsFalse turn.has_room
+    pub holds : next ≡ HeldBack → IsFalse turn.has_memory
     pub turns : turns_of after ≡ turns_of before ++ (turn, next) ∷ []
 
   abbrev pub Turns : (shares : Bool) (turn : Turn) (next : Next) (before after : Guest)

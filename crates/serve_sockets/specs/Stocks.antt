@@ -22,5 +22,5 @@ abbrev pub longest_request : ℕ
 longest_request = longest_head + longest_body
 
 -- there is room for two of the longest requests
-abbrev pub has_room_for_all : Stock → Bool
-has_room_for_all stock = not (nat_lt (most_held - 2 * longest_request) stock.held)
+abbrev pub has_memory_for_all : Stock → Bool
+has_memory_for_all stock = not (nat_lt (most_held - 2 * longest_request) stock.held)

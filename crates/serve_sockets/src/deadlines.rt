@@ -32,7 +32,7 @@ impl Peers {
     fn has_to_go(&self, key: usize, ticks: u64) -> bool {
         self.guests.get(key).is_some_and(|guest| {
             guest.is_late(ticks)
-                || self.stock.holds_back() && guest.rests_on_room()
+                || self.stock.holds_back() && guest.rests_on_memory()
                 || self.stock.is_over() && guest.reads_slowly(ticks)
         })
     }

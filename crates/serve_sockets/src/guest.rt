@@ -55,7 +55,7 @@ impl Peer {
             served.old served.new }
         ensures continues { Continues S.Store served.old served.new }
         ensures rests { result ≡ Next.Wait → IsAtRest self.new }
-        ensures holds { result ≡ Next.HeldBack → IsFalse turn.has_room }
+        ensures holds { result ≡ Next.HeldBack → IsFalse turn.has_memory }
     {
         match self {
             Peer::Http(peer) => peer.drive(reader, writer, served, turn),
@@ -291,8 +291,8 @@ impl Guest {
         self.has_large_answer() && self.patience().is_slow(ticks)
     }
 
-    /// Whether nothing was begun on it, and it keeps the room of a large request.
-    pub(crate) fn rests_on_room(&self) -> bool {
+    /// Whether nothing was begun on it, and it keeps the memory of a large request.
+    pub(crate) fn rests_on_memory(&self) -> bool {
         self.patience().is_at_rest() && self.bytes_held() > LARGE
     }
 }

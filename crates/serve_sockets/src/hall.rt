@@ -373,7 +373,7 @@ impl Peers {
         let rests = self.has_to_rest(key);
         let turn = Turn {
             ticks,
-            has_room: self.stock.has_room(key),
+            has_memory: self.stock.has_memory(key),
             is_last,
             reads: self.may_read(rests),
         };

@@ -57,7 +57,7 @@ impl Peers {
     }
 
     fn may_share(&self, key: usize) -> bool {
-        self.stock.has_room(key) && !self.asks_alone(key)
+        self.stock.has_memory(key) && !self.asks_alone(key)
     }
 
     pub(crate) fn asks_alone(&self, key: usize) -> bool {

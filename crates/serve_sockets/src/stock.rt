@@ -1,7 +1,7 @@
 //! How much all connections may hold together.
 
 ghost use Rattle.std.specs.Prelude.{◌≡◌, ◌≢◌, ◌⊎◌, ◌↔◌, ◌+◌, ◌-◌, ◌<◌, ◌^◌, true, false, IsFalse, IsSome, IsTrue, None, Some};
-ghost use Rattle.serve_sockets.specs.Stocks.{favoured_of, has_room_for_all, held_of, holds_back_of, most_held};
+ghost use Rattle.serve_sockets.specs.Stocks.{favoured_of, has_memory_for_all, held_of, holds_back_of, most_held};
 
 use serve_peers::LONGEST;
 
@@ -9,7 +9,7 @@ use serve_peers::LONGEST;
 const MOST_HELD: usize = 268_435_456;
 
 /// What all connections hold. Where it nears its bound no further large request goes on coming, but
-/// for one peer's, which has the room that is left for the longest one.
+/// for one peer's, which has the memory that is left for the longest one.
 #[derive(Drop)]
 pub(crate) struct Stock {
     held: usize,
@@ -31,10 +31,10 @@ impl Stock {
         }
     }
 
-    /// Whether a large request of any peer may go on coming: there is room for two of the longest,
+    /// Whether a large request of any peer may go on coming: there is memory for two of the longest,
     /// one that a turn of this peer may bring, and one for the favoured peer.
-    fn has_room_for_all(&self) -> bool
-        ensures { result ≡ has_room_for_all self.now }
+    fn has_memory_for_all(&self) -> bool
+        ensures { result ≡ has_memory_for_all self.now }
     {
         self.held <= MOST_HELD - 2 * LONGEST
     }
@@ -47,11 +47,11 @@ impl Stock {
     }
 
     /// Whether a large request of this peer may go on coming.
-    pub(crate) fn has_room(&self, key: usize) -> bool
+    pub(crate) fn has_memory(&self, key: usize) -> bool
         ensures { IsTrue result
-            ↔ (IsTrue (has_room_for_all self.now) ⊎ (favoured_of self.now ≡ Some key)) }
+            ↔ (IsTrue (has_memory_for_all self.now) ⊎ (favoured_of self.now ≡ Some key)) }
     {
-        self.has_room_for_all() || self.favoured == Some(key)
+        self.has_memory_for_all() || self.favoured == Some(key)
     }
 
     /// A peer was held back.
@@ -114,13 +114,13 @@ impl Stock {
     /// Whether all who are held back can go on. They are then no longer held back.
     pub(crate) fn lets_all_on(&mut self) -> bool
         ensures lets_on { IsTrue result
-            ↔ (IsTrue (holds_back_of self.old) × IsTrue (has_room_for_all self.old)) }
+            ↔ (IsTrue (holds_back_of self.old) × IsTrue (has_memory_for_all self.old)) }
         ensures let_on { IsTrue result → holds_back_of self.new ≡ false }
         ensures others { IsFalse result → holds_back_of self.new ≡ holds_back_of self.old }
         ensures held { held_of self.new ≡ held_of self.old }
         ensures favoured { favoured_of self.new ≡ favoured_of self.old }
     {
-        let lets_on = self.holds_back && self.has_room_for_all();
+        let lets_on = self.holds_back && self.has_memory_for_all();
         if lets_on {
             self.holds_back = false;
         }

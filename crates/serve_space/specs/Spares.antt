@@ -1,4 +1,4 @@
--- How much space is kept for a full disk, and how long a request there is space for (all this
+-- Rule: How much space is kept for a full disk, and how long a request there is space for (all this
 -- project's own).
 use Rattle.std.specs.Prelude.{ℕ, ◌+◌, ◌-◌, ◌/◌, Option, None, Some, zero, suc}
 use Rattle.serve_space.specs.declared.spare.Kept.{Kept}

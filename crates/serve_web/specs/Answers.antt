@@ -1,5 +1,5 @@
--- Which request of a browser gets which response, and what it does to the rooms (all this project's
--- own).
+-- Rule: Which request of a browser gets which response, and what it does to the rooms (all this
+-- project's own).
 use Rattle.std.specs.Prelude.{◌≡◌, ◌⊎◌, ℕ, Bool, true, false, List, codes, length, nat_lt, Option, Result, Ok, Err}
 use Rattle.http.specs.declared.request.Request.{Request}
 use Rattle.http_server.specs.Response.{IsResponse}

@@ -1,4 +1,4 @@
--- What came of an act, as the query of the owner's page tells it: `done=ACT&job=NUMBER`,
+-- Rule: What came of an act, as the query of the owner's page tells it: `done=ACT&job=NUMBER`,
 -- `refused=ACT&job=NUMBER&why=WORD` or `failed` (all this project's own).
 use Rattle.std.specs.Prelude.{ℕ, List, ◌++◌, length, drop, map, decimal, Option, Some, None, codes, bytes_eq, if◌then◌else◌, option_and_then, option_map}
 use Rattle.page_pages.specs.declared.outcome.Act.{Act}

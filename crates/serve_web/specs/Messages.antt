@@ -1,5 +1,5 @@
--- The messages of IPP that a browser's acts are, as any client could send them (all this project's
--- own).
+-- Rule: The messages of IPP that a browser's acts are, as any client could send them (all this
+-- project's own).
 use Rattle.std.specs.Prelude.{◌≡◌, ℕ, Bool, ◌&&◌, not, List, [], map, Option, Some, None, codes, if◌then◌else◌, is_some, length, nat_lt, option_map}
 use Rattle.std.specs.Borrow.{Bor}
 use Rattle.http.specs.Request.{body_of}

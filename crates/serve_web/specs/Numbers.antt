@@ -1,4 +1,4 @@
--- Numbers of a path or a query (all this project's own).
+-- Rule: Numbers of a path or a query (all this project's own).
 use Rattle.std.specs.Prelude.{ℕ, ℤ, pos, ◌-ℤ◌, Bool, ◌&&◌, ◌==◌, List, [], ◌∷◌, Option, Some, None, if◌then◌else◌, length, nat_le, nat_lt, option_map}
 use Rattle.std.specs.Char.{is_ascii_digit}
 use Rattle.std.specs.List.{list_all}

@@ -1,4 +1,4 @@
--- What came of an act, by what its message came to (all this project's own).
+-- Rule: What came of an act, by what its message came to (all this project's own).
 use Rattle.std.specs.Prelude.{ℕ, Result, Ok, Err, unwrap_or}
 use Rattle.account_machine.specs.declared.verdict.Answered.{Answered}
 use Rattle.account_machine.specs.declared.verdict.Verdict.{Verdict}

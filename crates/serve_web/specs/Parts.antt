@@ -1,4 +1,4 @@
--- Texts in which one byte stands for another (all this project's own).
+-- Rule: Texts in which one byte stands for another (all this project's own).
 use Rattle.std.specs.Prelude.{ℕ, ◌==◌, if◌then◌else◌}
 
 abbrev pub replaced : (from to byte : ℕ) → ℕ

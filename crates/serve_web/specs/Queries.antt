@@ -1,4 +1,4 @@
--- What the query of a page or the form of an act says. Each field is `NAME=VALUE`, `&` stands
+-- Rule: What the query of a page or the form of an act says. Each field is `NAME=VALUE`, `&` stands
 -- between two, and they come in one order (all this project's own; the order is that in which the
 -- pages and their script write them).
 use Rattle.std.specs.Prelude.{ℕ, ◌||◌, ◌==◌, List, length, drop, nat_lt, Option, Some, None, codes, bytes_eq, if◌then◌else◌, option_and_then, option_map}

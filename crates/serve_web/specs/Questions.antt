@@ -1,4 +1,4 @@
--- The question that a page of an account answers (all this project's own).
+-- Rule: The question that a page of an account answers (all this project's own).
 use Rattle.std.specs.Prelude.{ℕ, Bool, if◌then◌else◌, nat_lt, unwrap_or}
 use Rattle.account_questions.specs.declared.question.About.TheVariants.{OwnerPage, StatementPage}
 use Rattle.account_questions.specs.declared.question.Question.{Question}

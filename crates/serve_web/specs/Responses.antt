@@ -1,4 +1,4 @@
--- The responses to browsers (all this project's own, where no standard is named).
+-- Rule: The responses to browsers (all this project's own, where no standard is named).
 use Rattle.std.specs.Prelude.{ℕ, Bool, true, false, List, [], ◌∷◌, ◌++◌, codes, bytes_eq, Result, Ok, Err}
 use Rattle.http_server.specs.Response.{IsResponse}
 use Rattle.http_server.specs.declared.response.Response.{Response}

@@ -1,4 +1,4 @@
--- The word that tells why something was refused, as the query of a page has it.
+-- Rule: The word that tells why something was refused, as the query of a page has it.
 use Rattle.std.specs.Prelude.{ℕ, ℤ, ◌==◌, Bool, List, [], ◌∷◌, length, drop, Option, Some, None, codes, bytes_eq, find, if◌then◌else◌, option_and_then, option_map}
 use Rattle.account_replies.specs.Words.{word_name}
 use Rattle.input_http.specs.Words.{before}

@@ -22,7 +22,7 @@ pub fn drive_browser<S: Alter, R: Read, W: Write>(
         (R.remaining reader.new, W.contents writer.new) peer.old peer.new }
     ensures continues { Continues S.Store served.old served.new }
     ensures rests { result ≡ Next.Wait → IsAtRest peer.new }
-    ensures holds { result ≡ Next.HeldBack → IsFalse turn.has_room }
+    ensures holds { result ≡ Next.HeldBack → IsFalse turn.has_memory }
 {
     let mut pages = Pages { served };
     drive_with_pages(peer, reader, writer, &mut pages, turn)
@@ -42,7 +42,7 @@ fn drive_with_pages<S: Alter, R: Read, W: Write>(
         (R.remaining reader.new, W.contents writer.new) peer.old peer.new }
     ensures continues { Continues S.Store (rooms_of pages.old) (rooms_of pages.new) }
     ensures rests { result ≡ Next.Wait → IsAtRest peer.new }
-    ensures holds { result ≡ Next.HeldBack → IsFalse turn.has_room }
+    ensures holds { result ≡ Next.HeldBack → IsFalse turn.has_memory }
 {
     peer.drive(reader, writer, pages, turn)
 }

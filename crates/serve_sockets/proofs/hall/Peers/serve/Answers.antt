@@ -17,7 +17,7 @@ returns-clause-serves g c =
     had_turn g.S.Store _ _ c.in-Some.guest.now _ _ (ap (λ (guests : Slab Guest). get guests c.args.key) (sym c.ticks.ensures) ∙ sym c.in-Some.ensures.value) (record {
       begun = c.mend_space.new.self;
       moment = (c.in-Some-Ok.moment, c.mend_space.ensures.same ∙ ap (λ (served : Served g.row.S.Denot). record served { spare = spare_of c.mend_space.new.self }) c.set_moment.ensures);
-      turn = record { ticks = c.in-Some-Ok.ticks; has_room = c.has_room.result; is_last = c.args.is_last; reads = c.may_read.result };
+      turn = record { ticks = c.in-Some-Ok.ticks; has_memory = c.has_memory.result; is_last = c.args.is_last; reads = c.may_read.result };
       next = c.take_turn-next.result;
       left = c.take_turn-next.new.self;
       driven = c.take_turn-next.ensures;
