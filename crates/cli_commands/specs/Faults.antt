@@ -2,8 +2,8 @@
 -- own).
 use Rattle.input_lines.specs.declared.fault.LineFault.{LineFault}
 use Rattle.input_lines.specs.declared.fault.LineFault.TheVariants as lines
-use Rattle.room_store.specs.declared.fault.StoreFault.{StoreFault}
-use Rattle.room_store.specs.declared.fault.StoreFault.TheVariants as store
+use Rattle.store_rounds.specs.declared.fault.StoreFault.{StoreFault}
+use Rattle.store_rounds.specs.declared.fault.StoreFault.TheVariants as store
 use Rattle.rows_tables.specs.declared.fault.OpenFault.{OpenFault}
 use Rattle.rows_tables.specs.declared.fault.OpenFault.TheVariants as opening
 use Rattle.cli_words.specs.declared.fault.Fault.{Fault}

@@ -5,7 +5,8 @@ ghost use Rattle.cli_words.specs.Statuses.{exit_status_of};
 
 use cli_words::Fault;
 use input_lines::LineFault;
-use room_store::{OpenFault, StoreFault};
+use room_store::OpenFault;
+use store_rounds::StoreFault;
 
 /// Lines that are not all of their grammar.
 pub(crate) fn line_fault(fault: LineFault) -> Fault

@@ -8,9 +8,9 @@ use crate::placing::{
 };
 use cli_words::{BackingUp, Fault};
 use client_lines::{ClientFault, Peer};
-use room_store::Rounds;
 use sqlite::{Alter, Connection};
 use std::io::{BufRead, Write};
+use store_rounds::Rounds;
 
 /// Has the process at the other end back up its database as it is asked, and answers the exit
 /// status: 3 where that failed there, where a file is no database of ours or is open elsewhere, and

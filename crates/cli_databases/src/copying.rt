@@ -6,11 +6,12 @@ use crate::placing::{
     replace, tables_of,
 };
 use cli_words::{Copying, Fault};
-use room_store::{Rounds, Store, next_accounts};
+use room_store::Store;
 use rows_statements::TableFault;
 use sqlite::{Alter, Connection};
 use std::io::Write;
 use store_copy::copy_all;
+use store_rounds::{Rounds, next_accounts};
 
 /// Copies the database as it is asked, and answers the exit status: 3 where a file is no database of
 /// ours, is open elsewhere or fails, and where memory runs out; 4 where the folder or the output

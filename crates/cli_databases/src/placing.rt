@@ -6,11 +6,12 @@ ghost use Rattle.cli_words.specs.Statuses.{exit_status_of};
 use crate::file::connect;
 use cli_commands::{open_fault, opened, print_text};
 use cli_words::{Fault, MEMORY};
-use room_store::{Refused, Rounds, Store};
+use room_store::{Refused, Store};
 use sqlite::{Alter, Connection, File, FileStore};
 use std::fmt::Display;
 use std::io::{ErrorKind, Write};
 use std::{fs, io};
+use store_rounds::Rounds;
 
 /// Who opens and closes databases. `OnDisk` alone names files, so that each other function is proved
 /// over any store.
@@ -112,7 +113,7 @@ pub(crate) fn tables_of<S: Alter + Drop, K: Keeper<Kept = Connection<S>>>(
     store: Result<Store<S>, Refused<S>>,
 ) -> Result<Rounds<S>, Fault> {
     match store {
-        Ok(store) => Ok(Rounds::over(store)),
+        Ok(store) => Ok(store.into_rounds()),
         Err(Refused { connection, fault }) => {
             let _ = keeper.close(connection);
             Err(open_fault(fault))

@@ -12,8 +12,8 @@ use Rattle.input_http.specs.Texts.{interim_text}
 use Rattle.listen_http.specs.declared.fault.WireFault.{WireFault}
 use Rattle.listen_http.specs.declared.fault.WireFault.TheVariants.{Read, Write, Memory, Ended}
 use Rattle.listen_http.specs.declared.judging.Order.{Order}
-use Rattle.room_store.specs.Applied.{Applies}
-use Rattle.room_store.specs.declared.fault.StoreFault.{StoreFault}
+use Rattle.store_events.specs.Applied.{Applies}
+use Rattle.store_rounds.specs.declared.fault.StoreFault.{StoreFault}
 use Rattle.room_serve.proofs.LivesOn.{lists_join, lives_go_on_in_lists, one_applied}
 use Rattle.room_serve.specs.Connections.{CarriesOut, CarriesOutAll, IsCarriedOut, IsMessage, TakesLivesOn}
 use Rattle.room_serve.specs.Exchanges.{Answers, AppendsBehind, AppliesMessage, Breaks, IsBroken, has_carried, has_nothing, has_refused, in_answer, in_interim, in_refusal, text_told}

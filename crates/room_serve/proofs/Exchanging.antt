@@ -11,7 +11,7 @@ use Rattle.listen_http.specs.declared.fault.WireFault.{WireFault}
 use Rattle.listen_http.specs.declared.fault.WireFault.TheVariants.{Read, Write, Memory, Ended}
 use Rattle.listen_http.specs.declared.judging.Order.{Order}
 use Rattle.listen_http.proofs.Streams.{Appends_more}
-use Rattle.room_store.specs.declared.fault.StoreFault.{StoreFault}
+use Rattle.store_rounds.specs.declared.fault.StoreFault.{StoreFault}
 use Rattle.room_serve.specs.Exchanges.{Answers, AppliesMessage, AppendsBehind, Breaks, after_telling, has_carried, in_answer, in_interim, text_told}
 use Rattle.room_serve.specs.declared.wire.After.{After}
 

@@ -12,8 +12,8 @@ use Rattle.account_machine.specs.declared.event.Reply.{Reply}
 use Rattle.account_machine.specs.declared.event.Reply.TheVariants.{Short}
 use Rattle.account_laws.proofs.LifeLemmas.{lives_go_on}
 use Rattle.account_laws.specs.Lives.{Exchange, Life}
-use Rattle.room_store.specs.Applied.{Applies}
-use Rattle.room_store.specs.Events.{IsShort}
+use Rattle.store_events.specs.Applied.{Applies}
+use Rattle.store_events.specs.Events.{IsShort}
 use Rattle.rows_tables.specs.Calls.{LeavesNoMore}
 use Rattle.rows_tables.specs.Crashes.{IsOnDisk}
 use Rattle.rows_tables.specs.Keyed.{HasSchema}

@@ -13,8 +13,8 @@ use Rattle.account_machine.specs.Machine.{answered}
 use Rattle.account_machine.specs.declared.event.Reply.{Reply}
 use Rattle.account_laws.proofs.LifeLemmas.{lives_go_on}
 use Rattle.account_laws.specs.Lives.{Exchange, Life}
-use Rattle.room_store.specs.Applied.{Applies, IsDone}
-use Rattle.room_store.specs.declared.fault.StoreFault.{StoreFault}
+use Rattle.store_events.specs.Applied.{Applies, IsDone}
+use Rattle.store_rounds.specs.declared.fault.StoreFault.{StoreFault}
 use Rattle.rows_tables.proofs.AgreedRows.{still_devices, still_holds}
 use Rattle.rows_tables.specs.Accounts.{AgreeOnRows, Holds, account_at, document_at, grant_at, job_at}
 use Rattle.rows_tables.specs.Crashes.{IsOnDisk}

@@ -11,8 +11,8 @@ use Rattle.account_laws.proofs.LifeLemmas.{lives_go_on}
 use Rattle.account_laws.specs.Lives.{LeadsTo, Life}
 use Rattle.account_rules.specs.Devices.{Devices}
 use Rattle.account_state.specs.Rooms.{RoomValue}
-use Rattle.room_store.specs.Applied.{Applies}
-use Rattle.room_store.specs.declared.fault.StoreFault.{StoreFault}
+use Rattle.store_events.specs.Applied.{Applies}
+use Rattle.store_rounds.specs.declared.fault.StoreFault.{StoreFault}
 use Rattle.rows_tables.proofs.AgreedRows.{still_devices, still_holds}
 use Rattle.room_serve.specs.declared.outcome.Outcome.{Outcome}
 use Rattle.room_serve.specs.declared.outcome.Outcome.TheVariants.{Answered, Failed}

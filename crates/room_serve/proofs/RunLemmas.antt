@@ -12,10 +12,10 @@ use Rattle.std.proofs.lemmas.Slice.Eq.{bytes_eq-Decides}
 use Rattle.account_machine.specs.Events.{PlainEvent, AccountEvent, Timed, OfAccount, OfDevice}
 use Rattle.account_machine.specs.Machine.{answered}
 use Rattle.account_machine.specs.declared.event.Reply.{Reply}
-use Rattle.room_store.specs.Applied.{Applies, IsAnswered}
+use Rattle.store_events.specs.Applied.{Applies, IsAnswered}
 use Rattle.account_rules.specs.Devices.{Devices}
 use Rattle.account_state.specs.Rooms.{RoomValue}
-use Rattle.room_store.specs.declared.fault.StoreFault.{StoreFault}
+use Rattle.store_rounds.specs.declared.fault.StoreFault.{StoreFault}
 use Rattle.rows_tables.proofs.AgreedRows.{still_devices, still_holds}
 use Rattle.rows_tables.proofs.Going.{goes_on}
 use Rattle.rows_tables.specs.Accounts.{AgreeOnRows, Holds}

@@ -7,7 +7,7 @@ use Rattle.account_machine.specs.Machine.{answered}
 use Rattle.account_machine.specs.declared.event.Reply.TheVariants as reply
 use Rattle.account_rules.specs.Devices.{Devices}
 use Rattle.account_state.specs.Rooms.{RoomValue}
-use Rattle.room_store.specs.Events.{IsShort}
+use Rattle.store_events.specs.Events.{IsShort}
 
 pub short_or_not : (account : List ℕ) (it : AccountEvent) → IsShort (OfAccount account it) ⊎ (IsShort (OfAccount account it) → ⊥)
 short_or_not account Open = inr (λ is. is)

@@ -9,8 +9,8 @@ use Rattle.account_machine.specs.Events.{Timed}
 use Rattle.account_machine.specs.declared.event.Reply.{Reply}
 use Rattle.account_machine.specs.declared.event.Reply.TheVariants.{Short}
 use Rattle.account_laws.specs.Lives.{Life}
-use Rattle.room_store.specs.Applied.{Applies}
-use Rattle.room_store.specs.declared.fault.StoreFault.{StoreFault}
+use Rattle.store_events.specs.Applied.{Applies}
+use Rattle.store_rounds.specs.declared.fault.StoreFault.{StoreFault}
 use Rattle.rows_tables.specs.Calls.{IfOurTables}
 use Rattle.rows_tables.specs.Crashes.{IsOnDisk}
 use Rattle.rows_tables.specs.Keyed.{AreNumbered}

@@ -16,8 +16,8 @@ use Rattle.listen_http.specs.declared.fault.WireFault.TheVariants.{Read, Write, 
 use Rattle.listen_http.specs.declared.judging.Order.{Order}
 use Rattle.input_http.specs.declared.refusal.Refusal.{Refusal}
 use Rattle.input_http.specs.declared.refusal.Refusal.TheVariants.{NotFound}
-use Rattle.room_store.specs.Applied.{Applies}
-use Rattle.room_store.specs.declared.fault.StoreFault.{StoreFault}
+use Rattle.store_events.specs.Applied.{Applies}
+use Rattle.store_rounds.specs.declared.fault.StoreFault.{StoreFault}
 use Rattle.account_replies.specs.Replies.{internal_error_text}
 use Rattle.room_serve.specs.declared.wire.After.{After}
 use Rattle.room_serve.specs.declared.wire.After.TheVariants.{Again, Close}

@@ -10,7 +10,7 @@ use Rattle.account_laws.specs.Lives.{IsLife, Life}
 use Rattle.account_rules.specs.Devices.{Devices}
 use Rattle.account_state.specs.Rooms.{RoomValue}
 use Rattle.room_store.specs.Opening.{MigratesDevices, OpensDevices, OpensRows}
-use Rattle.room_store.specs.declared.fault.StoreFault.{StoreFault}
+use Rattle.store_rounds.specs.declared.fault.StoreFault.{StoreFault}
 use Rattle.rows_tables.specs.Accounts.{Holds}
 use Rattle.rows_tables.specs.Calls.{IfDiskHonest, IfOurTables}
 use Rattle.rows_tables.specs.Devices.{HoldsDevices}

@@ -6,7 +6,7 @@ use Rattle.sqlite.specs.Effect.{Database}
 use Rattle.sqlite.specs.Held.{Held, state}
 use Rattle.account_rules.specs.Devices.{Devices}
 use Rattle.account_state.specs.Rooms.{RoomValue}
-use Rattle.room_store.specs.Applied.{Applies}
+use Rattle.store_events.specs.Applied.{Applies}
 use Rattle.rows_tables.specs.Accounts.{AgreeOnRows, Holds}
 use Rattle.rows_tables.specs.Devices.{AgreeOnDevices, HoldsDevices}
 use Rattle.rows_tables.specs.Tables.{meta}

@@ -5,7 +5,7 @@ ghost use Rattle.sqlite.specs.Held.{state};
 ghost use Rattle.ipp_coding.specs.Limits.{header_length};
 ghost use Rattle.account_machine.specs.declared.event.Reply.{Reply as ToldReply};
 ghost use Rattle.listen_http.specs.Exchange.{AppendsFront, TakesAtMost, most_taken, read_faults, write_faults};
-ghost use Rattle.room_store.specs.declared.fault.StoreFault.{StoreFault as ToldFault};
+ghost use Rattle.store_rounds.specs.declared.fault.StoreFault.{StoreFault as ToldFault};
 ghost use Rattle.room_serve.specs.Exchanges.{Answers, AppliesMessage, Breaks, after_answer, after_telling, internal_error_answer, text_told};
 ghost use Rattle.room_serve.specs.Wires.{wire_has_ended, reader_of, writer_of};
 ghost use Rattle.rows_tables.specs.Calls.{KeepsConnection};
@@ -15,9 +15,10 @@ use account_machine::{Event, Reply, internal_error};
 use input_fields::{Sink, Source};
 use ipp_coding::header_in;
 use listen_http::{Order, Received, Refusal, WireFault, receive, send_answer, send_refusal};
-use room_store::{Store, StoreFault};
+use room_store::Store;
 use sqlite::Alter;
 use std::alloc::Global;
+use store_rounds::StoreFault;
 
 /// Reads one message and writes its answer, at the moment `now` in seconds from 1970; no byte
 /// after the message is read. The message is one event of the account in its path; a fault of the

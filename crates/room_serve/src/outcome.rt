@@ -4,7 +4,7 @@ ghost use Rattle.std.specs.Prelude.{◌≡◌, option_copied};
 ghost use Rattle.room_serve.specs.Outcomes.{outcome_of, reply_of};
 
 use account_machine::Reply;
-use room_store::StoreFault;
+use store_rounds::StoreFault;
 
 /// The outcome of an event of a list.
 #[derive(Drop)]

@@ -12,7 +12,7 @@ use Rattle.account_questions.specs.Questions.{NeedsDevices}
 use Rattle.account_rules.specs.Devices.{Devices as DeviceMap}
 use Rattle.rows_statements.proofs.SoundReads.{sound_rows_are_read}
 use Rattle.rows_statements.specs.SoundRows.{AccountsRead}
-use Rattle.room_store.proofs.Readable.{act_readable, jobs_readable}
+use Rattle.store_events.proofs.Readable.{act_readable, jobs_readable}
 use Rattle.room_store.specs.Questions.{AboutIsReadable, AgreeingAreAnsweredAlike, OpenNames, SoundRowsAreAnswered}
 use Rattle.rows_tables.proofs.AgreedRows.{still_holds}
 use Rattle.rows_tables.specs.Accounts.{IsSound, account_at}

@@ -21,9 +21,9 @@ use Rattle.account_rules.specs.declared.refusal.Word.TheVariants.{NoAccount}
 use Rattle.account_state.specs.RoomRules.{IsGrant}
 use Rattle.account_state.specs.Rooms.{RoomValue}
 use Rattle.rows_statements.specs.SoundRows.{AreNamed, AreRowsOf, CanBeAdded, CanBeCounted, CanBeListed, CanBeSummed, grant_rows, job_rows}
-use Rattle.room_store.specs.Reading.{AccountIsReadable, ActIsReadable, DeviceIsReadable, DocumentsAreReadable, JobsAreReadable}
-use Rattle.room_store.specs.declared.fault.StoreFault.{StoreFault}
-use Rattle.room_store.specs.declared.fault.StoreFault.TheVariants.{Damaged}
+use Rattle.store_events.specs.Reading.{AccountIsReadable, ActIsReadable, DeviceIsReadable, DocumentsAreReadable, JobsAreReadable}
+use Rattle.store_rounds.specs.declared.fault.StoreFault.{StoreFault}
+use Rattle.store_rounds.specs.declared.fault.StoreFault.TheVariants.{Damaged}
 use Rattle.rows_tables.specs.Accounts.{AgreeOnRows, Holds, HoldsNothing, HoldsRoom, IsSound, account_at}
 use Rattle.rows_tables.specs.Calls.{IfOurTables, IsUnchanged, KeepsConnection, LeavesNoMore}
 use Rattle.rows_tables.specs.Cells.{grant_cells}

@@ -9,16 +9,16 @@ ghost use Rattle.account_rules.specs.Limits.{most_units};
 ghost use Rattle.account_state.specs.Sums.{charged_in, granted_to, reserved_in};
 ghost use Rattle.room_store.specs.Questions.{GrantsAreReadable, StatementIsReadable, SumsAreReadable, TellsAbout};
 ghost use Rattle.room_store.specs.Prelude.{HoldsRoom, IfOurTables, LooksUp, RoomValue};
-ghost use Rattle.room_store.specs.Reading.{JobsAreReadable};
+ghost use Rattle.store_events.specs.Reading.{JobsAreReadable};
 
-use crate::rounds::Rounds;
-use crate::rounds::lists::{list_grants, summarize};
-use crate::rounds::reads::{ended_jobs, granted_to, sum_up, unfinished_jobs};
 use account_machine::{Name, Reply};
 use account_questions::{Summary, grants_lines, jobs_lines, quota_line, statement_line};
 use rows_tables::TableFault;
 use sqlite::Alter;
 use std::alloc::Global;
+use store_rounds::{
+    Rounds, ended_jobs, granted_to, list_grants, sum_up, summarize, unfinished_jobs,
+};
 
 /// Tells the quota up to a month.
 pub(crate) fn tell_left<S: Alter>(

@@ -8,12 +8,9 @@ ghost use Rattle.account_questions.specs.declared.question.About.TheVariants as 
 ghost use Rattle.account_state.specs.Queues.{at_most, completed, not_completed};
 ghost use Rattle.room_store.specs.Prelude.{HoldsRoom, IfOurTables, LooksUp, RoomValue};
 ghost use Rattle.room_store.specs.Questions.{OwnerPageIsReadable, StatementPageIsReadable, TellsAbout};
-ghost use Rattle.room_store.specs.Reading.{JobsAreReadable};
+ghost use Rattle.store_events.specs.Reading.{JobsAreReadable};
 
 use crate::about_accounts::{read_quota, read_statement};
-use crate::rounds::Rounds;
-use crate::rounds::lists::list_devices;
-use crate::rounds::reads::{ended_jobs, unfinished_jobs};
 use account_machine::{Job, Name, Reply};
 use account_questions::{MOST_SHOWN, owner_page, statement_page, statement_with};
 use ipp_coding::List;
@@ -21,6 +18,7 @@ use page_pages::{Outcome, Owner};
 use rows_tables::TableFault;
 use sqlite::Alter;
 use std::alloc::Global;
+use store_rounds::{Rounds, ended_jobs, list_devices, unfinished_jobs};
 
 /// Tells the page of the account's owner.
 pub(crate) fn tell_owner_page<S: Alter>(

@@ -15,17 +15,15 @@ ghost use Rattle.rows_tables.specs.Accounts.{Holds};
 ghost use Rattle.rows_tables.specs.Devices.{HoldsDevices};
 
 use crate::about_accounts::{tell_ended, tell_grants, tell_jobs, tell_left, tell_statement};
-use crate::lines::{refusal_line, success_line};
 use crate::page_questions::{tell_owner_page, tell_statement_page};
-use crate::rounds::Rounds;
-use crate::rounds::lists::{check_account, list_devices, next_accounts};
-use crate::rounds::reads::{find_account, knock};
 use crate::station_questions::{tell_again, tell_waiting};
 use account_machine::{Name, Reply, Success, Word};
 use account_questions::{About, Question, accounts_lines, check_line, devices_lines};
 use rows_tables::TableFault;
 use sqlite::Alter;
 use std::alloc::Global;
+use store_events::{refusal_line, success_line};
+use store_rounds::{Rounds, check_account, find_account, knock, list_devices, next_accounts};
 
 /// Answers a question.
 pub(crate) fn answer_question<S: Alter>(

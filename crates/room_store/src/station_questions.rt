@@ -6,17 +6,15 @@ ghost use Rattle.account_questions.specs.Stations.{handed_again, printed_by, sai
 ghost use Rattle.account_questions.specs.declared.question.About.TheVariants as about;
 ghost use Rattle.room_store.specs.Questions.{AgainIsReadable, PrintedIsReadable, TellsAbout, WaitingIsReadable};
 ghost use Rattle.room_store.specs.Prelude.{HoldsRoom, IfOurTables, LooksUp, RoomValue};
-ghost use Rattle.room_store.specs.Reading.{DocumentsAreReadable};
+ghost use Rattle.store_events.specs.Reading.{DocumentsAreReadable};
 
-use crate::lines::refusal_line;
-use crate::rounds::Rounds;
-use crate::rounds::reads::{find_device, find_documents, look_up, unfinished_jobs};
-use crate::stations::parts;
 use account_machine::{Job, Name, Reply, Word, known_device};
 use account_questions::{jobs_lines, printed_by, waiting_at};
 use rows_tables::TableFault;
 use sqlite::Alter;
 use std::alloc::Global;
+use store_events::{parts, refusal_line};
+use store_rounds::{Rounds, find_device, find_documents, look_up, unfinished_jobs};
 
 /// Tells the jobs that a station may release, start or settle for the owner.
 pub(crate) fn tell_waiting<S: Alter>(

@@ -8,11 +8,11 @@ use Rattle.account_machine.specs.Events.{PlainEvent}
 use Rattle.account_machine.specs.declared.event.Reply.{Reply}
 use Rattle.account_machine.specs.declared.verdict.Answered.{Answered}
 use Rattle.account_rules.specs.Limits.{last_moment}
-use Rattle.room_store.specs.Applied.{Applies, AppliesFully, HasVerdict, IsAnswered, IsDone}
-use Rattle.room_store.specs.Events.{IsShort}
-use Rattle.room_store.specs.Shut.{LeavesIfShut}
-use Rattle.room_store.specs.declared.fault.StoreFault.{StoreFault}
-use Rattle.room_store.specs.declared.fault.StoreFault.TheVariants.{Damaged, Memory, Moment, Storage}
+use Rattle.store_events.specs.Applied.{Applies, AppliesFully, HasVerdict, IsAnswered, IsDone}
+use Rattle.store_events.specs.Events.{IsShort}
+use Rattle.store_rounds.specs.Shut.{LeavesIfShut}
+use Rattle.store_rounds.specs.declared.fault.StoreFault.{StoreFault}
+use Rattle.store_rounds.specs.declared.fault.StoreFault.TheVariants.{Damaged, Memory, Moment, Storage}
 use Rattle.rows_tables.proofs.Going.{goes_on}
 use Rattle.rows_tables.specs.Keyed.{HasSchema}
 use Rattle.serve_peers.specs.Again.{answer_at_last}

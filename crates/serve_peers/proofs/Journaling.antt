@@ -7,7 +7,7 @@ use Rattle.sqlite_trees.specs.declared.store.Store.{Ghosts}
 use Rattle.account_machine.specs.declared.event.Reply.{Reply}
 use Rattle.account_questions.specs.declared.question.Question.{Question}
 use Rattle.room_store.specs.Questions.{AnswersQuestion}
-use Rattle.room_store.specs.declared.fault.StoreFault.{StoreFault}
+use Rattle.store_rounds.specs.declared.fault.StoreFault.{StoreFault}
 use Rattle.input_lines.specs.declared.backup.BackupLine.{BackupLine}
 use Rattle.serve_peers.specs.Keeping.{AsksNext, backup_of}
 use Rattle.serve_peers.specs.declared.background.Background.{Background}

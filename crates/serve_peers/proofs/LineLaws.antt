@@ -6,7 +6,7 @@ use Rattle.account_machine.specs.Events.{PlainEvent, OfAccount}
 use Rattle.account_machine.specs.Machine.{Answer, answered}
 use Rattle.account_machine.specs.declared.event.Reply.{Reply}
 use Rattle.account_machine.specs.declared.verdict.Verdict.{Verdict}
-use Rattle.room_store.specs.Applied.{HasVerdict, IsTold}
+use Rattle.store_events.specs.Applied.{HasVerdict, IsTold}
 use Rattle.serve_peers.specs.Entries.{event_of_entry, moment_at}
 use Rattle.serve_peers.specs.LineLaws.{LinesTellVerdicts}
 use Rattle.serve_peers.specs.LineTexts.{reply_text}

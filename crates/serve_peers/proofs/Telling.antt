@@ -5,7 +5,7 @@ use Rattle.std.proofs.lemmas.List.{map-append}
 use Rattle.std.specs.Option.{ForSome}
 use Rattle.http_server.specs.declared.log.Log.{Log}
 use Rattle.account_machine.specs.declared.verdict.Answered.{Answered}
-use Rattle.room_store.specs.declared.fault.StoreFault.{StoreFault}
+use Rattle.store_rounds.specs.declared.fault.StoreFault.{StoreFault}
 use Rattle.serve_log.specs.Books.{Takes, counted}
 use Rattle.serve_log.specs.Waits.{drafts_of, logged_of, missed_of}
 use Rattle.serve_log.specs.declared.waiting.Waiting.{Waiting}

@@ -6,7 +6,7 @@ use Rattle.std.proofs.lemmas.List.{map-append}
 use Rattle.std.proofs.lemmas.List.Folds.{list_any-append}
 use Rattle.http_server.specs.declared.log.Log.{Log}
 use Rattle.account_machine.specs.declared.verdict.Answered.{Answered}
-use Rattle.room_store.specs.declared.fault.StoreFault.{StoreFault}
+use Rattle.store_rounds.specs.declared.fault.StoreFault.{StoreFault}
 use Rattle.serve_peers.specs.Tolds.{Round, Told, round_in}
 use Rattle.serve_peers.specs.Watching.{Watches, seen_by, since_by, told_in, touched_in, touches}
 use Rattle.serve_peers.specs.declared.entry.Entry.{Entry}

@@ -4,8 +4,8 @@ use Rattle.std.specs.Prelude.{Result, Err}
 use Rattle.sqlite.specs.Held.{Held}
 use Rattle.sqlite_trees.specs.declared.store.Store.{Ghosts}
 use Rattle.account_machine.specs.declared.verdict.Answered.{Answered}
-use Rattle.room_store.specs.declared.fault.StoreFault.{StoreFault}
-use Rattle.room_store.specs.declared.fault.StoreFault.TheVariants.{Damaged, Storage}
+use Rattle.store_rounds.specs.declared.fault.StoreFault.{StoreFault}
+use Rattle.store_rounds.specs.declared.fault.StoreFault.TheVariants.{Damaged, Storage}
 use Rattle.serve_peers.specs.Applying.{AppliesAlone}
 use Rattle.serve_peers.specs.declared.entry.Entry.{Entry}
 

@@ -15,7 +15,7 @@ use Rattle.account_machine.specs.declared.verdict.Answered.{Answered}
 use Rattle.input_http.specs.Texts.{status_of}
 use Rattle.input_http.specs.declared.refusal.Refusal.{Refusal}
 use Rattle.input_http.specs.declared.refusal.Refusal.TheVariants.{MethodNotAllowed, NoSpace, NotFound}
-use Rattle.room_store.specs.declared.fault.StoreFault.{StoreFault}
+use Rattle.store_rounds.specs.declared.fault.StoreFault.{StoreFault}
 use Rattle.account_replies.specs.Replies.{internal_error_text}
 use Rattle.serve_peers.specs.declared.entry.Entry.TheVariants as entry
 use Rattle.serve_peers.specs.declared.served.Served.{Served}

@@ -4,11 +4,11 @@ use Rattle.sqlite.specs.Held.{Held, state}
 use Rattle.sqlite.specs.State.{HasCleanDisk}
 use Rattle.sqlite_trees.specs.declared.store.Store.{Ghosts}
 use Rattle.account_machine.specs.declared.verdict.Answered.{Answered}
-use Rattle.room_store.specs.Applied.{AppliesFully}
-use Rattle.room_store.specs.Rounds.{IsLost, StaysInRound}
-use Rattle.room_store.specs.Shut.{LeavesIfShut}
-use Rattle.room_store.specs.declared.fault.StoreFault.{StoreFault}
-use Rattle.room_store.specs.declared.fault.StoreFault.TheVariants.{Storage}
+use Rattle.store_events.specs.Applied.{AppliesFully}
+use Rattle.store_events.specs.Rounds.{IsLost, StaysInRound}
+use Rattle.store_rounds.specs.Shut.{LeavesIfShut}
+use Rattle.store_rounds.specs.declared.fault.StoreFault.{StoreFault}
+use Rattle.store_rounds.specs.declared.fault.StoreFault.TheVariants.{Storage}
 use Rattle.rows_tables.specs.Calls.{IfOurTables, IsUnchanged, KeepsConnection}
 use Rattle.serve_peers.specs.Entries.{event_of_entry, moment_at}
 use Rattle.serve_peers.specs.declared.entry.Entry.{Entry}

@@ -6,7 +6,7 @@ use Rattle.sqlite_trees.specs.declared.store.Store.{Ghosts}
 use Rattle.account_machine.specs.declared.verdict.Answered.{Answered}
 use Rattle.input_http.specs.Texts.{refusal_text}
 use Rattle.input_http.specs.declared.refusal.Refusal.{Refusal}
-use Rattle.room_store.specs.declared.fault.StoreFault.{StoreFault}
+use Rattle.store_rounds.specs.declared.fault.StoreFault.{StoreFault}
 use Rattle.serve_peers.specs.Turns.{AppliesNext}
 use Rattle.serve_peers.specs.LastTexts.{last_text}
 use Rattle.serve_peers.specs.Streams.{Carry, Ends}

@@ -11,7 +11,7 @@ use Rattle.account_machine.specs.declared.verdict.Answered.{Answered}
 use Rattle.input_http.specs.Texts.{answer_text, refusal_text}
 use Rattle.input_http.specs.declared.refusal.Refusal.TheVariants.{BadRequest, NotFound}
 use Rattle.account_replies.specs.Replies.{internal_error_text}
-use Rattle.room_store.specs.declared.fault.StoreFault.{StoreFault}
+use Rattle.store_rounds.specs.declared.fault.StoreFault.{StoreFault}
 use Rattle.serve_peers.specs.LineTexts.{line_text}
 use Rattle.serve_peers.specs.declared.entry.Entry.{Entry}
 use Rattle.serve_peers.specs.declared.entry.Entry.TheVariants as entry_is

@@ -7,7 +7,7 @@ use Rattle.account_machine.specs.Machine.{Answer, answered}
 use Rattle.account_machine.specs.declared.verdict.Answered.{Answered}
 use Rattle.account_rules.specs.Devices.{Devices}
 use Rattle.account_state.specs.Rooms.{RoomValue}
-use Rattle.room_store.specs.declared.fault.StoreFault.{StoreFault}
+use Rattle.store_rounds.specs.declared.fault.StoreFault.{StoreFault}
 use Rattle.rows_tables.specs.Accounts.{Holds}
 use Rattle.rows_tables.specs.Calls.{IfOurTables}
 use Rattle.rows_tables.specs.Devices.{HoldsDevices}

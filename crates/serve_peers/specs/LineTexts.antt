@@ -12,7 +12,7 @@ use Rattle.serve_log.specs.declared.refusal.LineRefusal.{LineRefusal}
 use Rattle.serve_log.specs.declared.refusal.LineRefusal.TheVariants.{BadLine, NotYourDevice}
 use Rattle.account_questions.specs.declared.question.Question.{Question}
 use Rattle.account_questions.specs.declared.question.Question.TheVariants.{Ping}
-use Rattle.room_store.specs.declared.fault.StoreFault.{StoreFault}
+use Rattle.store_rounds.specs.declared.fault.StoreFault.{StoreFault}
 
 -- for a line that is none of its side's
 abbrev pub bad_line_text : List ℕ

@@ -14,7 +14,7 @@ use Rattle.input_lines.specs.declared.lines.Grammar.{Grammar}
 use Rattle.input_lines.specs.declared.lines.Grammar.TheVariants as grammar_is
 use Rattle.input_lines.specs.declared.line.Line.{Line}
 use Rattle.account_questions.specs.declared.question.Question.{Question}
-use Rattle.room_store.specs.declared.fault.StoreFault.{StoreFault}
+use Rattle.store_rounds.specs.declared.fault.StoreFault.{StoreFault}
 use Rattle.serve_peers.specs.declared.backup.BackupTold.{BackupTold}
 use Rattle.serve_peers.specs.declared.entry.Entry.{Entry}
 use Rattle.serve_peers.specs.declared.entry.Entry.TheVariants as entry_is

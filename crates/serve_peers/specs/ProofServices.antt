@@ -6,7 +6,7 @@ use Rattle.http_server.specs.declared.response.Response.{Response}
 use Rattle.sqlite.specs.Held.{Held}
 use Rattle.sqlite_trees.specs.declared.store.Store.{Ghosts}
 use Rattle.account_machine.specs.declared.verdict.Answered.{Answered}
-use Rattle.room_store.specs.declared.fault.StoreFault.{StoreFault}
+use Rattle.store_rounds.specs.declared.fault.StoreFault.{StoreFault}
 use Rattle.input_http.specs.declared.refusal.Refusal.{Refusal}
 use Rattle.serve_peers.specs.Answers.{Answers, Gives}
 use Rattle.serve_peers.specs.Applying.{AppliesEntry, DoesOne}

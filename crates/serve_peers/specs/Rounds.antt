@@ -4,7 +4,7 @@ use Rattle.sqlite.specs.Held.{Held, state}
 use Rattle.sqlite.specs.State.{HasCleanDisk, Survives}
 use Rattle.sqlite_trees.specs.declared.store.Store.{Ghosts}
 use Rattle.rows_statements.specs.Rounds.{BeginsRound, EndsRound}
-use Rattle.room_store.specs.Shut.{LeavesIfShut}
+use Rattle.store_rounds.specs.Shut.{LeavesIfShut}
 use Rattle.rows_tables.specs.Calls.{IsUnchanged, IsUndone, KeepsConnection, UnchangedOrUndone}
 use Rattle.serve_peers.specs.declared.served.Served.{Served}
 use Rattle.serve_peers.specs.Journals.{Round, is_lost_of, open_of, rounds_of, shares_of, store_of}

@@ -3,7 +3,7 @@ use Rattle.std.specs.Prelude.{Bool, List, [], if◌then◌else◌, Result}
 use Rattle.std.specs.List.{flat_map}
 use Rattle.http_server.specs.declared.log.Log.{Log as History}
 use Rattle.account_machine.specs.declared.verdict.Answered.{Answered}
-use Rattle.room_store.specs.declared.fault.StoreFault.{StoreFault}
+use Rattle.store_rounds.specs.declared.fault.StoreFault.{StoreFault}
 use Rattle.serve_peers.specs.declared.entry.Entry.{Entry}
 
 -- what came, and what it came to

@@ -6,7 +6,7 @@ use Rattle.account_machine.specs.declared.verdict.Answered.{Answered}
 use Rattle.account_questions.specs.Questions.{asks_end}
 use Rattle.account_questions.specs.declared.question.Question.{Question}
 use Rattle.room_store.specs.Questions.{AnswersQuestion}
-use Rattle.room_store.specs.declared.fault.StoreFault.{StoreFault}
+use Rattle.store_rounds.specs.declared.fault.StoreFault.{StoreFault}
 use Rattle.serve_peers.specs.declared.entry.Entry.{Entry}
 use Rattle.serve_peers.specs.declared.served.Served.{Served}
 use Rattle.serve_peers.specs.Journals.{Notes, Told, ends_of, is_lost_of, moment_of, open_of, rounds_of, shares_of, store_of}

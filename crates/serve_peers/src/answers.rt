@@ -3,7 +3,7 @@ ghost use Rattle.std.specs.Prelude.{◌≡◌};
 ghost use Rattle.account_machine.specs.Verdicts.{reply_of};
 
 use account_machine::{Answered, Part, Reply, Verdict};
-use room_store::StoreFault;
+use store_rounds::StoreFault;
 
 /// The bytes of the answer, without the verdict.
 pub(crate) fn reply_of(answer: Result<Answered, StoreFault>) -> Result<Reply, StoreFault>

@@ -4,9 +4,9 @@ ghost use Rattle.serve_peers.specs.Applying.{AppliesAlone, AppliesEntry};
 
 use crate::entry::Entry;
 use account_machine::Answered;
-use room_store::{Rounds, StoreFault};
 use sqlite::Alter;
 use std::alloc::Global;
+use store_rounds::{Rounds, StoreFault};
 
 pub(crate) fn apply_in_own_transaction<S: Alter>(
     alloc: Global,
@@ -15,7 +15,7 @@ pub(crate) fn apply_in_own_transaction<S: Alter>(
 ) -> Result<Answered, StoreFault>
     ensures { AppliesAlone S.Store entry.now rounds.old rounds.new result }
 {
-    rounds.apply_alone(alloc, entry.moment(), &entry.event())
+    store_events::apply_in_own_transaction(alloc, rounds, entry.moment(), &entry.event())
 }
 
 /// Once the round is lost nothing is applied in it.
@@ -29,5 +29,5 @@ pub(crate) fn apply_unless_lost<S: Alter>(
     if !rounds.is_under_way() {
         return Err(StoreFault::Storage);
     }
-    rounds.apply(alloc, entry.moment(), &entry.event())
+    store_events::apply(alloc, rounds, entry.moment(), &entry.event())
 }

@@ -12,10 +12,10 @@ use crate::copies::{Copies, Done};
 use crate::gathering::{Gathered, Gathering};
 use crate::journal::Journal;
 use input_lines::BackupLine;
-use room_store::Rounds;
 use sqlite::{Alter, Connection};
 use std::alloc::{AllocError, Global};
 use store_copy::CopyMaker;
+use store_rounds::Rounds;
 
 /// A backup, the print room's page, and what serving itself was asked and told.
 pub struct Background {

@@ -4,11 +4,12 @@ ghost use Rattle.serve_peers.specs.Copies.{CopiesOn, IsNewCopy, SlicesOn};
 ghost use Rattle.serve_peers.specs.Copies.{anew_left, begun_anew, most_at, under_way};
 
 use account_rules::Name;
-use room_store::{Refused, Rounds, Store};
+use room_store::{Refused, Store};
 use rows_tables::TableFault;
 use sqlite::{Alter, Connection};
 use std::alloc::Global;
 use store_copy::{CopyMaker, Progress, copy_slice, start_again};
+use store_rounds::Rounds;
 
 /// How many jobs of an account a slice copies at most.
 const MOST_JOBS: u32 = 32;

@@ -11,10 +11,10 @@ use crate::applying::apply_in_own_transaction;
 use crate::entry::Entry;
 use crate::journal::Journal;
 use account_machine::Answered;
-use room_store::{Rounds, StoreFault};
 use serve_space::Spare;
 use sqlite::Alter;
 use std::alloc::Global;
+use store_rounds::{Rounds, StoreFault};
 
 /// The bytes that a small change is given first. SQLite's write-ahead log grows by 256 KiB at once.
 const FIRST_PIECE: usize = 524_288;

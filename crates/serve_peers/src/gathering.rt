@@ -8,10 +8,10 @@ ghost use Rattle.serve_peers.specs.Gathering.{asked_at, gathered_then, is_fresh,
 use account_rules::{Device, LAST_MONTH, Moment, Name, month_of};
 use ipp_coding::List;
 use page_overview::{Overview, Survey};
-use room_store::{Rounds, list_devices, next_accounts, survey};
 use rows_tables::TableFault;
 use sqlite::Alter;
 use std::alloc::Global;
+use store_rounds::{Rounds, list_devices, next_accounts, survey};
 
 /// Once what was gathered is older than so many seconds, who asks for the page has it gathered anew.
 const FRESH: u64 = 10;

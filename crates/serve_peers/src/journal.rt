@@ -13,9 +13,9 @@ use crate::logging::{
 use crate::watch::Watch;
 use account_machine::{Answered, Name};
 use http_server::Log as History;
-use room_store::StoreFault;
 use serve_log::{Door, EventLog, LineRefusal};
 use std::fs::{File, Files};
+use store_rounds::StoreFault;
 
 /// All that was applied, of whichever connection, and the log of it, where one is kept. The journal
 /// takes no memory: only proofs read it.

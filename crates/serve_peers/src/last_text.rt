@@ -11,8 +11,8 @@ use bytes::BufMut;
 use http_server::Rope;
 use input_http::{Refusal, last_answer_head, refusal_text};
 use ipp_coding::{HEADER_LENGTH, Header, header_in};
-use room_store::StoreFault;
 use std::alloc::{AllocError, Global};
+use store_rounds::StoreFault;
 
 /// Puts what an entry came to by itself, where its round was lost, and the end of the connection.
 pub(crate) fn put_last(

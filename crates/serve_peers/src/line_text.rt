@@ -6,9 +6,9 @@ use crate::shared::shared;
 use account_machine::{Answered, Part, Reply, Verdict, line};
 use bytes::BufMut;
 use http_server::Rope;
-use room_store::StoreFault;
 use serve_log::LineRefusal;
 use std::alloc::{AllocError, Global};
+use store_rounds::StoreFault;
 
 /// Puts what a line came to after what waits to go.
 pub(crate) fn put_told(

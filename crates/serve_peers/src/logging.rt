@@ -4,9 +4,9 @@ ghost use Rattle.serve_peers.specs.Logging.{Becomes, DraftsOne, KeepsLines, Logs
 
 use crate::entry::Entry;
 use account_machine::Answered;
-use room_store::StoreFault;
 use serve_log::{Door, EventLog, LineRefusal};
 use std::fs::{File, Files};
+use store_rounds::StoreFault;
 
 /// What came was applied by itself.
 pub(crate) fn note(log: &mut Option<EventLog>, entry: &Entry, told: &Result<Answered, StoreFault>)

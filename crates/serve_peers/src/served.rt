@@ -29,13 +29,14 @@ use bytes::Bytes;
 use http::Request;
 use input_http::Refusal;
 use input_lines::BackupLine;
-use room_store::{Rounds, Store, StoreFault};
+use room_store::Store;
 use serve_log::{Door, EventLog, LineRefusal};
 use serve_space::Spare;
 use sqlite::{Alter, Connection};
 use std::alloc::{AllocError, Global};
 use std::fs::{File, Files};
 use store_copy::CopyMaker;
+use store_rounds::{Rounds, StoreFault};
 
 /// A round is full once more bytes than this were told in it.
 const MOST_TOLD: usize = 8_388_608;
@@ -96,7 +97,7 @@ impl<S: Alter> Served<S> {
     {
         Served {
             alloc,
-            rounds: Rounds::over(store),
+            rounds: store.into_rounds(),
             moment,
             journal: Journal::new(),
             shares: false,
@@ -345,7 +346,7 @@ impl<S: Alter> Served<S> {
         ensures { AnswersNext S.Store question result self.old self.new }
     {
         let ends = question.asks_end();
-        let answer = self.rounds.answer(self.alloc, question);
+        let answer = room_store::answer(self.alloc, &mut self.rounds, question);
         self.journal.add_nothing();
         self.background.ends = self.background.ends || ends;
         answer

@@ -18,9 +18,9 @@ use http::{HeaderValue, Request, StatusCode, header};
 use http_server::{Response, Service};
 use input_http::Refusal;
 use ipp_coding::{Header, header_in};
-use room_store::StoreFault;
 use sqlite::Alter;
 use std::alloc::AllocError;
+use store_rounds::StoreFault;
 
 impl<S: Alter> Service for Served<S> {
     ghost answers = { Answers S.Store };

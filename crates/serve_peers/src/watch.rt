@@ -5,7 +5,7 @@ ghost use Rattle.serve_peers.specs.Watching.{touches};
 use crate::entry::Entry;
 use account_machine::{Answered, Name};
 use http_server::Log as History;
-use room_store::StoreFault;
+use store_rounds::StoreFault;
 
 /// What was asked in rounds that are over, each with whether it was kept.
 pub(crate) type Rounds = History<History<Entry, Result<Answered, StoreFault>>, bool>;

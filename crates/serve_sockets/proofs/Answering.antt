@@ -17,7 +17,7 @@ use Rattle.input_http.specs.declared.refusal.Refusal.{Refusal}
 use Rattle.serve_peers.specs.ProofServices.{one_more, stays}
 use Rattle.serve_peers.proofs.LineEnds.{only_ping}
 use Rattle.serve_peers.proofs.GatheringKept.{gathered_only}
-use Rattle.serve_peers.proofs.Journaling.{applied_then, backup_only, line_chain, looked, then}
+use Rattle.serve_peers.proofs.Journaling.{applied_then, background_only, line_chain, looked, then}
 use Rattle.serve_peers.specs.Answers.{Answers, Gives}
 use Rattle.serve_peers.specs.HttpPeers as http
 use Rattle.serve_peers.specs.HttpPeers.{calls_of, connection_of}
@@ -307,9 +307,9 @@ module _ {S : Type 0} (store : Ghosts S) (before : Served S) (fresh : IsFresh be
   bad_told side call old new bad = subst (λ (served : Served S). LineTold side call old served) (sym bad.1) (stays store old, λ journal is_journal calls its told later. inr (inr (inr bad.0, none_told side calls journal told its later)))
 
   backup_told : (side : Side) (call : LineCall) (old new : Served S) → BacksUp store side call.0 old call.1 new → LineTold side call old new
-  unfolding backup_only
+  unfolding background_only
   backup_told side call old new is = subst (λ (served : Served S). LineTold side call old served) (sym is.next.same) (
-    backup_only store old (backup_of new),
+    background_only store old (record old.background { backup = backup_of new }),
     λ journal is_journal calls its told later. inr (inr (inl (record { line = is.line; ended = is.ended; operator = is.operator; asked = is.asked; said = is.said; told = is.told; says = is.says }), none_told side calls journal told its later)),
   )
 

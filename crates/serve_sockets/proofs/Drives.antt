@@ -84,7 +84,7 @@ module _ {S : Type 0} (store : Ghosts S) where
   -- ---- the disk was honest before
 
   one_clean : (shares : Bool) (one : Option Told) (old new : Held S) → DoesOne store shares one old new → HasCleanDisk (state store new) → HasCleanDisk (state store old)
-  one_clean false (Some told) old new applies clean = was_clean store old new applies.connection clean
+  one_clean false (Some told) old new applies clean = was_clean store old new applies.applies.connection clean
   one_clean true (Some told) old new applies clean = was_clean store old new (entry_keeps store told old new applies) clean
   one_clean false None old new looks clean = was_clean store old new looks.connection clean
   one_clean true None old new never clean = absurd never

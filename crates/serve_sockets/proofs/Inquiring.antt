@@ -26,7 +26,7 @@ use Rattle.serve_sockets.specs.Questions.{AnswersBy, AreNamesThen}
 use Rattle.serve_sockets.specs.EndToEnd.{IsFresh, LivesOn}
 use Rattle.account_state.specs.Rooms.{RoomValue}
 use Rattle.room_store.specs.Questions.{AnswersQuestion, IsAbout, OpenNames}
-use Rattle.room_store.specs.declared.fault.StoreFault.{StoreFault}
+use Rattle.store_rounds.specs.declared.fault.StoreFault.{StoreFault}
 use Rattle.rows_tables.specs.Accounts.{Holds, account_at}
 use Rattle.rows_tables.specs.Devices.{HoldsDevices}
 use Rattle.rows_tables.specs.Keyed.{HasSchema}

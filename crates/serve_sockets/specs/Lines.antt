@@ -8,7 +8,7 @@ use Rattle.input_lines.specs.Backups.{IsBackupOf}
 use Rattle.input_lines.specs.declared.backup.BackupLine.{BackupLine}
 use Rattle.account_questions.specs.declared.question.Question.{Question}
 use Rattle.account_questions.specs.declared.question.Question.TheVariants.{Ping}
-use Rattle.room_store.specs.declared.fault.StoreFault.{StoreFault}
+use Rattle.store_rounds.specs.declared.fault.StoreFault.{StoreFault}
 use Rattle.serve_peers.specs.Backups.{backup_text}
 use Rattle.serve_peers.specs.declared.backup.BackupTold.{BackupTold}
 use Rattle.serve_peers.specs.Journals.{Told}

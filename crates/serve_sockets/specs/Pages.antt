@@ -8,7 +8,7 @@ use Rattle.sqlite.specs.Held.{Held}
 use Rattle.sqlite_trees.specs.declared.store.Store.{Ghosts}
 use Rattle.account_machine.specs.declared.event.Reply.{Reply}
 use Rattle.account_questions.specs.declared.question.Question.{Question}
-use Rattle.room_store.specs.declared.fault.StoreFault.{StoreFault}
+use Rattle.store_rounds.specs.declared.fault.StoreFault.{StoreFault}
 use Rattle.serve_peers.specs.HttpPeers.{calls_of, connection_of}
 use Rattle.serve_peers.specs.Journals.{Told}
 use Rattle.serve_peers.specs.Requests.{asked, has_long_body}

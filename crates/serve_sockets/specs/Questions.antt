@@ -10,7 +10,7 @@ use Rattle.account_questions.specs.Questions.{answer_to, ConcernsNames, Concerns
 use Rattle.account_questions.specs.declared.question.Question.{Question}
 use Rattle.account_rules.specs.Devices.{Devices}
 use Rattle.account_state.specs.Rooms.{RoomValue}
-use Rattle.room_store.specs.declared.fault.StoreFault.{StoreFault}
+use Rattle.store_rounds.specs.declared.fault.StoreFault.{StoreFault}
 use Rattle.rows_tables.specs.Calls.{IfOurTables}
 use Rattle.room_serve.specs.LivesInFiles.{IsLifeIn}
 use Rattle.serve_peers.specs.Journals.{Told}

@@ -15,7 +15,7 @@ use Rattle.page_pages.specs.declared.outcome.Act.TheVariants as page_act_is
 use Rattle.page_pages.specs.declared.style.TheConstants.{PRINT_SCRIPT, STYLE_SHEET}
 use Rattle.account_questions.specs.declared.question.Question.{Question}
 use Rattle.serve_space.specs.Spares.{takes_of}
-use Rattle.room_store.specs.declared.fault.StoreFault.{StoreFault}
+use Rattle.store_rounds.specs.declared.fault.StoreFault.{StoreFault}
 use Rattle.page_overview.specs.Pages.{IsPage}
 use Rattle.page_overview.specs.declared.overview.Overview.{Overview}
 use Rattle.serve_peers.specs.Gathering.{asked_at, gathers}

@@ -9,7 +9,7 @@ use Rattle.page_pages.specs.declared.outcome.Act.{Act}
 use Rattle.page_pages.specs.declared.outcome.Act.TheVariants.{Release, Hold, Cancel}
 use Rattle.page_pages.specs.declared.outcome.Outcome.{Outcome}
 use Rattle.page_pages.specs.declared.outcome.Outcome.TheVariants.{Done, Refused, Failed}
-use Rattle.room_store.specs.declared.fault.StoreFault.{StoreFault}
+use Rattle.store_rounds.specs.declared.fault.StoreFault.{StoreFault}
 
 abbrev pub page_act : JobAct → Act
 page_act job_act.Release = Release

@@ -8,7 +8,7 @@ use Rattle.account_machine.specs.declared.verdict.Answered.{Answered}
 use Rattle.page_pages.specs.declared.outcome.Act.{Act}
 use Rattle.page_pages.specs.Refusals.{refusal_page}
 use Rattle.page_pages.specs.declared.outcome.Outcome.{Outcome}
-use Rattle.room_store.specs.declared.fault.StoreFault.{StoreFault}
+use Rattle.store_rounds.specs.declared.fault.StoreFault.{StoreFault}
 use Rattle.serve_web.specs.Came.{outcome_text}
 use Rattle.serve_web.specs.Fields.{common_fields, more_fields, page_fields}
 use Rattle.serve_web.specs.Refusals.{status_of}

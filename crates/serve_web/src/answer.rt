@@ -15,8 +15,8 @@ use bytes::Bytes;
 use http::{HeaderValue, StatusCode, header};
 use http_server::Response;
 use page_pages::{Act, Outcome, Refusal, put_refusal_page};
-use room_store::StoreFault;
 use std::alloc::{AllocError, Global};
+use store_rounds::StoreFault;
 
 /// A refusal, with the page of it.
 pub(crate) fn refuse(

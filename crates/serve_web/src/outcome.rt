@@ -5,7 +5,7 @@ ghost use Rattle.serve_web.specs.Outcomes.{outcome_of, outcome_told, page_act};
 use account_machine::{Answered, Verdict};
 use client_owner::JobAct;
 use page_pages::{Act, Outcome};
-use room_store::StoreFault;
+use store_rounds::StoreFault;
 
 /// The act of a page.
 pub(crate) fn page_act(act: JobAct) -> Act

@@ -12,10 +12,10 @@ use crate::grants::copy_grants;
 use crate::jobs::copy_jobs;
 use crate::slices::Progress;
 use account_rules::Name;
-use room_store::{Rounds, find_account};
 use rows_statements::{TableFault, set_account};
 use sqlite::{Alter, Savepoint};
 use std::alloc::Global;
+use store_rounds::{Rounds, find_account};
 
 /// Copies the account's own row and its first jobs, and if these are all of them, its grants, inside
 /// a savepoint. An account that is not in the source is not in the copy either, and is done.

@@ -9,10 +9,10 @@ ghost use Rattle.rows_tables.specs.Calls.{Changes, IfOurTables, ReadsStore, Writ
 ghost use Rattle.rows_tables.specs.declared.fault.TableFault.TheVariants.{Damaged};
 
 use account_rules::Device;
-use room_store::{Rounds, list_devices};
 use rows_statements::{TableFault, set_device, set_rate};
 use sqlite::{Alter, Error, Savepoint};
 use std::alloc::Global;
+use store_rounds::{Rounds, list_devices};
 
 /// Copies the devices with their rates as they are in the source now, inside a savepoint.
 pub(crate) fn copy_devices<S: Alter, T: Alter>(

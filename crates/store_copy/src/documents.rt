@@ -12,10 +12,10 @@ ghost use Rattle.rows_tables.specs.Tables.{document as document_table};
 ghost use Rattle.rows_tables.specs.declared.fault.TableFault.TheVariants.{Damaged};
 
 use account_rules::{Document, Name};
-use room_store::{Rounds, find_documents};
 use rows_statements::{TableFault, add_document};
 use sqlite::{Alter, Savepoint};
 use std::alloc::Global;
+use store_rounds::{Rounds, find_documents};
 
 /// Copies the documents of a job of the account, inside a savepoint. It answers whether it has any.
 pub(crate) fn copy_documents<S: Alter, T: Alter>(

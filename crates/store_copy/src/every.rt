@@ -7,10 +7,10 @@ ghost use Rattle.rows_tables.specs.Calls.{Changes, IfOurTables, IsUnchanged, Kee
 ghost use Rattle.rows_tables.specs.declared.fault.TableFault.TheVariants.{Damaged};
 
 use crate::slices::{Progress, copy_slice};
-use room_store::Rounds;
 use rows_statements::TableFault;
 use sqlite::{Alter, Connection};
 use std::alloc::Global;
+use store_rounds::Rounds;
 
 /// Copies all accounts and the devices into a database whose tables are new. Nobody else has the
 /// source open. Each account has a commit of its own, and the devices have one: where it fails,

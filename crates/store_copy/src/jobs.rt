@@ -16,10 +16,10 @@ ghost use Rattle.rows_tables.specs.declared.fault.TableFault.TheVariants.{Damage
 
 use crate::documents::copy_documents;
 use account_rules::{Job, Name};
-use room_store::{Rounds, find_job};
 use rows_statements::{TableFault, add_job};
 use sqlite::{Alter, Savepoint};
 use std::alloc::Global;
+use store_rounds::{Rounds, find_job};
 
 /// Copies the jobs of the account from the number `first` on that come before `next`, so many at most
 /// and none behind one with documents, inside a savepoint. It answers the number that comes next.

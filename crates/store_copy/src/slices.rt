@@ -12,10 +12,10 @@ ghost use Rattle.rows_tables.specs.declared.fault.TableFault.TheVariants.{Damage
 use crate::accounts::{begin_account, go_on};
 use crate::devices::copy_devices;
 use account_rules::Name;
-use room_store::{Rounds, next_accounts};
 use rows_statements::TableFault;
 use sqlite::{Alter, Connection, Savepoint};
 use std::alloc::Global;
+use store_rounds::{Rounds, next_accounts};
 
 /// How far a copy has come. The accounts are copied in the order of their names' bytes.
 #[derive(Clone, Copy)]

@@ -5,7 +5,7 @@ use Rattle.sqlite.specs.Held.{state}
 use Rattle.sqlite.specs.State.{HasCleanDisk}
 use Rattle.account_machine.specs.Events.{Timed, plain_event, plain_timed}
 use Rattle.account_machine.specs.Fits.{fits}
-use Rattle.room_store.specs.Applied.{Applies}
+use Rattle.store_events.specs.Applied.{Applies}
 use Rattle.room_serve.proofs.FoundLives.{answered_is_found}
 use Rattle.room_serve.proofs.LivesOn.{lives_go_on_in_runs}
 use Rattle.room_serve.proofs.RunLemmas.{applied_more, one_more}

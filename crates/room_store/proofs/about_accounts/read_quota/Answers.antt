@@ -1,5 +1,5 @@
 use Rattle.sqlite.specs.Held.{state}
-use Rattle.room_store.proofs.ServingLemmas.{looked, passed_then, read_passed}
+use Rattle.store_rounds.proofs.LookLemmas.{looked, passed_then, read_passed}
 use Rattle.room_store.proofs.about_accounts.read_quota.Goals as goal
 
 pub returns-clause-looks : goal.returns-clause-looks

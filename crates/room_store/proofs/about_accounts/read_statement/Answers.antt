@@ -2,7 +2,7 @@ use Rattle.std.proofs.Common.{subst, sym, arith}
 use Rattle.sqlite.specs.Effect.{Database}
 use Rattle.sqlite.specs.Held.{state}
 use Rattle.sqlite.specs.State.{HasCleanDisk}
-use Rattle.room_store.proofs.ServingLemmas.{looked, passed_then, read_passed}
+use Rattle.store_rounds.proofs.LookLemmas.{looked, passed_then, read_passed}
 use Rattle.room_store.proofs.about_accounts.read_statement.Goals as goal
 use Rattle.rows_tables.specs.Accounts.{HoldsRoom}
 use Rattle.rows_tables.specs.Keyed.{HasSchema}

@@ -3,7 +3,7 @@ use Rattle.account_machine.specs.declared.event.Reply.{Reply}
 use Rattle.account_machine.specs.declared.event.Reply.TheVariants.{Line}
 use Rattle.account_questions.specs.Quotas.{statement_text}
 use Rattle.account_state.specs.declared.summary.Summary.{Summary}
-use Rattle.room_store.proofs.ServingLemmas.{look_passed, looked}
+use Rattle.store_rounds.proofs.LookLemmas.{look_passed, looked}
 use Rattle.room_store.proofs.about_accounts.tell_statement.Goals as goal
 
 said : (granted up_to : ℕ) (told summary : Summary) (line : List ℕ) → (granted ≡ up_to) × (told ≡ summary) → line ≡ statement_text granted told → ◌≡◌ {A = Reply} (Line line) (Line (statement_text up_to summary))

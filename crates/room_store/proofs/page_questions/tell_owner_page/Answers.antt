@@ -7,9 +7,9 @@ use Rattle.account_asks.specs.declared.ask.Which.TheVariants.{NotCompleted, Comp
 use Rattle.account_questions.specs.Pages.{most_shown}
 use Rattle.rows_statements.specs.SoundRows.{CanBeListed}
 use Rattle.room_store.proofs.Paged.{owner_told}
-use Rattle.room_store.proofs.ServingLemmas.{fault_of, look_passed, looked, looks_after, looks_as, looks_read, passed_then, read_passed}
+use Rattle.store_rounds.proofs.LookLemmas.{fault_of, look_passed, looked, looks_after, looks_as, looks_read, passed_then, read_passed}
 use Rattle.room_store.proofs.page_questions.tell_owner_page.Goals as goal
-use Rattle.room_store.specs.Reading.{JobsAreReadable}
+use Rattle.store_events.specs.Reading.{JobsAreReadable}
 use Rattle.rows_tables.specs.Accounts.{HoldsRoom}
 use Rattle.rows_tables.specs.Devices.{HoldsDevices}
 use Rattle.rows_tables.specs.Keyed.{HasSchema}

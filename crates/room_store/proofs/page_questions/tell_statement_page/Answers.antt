@@ -5,9 +5,9 @@ use Rattle.sqlite.specs.Held.{state}
 use Rattle.sqlite.specs.State.{HasCleanDisk}
 use Rattle.account_asks.specs.declared.ask.Which.TheVariants.{Completed}
 use Rattle.room_store.proofs.Paged.{statement_told}
-use Rattle.room_store.proofs.ServingLemmas.{fault_of, look_passed, looked, looks_after, looks_as, looks_read, passed_then, read_passed}
+use Rattle.store_rounds.proofs.LookLemmas.{fault_of, look_passed, looked, looks_after, looks_as, looks_read, passed_then, read_passed}
 use Rattle.room_store.proofs.page_questions.tell_statement_page.Goals as goal
-use Rattle.room_store.specs.Reading.{JobsAreReadable}
+use Rattle.store_events.specs.Reading.{JobsAreReadable}
 use Rattle.rows_tables.specs.Accounts.{HoldsRoom}
 use Rattle.rows_tables.specs.Keyed.{HasSchema}
 

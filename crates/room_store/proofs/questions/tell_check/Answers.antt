@@ -6,7 +6,7 @@ use Rattle.account_machine.specs.declared.event.Reply.TheVariants.{Line}
 use Rattle.account_questions.specs.Questions.{check_text}
 use Rattle.rows_checks.specs.Checks.{IsSoundAs}
 use Rattle.room_store.specs.Questions.{TellsWhetherSound}
-use Rattle.room_store.proofs.ServingLemmas.{looked, read_passed}
+use Rattle.store_rounds.proofs.LookLemmas.{looked, read_passed}
 use Rattle.room_store.proofs.questions.tell_check.Goals as goal
 
 -- of an account that is open its room is told

@@ -1,4 +1,4 @@
-use Rattle.room_store.proofs.ServingLemmas.{looked, read_passed}
+use Rattle.store_rounds.proofs.LookLemmas.{looked, read_passed}
 use Rattle.room_store.proofs.station_questions.hand_again.Goals as goal
 
 pub returns-clause-looks : goal.returns-clause-looks

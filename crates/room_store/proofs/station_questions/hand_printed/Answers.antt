@@ -9,12 +9,12 @@ use Rattle.account_rules.specs.declared.job.Job.{Job}
 use Rattle.account_rules.specs.declared.refusal.Word.{Word}
 use Rattle.account_rules.specs.declared.refusal.Word.TheVariants.{NotProcessing, OtherDevice, Stopping}
 use Rattle.rows_statements.specs.Queues.{IsNumbered}
-use Rattle.room_store.proofs.Found.{act_of}
-use Rattle.room_store.proofs.ServingLemmas.{look_passed, looks_after}
+use Rattle.store_events.proofs.Found.{act_of}
+use Rattle.store_rounds.proofs.LookLemmas.{look_passed, looks_after}
 use Rattle.room_store.proofs.station_questions.hand_printed.Goals as goal
-use Rattle.room_store.specs.ProofKnown.{HasJobRow}
+use Rattle.store_rounds.specs.ProofKnown.{HasJobRow}
 use Rattle.room_store.specs.Questions.{PrintedIsReadable}
-use Rattle.room_store.specs.Reading.{DocumentsAreReadable}
+use Rattle.store_events.specs.Reading.{DocumentsAreReadable}
 use Rattle.rows_tables.specs.Keyed.{HasSchema}
 
 -- the job that is printed is the one that was found

@@ -1,8 +1,8 @@
 use Rattle.std.proofs.Common.{subst, sym, ◌∙◌, arith}
 use Rattle.sqlite.specs.Held.{state}
 use Rattle.sqlite.specs.State.{HasCleanDisk}
-use Rattle.room_store.proofs.ServingLemmas.{looks_after, read_passed}
-use Rattle.room_store.proofs.Stationed.{known_row}
+use Rattle.store_rounds.proofs.LookLemmas.{looks_after, read_passed}
+use Rattle.store_events.proofs.Stationed.{known_row}
 use Rattle.room_store.specs.Questions.{PrintedIsReadable}
 use Rattle.rows_tables.specs.Keyed.{HasSchema}
 use Rattle.room_store.proofs.station_questions.tell_again.Goals as goal

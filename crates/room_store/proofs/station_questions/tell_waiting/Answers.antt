@@ -4,9 +4,9 @@ use Rattle.sqlite.specs.Effect.{Database}
 use Rattle.sqlite.specs.Held.{state}
 use Rattle.sqlite.specs.State.{HasCleanDisk}
 use Rattle.account_asks.specs.declared.ask.Which.TheVariants.{NotCompleted}
-use Rattle.room_store.proofs.ServingLemmas.{fault_of, looked, passed_then, read_passed}
-use Rattle.room_store.proofs.Stationed.{known_row}
-use Rattle.room_store.specs.Reading.{JobsAreReadable}
+use Rattle.store_rounds.proofs.LookLemmas.{fault_of, looked, passed_then, read_passed}
+use Rattle.store_events.proofs.Stationed.{known_row}
+use Rattle.store_events.specs.Reading.{JobsAreReadable}
 use Rattle.rows_tables.specs.Keyed.{HasSchema}
 use Rattle.room_store.proofs.station_questions.tell_waiting.Goals as goal
 

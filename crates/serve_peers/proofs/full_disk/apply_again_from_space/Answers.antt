@@ -1,9 +1,9 @@
 use Rattle.std.proofs.Common.{Result, Err, refl, subst, sym}
 use Rattle.sqlite.specs.Held.{state}
 use Rattle.account_machine.specs.declared.verdict.Answered.{Answered}
-use Rattle.room_store.specs.Applied.{AppliesFully}
-use Rattle.room_store.specs.declared.fault.StoreFault.{StoreFault}
-use Rattle.room_store.specs.declared.fault.StoreFault.TheVariants.{Storage}
+use Rattle.store_events.specs.Applied.{AppliesFully}
+use Rattle.store_rounds.specs.declared.fault.StoreFault.{StoreFault}
+use Rattle.store_rounds.specs.declared.fault.StoreFault.TheVariants.{Storage}
 use Rattle.serve_peers.proofs.Again.{again_fully}
 use Rattle.serve_peers.specs.Entries.{event_of_entry, moment_at}
 use Rattle.serve_peers.proofs.full_disk.apply_again_from_space.Goals as goal

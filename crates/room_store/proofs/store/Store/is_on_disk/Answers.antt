@@ -1,5 +1,5 @@
 use Rattle.std.proofs.Common.{rules}
-use Rattle.room_store.proofs.Applied.{on_disk_so}
+use Rattle.store_rounds.proofs.OnDisk.{on_disk_so}
 use Rattle.room_store.proofs.store.Store.is_on_disk.Goals as goal
 
 pub returns-clause-on_disk : goal.returns-clause-on_disk

@@ -1,7 +1,7 @@
 use Rattle.std.proofs.Common.{Bool, ap, sym, ◌∙◌}
 use Rattle.http_server.specs.declared.log.Log.{Log}
 use Rattle.account_machine.specs.declared.verdict.Answered.{Answered}
-use Rattle.room_store.specs.declared.fault.StoreFault.{StoreFault}
+use Rattle.store_rounds.specs.declared.fault.StoreFault.{StoreFault}
 use Rattle.std.specs.Prelude.{Result}
 use Rattle.serve_peers.proofs.Telling.{told_nothing}
 use Rattle.serve_peers.proofs.Watched.{begun}

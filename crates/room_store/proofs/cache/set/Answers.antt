@@ -1,5 +1,0 @@
-use Rattle.room_store.proofs.CacheLemmas.{put_result}
-use Rattle.room_store.proofs.cache.set.Goals as goal
-
-pub returns : goal.returns
-returns c = put_result c.args.accounts.now c.args.account c.args.known c.put-before.result c.put-before.new.self c.put-before.ensures.entries c.put-before.ensures.err c.put-before.ensures.succeeds

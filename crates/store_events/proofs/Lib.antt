@@ -1,0 +1,16 @@
+pub mod Applied
+pub mod Moments
+pub mod ServingLemmas
+pub mod Staying
+pub mod Found
+pub mod FoundDevices
+pub mod FoundGrants
+pub mod Made
+pub mod Opened
+pub mod Stationed
+pub mod Shown
+pub mod Sent
+pub mod Readable
+pub mod StepLemmas
+pub mod Stood
+pub mod Knocking

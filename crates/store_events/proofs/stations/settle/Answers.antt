@@ -1,0 +1,112 @@
+use Rattle.std.proofs.Common.{◌≡◌, ℕ, Option, None, Some, Err, IfSome, sym, ap, subst, ◌∙◌, arith}
+use Rattle.std.proofs.lemmas.Result.{err_from_is_err_and}
+use Rattle.std.specs.FinMap.{get}
+use Rattle.sqlite.specs.Effect.{Database}
+use Rattle.sqlite.specs.State.{HasCleanDisk}
+use Rattle.sqlite.specs.Held.{state}
+use Rattle.account_machine.specs.Stations.{by_word, station, station_settle, settling_told}
+use Rattle.account_rules.specs.Acts.{StationSettle}
+use Rattle.account_rules.specs.Moves.{move}
+use Rattle.account_rules.specs.declared.job.Job.{Job}
+use Rattle.rows_statements.specs.Queues.{IsNumbered}
+use Rattle.rows_tables.specs.Accounts.{HoldsRoom}
+use Rattle.rows_tables.specs.Keyed.{HasSchema}
+use Rattle.account_rules.specs.declared.refusal.Word.TheVariants.{NoJob}
+use Rattle.store_rounds.specs.Reading.{JobIsReadable}
+use Rattle.store_rounds.specs.ProofKnown.{HasJobRow}
+use Rattle.store_events.proofs.Found.{act_of, there_still}
+use Rattle.store_events.proofs.ServingLemmas.{look_failed_as, read_failed_as, serves_after, serves_after_so}
+use Rattle.store_rounds.proofs.LookLemmas.{look_passed, passed_then, read_passed}
+use Rattle.store_events.proofs.Stationed.{known_row, settle_found, settle_missing, settle_refused, told_reads}
+use Rattle.store_events.proofs.StepLemmas.{refuses_as, steps_as}
+use Rattle.store_events.proofs.stations.settle.Goals as goal
+
+pub returns-in-Err : goal.returns-in-Err
+returns-in-Err g c =
+    record {
+      served = refuses_as g.S.Store c.args.connection.now c.find_device.new.connection c.args.account (read_passed g.S.Store c.args.connection.now c.find_device.new.connection _ c.in_ok-find_device.ensures.reads) (λ room devices. settling_told room c.args.at.now.now c.args.number (station_settle room (station devices c.args.at.now.device c.args.at.now.now) c.args.number c.args.impressions c.args.failed)) c.in-Err.word c.refused_by.result c.refused_by.ensures.answered c.refused_by.ensures.memory
+          (λ clean has of held. ap (settling_told of.0 c.args.at.now.now c.args.number) (settle_refused of.0 (station of.1 c.args.at.now.device c.args.at.now.now) c.args.number c.args.impressions c.args.failed _ held.devices c.in_ok-find_device.field-0 (c.in_ok-find_device.ensures.found clean has) c.in-Err.word (sym c.known_device.ensures ∙ c.in-Err.is)));
+    }
+
+pub returns : goal.returns
+returns g c =
+    let old = c.args.connection.now in
+    let mid = c.find_device.new.connection in
+    let last = c.look_up.new.connection in
+    let new = c.charge.new.connection in
+    let name = c.args.account in
+    let job = c.in-Some.job in
+    let looked = c.in_ok-job.ensures in
+    let first = read_passed g.S.Store c.args.connection.now c.find_device.new.connection _ c.in_ok-find_device.ensures.reads in
+    let second = look_passed g.S.Store mid last _ looked.looks in
+    let passed = passed_then (state g.S.Store old) (state g.S.Store mid) (state g.S.Store last) first second in
+    let numbered = subst (λ (o : Option Job). IfSome o (λ job. (job.job ≡ c.args.number) × IsNumbered job)) c.in-Some.is looked.in_range in
+    record {
+      served = steps_as g.S.Store old new name (λ room devices. settling_told room c.args.at.now.now job.job c.by_word-decided.result) (λ room devices. settling_told room c.args.at.now.now c.args.number (station_settle room (station devices c.args.at.now.device c.args.at.now.now) c.args.number c.args.impressions c.args.failed)) c.charge.result
+          (λ clean has of held.
+          let last_clean : HasCleanDisk (state g.S.Store last) = omega (arith, c.charge.ensures.connection.keeps.clean, clean) in
+          let mid_clean : HasCleanDisk (state g.S.Store mid) = omega (arith, looked.looks.connection.keeps.clean, last_clean) in
+          let same = (first.same mid_clean has).now in
+          let there : get of.0.jobs c.args.number ≡ Some job = sym (looked.found last_clean (subst HasSchema (sym same) has) of.0 (subst (λ (db : Database). HoldsRoom db name of.0) (sym same) held.room)) ∙ c.in-Some.is in
+          ap (λ (n : ℕ). settling_told of.0 c.args.at.now.now n c.by_word-decided.result) numbered.0
+          ∙ ap (settling_told of.0 c.args.at.now.now c.args.number) (settle_found of.0 (station of.1 c.args.at.now.device c.args.at.now.now) c.args.number c.args.impressions c.args.failed _ held.devices c.in_ok-find_device.field-0 (c.in_ok-find_device.ensures.found mid_clean has) c.in_default.field-0 (sym c.known_device.ensures ∙ c.in_default.is) job there c.by_word-decided.result (c.by_word-decided.ensures ∙ ap by_word c.settle-moved.ensures.moved)))
+          (serves_after_so _ _ _ _ _ g.S.Store old last passed new c.charge.result (HasJobRow name job)
+          (λ clean has readable.
+          let last_clean : HasCleanDisk (state g.S.Store last) = omega (arith, c.charge.ensures.connection.keeps.clean, clean) in
+          let mid_clean : HasCleanDisk (state g.S.Store mid) = omega (arith, looked.looks.connection.keeps.clean, last_clean) in
+          let same = (first.same mid_clean has).now in
+          let there = subst (λ (o : Option Job). IfSome o (λ job. HasJobRow name job (state g.S.Store mid).now)) c.in-Some.is (looked.is_there last_clean (subst HasSchema (sym same) has)) in
+          let known = known_row c.args.at.now.device _ _ _ (sym c.known_device.ensures ∙ c.in_default.is) (c.in_ok-find_device.ensures.found mid_clean has) in
+          told_reads _ (move (StationSettle c.args.at.now.device c.args.impressions c.args.failed c.args.at.now.now) job.standing) c.by_word-decided.result (c.by_word-decided.ensures ∙ ap by_word c.settle-moved.ensures.moved)
+          (act_of name c.args.number _ (state g.S.Store old).now (readable.1 known) job numbered.0 numbered.1 (subst (HasJobRow name job) same there)))
+          c.charge.ensures.connection
+          (λ clean _ has.
+          let mid_clean : HasCleanDisk (state g.S.Store mid) = omega (arith, looked.looks.connection.keeps.clean, clean) in
+          let has_mid = subst HasSchema (sym (first.same mid_clean has).now) has in
+          there_still name job (state g.S.Store mid).now (state g.S.Store last).now (second.same clean has_mid).now
+          (subst (λ (o : Option Job). IfSome o (λ job. HasJobRow name job (state g.S.Store mid).now)) c.in-Some.is (looked.is_there clean has_mid)))
+          c.charge.ensures.served);
+    }
+
+pub returns-in_err-find_device : goal.returns-in_err-find_device
+returns-in_err-find_device g c =
+    let told = err_from_is_err_and c.from_residual.result c.from_residual.ensures.1 in
+    record {
+      served = read_failed_as _ _ _ _ _ g.S.Store _ _ c.from_residual.result told.0 _ told.1 told.2 c.in_err-find_device.ensures.reads
+          (λ clean has is readable. c.in_err-find_device.ensures.damaged clean has (ap (λ e. Err e) is) readable.0);
+    }
+
+pub returns-in_err-job : goal.returns-in_err-job
+returns-in_err-job g c =
+    let old = c.args.connection.now in
+    let mid = c.find_device.new.connection in
+    let last = c.look_up.new.connection in
+    let looked = c.in_err-job.ensures in
+    let first = read_passed g.S.Store old mid _ c.in_ok-find_device.ensures.reads in
+    let told = err_from_is_err_and c.from_residual-in_err-job.result c.from_residual-in_err-job.ensures.1 in
+    record {
+      served = serves_after _ _ _ _ _ g.S.Store old mid first {Rest = JobIsReadable c.args.account c.args.number} last c.from_residual-in_err-job.result
+          (λ clean has readable.
+          let mid_clean : HasCleanDisk (state g.S.Store mid) = omega (arith, looked.looks.connection.keeps.clean, clean) in
+          (readable.1 (known_row c.args.at.now.device _ _ _ (sym c.known_device.ensures ∙ c.in_default.is) (c.in_ok-find_device.ensures.found mid_clean has))).job)
+          (look_failed_as _ _ _ _ _ g.S.Store mid last c.from_residual-in_err-job.result told.0 _ told.1 told.2 looked.looks (λ clean has is readable. looked.damaged clean has (ap (λ e. Err e) is) readable));
+    }
+
+pub returns-in_default-2 : goal.returns-in_default-2
+returns-in_default-2 g c =
+    let old = c.args.connection.now in
+    let mid = c.find_device.new.connection in
+    let last = c.look_up.new.connection in
+    let name = c.args.account in
+    let looked = c.in_ok-job.ensures in
+    let first = read_passed g.S.Store old mid _ c.in_ok-find_device.ensures.reads in
+    let second = look_passed g.S.Store mid last _ looked.looks in
+    let passed = passed_then (state g.S.Store old) (state g.S.Store mid) (state g.S.Store last) first second in
+    record {
+      served = refuses_as g.S.Store old last name passed (λ room devices. settling_told room c.args.at.now.now c.args.number (station_settle room (station devices c.args.at.now.device c.args.at.now.now) c.args.number c.args.impressions c.args.failed)) NoJob c.refused_by-in_default-2.result c.refused_by-in_default-2.ensures.answered c.refused_by-in_default-2.ensures.memory
+          (λ clean has of held.
+          let mid_clean : HasCleanDisk (state g.S.Store mid) = omega (arith, looked.looks.connection.keeps.clean, clean) in
+          let same = (first.same mid_clean has).now in
+          let none : get of.0.jobs c.args.number ≡ None = sym (looked.found clean (subst HasSchema (sym same) has) of.0 (subst (λ (db : Database). HoldsRoom db name of.0) (sym same) held.room)) ∙ c.in_default-2.is in
+          ap (settling_told of.0 c.args.at.now.now c.args.number) (settle_missing of.0 (station of.1 c.args.at.now.device c.args.at.now.now) c.args.number c.args.impressions c.args.failed _ held.devices c.in_ok-find_device.field-0 (c.in_ok-find_device.ensures.found mid_clean has) c.in_default.field-0 (sym c.known_device.ensures ∙ c.in_default.is) none));
+    }

@@ -1,0 +1,9 @@
+pub mod Reading
+pub mod Answers
+pub mod Applied
+pub mod Serving
+pub mod ProofKnown
+pub mod ProofAsks
+pub mod Events
+pub mod Rounds
+pub mod Prelude

@@ -1,0 +1,83 @@
+//! An event is applied, in a round or in a transaction of its own.
+
+ghost use Rattle.std.specs.Prelude.{◌≡◌, not, IsTrue, OnErr};
+ghost use Rattle.store_events.specs.Prelude.{IfOurTables};
+ghost use Rattle.sqlite.specs.Held.{state};
+ghost use Rattle.sqlite.specs.State.{HasCleanDisk};
+ghost use Rattle.account_machine.specs.Events.{plain_event};
+ghost use Rattle.account_machine.specs.Fits.{fits};
+ghost use Rattle.store_events.specs.Applied.{AppliesFully};
+ghost use Rattle.store_events.specs.Rounds.{IsLost, StaysInRound};
+ghost use Rattle.store_rounds.specs.Shut.{LeavesIfShut};
+ghost use Rattle.rows_tables.specs.Calls.{KeepsConnection};
+ghost use Rattle.rows_tables.specs.Crashes.{IsOnDisk};
+
+use crate::events::{answer_on_disk, is_short};
+use account_machine::{Answered, Event, Moment};
+use sqlite::Alter;
+use std::alloc::Global;
+use store_rounds::{Rounds, StoreFault};
+
+/// Answers the event at the moment `now`, in seconds from 1970, as `Store::apply` does, and says
+/// what it came to. In a round it has changed nothing where it fails, or a failure of the storage
+/// has undone the round.
+pub fn apply<S: Alter>(
+    alloc: Global,
+    connection: &mut Rounds<S>,
+    now: u64,
+    e: &Event<'_>,
+) -> Result<Answered, StoreFault>
+    requires { IsTrue (fits (plain_event e.now)) }
+    ensures applies { (HasCleanDisk (state S.Store connection.new) → OnErr result
+        ((state S.Store connection.new).in_transaction
+        ≡ (state S.Store connection.old).in_transaction))
+        → AppliesFully now (plain_event e.entry.now)
+        (state S.Store connection.old) (state S.Store connection.new) result }
+    ensures within { IfOurTables S.Store connection.old connection.new
+        (λ _. StaysInRound (state S.Store connection.old) (state S.Store connection.new) result) }
+    ensures lost { IfOurTables S.Store connection.old connection.new
+        (λ _. IsLost (state S.Store connection.old) (state S.Store connection.new) result) }
+    ensures shut { LeavesIfShut (state S.Store connection.old) (state S.Store connection.new) }
+    ensures connection { KeepsConnection (state S.Store connection.old)
+        (state S.Store connection.new) }
+{
+    // Asked for what it says where no round is under way: what is seen is what was committed.
+    let _shares = connection.is_under_way();
+    let Some(now) = Moment::new(now) else {
+        return Err(StoreFault::Moment);
+    };
+    Ok(answer_on_disk(alloc, connection, now, e)?)
+}
+
+/// Answers the event at the moment `now`, in seconds from 1970. `Moment` is looked at first;
+/// `Storage` tells also that a transaction is under way.
+pub fn apply_in_own_transaction<S: Alter>(
+    alloc: Global,
+    connection: &mut Rounds<S>,
+    now: u64,
+    e: &Event<'_>,
+) -> Result<Answered, StoreFault>
+    requires { IsTrue (fits (plain_event e.now)) }
+    ensures { AppliesFully now (plain_event e.entry.now)
+        (state S.Store connection.old) (state S.Store connection.new) result }
+{
+    let is_alone = is_alone(connection);
+    let Some(now) = Moment::new(now) else {
+        return Err(StoreFault::Moment);
+    };
+    if !is_alone && !is_short(e) {
+        return Err(StoreFault::Storage);
+    }
+    Ok(answer_on_disk(alloc, connection, now, e)?)
+}
+
+/// Whether no transaction is under way. Then, while the connection is open, what is seen is what
+/// was committed, and what a crash leaves. `Store::is_on_disk` says the same of a store.
+fn is_alone<S: Alter>(connection: &Rounds<S>) -> bool
+    ensures mode { result ≡ not (state S.Store connection.now).in_transaction }
+    ensures settled { IsTrue result → IsTrue (state S.Store connection.now).is_open
+        → (state S.Store connection.now).now ≡ (state S.Store connection.now).committed }
+    ensures on_disk { IsTrue result → IsOnDisk (state S.Store connection.now) }
+{
+    connection.is_autocommit()
+}

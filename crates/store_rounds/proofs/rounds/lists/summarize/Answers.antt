@@ -1,0 +1,11 @@
+use Rattle.sqlite.specs.Held.{state}
+use Rattle.store_rounds.proofs.KeptLemmas.{told_kept}
+use Rattle.store_rounds.proofs.LookLemmas.{looks_read}
+use Rattle.store_rounds.proofs.rounds.lists.summarize.Goals as goal
+
+pub invariant_of-connection : goal.invariant_of-connection
+invariant_of-connection g c ours =
+    let reads = c.summarize-found.ensures.reads in
+    told_kept (state g.S.Store c.connection.inside.connection) (state g.S.Store c.summarize-found.new.connection) _ _ reads.keeps
+    c.note_settled.ensures
+    (c.connection.invariant ours) c.summarize-found.result reads.same (looks_read g.S.Store _ _ _ reads).undone c.forget_after_fault.ensures
