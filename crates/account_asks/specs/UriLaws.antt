@@ -1,4 +1,4 @@
--- What the parts of a URI are, however it is cut.
+-- The law of src/laws.rt: what the parts of a URI are, however it is cut.
 use Rattle.std.specs.Prelude.{◌≡◌, ℕ, ◌<◌, true, false, nat_eq, List, [], ◌∷◌, ◌++◌, length, drop, Some, codes}
 use Rattle.std.specs.List.{starts_with, list_any}
 use Rattle.account_asks.specs.Uris.{UriParts, is_slash, ends_path, parts_of}

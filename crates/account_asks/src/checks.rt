@@ -1,5 +1,5 @@
-//! The checks of a request in their order, one function each. A check that passes hands on what it
-//! looked at, for those that follow.
+//! The checks 1 to 18 of a request, one function for each, in their order. One that passes hands on
+//! what it looked at, for those that follow; one that fails gives the refusal that is answered.
 
 ghost use Rattle.std.specs.Prelude.{◌≡◌, ◌<◌, ◌≤◌, List, [], true, IfOk, Some, None, if◌then◌else◌, length, map, option_map, unwrap_or};
 ghost use Rattle.ipp_coding.specs.Plain.{PlainAttribute, plain_attribute, plain_message};
@@ -126,7 +126,7 @@ pub(crate) fn target_length(target: TargetUri<'_>) -> Result<(), Refusal>
     Ok(())
 }
 
-/// 8: the target leads to the account's queue. Hands on where.
+/// 8: the target leads to the account's queue. Hands on where in it.
 pub(crate) fn queue<'a>(target: TargetUri<'a>, account: Name) -> Result<Target<'a>, Refusal>
     requires { HasNumber (plain_named target) }
     ensures told { ChecksAndGives result plain_target
@@ -189,7 +189,7 @@ pub(crate) fn document_format(
     })
 }
 
-/// 12: jobs are asked for that have ended or that have not. Hands on which.
+/// 12: which-jobs asks for jobs that have ended or for those that have not. Hands on which.
 pub(crate) fn which_jobs(
     operation: Operation,
     attributes: &[Attribute<'_>],
@@ -280,7 +280,7 @@ pub(crate) fn job_name_length<'a>(
     Ok(name)
 }
 
-/// 17: the requester does not insist on what is not supported.
+/// 17: what the requester insists on (ipp-attribute-fidelity) is all supported.
 fn template(insists: bool, unsupported: &[Attribute<'_>]) -> Result<(), Refusal>
     ensures { ChecksWithAttributes (map plain_attribute unsupported.now) result
         (checks.template_check insists (map plain_attribute unsupported.now)) }
@@ -310,7 +310,7 @@ fn document_length(operation: Operation, payload: &[u8]) -> Result<(), Refusal>
     Ok(())
 }
 
-/// The checks of what is known once the job template attributes are.
+/// Makes checks 17 and 18, once it is known which job template attributes are not supported.
 #[tactic(auto, unfolding(crate::specs::CheckOrder::document_checks))]
 pub(crate) fn template_and_document(
     operation: Operation,
@@ -329,7 +329,8 @@ pub(crate) fn template_and_document(
     document_length(operation, payload)
 }
 
-/// The attributes of the operation group, where it begins with a charset and a natural language.
+/// The attributes of the first group, where that is the operation group and begins with a charset
+/// and a natural language.
 fn opened<'m, 'a>(message: &'m Message<'a>) -> Option<&'m [Attribute<'a>]>
     ensures { option_map (λ attributes. map plain_attribute attributes.now) result
         ≡ (if checks.begins_well (operation_attributes (plain_message message.now))

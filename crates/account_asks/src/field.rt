@@ -1,4 +1,6 @@
-//! The operation attributes that are read, as one table.
+//! `Field`: an operation attribute that is read. This file has the name of each, its syntax, the
+//! operations that read it, and its value as it stands in a request; `fields.rt` has what the value
+//! says.
 
 ghost use Rattle.std.specs.Prelude.{◌≡◌, map, option_map};
 ghost use Rattle.std.specs.List.{list_any};
@@ -29,6 +31,7 @@ pub(crate) enum Field {
     RequestedAttributes,
 }
 
+/// All of them, through which check 9 goes.
 const ALL: [Field; 12] = [
     Field::JobName,
     Field::Fidelity,
@@ -44,7 +47,8 @@ const ALL: [Field; 12] = [
     Field::RequestedAttributes,
 ];
 
-/// Whether an attribute that the operation reads is of a wrong syntax.
+/// Whether an attribute that the operation reads has a wrong syntax, or is missing where it has to
+/// be there: check 9.
 #[tactic(auto, unfolding(crate::specs::Fields::any_is_wrong))]
 pub(crate) fn any_is_wrong(operation: Operation, attributes: &[Attribute<'_>]) -> bool
     ensures { result ≡ any_is_wrong operation (map plain_attribute attributes.now) }
@@ -72,7 +76,8 @@ impl Field {
         }
     }
 
-    /// The value of the attribute, where the operation reads it and it has one.
+    /// The attribute's one value. None where the operation does not read it, or it has not just
+    /// one.
     #[tactic(auto, unfolding(crate::specs::Fields::value_of))]
     pub(crate) fn value<'a>(
         self,
@@ -85,7 +90,7 @@ impl Field {
         lone_value(self.values(operation, attributes)?)
     }
 
-    /// The bytes of that value.
+    /// The bytes of the attribute's one value.
     pub(crate) fn bytes<'a>(
         self,
         operation: Operation,
@@ -97,6 +102,7 @@ impl Field {
         Some(self.value(operation, attributes)?.bytes)
     }
 
+    /// Whether the operation reads the attribute, and it is not as it has to be.
     #[tactic(auto, unfolding(crate::specs::Fields::is_wrong))]
     fn is_wrong(self, operation: Operation, attributes: &[Attribute<'_>]) -> bool
         ensures { result ≡ is_wrong operation (map plain_attribute attributes.now) self }
@@ -104,6 +110,7 @@ impl Field {
         self.is_read_by(operation) && !self.is_well(attributes)
     }
 
+    /// Whether the attribute's values are of its syntax, or it is not there and may be absent.
     fn is_well(self, attributes: &[Attribute<'_>]) -> bool
         ensures { result
             ≡ is_well self (named (row_of self).name (map plain_attribute attributes.now)) }
@@ -114,12 +121,14 @@ impl Field {
         }
     }
 
+    /// Whether a request may leave the attribute out: each but last-document.
     fn may_be_absent(self) -> bool
         ensures { result ≡ may_be_absent self }
     {
         !matches!(self, Field::LastDocument)
     }
 
+    /// The attribute's name in a request.
     fn name(self) -> &'static [u8]
         ensures { result.now ≡ (row_of self).name }
     {
@@ -139,6 +148,7 @@ impl Field {
         }
     }
 
+    /// What the attribute's values have to be.
     fn syntax(self) -> Syntax
         ensures { result ≡ (row_of self).syntax }
     {
@@ -154,6 +164,7 @@ impl Field {
         }
     }
 
+    /// Whether the operation reads the attribute. One that it does not read may say anything.
     fn is_read_by(self, operation: Operation) -> bool
         ensures { result ≡ (row_of self).is_read_by operation }
     {

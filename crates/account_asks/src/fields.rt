@@ -1,4 +1,5 @@
-//! What the operation attributes of a request say.
+//! `Fields`: what the operation attributes of a request say, each as a value of its type.
+//! `field.rt` has how each is named and found.
 
 ghost use Rattle.std.specs.Prelude.{◌≡◌, ◌==◌, ◌<◌, ◌≤◌, IfOk, IfErr, IfSome, Some, length, map, option_map, position};
 ghost use Rattle.ipp_coding.specs.Plain.{plain_value, plain_attribute};
@@ -19,7 +20,8 @@ use account_rules::{Format, Refusal};
 use ipp_coding::{Attribute, List, Value, bool_of};
 use std::alloc::Global;
 
-/// What the operation attributes say that are read, or the values that stand for their absence.
+/// What the operation attributes say that the operation reads, and for those that are absent or not
+/// read the values that stand for that.
 #[derive(Clone, Copy)]
 pub(crate) struct Fields<'a> {
     /// Whether all template attributes have to be supported: ipp-attribute-fidelity.
@@ -34,7 +36,7 @@ pub(crate) struct Fields<'a> {
 }
 
 impl<'a> Fields<'a> {
-    /// Those that the operation reads, or the first check that they fail.
+    /// Makes checks 9 to 16, and gives what the attributes say or the first check that they fail.
     #[tactic(auto, unfolding(crate::specs::CheckOrder::field_checks, crate::specs::Fields::fields_of))]
     pub(crate) fn read(
         operation: Operation,
@@ -78,6 +80,7 @@ pub(crate) fn job_name<'a>(operation: Operation, attributes: &[Attribute<'a>]) -
     given_name(operation, attributes).unwrap_or(b"untitled")
 }
 
+/// The job's name, where the request gives one that is not empty.
 fn given_name<'a>(operation: Operation, attributes: &[Attribute<'a>]) -> Option<&'a [u8]>
     ensures { option_map (λ name. name.now) result
         ≡ said.given_name operation (map plain_attribute attributes.now) }
@@ -86,6 +89,7 @@ fn given_name<'a>(operation: Operation, attributes: &[Attribute<'a>]) -> Option<
     unless_empty(name_of(value)?)
 }
 
+/// The text, and None where it is empty.
 fn unless_empty(text: &[u8]) -> Option<&[u8]>
     ensures { option_map (λ name. name.now) result ≡ said.unless_empty text.now }
 {
@@ -95,7 +99,7 @@ fn unless_empty(text: &[u8]) -> Option<&[u8]>
     }
 }
 
-/// Empty for none.
+/// The job's password, empty where the request gives none.
 #[tactic(auto, unfolding(crate::specs::Fields::password))]
 pub(crate) fn password<'a>(operation: Operation, attributes: &[Attribute<'a>]) -> &'a [u8]
     ensures { result.now ≡ said.password operation (map plain_attribute attributes.now) }
@@ -103,6 +107,8 @@ pub(crate) fn password<'a>(operation: Operation, attributes: &[Attribute<'a>]) -
     Field::Password.bytes(operation, attributes).unwrap_or(b"")
 }
 
+/// Whether the requester insists that all is supported (ipp-attribute-fidelity); false where not
+/// said.
 #[tactic(auto, unfolding(crate::specs::Fields::fidelity))]
 fn fidelity(operation: Operation, attributes: &[Attribute<'_>]) -> bool
     ensures { result ≡ said.fidelity operation (map plain_attribute attributes.now) }
@@ -113,6 +119,8 @@ fn fidelity(operation: Operation, attributes: &[Attribute<'_>]) -> bool
     }
 }
 
+/// Whether the document is the job's last (last-document); false for an operation that does not
+/// read it.
 #[tactic(auto, unfolding(crate::specs::Fields::last_document))]
 fn last_document(operation: Operation, attributes: &[Attribute<'_>]) -> bool
     ensures { result ≡ said.last_document operation (map plain_attribute attributes.now) }
@@ -123,7 +131,7 @@ fn last_document(operation: Operation, attributes: &[Attribute<'_>]) -> bool
     }
 }
 
-/// 0 where unknown.
+/// The impressions of one copy (job-impressions), 0 where the request does not say.
 #[tactic(auto, unfolding(crate::specs::Fields::impressions))]
 fn impressions(operation: Operation, attributes: &[Attribute<'_>]) -> u32
     ensures impressions { result ≡ said.impressions operation (map plain_attribute attributes.now) }
@@ -135,6 +143,7 @@ fn impressions(operation: Operation, attributes: &[Attribute<'_>]) -> u32
     }
 }
 
+/// How many jobs are wanted at most (limit), 1 or more. None where the request does not say.
 #[tactic(auto, unfolding(crate::specs::Fields::limit))]
 fn limit(operation: Operation, attributes: &[Attribute<'_>]) -> Option<u32>
     ensures limit { result ≡ said.limit operation (map plain_attribute attributes.now) }
@@ -143,7 +152,8 @@ fn limit(operation: Operation, attributes: &[Attribute<'_>]) -> Option<u32>
     positive_of(Field::Limit.value(operation, attributes)?)
 }
 
-/// Whether a keyword is `none`, or is not said.
+/// Whether the keyword is `none`, or is not said. Compression and the encryption of passwords have
+/// to be so.
 pub(crate) fn is_none_if_said(keyword: Option<&[u8]>) -> bool
     ensures { result ≡ said.is_none_if_said (option_map (λ k. k.now) keyword.entry) }
 {
@@ -153,7 +163,8 @@ pub(crate) fn is_none_if_said(keyword: Option<&[u8]>) -> bool
     }
 }
 
-/// None where the format is not known.
+/// The format of the document (document-format), octet-stream where the request does not say. None
+/// where the format is not known.
 #[tactic(auto, unfolding(crate::specs::Fields::document_format))]
 pub(crate) fn document_format(operation: Operation, attributes: &[Attribute<'_>]) -> Option<Format>
     ensures { result ≡ said.document_format operation (map plain_attribute attributes.now) }
@@ -164,7 +175,7 @@ pub(crate) fn document_format(operation: Operation, attributes: &[Attribute<'_>]
     }
 }
 
-/// Up to the first `;`.
+/// A media type without its parameters: up to the first `;`.
 fn without_parameters(text: &[u8]) -> &[u8]
     ensures { result.now ≡ said.without_parameters text.now }
 {
@@ -181,7 +192,8 @@ fn first_semicolon(text: &[u8]) -> Option<usize>
     text.iter().position(|byte| *byte == b';')
 }
 
-/// None where the keyword is another.
+/// The jobs that Get-Jobs asks for (which-jobs), the unfinished ones where the request does not
+/// say. None where the keyword is another.
 #[tactic(auto, unfolding(crate::specs::Fields::which_jobs))]
 pub(crate) fn which_jobs(operation: Operation, attributes: &[Attribute<'_>]) -> Option<Which>
     ensures { result ≡ said.which_jobs operation (map plain_attribute attributes.now) }
@@ -192,6 +204,7 @@ pub(crate) fn which_jobs(operation: Operation, attributes: &[Attribute<'_>]) -> 
     }
 }
 
+/// The jobs that the keyword asks for. None where it is another.
 fn which_named(keyword: &[u8]) -> Option<Which>
     ensures { result ≡ said.which_named (Some keyword.now) }
 {
@@ -204,7 +217,7 @@ fn which_named(keyword: &[u8]) -> Option<Which>
     }
 }
 
-/// The names that are wanted, None where the request does not say.
+/// Lists the names in requested-attributes. None where the request does not say.
 #[tactic(auto, unfolding(crate::specs::Fields::wanted))]
 pub(crate) fn wanted<'a>(
     alloc: Global,
@@ -222,6 +235,7 @@ pub(crate) fn wanted<'a>(
     }
 }
 
+/// Lists the bytes of the values, which are names of attributes or of groups of attributes.
 fn names_of<'a>(alloc: Global, values: &[Value<'a>]) -> Result<List<&'a [u8]>, AskFault<'a>>
     ensures names { IfOk result (λ names. names ≡ map (λ value. value.bytes) values.now) }
     ensures memory { IfErr result (λ fault. fault ≡ Memory) }

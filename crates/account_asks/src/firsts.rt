@@ -1,4 +1,5 @@
-//! The first attribute of each name, found by sorting.
+//! Finds the first attribute of each name by sorting the names, so that many attributes take little
+//! time.
 
 ghost use Rattle.std.specs.Prelude.{◌≡◌, ◌∷◌, [], IfOk, length, drop};
 ghost use Rattle.std.specs.Int.{to_be_bytes, w64};
@@ -38,7 +39,7 @@ pub(crate) fn firsts_in(
     Ok(firsts)
 }
 
-/// Their names' keys, each with the place of its attribute.
+/// The key of each attribute's name, with the attribute's place.
 fn keys_in<'a>(
     alloc: Global,
     attributes: &[Attribute<'a>],
@@ -52,6 +53,7 @@ fn keys_in<'a>(
     Ok(keys)
 }
 
+/// The key by which a name is sorted.
 fn key_of(name: &[u8]) -> Key<'_>
     ensures { IsKeyOf name.now result }
 {
@@ -62,6 +64,8 @@ fn key_of(name: &[u8]) -> Key<'_>
     }
 }
 
+/// The first 8 bytes of a name as a number, the first byte highest. A shorter name is filled up
+/// with 0.
 #[tactic(auto, unfolding(crate::specs::ProofNames::first_bytes))]
 fn first_bytes(name: &[u8]) -> u64
     ensures number { result ≡ first_bytes name.now }
@@ -79,7 +83,7 @@ fn first_bytes(name: &[u8]) -> u64
     ])
 }
 
-/// 0 after the end.
+/// The byte of the name at the place, and 0 after its end.
 fn byte_at(name: &[u8], place: usize) -> u8
     ensures { result ≡ byte_at name.now place }
 {

@@ -1,4 +1,4 @@
-//! The job that a request makes.
+//! The standing of the job that Print-Job or Create-Job makes.
 
 ghost use Rattle.std.specs.Prelude.{◌≡◌};
 ghost use Rattle.account_rules.specs.NewJobs.{fresh};

@@ -1,4 +1,4 @@
-//! The operations, and what each takes and does.
+//! `Operation`: the IPP operations that are served, and what each takes and does.
 
 ghost use Rattle.std.specs.Prelude.{◌≡◌};
 ghost use Rattle.account_asks.specs.Operations.{operation_with, makes_job, describes_document, hands_in_document, is_for_job, lists_attributes, is_send_document, is_get_jobs, is_print_job};
@@ -38,7 +38,7 @@ impl Operation {
         }
     }
 
-    /// Whether it makes a job, or would.
+    /// Whether it makes a job, or as Validate-Job only tells whether one would be made.
     pub(crate) fn makes_job(self) -> bool
         ensures { result ≡ makes_job self }
     {
@@ -48,7 +48,7 @@ impl Operation {
         )
     }
 
-    /// Whether it tells of a document.
+    /// Whether it says of a document in which format it is, and how it is compressed.
     pub(crate) fn describes_document(self) -> bool
         ensures { result ≡ describes_document self }
     {
@@ -65,7 +65,7 @@ impl Operation {
         matches!(self, Operation::PrintJob | Operation::SendDocument)
     }
 
-    /// Whether it is for a job that is there.
+    /// Whether its target is a job. The other operations are for the queue.
     pub(crate) fn is_for_job(self) -> bool
         ensures { result ≡ is_for_job self }
     {
@@ -79,7 +79,8 @@ impl Operation {
         )
     }
 
-    /// Whether it lists attributes that the requester names.
+    /// Whether it is answered with attributes, which the requester may choose
+    /// (requested-attributes).
     pub(crate) fn lists_attributes(self) -> bool
         ensures { result ≡ lists_attributes self }
     {

@@ -1,4 +1,5 @@
-//! The operation attributes of a request, read once for all checks.
+//! `Parts`: the operation attributes of a request with where they lead and what they say, read
+//! once, for all later checks.
 
 ghost use Rattle.std.specs.Prelude.{◌≡◌, ◌<◌, ◌≤◌, IfOk, IfSome, length, map};
 ghost use Rattle.ipp_coding.specs.Plain.{plain_attribute, plain_message};
@@ -25,7 +26,7 @@ pub(crate) struct Parts<'m, 'a> {
 }
 
 impl<'m, 'a> Parts<'m, 'a> {
-    /// Those of the message, or the first check that its operation attributes fail.
+    /// Makes checks 4 to 16 of the message, and gives its parts or the first check that fails.
     pub(crate) fn read(
         operation: Operation,
         message: &'m Message<'a>,
@@ -48,7 +49,7 @@ impl<'m, 'a> Parts<'m, 'a> {
     }
 }
 
-/// The operation attributes, which begin with a charset that is known and a language.
+/// Makes checks 4 and 5, and hands on the operation attributes.
 #[tactic(auto, unfolding(crate::specs::CheckOrder::opening_checks))]
 fn opened<'m, 'a>(message: &'m Message<'a>) -> Result<&'m [Attribute<'a>], Refusal>
     ensures { told (λ attributes. map plain_attribute attributes.now) result

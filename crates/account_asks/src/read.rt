@@ -1,4 +1,4 @@
-//! A request as what it asks, or as the first check that it fails.
+//! `read_ask`: reads the bytes of a request as what it asks, by checks 1 to 18 in their order.
 
 ghost use Rattle.std.specs.Prelude.{◌≡◌, ◌≤◌, length, map, IfOk, IfErr};
 ghost use Rattle.std.specs.List.{AllByRecursion};
@@ -49,7 +49,7 @@ pub fn read_ask<'a>(alloc: Global, body: &'a [u8], account: Name) -> Result<Ask<
     }
 }
 
-/// The operation, where the version and it are served.
+/// Makes checks 1 and 2: the version and the operation are served. Hands on the operation.
 fn served(header: Header) -> Result<Operation, Refusal>
     ensures { told (λ x. x) result ≡ checked (header_checks header) (operation_of header) }
 {
@@ -57,7 +57,8 @@ fn served(header: Header) -> Result<Operation, Refusal>
     checks::operation(header)
 }
 
-/// What a message asks, or the first check that it fails.
+/// Makes checks 4 to 18 of a message that was read, and gives what it asks or the first check that
+/// fails.
 fn ask_in<'a>(
     alloc: Global,
     header: Header,
@@ -93,7 +94,7 @@ fn ask_in<'a>(
     }
 }
 
-/// What is asked once every check has passed.
+/// Puts together what is asked, once every check has passed.
 fn ask_with<'a>(
     alloc: Global,
     header: Header,
@@ -134,7 +135,7 @@ fn ask_with<'a>(
     })
 }
 
-/// A refusal with which no attributes go.
+/// Refuses with no attributes beside the refusal, as for checks 1 to 16.
 fn refused<'a>(alloc: Global, refusal: Refusal) -> AskFault<'a>
     ensures { IsBare result refusal }
 {

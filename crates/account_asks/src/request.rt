@@ -1,4 +1,4 @@
-//! Groups and attributes of a request, found by name.
+//! Finds groups and attributes in a message, and single values under a tag.
 
 // The parts of a message that the checks look at.
 ghost use Rattle.std.specs.Prelude.{◌≡◌, ◌==◌, option_map, option_copied, map, find};
@@ -31,13 +31,15 @@ pub fn job_group<'m, 'a>(groups: &'m [Group<'a>]) -> Option<&'m [Attribute<'a>]>
     Some(group.attributes.as_slice())
 }
 
+/// The first group with the tag of job attributes.
 fn first_job_group<'m, 'a>(groups: &'m [Group<'a>]) -> Option<&'m Group<'a>>
     ensures { option_copied result ≡ find (λ g. g.tag == 2) groups.now }
 {
     groups.iter().find(|group| group.tag == JOB_ATTRIBUTES)
 }
 
-/// The value of attributes-charset, where it is the first attribute and all is well with it.
+/// The value of attributes-charset, where it is the first attribute and has one value, of that
+/// syntax.
 pub(crate) fn charset_first<'a>(attributes: &[Attribute<'a>]) -> Option<&'a [u8]>
     ensures { option_map (λ charset. charset.now) result
         ≡ charset_first (map plain_attribute attributes.now) }
@@ -46,7 +48,8 @@ pub(crate) fn charset_first<'a>(attributes: &[Attribute<'a>]) -> Option<&'a [u8]
     single_if_named(charset, b"attributes-charset", CHARSET)
 }
 
-/// The same of attributes-natural-language, the second attribute.
+/// The value of attributes-natural-language, where it is the second attribute and has one value, of
+/// that syntax.
 pub(crate) fn language_second<'a>(attributes: &[Attribute<'a>]) -> Option<&'a [u8]>
     ensures { option_map (λ language. language.now) result
         ≡ language_second (map plain_attribute attributes.now) }
@@ -76,7 +79,8 @@ pub fn named<'m, 'a>(attributes: &'m [Attribute<'a>], name: &[u8]) -> Option<&'m
     first_named(attributes, name)
 }
 
-/// `named`, with a contract about the attributes as they are lent.
+/// Finds the first attribute with the name. `named` promises the same, but of what attributes stand
+/// for.
 fn first_named<'m, 'a>(attributes: &'m [Attribute<'a>], name: &[u8]) -> Option<&'m Attribute<'a>>
     ensures { option_copied result
         ≡ find (λ a. is_named name.now (plain_attribute a)) attributes.now }
@@ -93,6 +97,7 @@ pub(crate) fn is_named(attribute: &Attribute<'_>, name: &[u8]) -> bool
     attribute.name == name
 }
 
+/// The bytes of the attribute's one value, where it has the name, and the value the tag.
 fn single_if_named<'a>(attribute: &Attribute<'a>, name: &[u8], tag: u8) -> Option<&'a [u8]>
     ensures { option_map (λ bytes. bytes.now) result
         ≡ single_if_named name.now tag (plain_attribute attribute.now) }
@@ -104,7 +109,7 @@ fn single_if_named<'a>(attribute: &Attribute<'a>, name: &[u8], tag: u8) -> Optio
     }
 }
 
-/// The bytes of the attribute's one value, where it has just one, under the tag.
+/// The bytes of the attribute's value, where it has just one, with the tag.
 fn single_under<'a>(attribute: &Attribute<'a>, tag: u8) -> Option<&'a [u8]>
     ensures { option_map (λ bytes. bytes.now) result
         ≡ single_under tag (plain_attribute attribute.now) }
@@ -113,6 +118,7 @@ fn single_under<'a>(attribute: &Attribute<'a>, tag: u8) -> Option<&'a [u8]>
     bytes_under(value, tag)
 }
 
+/// The bytes of the value, where it has the tag.
 fn bytes_under<'a>(value: Value<'a>, tag: u8) -> Option<&'a [u8]>
     ensures { option_map (λ bytes. bytes.now) result ≡ bytes_under tag (plain_value value.entry) }
 {

@@ -1,4 +1,4 @@
-//! The syntaxes of attribute values.
+//! `Syntax`: what a value has to be under its attribute, and the readers of names and numbers.
 
 ghost use Rattle.std.specs.Prelude.{◌≡◌, ◌≤◌, IfSome, map, option_copied, option_map};
 ghost use Rattle.std.specs.List.{list_all};
@@ -74,13 +74,14 @@ fn are_keywords(values: &[Value<'_>]) -> bool
     values.iter().all(|value| is_keyword(value))
 }
 
+/// Whether the value has the tag of a keyword. Its bytes are not looked at.
 fn is_keyword(value: &Value<'_>) -> bool
     ensures { result ≡ is_value_of Keywords (plain_value value.now) }
 {
     value.tag == KEYWORD
 }
 
-/// The value of an attribute that has just one.
+/// The value of an attribute that has just one. None where it has several.
 pub fn lone_value<'a>(values: &[Value<'a>]) -> Option<Value<'a>>
     ensures { option_map plain_value result ≡ lone_value (map plain_value values.now) }
 {
@@ -90,7 +91,7 @@ pub fn lone_value<'a>(values: &[Value<'a>]) -> Option<Value<'a>>
     }
 }
 
-/// The bytes of a name, without its language.
+/// The bytes of a name, without its language. None for a value of another syntax.
 pub(crate) fn name_of<'a>(value: Value<'a>) -> Option<&'a [u8]>
     ensures { option_map (λ text. text.now) result ≡ name_said (plain_value value.entry) }
 {
@@ -101,13 +102,14 @@ pub(crate) fn name_of<'a>(value: Value<'a>) -> Option<&'a [u8]>
     }
 }
 
+/// Whether the tag is that of a name, with or without a language.
 fn is_name_tag(tag: u8) -> bool
     ensures { result ≡ is_name_tag tag }
 {
     tag == NAME_WITHOUT_LANGUAGE || tag == NAME_WITH_LANGUAGE
 }
 
-/// An integer that is at least 0.
+/// Reads an integer that is at least 0. None for any other value.
 pub(crate) fn count_of(value: Value<'_>) -> Option<u32>
     ensures said { result ≡ count_said (plain_value value.entry) }
     ensures within { IfSome result (λ count. count ≤ most_impressions) }
@@ -115,7 +117,7 @@ pub(crate) fn count_of(value: Value<'_>) -> Option<u32>
     from_zero(integer_of(value)?)
 }
 
-/// An integer that is at least 1.
+/// Reads an integer that is at least 1. None for any other value.
 pub(crate) fn positive_of(value: Value<'_>) -> Option<u32>
     ensures said { result ≡ positive_said (plain_value value.entry) }
     ensures within { IfSome result (λ count. 1 ≤ count) }
@@ -123,6 +125,7 @@ pub(crate) fn positive_of(value: Value<'_>) -> Option<u32>
     from_one(count_of(value)?)
 }
 
+/// The number, where it is at least 0.
 fn from_zero(number: i32) -> Option<u32>
     ensures value { result ≡ from_zero number }
     ensures within { IfSome result (λ count. count ≤ most_impressions) }
@@ -130,6 +133,7 @@ fn from_zero(number: i32) -> Option<u32>
     u32::try_from(number).ok()
 }
 
+/// The number, where it is at least 1.
 fn from_one(count: u32) -> Option<u32>
     ensures value { result ≡ from_one count }
     ensures within { IfSome result (λ count. 1 ≤ count) }
@@ -137,6 +141,7 @@ fn from_one(count: u32) -> Option<u32>
     if count == 0 { None } else { Some(count) }
 }
 
+/// Reads an integer. None for any other value, an enum among them.
 pub(crate) fn integer_of(value: Value<'_>) -> Option<i32>
     ensures { result ≡ integer_said (plain_value value.entry) }
 {

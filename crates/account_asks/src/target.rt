@@ -1,4 +1,4 @@
-//! The target of a request, and where in the account's queue it leads.
+//! Finds where in the account's queue a request leads, from the URI that it gives: checks 6 to 8.
 
 ghost use Rattle.std.specs.Prelude.{◌≡◌, ◌<◌, ◌≤◌, IfOk, IfSome, IsTrue, bytes_eq, length, map, option_map};
 ghost use Rattle.std.specs.Char.{is_ascii_digit};
@@ -42,7 +42,8 @@ pub(crate) struct Target<'a> {
 }
 
 impl<'a> TargetUri<'a> {
-    /// What the operation attributes name, as the operation wants it.
+    /// Reads the target from the operation attributes: printer-uri, or for an operation on a job
+    /// either printer-uri with job-id, or job-uri. None where they are missing or not well.
     #[tactic(auto, unfolding(crate::specs::Targets::target_in))]
     pub(crate) fn read(operation: Operation, attributes: &[Attribute<'a>]) -> Option<TargetUri<'a>>
         ensures named { option_map plain_named result
@@ -56,6 +57,7 @@ impl<'a> TargetUri<'a> {
         Some(TargetUri::Printer { uri, job: 0 })
     }
 
+    /// The URI that was given, of the queue or of the job.
     pub(crate) fn uri(self) -> &'a [u8]
         ensures { result.now ≡ uri_of (plain_named self.entry) }
     {
@@ -65,7 +67,7 @@ impl<'a> TargetUri<'a> {
         }
     }
 
-    /// Where it leads, and None where that is not in the account's queue.
+    /// Tells where the target leads, and None where that is not in the account's queue.
     #[tactic(auto, unfolding(crate::specs::Targets::reached))]
     pub(crate) fn reach(self, account: Name) -> Option<Target<'a>>
         requires { HasNumber (plain_named self) }
@@ -83,7 +85,8 @@ impl<'a> TargetUri<'a> {
 }
 
 impl<'a> Target<'a> {
-    /// Where the request leads, or the first check that its target fails.
+    /// Makes checks 6 to 8, and gives where the request leads or the first check that its target
+    /// fails.
     #[tactic(auto, unfolding(crate::specs::CheckOrder::target_checks, crate::specs::Checks::target_of))]
     pub(crate) fn read(
         operation: Operation,
@@ -103,6 +106,8 @@ impl<'a> Target<'a> {
     }
 }
 
+/// Reads the target of an operation on a job: printer-uri with job-id, or job-uri where there is no
+/// printer-uri.
 fn job_target<'a>(attributes: &[Attribute<'a>]) -> Option<TargetUri<'a>>
     ensures named { option_map plain_named result
         ≡ job_target (map plain_attribute attributes.now) }
@@ -118,7 +123,8 @@ fn job_target<'a>(attributes: &[Attribute<'a>]) -> Option<TargetUri<'a>>
     }
 }
 
-/// The number that job-id gives, 0 where no job can have it.
+/// The number that job-id gives, 0 where no job can have it. None where it is not there or not one
+/// integer.
 fn job_id(attributes: &[Attribute<'_>]) -> Option<u32>
     ensures number { result ≡ job_id (map plain_attribute attributes.now) }
     ensures within { IfSome result (λ number. number < last_next_job) }
@@ -128,12 +134,14 @@ fn job_id(attributes: &[Attribute<'_>]) -> Option<u32>
     Some(job_numbered(id))
 }
 
+/// The attribute's value, where it has just one and that is an integer.
 fn lone_integer(attribute: &Attribute<'_>) -> Option<i32>
     ensures { result ≡ lone_integer (plain_attribute attribute.now) }
 {
     integer_of(lone_value(attribute.values.as_slice())?)
 }
 
+/// The job's number, and 0 for an integer that no job has as its number.
 fn job_numbered(id: i32) -> u32
     ensures number { result ≡ job_numbered id }
     ensures within { result < last_next_job }
@@ -144,6 +152,8 @@ fn job_numbered(id: i32) -> u32
     }
 }
 
+/// Leads to the job in the account's queue, or with 0 to the queue, where the URI's path is that of
+/// the queue.
 fn in_queue<'a>(uri: Uri<'a>, account: Name, job: u32) -> Option<Target<'a>>
     ensures reached { option_map plain_target result ≡ in_queue account job (plain_uri uri.entry) }
     ensures parts { IfSome result (λ target. (target.base ≡ uri.entry.base) × (target.job ≡ job)) }
@@ -158,6 +168,7 @@ fn in_queue<'a>(uri: Uri<'a>, account: Name, job: u32) -> Option<Target<'a>>
     }
 }
 
+/// Whether the path is that of the account's queue: `/ipp/print/` and the account's name, no more.
 fn is_queue_path(path: &[u8], account: Name) -> bool
     ensures { result ≡ bytes_eq path.now (queue_path account) }
 {
@@ -167,6 +178,7 @@ fn is_queue_path(path: &[u8], account: Name) -> bool
     }
 }
 
+/// Leads to the job that the URI's path names, where that is in the account's queue.
 fn in_job<'a>(uri: Uri<'a>, account: Name) -> Option<Target<'a>>
     ensures reached { option_map plain_target result ≡ in_job account (plain_uri uri.entry) }
     ensures base { IfSome result (λ target. target.base ≡ uri.entry.base) }
@@ -179,7 +191,7 @@ fn in_job<'a>(uri: Uri<'a>, account: Name) -> Option<Target<'a>>
     })
 }
 
-/// The number in the path of a job of the account.
+/// The number of the job, where the path is `/ipp/print/`, the account's name, `/` and the number.
 fn job_in_path(path: &[u8], account: Name) -> Option<u32>
     ensures number { result ≡ job_in_path account path.now }
     ensures within { IfSome result (λ number. number < last_next_job) }
@@ -189,7 +201,7 @@ fn job_in_path(path: &[u8], account: Name) -> Option<u32>
     job_number(rest.strip_prefix(b"/".as_slice())?)
 }
 
-/// The number that 1 to 6 digits write, the first of them not 0.
+/// Reads 1 to 6 digits as a number, the first of them not 0. None for any other bytes.
 fn job_number(digits: &[u8]) -> Option<u32>
     ensures number { result ≡ job_number digits.now }
     ensures within { IfSome result (λ number. number < last_next_job) }
@@ -201,12 +213,14 @@ fn job_number(digits: &[u8]) -> Option<u32>
     }
 }
 
+/// Whether the bytes are 1 to 6 digits, the first of them not 0.
 fn is_job_number(digits: &[u8]) -> bool
     ensures { result ≡ is_job_number digits.now }
 {
     starts_above_zero(digits) && are_digits(digits) && digits.len() <= 6
 }
 
+/// Whether there is a first byte, and it is not the digit 0.
 fn starts_above_zero(digits: &[u8]) -> bool
     ensures { result ≡ starts_above_zero digits.now }
 {
@@ -222,7 +236,7 @@ fn are_digits(digits: &[u8]) -> bool
     digits.iter().all(|digit| digit.is_ascii_digit())
 }
 
-/// The number that a few digits write.
+/// Reads at most 6 digits as a number.
 fn number_of(digits: &[u8]) -> u32
     requires are_digits { IsTrue (list_all is_ascii_digit digits.now) }
     requires few { length digits.now ≤ 6 }

@@ -1,4 +1,5 @@
-//! The job template attributes of a request.
+//! Reads the job template attributes of a request: the copies, and which attributes are not
+//! supported.
 
 ghost use Rattle.std.specs.Prelude.{◌≡◌, ◌≤◌, ◌||◌, not, IfOk, IfErr, IfSome, [], ◌∷◌, map, option_map, unwrap_or};
 ghost use Rattle.ipp_coding.specs.Plain.{plain_value, plain_attribute, plain_message};
@@ -27,7 +28,8 @@ pub(crate) struct Templates<'a> {
 }
 
 impl<'a> Templates<'a> {
-    /// Those of the job group, where the operation makes a job.
+    /// Reads the attributes of the job group, where the operation makes a job. Else there is one
+    /// copy, and nothing that is not supported.
     pub(crate) fn read(
         alloc: Global,
         operation: Operation,
@@ -50,6 +52,7 @@ impl<'a> Templates<'a> {
         }
     }
 
+    /// Reads the attributes of a job group.
     fn of(alloc: Global, attributes: &[Attribute<'a>]) -> Result<Templates<'a>, AskFault<'a>>
         ensures copies { IfOk result (λ t. t.copies ≡ copies (map plain_attribute attributes.now)) }
         ensures within { IfOk result (λ t. (1 ≤ t.copies) × (t.copies ≤ most_copies)) }
@@ -65,6 +68,7 @@ impl<'a> Templates<'a> {
     }
 }
 
+/// The empty list of attributes, which takes no memory.
 pub(crate) fn no_attributes<'a>(alloc: Global) -> List<Attribute<'a>>
     ensures { result ≡ [] }
 {
@@ -73,6 +77,7 @@ pub(crate) fn no_attributes<'a>(alloc: Global) -> List<Attribute<'a>>
     }
 }
 
+/// The attributes of the job group, where the operation makes a job.
 #[tactic(auto, unfolding(crate::specs::Templates::template_attributes))]
 fn template_attributes<'m, 'a>(
     operation: Operation,
@@ -88,6 +93,7 @@ fn template_attributes<'m, 'a>(
     }
 }
 
+/// The copies that the attributes ask for; 1 where they do not say, or not well.
 #[tactic(auto, unfolding(crate::specs::Templates::copies))]
 fn copies_in(attributes: &[Attribute<'_>]) -> u32
     ensures copies { result ≡ copies (map plain_attribute attributes.now) }
@@ -99,6 +105,8 @@ fn copies_in(attributes: &[Attribute<'_>]) -> u32
     }
 }
 
+/// The copies that the attribute asks for, 1 to 999. None where its value is not one integer of
+/// these.
 fn copies_of(attribute: &Attribute<'_>) -> Option<u32>
     ensures copies { result ≡ copies_said (plain_attribute attribute.now) }
     ensures within { IfSome result (λ copies. (1 ≤ copies) × (copies ≤ most_copies)) }
@@ -107,6 +115,7 @@ fn copies_of(attribute: &Attribute<'_>) -> Option<u32>
     up_to_most(positive_of(value)?)
 }
 
+/// The number of copies, where a job may have so many.
 fn up_to_most(copies: u32) -> Option<u32>
     ensures { result ≡ up_to_most copies }
 {
@@ -117,7 +126,8 @@ fn up_to_most(copies: u32) -> Option<u32>
     }
 }
 
-/// Those that are not supported, in their order, each name once.
+/// Lists the attributes that are not supported as they are answered, in their order, each name
+/// once.
 fn unsupported_in<'a>(
     alloc: Global,
     attributes: &[Attribute<'a>],
@@ -137,6 +147,7 @@ fn unsupported_in<'a>(
     Ok(List { items })
 }
 
+/// Whether the attribute asks for what is done: 1 to 999 copies, or job-hold-until `indefinite`.
 fn is_supported(attribute: &Attribute<'_>) -> bool
     ensures { result ≡ is_supported (plain_attribute attribute.now) }
 {
@@ -149,6 +160,7 @@ fn is_supported(attribute: &Attribute<'_>) -> bool
     }
 }
 
+/// Whether the attribute has the one value `indefinite`.
 fn holds_for_good(attribute: &Attribute<'_>) -> bool
     ensures { result ≡ holds_for_good (lone_value (map plain_value attribute.now.values)) }
 {
@@ -158,6 +170,7 @@ fn holds_for_good(attribute: &Attribute<'_>) -> bool
     }
 }
 
+/// Whether the value is the keyword or the name `indefinite`.
 fn is_indefinite(value: Value<'_>) -> bool
     ensures { result ≡ is_indefinite (plain_value value.entry) }
 {
@@ -165,7 +178,8 @@ fn is_indefinite(value: Value<'_>) -> bool
         && value.bytes == b"indefinite".as_slice()
 }
 
-/// How an attribute that is not supported is answered.
+/// The attribute as it is answered as not supported: with its values where the attribute is known,
+/// so that only these are not supported, else with the out-of-band value unsupported.
 fn returned<'a>(alloc: Global, attribute: &Attribute<'a>) -> Result<Attribute<'a>, AskFault<'a>>
     ensures returned { IfOk result
         (λ a. plain_attribute a ≡ returned (plain_attribute attribute.now)) }
@@ -186,6 +200,7 @@ fn returned<'a>(alloc: Global, attribute: &Attribute<'a>) -> Result<Attribute<'a
     })
 }
 
+/// Whether it is copies or job-hold-until. No other job template attribute is known.
 fn is_known(attribute: &Attribute<'_>) -> bool
     ensures { result ≡ is_known (plain_attribute attribute.now) }
 {

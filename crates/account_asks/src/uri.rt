@@ -1,4 +1,4 @@
-//! A URI in its parts.
+//! Cuts a URI into what stands before its path, and its path.
 
 ghost use Rattle.std.specs.Prelude.{◌≡◌, ◌<◌, ◌≤◌, IfSome, length, option_map, position};
 ghost use Rattle.account_asks.specs.ProofPlainParts.{plain_uri};
@@ -11,7 +11,7 @@ pub(crate) struct Uri<'a> {
     pub(crate) path: &'a [u8],
 }
 
-/// The URI's parts, and None where it has no path.
+/// Cuts the URI in two. None where it has no path.
 #[tactic(auto, using(crate::proofs::UriCuts::base_taken))]
 pub(crate) fn parts_of(uri: &[u8]) -> Option<Uri<'_>>
     ensures value { option_map plain_uri result ≡ parts_of uri.now }
@@ -24,7 +24,7 @@ pub(crate) fn parts_of(uri: &[u8]) -> Option<Uri<'_>>
     })
 }
 
-/// Up to the first `?` or `#`.
+/// The path without a query or a fragment: up to the first `?` or `#`.
 fn before_query(bytes: &[u8]) -> &[u8]
     ensures { result.now ≡ before_query bytes.now }
 {
@@ -34,6 +34,7 @@ fn before_query(bytes: &[u8]) -> &[u8]
     }
 }
 
+/// The place of the first `?` or `#`.
 fn end_of_path(bytes: &[u8]) -> Option<usize>
     ensures place { result ≡ position ends_path bytes.now }
     ensures within { IfSome result (λ end. end < length bytes.now) }
@@ -47,7 +48,7 @@ fn ends_path(byte: u8) -> bool
     byte == b'?' || byte == b'#'
 }
 
-/// From the path on.
+/// The URI from its path on: from the first `/` after `://`.
 fn from_path(uri: &[u8]) -> Option<&[u8]>
     ensures value { option_map (λ rest. rest.now) result ≡ from_path uri.now }
     ensures within { IfSome result (λ rest. length rest.now ≤ length uri.now) }
@@ -55,7 +56,7 @@ fn from_path(uri: &[u8]) -> Option<&[u8]>
     from_slash(behind_scheme(uri)?)
 }
 
-/// From the first `/` on.
+/// What stands from the first `/` on.
 fn from_slash(bytes: &[u8]) -> Option<&[u8]>
     ensures value { option_map (λ rest. rest.now) result ≡ from_slash bytes.now }
     ensures within { IfSome result (λ rest. length rest.now ≤ length bytes.now) }
@@ -64,6 +65,7 @@ fn from_slash(bytes: &[u8]) -> Option<&[u8]>
     Some(&bytes[start..])
 }
 
+/// The place of the first `/`.
 fn first_slash(bytes: &[u8]) -> Option<usize>
     ensures place { result ≡ position is_slash bytes.now }
     ensures within { IfSome result (λ start. start < length bytes.now) }
@@ -71,7 +73,7 @@ fn first_slash(bytes: &[u8]) -> Option<usize>
     bytes.iter().position(|byte| *byte == b'/')
 }
 
-/// After the first `://`.
+/// What stands after the first `://`.
 fn behind_scheme(uri: &[u8]) -> Option<&[u8]>
     ensures value { option_map (λ rest. rest.now) result ≡ behind_scheme uri.now }
     ensures within { IfSome result (λ rest. length rest.now ≤ length uri.now) }

@@ -1,4 +1,4 @@
--- Checks, one after another (all this project's own).
+-- A list of checks, of which the first that refuses is told (all this project's own).
 use Rattle.std.specs.Prelude.{Bool, List, [], ◌∷◌, Option, Some, None, if◌then◌else◌}
 
 -- whether something is refused, and for what

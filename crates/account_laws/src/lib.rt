@@ -1,4 +1,6 @@
-//! What holds of an account over its whole life, as laws on what its machine does.
+//! Laws: what holds of an account over its whole life, proved of what its machine does. Each is a
+//! function without a body, whose contract is the law; "you" is the account's owner. Nobody calls
+//! them at run time: docs/PROMISES.md lists them, and how they reach the files and the server.
 #![tactic(auto)]
 
 mod answers;

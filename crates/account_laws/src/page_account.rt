@@ -1,24 +1,25 @@
-//! Your page account, by what was done.
+//! Laws on your page account: grants, reservations and charges add up, by what was done. Nobody
+//! calls them at run time; docs/PROMISES.md lists them.
 
 ghost use Rattle.account_laws.specs.PageAccount.{AccountsBalance, ReleasesOweNothing, SettlementsCharge};
 
-/// Your page account balances: it was granted what the grants up to a month granted, and charged what
-/// your settlements charged. What releases of your jobs reserved is reserved still, or a hold, a
-/// cancel or a settlement gave it back. What is reserved and what was charged is at most all that was
-/// granted and what devices counted beyond what was reserved for it.
+/// Law: your page account balances. It was granted what the grants up to a month granted, and
+/// charged what your settlements charged. What releases of your jobs reserved is reserved still, or
+/// a hold, a cancel or a settlement gave it back. What is reserved and what was charged is at most
+/// all that was granted and what devices counted beyond what was reserved for it.
 #[tactic(auto, using(crate::proofs::PageAccounts::accounts_balance))]
 pub fn accounts_balance()
     ensures { AccountsBalance }
 {}
 
-/// A release takes no more than is left: whoever releases your job, nothing is owed then.
+/// Law: a release takes no more than is left. Whoever releases your job, nothing is owed then.
 #[tactic(auto, using(crate::proofs::PageAccounts::releases_owe_nothing))]
 pub fn releases_owe_nothing()
     ensures { ReleasesOweNothing }
 {}
 
-/// A settlement charges what the device counted, times the rate that the last release of the job
-/// fixed, and gives back all that the job had reserved.
+/// Law: a settlement charges what the device counted, times the rate that the last release of the
+/// job fixed, and gives back all that the job had reserved.
 #[tactic(auto, using(crate::proofs::PageAccounts::settlements_charge))]
 pub fn settlements_charge()
     ensures { SettlementsCharge }

@@ -1,21 +1,22 @@
-//! What your requests are answered, by what you were told before.
+//! Laws on your requests: what they ask, what they are answered, and the jobs that they make.
+//! Nobody calls them at run time; docs/PROMISES.md lists them.
 
 ghost use Rattle.account_laws.specs.LastingJobs.{JobsLast};
 ghost use Rattle.account_laws.specs.NewNumbers.{JobsAreCounted, NumbersAreKept, NumbersDiffer};
 ghost use Rattle.account_laws.specs.RequestAnswers.{RequestsAreAnswered};
 ghost use Rattle.account_laws.specs.SpelledAsks.{AsksAreSpelled};
 
-/// Your request is done exactly where nothing stands against it, and else is refused for the first
-/// thing that does: in the order of the checks, by what you were told before. What is done is told
-/// by that too: a job with its number, name, state, documents, impressions, copies and moments, all
-/// your jobs in their order, and what your printer is doing.
+/// Law: your request is done exactly where nothing stands against it, and else is refused for the
+/// first thing that does, in the order of the checks, by what you were told before. What is done is
+/// told by that too: a job with its number, name, state, documents, impressions, copies and
+/// moments, all your jobs in their order, and what your printer is doing.
 #[tactic(auto, using(crate::proofs::RequestsAnswered::requests_are_answered))]
 pub fn requests_are_answered()
     ensures { RequestsAreAnswered }
 {}
 
-/// Your jobs are numbered from 1 on, one after the other, as the answers to the requests that made
-/// them tell: no number is told of two of them.
+/// Law: your jobs are numbered from 1 on, one after the other, as the answers to the requests that
+/// made them tell. No number is told of two of them.
 #[tactic(auto, using(crate::proofs::NewNumbers::jobs_are_counted, crate::proofs::NewNumbers::numbers_are_kept, crate::proofs::NewNumbers::numbers_differ))]
 pub fn jobs_are_counted()
     ensures counted { JobsAreCounted }
@@ -23,14 +24,14 @@ pub fn jobs_are_counted()
     ensures differ { NumbersDiffer }
 {}
 
-/// A job is there for good, with what the request gave it that made it.
+/// Law: a job is there for good, with what the request that made it gave it.
 #[tactic(auto, using(crate::proofs::LastingJobs::jobs_last))]
 pub fn jobs_last()
     ensures { JobsLast }
 {}
 
-/// What you ask is what your request's bytes spell: its one message has the operation, the target,
-/// the fields that the operation reads, and behind its end the data, whole.
+/// Law: what you ask is what your request's bytes spell. Its one message has the operation, the
+/// target, the fields that the operation reads, and behind its end the data, whole.
 #[tactic(auto, using(crate::proofs::SpelledAsks::asks_are_spelled))]
 pub fn asks_are_spelled()
     ensures { AsksAreSpelled }

@@ -1,4 +1,4 @@
--- What a printer shows of its operations is what is read (this project's own).
+-- The law of src/laws.rt: a printer shows just the operations that are read (this project's own).
 use Rattle.std.specs.Prelude.{◌≡◌, ◌==◌, ℕ, is_some}
 use Rattle.std.specs.List.{list_any}
 use Rattle.account_asks.specs.Operations.{operation_with}

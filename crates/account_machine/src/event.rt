@@ -1,4 +1,4 @@
-//! Events, and the replies to them.
+//! `Event`: what may happen to an account or a device. `Reply`: what is answered.
 
 use account_replies::Part;
 use account_rules::Name;

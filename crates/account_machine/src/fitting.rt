@@ -1,4 +1,4 @@
-//! Whether the numbers of an event lie within their limits.
+//! Whether the numbers of an event lie within their limits, which callers have to see to.
 
 ghost use Rattle.std.specs.Prelude.{◌≡◌, ◌&&◌, nat_le};
 ghost use Rattle.account_machine.specs.Events.{plain_event};
@@ -9,7 +9,8 @@ use crate::event::Event;
 use account_rules::{FIRST_MONTH, LAST_MONTH, MOST_IMPRESSIONS, MOST_PAGES, MOST_RATE};
 
 /// Whether the event's impressions (up to 2147483647), month (January 1970 to December 2099), pages
-/// (up to 1000000000) and units (1 to 100) lie within their limits. An event without any does.
+/// (up to 1000000000) and units (1 to 100) lie within their limits. An event without any of these
+/// does.
 pub fn fits(e: &Event<'_>) -> bool
     ensures { result ≡ fits (plain_event e.now) }
 {
@@ -22,6 +23,7 @@ pub fn fits(e: &Event<'_>) -> bool
     }
 }
 
+/// Whether a grant of so many pages for the month lies within the limits.
 fn is_grant(month: u32, pages: u32) -> bool
     ensures { result ≡
         (nat_le first_month month && nat_le month last_month && nat_le pages most_pages) }

@@ -1,4 +1,4 @@
-//! What a request brings: a new job, or data.
+//! Makes the job that a request brings, and tells whether a request brings data.
 
 ghost use Rattle.std.specs.Prelude.{◌≡◌, ◌<◌, ◌≤◌, IfOk};
 ghost use Rattle.account_asks.specs.Asks.{IsAsk, plain_ask};
@@ -13,7 +13,8 @@ use account_rules::{Job, Moment};
 use ipp_coding::List;
 use std::alloc::{AllocError, Global};
 
-/// The job that a Print-Job or a Create-Job makes under the number, 1 to 999999.
+/// Makes the job of a Print-Job or a Create-Job under the number, 1 to 999999, with copies of its
+/// texts.
 pub fn job_made(alloc: Global, number: u32, now: Moment, ask: &Ask<'_>) -> Result<Job, AllocError>
     requires ask { IsAsk (plain_ask ask.now) }
     requires number { (1 ≤ number) × (number < last_next_job) }
@@ -30,6 +31,7 @@ pub fn job_made(alloc: Global, number: u32, now: Moment, ask: &Ask<'_>) -> Resul
     })
 }
 
+/// Copies the bytes into a list of their own.
 fn copied(alloc: Global, bytes: &[u8]) -> Result<List<u8>, AllocError>
     ensures copied { IfOk result (λ list. list ≡ bytes.now) }
 {
@@ -37,7 +39,7 @@ fn copied(alloc: Global, bytes: &[u8]) -> Result<List<u8>, AllocError>
     Ok(List { items })
 }
 
-/// Whether the request brings data, which Send-Document takes as a document.
+/// Whether the request has data behind its attributes, which Send-Document takes as a document.
 pub fn has_data(ask: &Ask<'_>) -> bool
     ensures { result ≡ has_data (plain_ask ask.entry.now) }
 {

@@ -1,4 +1,5 @@
-//! The releases of a job but for the quota, and what a station is told of an act.
+//! Releases a job as if the quota allowed it, so that the quota is looked at last. And cuts a
+//! refusal to its word, for stations.
 
 ghost use Rattle.std.specs.Prelude.{◌≡◌, ◌≤◌, ℤ, IfOk};
 ghost use Rattle.account_rules.specs.Keeping.{Keeps};
@@ -13,8 +14,9 @@ use account_rules::{
     ENOUGH_LEFT, Job, Name, Refusal, Standing, Word, release_at_station, release_by_owner,
 };
 
-/// What Release-Job makes of a job but for the quota: `release_by_owner` where the quota refuses
-/// nothing. Whatever is left, it makes of the job what `within_quota` makes of this.
+/// Releases the job over IPP as if the quota allowed it: `release_by_owner` with so many units left
+/// that none is refused for them. The caller then keeps the result to what is left, by
+/// `within_quota`.
 pub fn released(standing: Standing, has_password: bool) -> Result<Standing, Refusal>
     requires { IsStanding standing }
     ensures moved { (left : ℤ) →
@@ -25,8 +27,9 @@ pub fn released(standing: Standing, has_password: bool) -> Result<Standing, Refu
     release_by_owner(standing, has_password, ENOUGH_LEFT)
 }
 
-/// What a release at the station of a device with this rate makes of a job but for the quota:
-/// `release_at_station` where the quota refuses nothing, as above.
+/// Releases the job at the station of a device with this rate as if the quota allowed it:
+/// `release_at_station` with so many units left that none is refused for them. The caller then
+/// keeps the result to what is left, by `within_quota`.
 pub fn released_at(
     job: &Job,
     device: Name,
@@ -55,7 +58,7 @@ pub fn released_at(
     )
 }
 
-/// A station is told the word of a refusal alone.
+/// Cuts a refusal to its word, which is all that a station is told of it.
 pub fn by_word(moved: Result<Standing, Refusal>) -> Result<Standing, Word>
     ensures { result ≡ by_word moved }
 {

@@ -1,4 +1,4 @@
-//! Get-Jobs, with the jobs that it gives.
+//! Writes the response to a Get-Jobs, once its jobs were looked up.
 
 ghost use Rattle.std.specs.Prelude.{◌≡◌, map, None, Some, ℕ, List, IfOk};
 ghost use Rattle.std.specs.Borrow.{Bor};
@@ -16,8 +16,8 @@ use account_replies::{AsJob, Place, with_jobs};
 use ipp_coding::List;
 use std::alloc::{AllocError, Global};
 
-/// The response to a Get-Jobs with the jobs, job-uri and job-id alone where the request names no
-/// attributes.
+/// Writes the response to a Get-Jobs that these jobs answer: of each the attributes that the
+/// request names, or where it names none job-uri and job-id alone.
 pub fn jobs_told<J: AsJob>(
     alloc: Global,
     ask: &Ask<'_>,
@@ -45,7 +45,7 @@ pub fn jobs_told<J: AsJob>(
     }
 }
 
-/// What is told of a job where the request names no attributes.
+/// The attributes that Get-Jobs tells of a job where the request names none.
 fn listed_names() -> [&'static [u8]; 2]
     ensures { Some (map (λ (name : Bor (List ℕ)). name.now) result) ≡ listed_names None }
 {

@@ -1,4 +1,4 @@
-//! What is left of a quota.
+//! Reckons what is left of an account's quota, from what it was granted and the tally of its jobs.
 
 ghost use Rattle.std.specs.Prelude.{◌≡◌, ◌≤◌, pos, ◌≤ℤ◌};
 ghost use Rattle.account_rules.specs.Limits.{most_units};
@@ -7,7 +7,8 @@ ghost use Rattle.account_rules.specs.Quota.{left_of, least_left, most_left};
 use account_rules::left;
 use account_state::Tally;
 
-/// What is left of what was granted (up to 10^18 units), with what the jobs come to.
+/// The units that are left of those that were granted (up to 10^18), less what the jobs reserve and
+/// were charged.
 pub fn left_with(granted: i64, tally: &Tally) -> i64
     requires granted { (pos 0 ≤ℤ granted) × (granted ≤ℤ pos most_units) }
     requires reserved { tally.now.reserved ≤ most_units }

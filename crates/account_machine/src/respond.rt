@@ -1,4 +1,5 @@
-//! What the responses to requests share.
+//! What the answers to several operations share: the place of a response, the attributes that it
+//! shows, the refusal of a job that is not there.
 
 ghost use Rattle.std.specs.Prelude.{◌≡◌, ◌≤◌, ◌∷◌, [], Some, codes, map};
 ghost use Rattle.account_asks.specs.Asks.{IsAsk, plain_ask};
@@ -16,7 +17,7 @@ use account_asks::Ask;
 use account_replies::Place;
 use account_rules::{Moment, Name, Refusal, Word};
 
-/// Where and when the request is answered, of an account that was opened then.
+/// The place and the moment that the response tells, for an account that was opened at `opened`.
 pub fn asked_at<'a>(opened: u64, account: Name, now: Moment, ask: &Ask<'a>) -> Place<'a>
     requires ask { IsAsk (plain_ask ask.now) }
     requires opened { opened ≤ last_moment }
@@ -31,7 +32,7 @@ pub fn asked_at<'a>(opened: u64, account: Name, now: Moment, ask: &Ask<'a>) -> P
     }
 }
 
-/// The names of the attributes that the request wants.
+/// The names of the attributes that the request wants. None where it does not say.
 pub fn wanted_names<'m, 'a>(ask: &'m Ask<'a>) -> Option<&'m [&'a [u8]]>
     ensures { asked_names result ≡ (plain_ask ask.entry.now).wanted }
 {
@@ -41,14 +42,14 @@ pub fn wanted_names<'m, 'a>(ask: &'m Ask<'a>) -> Option<&'m [&'a [u8]]>
     }
 }
 
-/// What is told of a job that a request made or added to.
+/// The attributes that are told of a job that a request made, or gave a document.
 pub fn made_names() -> [&'static [u8]; 4]
     ensures { Some (map (λ (name : Bor (List ℕ)). name.now) result) ≡ made_names }
 {
     [b"job-uri", b"job-id", b"job-state", b"job-state-reasons"]
 }
 
-/// client-error-not-found: the account has no such job.
+/// Refuses as client-error-not-found: the account has no such job.
 pub fn no_job() -> Refusal
     ensures { result ≡ record { status = 0x0406; word = NoJob } }
 {

@@ -1,11 +1,11 @@
-//! What an event came to, beside the bytes of its reply.
+//! `Verdict`: what an event came to, as a value beside the bytes of its reply, for the log.
 
 use crate::event::Reply;
 use account_rules::Refusal;
 
-/// What an event came to. The job is the one that a request made, or else the one for which it asked;
-/// `None` where it made or asked for none, where its fields were refused before that was known, and of
-/// a line.
+/// What an event came to. The job is the one that a request made, or else the one for which it
+/// asked; `None` where it made or asked for none, where its fields were refused before that was
+/// known, and of a line.
 #[derive(Clone, Copy)]
 pub enum Verdict {
     /// It was done, with the status code of a success (RFC 8011 section B.1.2). Of a line that is

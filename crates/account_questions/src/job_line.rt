@@ -1,4 +1,4 @@
-//! The line that tells a job.
+//! Writes the line of text that tells all about a job, as stations and operators are told it.
 
 ghost use Rattle.std.specs.Prelude.{◌≡◌, ◌++◌, IfOk, OnOk, string_bytes};
 ghost use Rattle.percent_encoding.specs.Percent.{percent_encode};
@@ -24,7 +24,8 @@ pub(crate) fn put_job(out: &mut Vec<u8>, job: &Job) -> Result<(), AllocError>
     put_name(out, job.name.as_slice())
 }
 
-/// Appends where a job stands: its number, its state and its device.
+/// Appends `job`, the job's number, its state, and its device or `-`, with a blank behind the
+/// state.
 #[tactic(auto, unfolding(crate::specs::JobLines::place_text))]
 fn put_place(out: &mut Vec<u8>, job: &Job) -> Result<(), AllocError>
     ensures { OnOk result (out.new.items ≡ out.old.items ++ place_text job.now) }
@@ -36,6 +37,7 @@ fn put_place(out: &mut Vec<u8>, job: &Job) -> Result<(), AllocError>
     out.extend_from_slice(device_text(&job.standing.device))
 }
 
+/// The word for the state in a line. A job that is processing and was canceled is `stopping`.
 fn state_text(state: JobState, stopping: bool) -> &'static str
     ensures { result.now ≡ state_text state stopping }
 {
@@ -50,6 +52,7 @@ fn state_text(state: JobState, stopping: bool) -> &'static str
     }
 }
 
+/// The name of the device, and `-` for none.
 fn device_text(device: &Option<Name>) -> &[u8]
     ensures { result.now ≡ device_text device.now }
 {
@@ -59,7 +62,7 @@ fn device_text(device: &Option<Name>) -> &[u8]
     }
 }
 
-/// Appends when a job was made, started and ended.
+/// Appends the moments at which the job was made, started and ended, a blank before each.
 #[tactic(auto, unfolding(crate::specs::JobLines::times_text))]
 fn put_times(out: &mut Vec<u8>, standing: &Standing) -> Result<(), AllocError>
     ensures { OnOk result (out.new.items ≡ out.old.items ++ times_text standing.now) }
@@ -71,6 +74,7 @@ fn put_times(out: &mut Vec<u8>, standing: &Standing) -> Result<(), AllocError>
     out.extend_from_slice(text.as_bytes())
 }
 
+/// The moment in seconds since 1970, and `-` where it has not come.
 fn moment_text(alloc: Global, at: Option<u64>) -> Result<String, AllocError>
     ensures { IfOk result (λ text. string_bytes text ≡ moment_text at) }
 {
@@ -80,7 +84,7 @@ fn moment_text(alloc: Global, at: Option<u64>) -> Result<String, AllocError>
     }
 }
 
-/// Appends whether a job has a password.
+/// Appends `password` where the job has one, else `-`. The password itself is never told.
 fn put_password(out: &mut Vec<u8>, password: &[u8]) -> Result<(), AllocError>
     ensures { OnOk result (out.new.items ≡ out.old.items ++ password_text password.now) }
 {
@@ -90,7 +94,7 @@ fn put_password(out: &mut Vec<u8>, password: &[u8]) -> Result<(), AllocError>
     out.extend_from_slice(b"password")
 }
 
-/// Appends a job's copies, impressions, units and documents.
+/// Appends copies, impressions, units reserved, units charged and documents, a blank before each.
 #[tactic(auto, unfolding(crate::specs::JobLines::counts_text))]
 fn put_counts(out: &mut Vec<u8>, standing: &Standing) -> Result<(), AllocError>
     ensures { OnOk result (out.new.items ≡ out.old.items ++ counts_text standing.now) }
@@ -109,7 +113,8 @@ fn put_counts(out: &mut Vec<u8>, standing: &Standing) -> Result<(), AllocError>
     out.extend_from_slice(text.as_bytes())
 }
 
-/// Appends a job's name, in which some bytes are escaped.
+/// Appends the job's name, with `%` and two digits for blanks, `%`, control bytes and bytes outside
+/// ASCII.
 fn put_name(out: &mut Vec<u8>, name: &[u8]) -> Result<(), AllocError>
     ensures { OnOk result (out.new.items ≡ out.old.items ++ percent_encode escaped name.now) }
 {

@@ -1,4 +1,5 @@
-//! Answers of several lines.
+//! Writes answers of several lines: how many jobs, grants, accounts or devices, then a line for
+//! each.
 
 ghost use Rattle.std.specs.Prelude.{◌≡◌, ◌++◌, IfOk, OnOk};
 ghost use Rattle.account_questions.specs.JobLines.{job_text};
@@ -10,19 +11,19 @@ use ipp_coding::List;
 use page_markup::put_month_number;
 use std::alloc::{AllocError, Global};
 
-/// What a line of a list tells.
+/// An item of such a list, which is told in one line.
 trait Line: Sized {
     ghost use Rattle.std.specs.Prelude.{ℕ, List};
 
     // Its text, without the end of the line.
     ghost text: { Self → List ℕ };
 
-    /// Appends the text.
+    /// Appends the item's line, without its end.
     fn put(&self, out: &mut Vec<u8>) -> Result<(), AllocError>
         ensures put { OnOk result (out.new.items ≡ out.old.items ++ text self.now) };
 }
 
-/// A line that tells how many follow, and a line for each item. The last has no end.
+/// Writes `WORD COUNT`, and behind it each item's line. The last line has no end.
 fn list<L: Line>(alloc: Global, word: &str, items: &[L]) -> Result<List<u8>, AllocError>
     ensures { IfOk result (λ told. told ≡ list_text word.now L.text items.now) }
 {
@@ -37,7 +38,7 @@ fn list<L: Line>(alloc: Global, word: &str, items: &[L]) -> Result<List<u8>, All
     Ok(List { items: lines })
 }
 
-/// The lines that tell jobs.
+/// Answers `jobs COUNT`, and a line for each job as `job_line.rt` writes it.
 pub fn jobs_lines(alloc: Global, jobs: &[Job]) -> Result<List<u8>, AllocError>
     ensures { IfOk result (λ told. told ≡ jobs_text jobs.now) }
 {
@@ -54,7 +55,7 @@ impl Line for Job {
     }
 }
 
-/// The lines that tell grants.
+/// Answers `grants COUNT`, and for each grant `grant MONTH PAGES`.
 pub fn grants_lines(alloc: Global, grants: &[Grant]) -> Result<List<u8>, AllocError>
     ensures { IfOk result (λ told. told ≡ grants_text grants.now) }
 {
@@ -75,7 +76,7 @@ impl Line for Grant {
     }
 }
 
-/// The lines that tell names of accounts.
+/// Answers `accounts COUNT`, and for each name `account NAME`.
 pub fn accounts_lines(alloc: Global, names: &[Name]) -> Result<List<u8>, AllocError>
     ensures { IfOk result (λ told. told ≡ accounts_text names.now) }
 {
@@ -93,7 +94,7 @@ impl Line for Name {
     }
 }
 
-/// The lines that tell devices.
+/// Answers `devices COUNT`, and for each device `device NAME on|off RATE`.
 pub fn devices_lines(alloc: Global, devices: &[Device]) -> Result<List<u8>, AllocError>
     ensures { IfOk result (λ told. told ≡ devices_text devices.now) }
 {

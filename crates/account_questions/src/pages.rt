@@ -1,4 +1,4 @@
-//! The pages of an account, as bytes.
+//! Writes the owner's page and the statement for paper, with the figures that were looked up.
 
 ghost use Rattle.std.specs.Prelude.{◌≡◌, ◌≤◌, IfOk};
 ghost use Rattle.page_pages.specs.Owners.{owner_page};
@@ -15,7 +15,7 @@ use std::alloc::{AllocError, Global};
 /// How many jobs that have ended the owner's page shows.
 pub const MOST_SHOWN: u32 = 20;
 
-/// The page of an account's owner.
+/// Writes the page of an account's owner as bytes.
 pub fn owner_page(alloc: Global, owner: &Owner) -> Result<List<u8>, AllocError>
     requires granted { owner.now.granted ≤ most_units }
     requires reserved { owner.now.reserved ≤ most_units }
@@ -27,7 +27,7 @@ pub fn owner_page(alloc: Global, owner: &Owner) -> Result<List<u8>, AllocError>
     Ok(List { items })
 }
 
-/// A statement for paper.
+/// Writes a statement for paper as bytes.
 pub fn statement_page(alloc: Global, statement: &Statement) -> Result<List<u8>, AllocError>
     requires granted { statement.now.granted ≤ most_units }
     requires reserved { statement.now.reserved ≤ most_units }
@@ -39,7 +39,8 @@ pub fn statement_page(alloc: Global, statement: &Statement) -> Result<List<u8>, 
     Ok(List { items })
 }
 
-/// What a statement shows of a summary, and of jobs that have ended.
+/// Puts together what a statement for paper shows: the figures of the summary, and the jobs that
+/// have ended.
 pub fn statement_with(
     account: Name,
     month: u32,

@@ -1,4 +1,4 @@
-//! The questions.
+//! `Question`: all that may be asked and changes nothing, of the server or about one account.
 
 ghost use Rattle.std.specs.Prelude.{◌≡◌};
 ghost use Rattle.account_questions.specs.Questions.{asks_end};
@@ -6,7 +6,7 @@ ghost use Rattle.account_questions.specs.Questions.{asks_end};
 use account_rules::Name;
 use page_pages::Outcome;
 
-/// One question.
+/// What is asked in one line, or for one page.
 #[derive(Clone, Copy)]
 pub enum Question {
     /// Whether anybody answers.
@@ -24,7 +24,7 @@ pub enum Question {
 }
 
 impl Question {
-    /// Whether who serves is asked to end.
+    /// Whether the server is asked to end.
     pub fn asks_end(&self) -> bool
         ensures { result ≡ asks_end self.now }
     {

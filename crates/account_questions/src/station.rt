@@ -1,4 +1,4 @@
-//! What a station asks about an account.
+//! Answers what a station asks about an account: which jobs wait, and the documents of a job again.
 
 ghost use Rattle.std.specs.Prelude.{◌≡◌, filter, IfOk};
 ghost use Rattle.account_questions.specs.Stations.{is_for, printed_by};
@@ -8,7 +8,8 @@ use account_rules::{Job, Name, Word};
 use ipp_coding::List;
 use std::alloc::{AllocError, Global};
 
-/// Of jobs that have not ended, those that no other device has.
+/// Keeps those of an account's unfinished jobs that the station may release, start or settle: all
+/// but the ones that are bound to another device.
 pub fn waiting_at(alloc: Global, device: Name, jobs: List<Job>) -> Result<List<Job>, AllocError>
     ensures { IfOk result (λ waiting. waiting ≡ filter (is_for device) jobs) }
 {
@@ -21,12 +22,14 @@ pub fn waiting_at(alloc: Global, device: Name, jobs: List<Job>) -> Result<List<J
     Ok(List { items })
 }
 
+/// Whether the job is bound to the device, or to none.
 fn is_for(device: Name, job: &Job) -> bool
     ensures { result ≡ is_for device job.now }
 {
     !is_bound_elsewhere(job.standing.device, device)
 }
 
+/// Whether there is a device that the job is bound to, and it is another one.
 fn is_bound_elsewhere(bound: Option<Name>, device: Name) -> bool
     ensures { result ≡ is_bound_elsewhere bound device }
 {
@@ -36,7 +39,8 @@ fn is_bound_elsewhere(bound: Option<Name>, device: Name) -> bool
     }
 }
 
-/// The job, where the device started it and has not settled it, and nobody canceled it, or why not.
+/// Gives back the job whose documents a device asks for again: the device started it and has not
+/// settled it, and nobody canceled it. Else the word that tells why not.
 pub fn printed_by(device: Name, found: Option<Job>) -> Result<Job, Word>
     ensures { result ≡ printed_by device found }
 {

@@ -1,4 +1,4 @@
-//! Answers of one line.
+//! Writes answers of one line: a quota, a statement, whether rows are sound.
 
 ghost use Rattle.std.specs.Prelude.{◌≡◌, ◌≤◌, IfOk, string_bytes};
 ghost use Rattle.account_questions.specs.Questions.{check_text};
@@ -10,8 +10,8 @@ use account_state::Summary;
 use ipp_coding::List;
 use std::alloc::{AllocError, Global};
 
-/// The line that tells a quota, without its end: what was granted, what jobs reserve, what they were
-/// charged, and what that leaves, all in units.
+/// Writes the line that tells a quota, without its end: what was granted, what jobs reserve, what
+/// they were charged, and what that leaves, all in units.
 pub fn quota_line(
     alloc: Global,
     granted: u64,
@@ -29,6 +29,7 @@ pub fn quota_line(
     })
 }
 
+/// Writes the text of that line: the sums, and what they leave.
 fn quota_text(
     alloc: Global,
     granted: u64,
@@ -44,8 +45,8 @@ fn quota_text(
     format!(in alloc; "ok granted {granted} reserved {reserved} charged {charged} left {left}")
 }
 
-/// The line of a statement, without its end: the quota with what was granted up to the month, and
-/// what the summary tells of the month and of now.
+/// Writes the line of a statement, without its end: the quota with what was granted up to the
+/// month, and what the summary tells of the month and of now.
 pub fn statement_line(alloc: Global, granted: u64, summary: Summary) -> Result<List<u8>, AllocError>
     requires granted { granted ≤ most_units }
     requires reserved { summary.reserved ≤ most_units }
@@ -60,6 +61,8 @@ pub fn statement_line(alloc: Global, granted: u64, summary: Summary) -> Result<L
     })
 }
 
+/// Writes what follows the quota in a statement: what was charged in the month, how many jobs stand
+/// in which state, how many ended, and the units beyond their reservations.
 fn month_text(alloc: Global, summary: Summary) -> Result<String, AllocError>
     ensures { IfOk result (λ text. string_bytes text ≡ month_text summary) }
 {
@@ -78,7 +81,7 @@ fn month_text(alloc: Global, summary: Summary) -> Result<String, AllocError>
     )
 }
 
-/// The line that tells whether the rows of an account are sound, without its end.
+/// Writes `sound` or `damaged`, which tells of an account's rows, without the end of the line.
 pub fn check_line(alloc: Global, are_sound: bool) -> Result<List<u8>, AllocError>
     ensures text { IfOk result (λ line. line ≡ check_text are_sound) }
 {

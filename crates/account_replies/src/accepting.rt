@@ -1,4 +1,5 @@
-//! Whether a queue takes a job, and what its printer is doing.
+//! Decides whether a queue takes a job, and what its printer is doing, from numbers that were
+//! looked up.
 
 ghost use Rattle.std.specs.Prelude.{◌≡◌, ◌≤◌};
 ghost use Rattle.account_replies.specs.Queues.{is_accepting, accepting_refusal, printer_state, printer_now};
@@ -29,8 +30,8 @@ pub fn check_accepting(unfinished: u32, next_job: u32) -> Result<(), Refusal>
     Ok(())
 }
 
-/// The printer-state: it is printing where a job of the account is processing, else stopped where
-/// no device is on, else idle.
+/// The printer-state: processing where a job of the account is processing, else stopped where no
+/// device is on, else idle.
 fn printer_state(is_processing: bool, is_device_on: bool) -> u32
     ensures { result ≡ printer_state is_processing is_device_on }
 {
@@ -41,7 +42,7 @@ fn printer_state(is_processing: bool, is_device_on: bool) -> u32
     }
 }
 
-/// What the printer of an account is doing that has so many unfinished jobs, at most 100.
+/// What the account's printer is doing, where the account has so many unfinished jobs, at most 100.
 pub fn printer_now(
     unfinished: u32,
     next_job: u32,

@@ -1,4 +1,4 @@
-//! Jobs that a reply lists, owned or borrowed.
+//! Lets a response list jobs that it owns or borrows, through one trait.
 
 ghost use Rattle.std.specs.Prelude.{◌≡◌};
 ghost use Rattle.account_rules.specs.declared.job.Job.{Job};

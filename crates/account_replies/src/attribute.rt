@@ -1,4 +1,5 @@
-//! Attributes of a group.
+//! Appends single attributes to a response, by the syntax of their values. Where memory runs out a
+//! part of one may be left; the callers take it back.
 
 ghost use Rattle.std.specs.Prelude.{◌≡◌, [], ◌∷◌, ◌≤◌, None, OnErr, map, take, length};
 ghost use Rattle.std.specs.List.{flat_map, AllByRecursion};
@@ -17,7 +18,8 @@ use ipp_coding::tags::{BOOLEAN, INTEGER, NO_VALUE, URI};
 use ipp_coding::{Attribute, PutFault, Value, put_attribute, put_group, put_more};
 use std::alloc::AllocError;
 
-/// The fault of a part of a message that nothing but lack of memory refused.
+/// Turns a fault of a part that is known to be good into lack of memory, which alone can be its
+/// reason.
 pub(crate) fn want_of_memory(fault: PutFault) -> AllocError
     requires { fault ≡ PutFault.Memory }
 {
@@ -83,7 +85,8 @@ pub(crate) fn put_boolean(out: &mut Vec<u8>, name: &[u8], value: bool) -> Result
     put_single(out, BOOLEAN, name, b"\x00")
 }
 
-/// Appends a moment, also one that has not come.
+/// Appends an attribute that tells a moment in seconds as the printer counts them, with no-value
+/// where the moment has not come.
 pub(crate) fn put_moment(
     out: &mut Vec<u8>,
     name: &[u8],
@@ -102,7 +105,7 @@ pub(crate) fn put_moment(
     }
 }
 
-/// Appends the URI of the printer.
+/// Appends an attribute of one URI, that of the account's queue.
 pub(crate) fn put_printer_uri(
     out: &mut Vec<u8>,
     name: &[u8],
@@ -135,7 +138,7 @@ pub(crate) fn put_attributes(
     Ok(())
 }
 
-/// Appends an attribute of one or more values.
+/// Appends an attribute with its values, of which there is at least one.
 pub(crate) fn put_values(
     out: &mut Vec<u8>,
     name: &[u8],
@@ -166,6 +169,7 @@ fn put_further(out: &mut Vec<u8>, values: &[Value<'_>]) -> Result<(), AllocError
     Ok(())
 }
 
+/// Appends one further value of the attribute before it.
 fn put_value(out: &mut Vec<u8>, value: Value<'_>) -> Result<(), AllocError>
     requires { IsValue (plain_value value) }
     ensures appended { Appends result out.old.items out.new.items

@@ -1,4 +1,4 @@
-//! Whether a grant is new.
+//! Decides whether a grant is new, from what the month was granted already.
 
 ghost use Rattle.std.specs.Prelude.{◌≡◌};
 ghost use Rattle.account_replies.specs.Grants.{grant_refusal};

@@ -1,4 +1,4 @@
-//! The group of a job.
+//! Shows a job in a response: which attributes a job has, in which order, and the value of each.
 
 ghost use Rattle.std.specs.Prelude.{◌≡◌, ◌≤◌, ◌*◌, ◌/◌, IfErr, OnErr, take, length};
 ghost use Rattle.ipp_coding.specs.Spelling.{attribute_spelling, group_spelling, Fits};
@@ -44,10 +44,10 @@ pub(crate) enum JobAttribute {
     HoldUntil,
 }
 
-/// How many there are.
+/// How many attributes a job shows.
 pub(crate) const JOB_ATTRIBUTE_COUNT: usize = 18;
 
-/// All of them, in the order in which they are shown.
+/// All attributes of a job, in the order in which they are shown.
 pub(crate) const JOB_ATTRIBUTES: [JobAttribute; JOB_ATTRIBUTE_COUNT] = [
     JobAttribute::Uri,
     JobAttribute::Id,
@@ -70,6 +70,7 @@ pub(crate) const JOB_ATTRIBUTES: [JobAttribute; JOB_ATTRIBUTE_COUNT] = [
 ];
 
 impl JobAttribute {
+    /// The attribute's name in a message.
     #[tactic(auto, unfolding(crate::specs::JobAttributes::job_attributes))]
     pub(crate) fn name(self) -> &'static [u8]
         ensures row { result.now ≡ (job_row self).name }
@@ -97,7 +98,8 @@ impl JobAttribute {
         }
     }
 
-    /// The keyword by which `requested-attributes` asks for it with its like.
+    /// The keyword in `requested-attributes` that asks for it together with others: job-template or
+    /// job-description.
     #[tactic(auto, unfolding(crate::specs::JobAttributes::job_attributes))]
     pub(crate) fn group(self) -> &'static [u8]
         ensures { result.now ≡ (job_row self).group }
@@ -109,7 +111,8 @@ impl JobAttribute {
     }
 }
 
-/// Appends the group of a job, with the attributes that are wanted. `Memory` is its only fault.
+/// Appends the group of a job, with the attributes that are wanted. `Memory` is its only fault, and
+/// then nothing is appended.
 pub fn put_job(
     out: &mut Vec<u8>,
     at: &Place<'_>,
@@ -131,7 +134,8 @@ pub fn put_job(
     Ok(answer?)
 }
 
-/// The same; a part of it is left where memory ran out.
+/// Appends the group of a job, with the attributes that are wanted. Where memory runs out a part of
+/// it is left, which the caller takes back or drops.
 pub(crate) fn append_wanted(
     out: &mut Vec<u8>,
     at: &Place<'_>,
@@ -147,7 +151,8 @@ pub(crate) fn append_wanted(
     append_job(out, at, job, &Selection::of(wanted))
 }
 
-/// The same with the attributes selected before, so that one selection serves many jobs.
+/// Appends the group of a job with the attributes of the selection, which serves many jobs. Where
+/// memory runs out a part of it is left.
 pub(crate) fn append_job(
     out: &mut Vec<u8>,
     at: &Place<'_>,
@@ -165,7 +170,7 @@ pub(crate) fn append_job(
     Ok(())
 }
 
-/// Appends those of the attributes whose flag is set.
+/// Appends those of the attributes whose flag is set, one by one.
 fn put_job_attributes(
     out: &mut Vec<u8>,
     at: &Place<'_>,
@@ -185,6 +190,7 @@ fn put_job_attributes(
     Ok(())
 }
 
+/// Appends the attribute, if its flag is set.
 fn put_where_set(
     out: &mut Vec<u8>,
     at: &Place<'_>,
@@ -204,6 +210,7 @@ fn put_where_set(
     put_job_attribute(out, at, job, attribute)
 }
 
+/// Appends one attribute of the job with its value.
 #[tactic(auto, unfolding(crate::specs::JobAttributes::job_attributes))]
 fn put_job_attribute(
     out: &mut Vec<u8>,
@@ -247,6 +254,7 @@ fn put_job_attribute(
     }
 }
 
+/// The job-state-reasons of the job: one keyword, by its state.
 fn state_reason(standing: &Standing) -> &'static [u8]
     ensures reason { result.now
         ≡ job_state_reason standing.now.state standing.now.is_open standing.now.stopping }
@@ -264,7 +272,8 @@ fn state_reason(standing: &Standing) -> &'static [u8]
     }
 }
 
-/// The impressions that were charged, at so many units each.
+/// The impressions of all copies that the device completed: the units that were charged, by the
+/// job's rate.
 fn impressions_completed(standing: &Standing) -> u32
     requires rate { 1 ≤ standing.now.rate }
     requires charged { standing.now.charged ≤ most_impressions * standing.now.rate }
@@ -274,7 +283,7 @@ fn impressions_completed(standing: &Standing) -> u32
     (standing.charged / u64::from(standing.rate)) as u32
 }
 
-/// Puts the attribute with so many impressions, or as `unknown` where they are 0.
+/// Appends the attribute with so many impressions, or as `unknown` where they are 0.
 fn put_impressions(out: &mut Vec<u8>, name: &[u8], impressions: u32) -> Result<(), AllocError>
     requires name { IsAttributeName name.now }
     requires impressions { impressions ≤ most_impressions }
@@ -288,6 +297,7 @@ fn put_impressions(out: &mut Vec<u8>, name: &[u8], impressions: u32) -> Result<(
     put_number(out, INTEGER, name, impressions)
 }
 
+/// Appends an attribute of one URI, that of the job.
 fn put_job_uri(out: &mut Vec<u8>, name: &[u8], at: &Place<'_>, job: u32) -> Result<(), AllocError>
     requires name { IsAttributeName name.now }
     requires place { IsPlace (plain_place at.now) }

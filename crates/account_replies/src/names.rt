@@ -1,11 +1,12 @@
-//! The words as texts.
+//! The text of each word that tells why something is refused.
 
 ghost use Rattle.std.specs.Prelude.{◌≡◌, ◌≤◌, length};
 ghost use Rattle.account_replies.specs.Words.{word_name};
 
 use account_rules::Word;
 
-/// The word without its numbers.
+/// The text of the word, as lines and the status-message have it, without the numbers that may
+/// follow.
 pub fn word_name(word: Word) -> &'static [u8]
     ensures name { result.now ≡ word_name word }
     ensures short { length result.now ≤ 27 }

@@ -1,4 +1,4 @@
-//! A document as a device gets it.
+//! A document as it is handed to a device: a line that tells what it is, and its bytes.
 
 ghost use Rattle.std.specs.Prelude.{◌≡◌, IfOk};
 ghost use Rattle.account_replies.specs.Parts.{part_of};
@@ -17,8 +17,8 @@ pub struct Part {
     pub bytes: List<u8>,
 }
 
-/// A document of a job of so many copies, as it is handed to a device: its bytes, moved, after its
-/// line.
+/// Makes a document ready for a device: a line before it that tells so many copies, and its bytes,
+/// which are moved.
 pub fn handed(alloc: Global, copies: u32, document: Document) -> Result<Part, AllocError>
     ensures part { IfOk result (λ part. part ≡ part_of copies document) }
 {

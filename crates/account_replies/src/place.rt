@@ -1,4 +1,4 @@
-//! Where and when a job or a printer is shown.
+//! `Place`: where and when a printer or a job is shown, by which URIs and moments are told.
 
 ghost use Rattle.std.specs.Prelude.{◌≡◌, ◌≤◌, length, IfOk};
 ghost use Rattle.account_rules.specs.Limits.{greatest_integer, last_job};
@@ -9,7 +9,7 @@ ghost use Rattle.account_replies.specs.Times.{up};
 use account_rules::{GREATEST_INTEGER, Name, QUEUES};
 use std::alloc::{AllocError, Global};
 
-/// A URI is mostly shorter than this.
+/// How many bytes are reserved for a URI at first. Most are shorter.
 const SHORT_URI: usize = 96;
 
 /// Where and when a job or a printer is shown.
@@ -26,7 +26,7 @@ pub struct Place<'a> {
 }
 
 impl<'a> Place<'a> {
-    /// The URI of the account's queue.
+    /// Writes the URI of the account's queue.
     pub(crate) fn printer_uri(&self, alloc: Global) -> Result<Vec<u8>, AllocError>
         requires { IsPlace (plain_place self.now) }
         ensures uri { IfOk result (λ uri. uri.items ≡ printer_uri (plain_place self.entry.now)) }
@@ -39,7 +39,7 @@ impl<'a> Place<'a> {
         Ok(uri)
     }
 
-    /// The URI of a job in it.
+    /// Writes the URI of a job in the account's queue.
     pub(crate) fn job_uri(&self, alloc: Global, job: u32) -> Result<Vec<u8>, AllocError>
         requires place { IsPlace (plain_place self.now) }
         requires job { job ≤ last_job }

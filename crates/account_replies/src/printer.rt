@@ -1,4 +1,4 @@
-//! The group of the printer.
+//! Shows the printer in a response: which attributes it has, in which order, and the value of each.
 
 ghost use Rattle.std.specs.Prelude.{◌≡◌, IfErr, OnErr, map, take, length};
 ghost use Rattle.std.specs.List.{flat_map};
@@ -30,10 +30,10 @@ use std::alloc::AllocError;
 /// The printer-state of a printer that is idle (RFC 8011 section 5.4.11).
 pub const IDLE: u32 = 3;
 
-/// Of one that is printing.
+/// The printer-state of a printer that is printing a job.
 pub const PROCESSING: u32 = 4;
 
-/// Of one that prints nothing.
+/// The printer-state of a printer that prints nothing, as no device is on.
 pub const STOPPED: u32 = 5;
 
 /// What a printer is doing.
@@ -78,7 +78,7 @@ pub(crate) enum PrinterAttribute {
     HoldUntil,
 }
 
-/// In the order in which they are shown.
+/// All attributes of the printer, in the order in which they are shown.
 const PRINTER_ATTRIBUTES: [PrinterAttribute; 26] = [
     PrinterAttribute::Uri,
     PrinterAttribute::Authentication,
@@ -109,6 +109,7 @@ const PRINTER_ATTRIBUTES: [PrinterAttribute; 26] = [
 ];
 
 impl PrinterAttribute {
+    /// The attribute's name in a message.
     #[tactic(auto, unfolding(crate::specs::PrinterAttributes::printer_attributes))]
     fn name(self) -> &'static [u8]
         ensures row { result.now ≡ (printer_row self).name }
@@ -144,7 +145,8 @@ impl PrinterAttribute {
         }
     }
 
-    /// The keyword by which `requested-attributes` asks for it with its like.
+    /// The keyword in `requested-attributes` that asks for it together with others: job-template or
+    /// printer-description.
     #[tactic(auto, unfolding(crate::specs::PrinterAttributes::printer_attributes))]
     fn group(self) -> &'static [u8]
         ensures { result.now ≡ (printer_row self).group }
@@ -160,7 +162,7 @@ impl PrinterAttribute {
 }
 
 /// Appends the group of the printer, with the attributes that are wanted. `Memory` is its only
-/// fault.
+/// fault, and then nothing is appended.
 pub fn put_printer(
     out: &mut Vec<u8>,
     at: &Place<'_>,
@@ -182,7 +184,8 @@ pub fn put_printer(
     Ok(answer?)
 }
 
-/// The same; a part of it is left where memory ran out.
+/// Appends the group of the printer, with the attributes that are wanted. Where memory runs out a
+/// part of it is left, which the caller takes back or drops.
 pub(crate) fn append_printer(
     out: &mut Vec<u8>,
     at: &Place<'_>,
@@ -200,7 +203,7 @@ pub(crate) fn append_printer(
     Ok(())
 }
 
-/// Appends those of the attributes that are wanted.
+/// Appends those of the attributes that are wanted, one by one.
 fn put_printer_attributes(
     out: &mut Vec<u8>,
     at: &Place<'_>,
@@ -222,6 +225,7 @@ fn put_printer_attributes(
     Ok(())
 }
 
+/// Appends the attribute, if it is wanted.
 fn put_where_wanted(
     out: &mut Vec<u8>,
     at: &Place<'_>,
@@ -245,6 +249,7 @@ fn put_where_wanted(
     put_printer_attribute(out, at, now, attribute)
 }
 
+/// Appends one attribute of the printer with its value.
 #[tactic(auto, unfolding(crate::specs::PrinterAttributes::printer_attributes))]
 fn put_printer_attribute(
     out: &mut Vec<u8>,
@@ -295,6 +300,7 @@ fn put_printer_attribute(
     }
 }
 
+/// The printer-state-reasons of a printer in the state: one keyword.
 fn state_reason(state: u32) -> &'static [u8]
     ensures reason { result.now ≡ printer_state_reason state }
     ensures fits { Fits result.now }
@@ -319,6 +325,7 @@ fn put_range(out: &mut Vec<u8>, name: &[u8], low: u32, high: u32) -> Result<(), 
     )
 }
 
+/// Appends the versions of IPP that are spoken, as keywords.
 fn put_versions(out: &mut Vec<u8>, name: &[u8]) -> Result<(), AllocError>
     requires { IsAttributeName name.now }
     ensures appended { Appends result out.old.items out.new.items
@@ -336,6 +343,7 @@ fn put_versions(out: &mut Vec<u8>, name: &[u8]) -> Result<(), AllocError>
     put_values(out, name, &[oldest, newest])
 }
 
+/// Appends the operation-ids of the operations that are served, as enums of four bytes.
 fn put_operations(out: &mut Vec<u8>, name: &[u8]) -> Result<(), AllocError>
     requires { IsAttributeName name.now }
     ensures appended { Appends result out.old.items out.new.items
@@ -387,6 +395,7 @@ fn put_operations(out: &mut Vec<u8>, name: &[u8]) -> Result<(), AllocError>
     put_values(out, name, &values)
 }
 
+/// Appends the media types of all document formats.
 fn put_formats(out: &mut Vec<u8>, name: &[u8]) -> Result<(), AllocError>
     requires { IsAttributeName name.now }
     ensures appended { Appends result out.old.items out.new.items
@@ -405,6 +414,7 @@ fn put_formats(out: &mut Vec<u8>, name: &[u8]) -> Result<(), AllocError>
     put_values(out, name, &values)
 }
 
+/// The media type of the format as a value.
 fn format_value(format: Format) -> Value<'static>
     ensures plain { plain_value result ≡ value_with 0x49 (media_type format) }
     ensures value { IsValue (plain_value result) }

@@ -1,4 +1,5 @@
-//! The reply to a request.
+//! The beginning that all responses share: header, operation group, attributes that are not
+//! supported. And the whole response where an event could not be applied.
 
 ghost use Rattle.std.specs.Prelude.{◌≡◌, Some, IfErr, OnErr, map, option_map, take, length};
 ghost use Rattle.std.specs.List.{flat_map, AllByRecursion};
@@ -18,7 +19,7 @@ use ipp_coding::{Attribute, HEADER_LENGTH, Header, put_header};
 use std::alloc::AllocError;
 
 /// Appends the reply to the request that has the header `h`, up to the groups of jobs or of the
-/// printer: no end tag. `Memory` is its only fault.
+/// printer: no end tag. `Memory` is its only fault, and then nothing is appended.
 pub fn put_reply(
     out: &mut Vec<u8>,
     h: Header,
@@ -40,7 +41,8 @@ pub fn put_reply(
     Ok(answer?)
 }
 
-/// The same; a part of it is left where memory ran out.
+/// Appends the reply to the request up to the groups of jobs or of the printer. Where memory runs
+/// out a part of it is left, which the caller takes back or drops.
 pub(crate) fn append_reply(
     out: &mut Vec<u8>,
     h: Header,
@@ -58,7 +60,7 @@ pub(crate) fn append_reply(
     put_unsupported(out, unsupported)
 }
 
-/// Puts the header of the reply to a request of this header, or nothing where memory ran out.
+/// Appends the header of the reply to a request of this header, or nothing where memory ran out.
 fn put_reply_header(out: &mut Vec<u8>, request: Header, status: u16) -> Result<(), AllocError>
     ensures appended { Appends result out.old.items out.new.items
         (header_spelling (reply_header request status)) }
@@ -85,6 +87,7 @@ fn reply_header(request: Header, status: u16) -> Header
     }
 }
 
+/// Appends the operation group: charset, natural language, and for a refusal its word.
 fn put_operation_group(out: &mut Vec<u8>, word: Option<Word>) -> Result<(), AllocError>
     ensures appended { Appends result out.old.items out.new.items
         (group_spelling (operation_group (option_map word_text word))) }
@@ -97,7 +100,8 @@ fn put_operation_group(out: &mut Vec<u8>, word: Option<Word>) -> Result<(), Allo
     Ok(())
 }
 
-/// For a refusal the word that tells why.
+/// Appends the status-message of a refusal, the word that tells why; nothing where there is no
+/// word.
 fn put_status_message(out: &mut Vec<u8>, word: Option<Word>) -> Result<(), AllocError>
     ensures appended { Appends result out.old.items out.new.items
         (flat_map attribute_spelling (status_message (option_map word_text word))) }
@@ -111,7 +115,7 @@ fn put_status_message(out: &mut Vec<u8>, word: Option<Word>) -> Result<(), Alloc
     Ok(())
 }
 
-/// The attributes that are not supported, where there are any.
+/// Appends the group of the attributes that are not supported; nothing where there are none.
 fn put_unsupported(out: &mut Vec<u8>, unsupported: &[Attribute<'_>]) -> Result<(), AllocError>
     requires { AllByRecursion IsAttribute (map plain_attribute unsupported.now) }
     ensures appended { Appends result out.old.items out.new.items
@@ -125,14 +129,15 @@ fn put_unsupported(out: &mut Vec<u8>, unsupported: &[Attribute<'_>]) -> Result<(
     put_attributes(out, unsupported)
 }
 
-/// What stands after the header where a store fails.
+/// All bytes behind the header of `internal_error`: an operation group with the status-message
+/// internal-error, and the end tag.
 const INTERNAL_ERROR: &[u8; 97] = b"\x01\
     \x47\x00\x12attributes-charset\x00\x05utf-8\
     \x48\x00\x1battributes-natural-language\x00\x02en\
     \x41\x00\x0estatus-message\x00\x0einternal-error\x03";
 
-/// The whole reply to the request that has the header `h` where its event could not be applied. It
-/// takes no memory.
+/// Writes the whole response to the request that has the header `h` where its event could not be
+/// applied: server-error-internal-error. It takes no memory.
 pub fn internal_error(h: Header) -> [u8; 105]
     ensures { result ≡ internal_error_text h }
 {

@@ -1,5 +1,5 @@
-//! The bytes of whole responses to requests. What takes a place and a job has the conditions of
-//! `put_job`.
+//! Writes whole responses to requests, as lists of bytes of their own. What takes a place and a job
+//! has the conditions of `put_job`.
 
 ghost use Rattle.std.specs.Prelude.{◌≡◌, ◌++◌, ◌∷◌, [], None, IfOk, OnOk, map};
 ghost use Rattle.std.specs.List.{AllByRecursion, flat_map};
@@ -23,11 +23,11 @@ use account_rules::{Job, Refusal};
 use ipp_coding::{Attribute, Header, List, put_end};
 use std::alloc::{AllocError, Global};
 
-/// A response about one job is mostly shorter than this.
+/// How many bytes are reserved for a response at first. Most about one job are shorter.
 const SHORT_TEXT: usize = 512;
 
-/// The response that refuses the request with the header, with the job template attributes that are
-/// not supported.
+/// Writes the response that refuses the request with the header, with the job template attributes
+/// that are not supported.
 pub fn refused(
     alloc: Global,
     request: Header,
@@ -49,7 +49,7 @@ pub fn refused(
     ended(out)
 }
 
-/// The response to a request that was done, up to its groups of jobs or of the printer.
+/// Begins the response to a request that was done, up to its groups of jobs or of the printer.
 fn begun(
     alloc: Global,
     request: Header,
@@ -71,6 +71,8 @@ fn begun(
     Ok(out)
 }
 
+/// The status code of a request that was done: successful-ok, or where attributes are not supported
+/// successful-ok-ignored-or-substituted-attributes.
 fn success_status(unsupported: &[Attribute<'_>]) -> u16
     ensures { result ≡ success_status (map plain_attribute unsupported.now) }
 {
@@ -81,7 +83,7 @@ fn success_status(unsupported: &[Attribute<'_>]) -> u16
     }
 }
 
-/// The response whose groups are all there.
+/// Ends a response whose groups are all there, with the end tag.
 fn ended(out: Vec<u8>) -> Result<List<u8>, AllocError>
     ensures text { IfOk result (λ text. text ≡ out.items ++ 3 ∷ []) }
 {
@@ -90,7 +92,7 @@ fn ended(out: Vec<u8>) -> Result<List<u8>, AllocError>
     Ok(List { items })
 }
 
-/// The response to a request that was done, without groups of jobs or of the printer.
+/// Writes the response to a request that was done, without groups of jobs or of the printer.
 pub fn done(
     alloc: Global,
     request: Header,
@@ -104,7 +106,7 @@ pub fn done(
     ended(out)
 }
 
-/// The response with the attributes of one job that are wanted.
+/// Writes the response with the attributes of one job that are wanted.
 pub fn with_job(
     alloc: Global,
     request: Header,
@@ -125,7 +127,7 @@ pub fn with_job(
     ended(out)
 }
 
-/// The response with the attributes of each job that are wanted, a group for each.
+/// Writes the response with the attributes of each job that are wanted, a group for each.
 pub fn with_jobs<J: AsJob>(
     alloc: Global,
     request: Header,
@@ -147,6 +149,7 @@ pub fn with_jobs<J: AsJob>(
     ended(out)
 }
 
+/// Appends a group for each job, with the attributes of the selection.
 fn put_jobs<J: AsJob>(
     out: &mut Vec<u8>,
     at: &Place<'_>,
@@ -164,7 +167,7 @@ fn put_jobs<J: AsJob>(
     Ok(())
 }
 
-/// The response with the attributes of the printer that are wanted.
+/// Writes the response with the attributes of the printer that are wanted.
 pub fn with_printer(
     alloc: Global,
     request: Header,

@@ -1,4 +1,4 @@
-//! Which attributes a requester wants.
+//! Decides which attributes a requester is shown, by the names in requested-attributes.
 
 ghost use Rattle.std.specs.Prelude.{◌≡◌, ℕ, Bool, List, map};
 ghost use Rattle.std.specs.Borrow.{Bor};
@@ -41,7 +41,7 @@ impl Selection {
     }
 }
 
-/// Whether each of the attributes is wanted. One that is wanted is held against the names no
+/// Tells of each attribute whether it is wanted. One that is wanted is held against the names no
 /// further than to the first that asks for it.
 fn is_each_wanted(
     wanted: Option<&[&[u8]]>,
@@ -73,6 +73,7 @@ pub(crate) fn is_wanted(wanted: Option<&[&[u8]]>, name: &[u8], group: &[u8]) -> 
     }
 }
 
+/// Whether one of the names asks for the attribute.
 fn is_asked_for(names: &[&[u8]], name: &[u8], group: &[u8]) -> bool
     ensures { result
         ≡ list_any
@@ -82,6 +83,7 @@ fn is_asked_for(names: &[&[u8]], name: &[u8], group: &[u8]) -> bool
     names.iter().any(|asked| asks_for(asked, name, group))
 }
 
+/// Whether the name is that of the attribute, of its group, or `all`.
 fn asks_for(asked: &[u8], name: &[u8], group: &[u8]) -> bool
     ensures { result ≡ asks_for name.now group.now asked.now }
 {

@@ -1,4 +1,4 @@
-//! What a station is answered, decided on its device and the job.
+//! Checks the device of a station, and reckons what is left of the quota after a station's act.
 
 ghost use Rattle.std.specs.Prelude.{◌≡◌, ◌≤◌, pos, ◌≤ℤ◌, option_copied, IfOk, IfErr, option_map};
 ghost use Rattle.account_replies.specs.Stations.{known_device, ready_device, check_on, left_after, units_of};
@@ -8,15 +8,16 @@ ghost use Rattle.account_rules.specs.Standings.{IsStanding};
 
 use account_rules::{Device, Standing, Word};
 
-/// What is known of the device that a station speaks for. Refused as `NoDevice` where there is none
-/// of its name.
+/// Gives back what is known of the device that a station speaks for. Refused as `NoDevice` where
+/// there is none of its name.
 pub fn known_device<D: Drop>(known: Option<D>) -> Result<D, Word>
     ensures { result ≡ known_device known }
 {
     known.ok_or(Word::NoDevice)
 }
 
-/// The device, where it takes jobs. Refused as `NoDevice`, and as `DeviceOff` where it is off.
+/// Gives back the device, where it takes jobs. Refused as `NoDevice` where there is none, and as
+/// `DeviceOff` where it is off.
 pub fn ready_device(device: Option<Device>) -> Result<Device, Word>
     ensures { result ≡ ready_device device }
 {
@@ -44,7 +45,7 @@ pub fn left_after(left: i64, before: &Standing, after: &Standing) -> i64
     left + units(before) - units(after)
 }
 
-/// The units that a job takes of the quota.
+/// The units that a job takes of the quota, reserved and charged.
 fn units(standing: &Standing) -> i64
     requires { IsStanding standing.now }
     ensures units { result ≡ pos (units_of standing.now) }

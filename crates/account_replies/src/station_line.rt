@@ -1,4 +1,5 @@
-//! The lines that a station is told.
+//! Appends the lines that stations and operators are told: the word of a refusal, or a success.
+//! `text.rt` has them as lists of their own.
 
 ghost use Rattle.std.specs.Prelude.{◌≡◌, ◌≤◌, length, IfOk, IfErr, OnErr, string_bytes};
 ghost use Rattle.ipp_coding.specs.Spelling.{Fits};
@@ -10,7 +11,7 @@ use crate::names::word_name;
 use account_rules::{CoreFault, Format, Word};
 use std::alloc::{AllocError, Global};
 
-/// What a station's act came to.
+/// What an act of a station or an operator came to, as its line tells it.
 #[derive(Clone, Copy, PartialEq, Eq)]
 pub enum Success {
     Ok,
@@ -33,7 +34,8 @@ pub enum Success {
     },
 }
 
-/// Appends the text of a word, which is short enough for a value. `Memory` is its only fault.
+/// Appends the text of a word with its numbers, which is short enough for a value of an attribute.
+/// `Memory` is its only fault.
 pub fn put_line(out: &mut Vec<u8>, word: Word) -> Result<(), CoreFault>
     ensures appended { Appends result out.old.items out.new.items (word_text word) }
     ensures fits { Fits (word_text word) }
@@ -43,7 +45,7 @@ pub fn put_line(out: &mut Vec<u8>, word: Word) -> Result<(), CoreFault>
     Ok(append_line(out, word)?)
 }
 
-/// The same, where nothing else can go wrong than that memory runs out.
+/// Appends the text of a word with its numbers, or nothing where memory ran out.
 pub(crate) fn append_line(out: &mut Vec<u8>, word: Word) -> Result<(), AllocError>
     ensures appended { Appends result out.old.items out.new.items (word_text word) }
     ensures fits { Fits (word_text word) }
@@ -57,7 +59,8 @@ pub(crate) fn append_line(out: &mut Vec<u8>, word: Word) -> Result<(), AllocErro
     out.extend_from_slice(numbers.as_bytes())
 }
 
-/// What follows a word; nothing for most, which takes no memory.
+/// Writes the numbers that follow a word, a blank before each. Most words have none, which takes no
+/// memory.
 fn word_numbers(alloc: Global, word: Word) -> Result<String, AllocError>
     ensures numbers { IfOk result (λ text. string_bytes text ≡ word_numbers word) }
     ensures short { length (word_numbers word) ≤ 42 }
@@ -69,6 +72,7 @@ fn word_numbers(alloc: Global, word: Word) -> Result<String, AllocError>
     }
 }
 
+/// Writes the units that a release needs, and those that are left.
 fn quota_numbers(alloc: Global, need: u64, left: i64) -> Result<String, AllocError>
     ensures numbers { IfOk result
         (λ text. string_bytes text ≡ word_numbers (Word.Quota need left)) }
@@ -77,6 +81,7 @@ fn quota_numbers(alloc: Global, need: u64, left: i64) -> Result<String, AllocErr
     format!(in alloc; " {need} {left}")
 }
 
+/// Writes the pages that the month was granted.
 fn conflict_number(alloc: Global, held: u32) -> Result<String, AllocError>
     ensures number { IfOk result (λ text. string_bytes text ≡ word_numbers (Word.Conflict held)) }
     ensures short { length (word_numbers (Word.Conflict held)) ≤ 11 }
@@ -93,7 +98,7 @@ pub fn put_success(out: &mut Vec<u8>, s: Success) -> Result<(), CoreFault>
     Ok(append_success(out, s)?)
 }
 
-/// The same, where nothing else can go wrong than that memory runs out.
+/// Appends the line that tells a success, or nothing where memory ran out.
 pub(crate) fn append_success(out: &mut Vec<u8>, s: Success) -> Result<(), AllocError>
     ensures appended { Appends result out.old.items out.new.items (success_text s) }
     ensures unchanged { OnErr result (out.new.items ≡ out.old.items) }
@@ -102,6 +107,7 @@ pub(crate) fn append_success(out: &mut Vec<u8>, s: Success) -> Result<(), AllocE
     out.extend_from_slice(text.as_bytes())
 }
 
+/// Writes the line that tells a success.
 fn success_text(alloc: Global, s: Success) -> Result<String, AllocError>
     ensures { IfOk result (λ text. string_bytes text ≡ success_text s) }
 {

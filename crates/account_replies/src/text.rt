@@ -1,4 +1,4 @@
-//! The lines that stations and account keepers are answered.
+//! Writes the lines that stations and operators are told, each as a list of bytes of its own.
 
 ghost use Rattle.std.specs.Prelude.{◌≡◌, IfOk};
 ghost use Rattle.account_replies.specs.Lines.{success_text};
@@ -10,7 +10,7 @@ use account_rules::Word;
 use ipp_coding::List;
 use std::alloc::{AllocError, Global};
 
-/// The line that tells a refusal, without its end.
+/// Writes the line that tells a refusal, without its end.
 pub fn line(alloc: Global, word: Word) -> Result<List<u8>, AllocError>
     ensures text { IfOk result (λ line. line ≡ word_text word) }
 {
@@ -19,7 +19,7 @@ pub fn line(alloc: Global, word: Word) -> Result<List<u8>, AllocError>
     Ok(List { items })
 }
 
-/// The line that tells a success, without its end.
+/// Writes the line that tells a success, without its end.
 pub fn success(alloc: Global, success: Success) -> Result<List<u8>, AllocError>
     ensures text { IfOk result (λ line. line ≡ success_text success) }
 {

@@ -1,4 +1,5 @@
--- What an act keeps of a job (this project's own).
+-- What each act but Send-Document keeps of a job: how many documents it has, and that it has ended
+-- (this project's own).
 use Rattle.std.specs.Prelude.{◌≡◌, true}
 use Rattle.account_rules.specs.JobStates.{is_unfinished}
 use Rattle.account_rules.specs.declared.job.Standing.{Standing}

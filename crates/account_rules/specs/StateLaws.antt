@@ -1,4 +1,5 @@
--- What the table of states comes to, in the words of a print room (this project's own).
+-- The laws on the table of states that src/laws.rt proves, in the words of a print room (this
+-- project's own).
 use Rattle.std.specs.Prelude.{◌≡◌, ◌⊎◌, ◌↔◌, ℕ, ◌*◌, ◌≤◌, ℤ, pos, ◌≤ℤ◌, Bool, true, false, if◌then◌else◌, List, [], Option, Some, None, IfSome, IsSome, Result, Ok, Err, IsErr}
 use Rattle.account_rules.specs.declared.job.JobState.{JobState}
 use Rattle.account_rules.specs.declared.job.JobState.TheVariants.{Held, Pending, Processing}

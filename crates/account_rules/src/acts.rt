@@ -1,5 +1,6 @@
-//! The acts on a job. Each gives the job's next standing, or why it is refused; the caller's own
-//! standing stays as it is. None takes memory.
+//! What may be done to a job, one function for each act. It looks at the job's state, and gives the
+//! job's next standing or why it is refused; the caller's own standing stays as it is. What the act
+//! changes is in `effects.rt`. None takes memory.
 
 ghost use Rattle.std.specs.Prelude.{◌≡◌, ◌≤◌, IfOk};
 ghost use Rattle.account_rules.specs.Limits.{most_impressions, IsRate};

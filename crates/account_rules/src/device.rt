@@ -1,4 +1,5 @@
-//! The devices, of which the first record of a name counts.
+//! The list of devices: finds a device by its name, turns it on or off, sets its rate. The first
+//! record of a name counts.
 
 ghost use Rattle.std.specs.Prelude.{◌≡◌, ◌+◌, false, if◌then◌else◌, option_copied, position, vec_len, IsTrue, OnOk, OnErr, IsOkUnless};
 ghost use Rattle.std.specs.FinMap.{contains_key, get};
@@ -70,6 +71,7 @@ fn place_of(devices: &[Device], name: Name) -> Option<usize>
     devices.iter().position(|device| is_of_name(device, name))
 }
 
+/// Whether the record is of the device with the name.
 fn is_of_name(device: &Device, name: Name) -> bool
     ensures { result ≡ is_of_name name device.now }
 {

@@ -1,4 +1,5 @@
-//! What an act makes of a job in a state in which it has an effect.
+//! What each act of `acts.rt` makes of a job whose state allows it: the fields that change, and
+//! what else may refuse it.
 
 ghost use Rattle.std.specs.Prelude.{◌≡◌, ◌≤◌, false, IsNone, IfOk};
 ghost use Rattle.account_rules.specs.Limits.{most_impressions, IsRate};
@@ -12,7 +13,8 @@ use crate::name::Name;
 use crate::quota;
 use crate::refusal::{Refusal, Word};
 
-/// One document more, and whether it is the last; without data that alone.
+/// Gives the job one document more where there is data, and closes it where that was the last.
+/// Refused as `Closed` where the job is closed, and as `TooManyDocuments` where it has eight.
 pub(crate) fn document(s: Standing, last: bool, some_data: bool) -> Result<Standing, Refusal>
     ensures { result ≡ after_document s last some_data }
 {
@@ -35,6 +37,7 @@ pub(crate) fn document(s: Standing, last: bool, some_data: bool) -> Result<Stand
     })
 }
 
+/// Ends the job as canceled at the moment `now`, and gives back the units that it reserved.
 pub(crate) fn cancel(s: Standing, now: Moment) -> Standing
     ensures { result ≡ after_cancel s now }
 {
@@ -47,7 +50,8 @@ pub(crate) fn cancel(s: Standing, now: Moment) -> Standing
     }
 }
 
-/// A job that a device prints is to stop: it ends where the device settles it.
+/// Tells a job that a device prints to stop: it ends where the device settles it. Refused as
+/// `Stopping` where it was told before.
 pub(crate) fn stop(s: Standing) -> Result<Standing, Refusal>
     requires standing { IsStanding s }
     requires state { s.state ≡ JobState.Processing }
@@ -63,6 +67,7 @@ pub(crate) fn stop(s: Standing) -> Result<Standing, Refusal>
     })
 }
 
+/// Takes a release back: the job is held, at rate 1, reserves nothing and is bound to no device.
 pub(crate) fn hold(s: Standing) -> Standing
     ensures { result ≡ after_hold s }
 {
@@ -75,8 +80,9 @@ pub(crate) fn hold(s: Standing) -> Standing
     }
 }
 
-/// The owner releases the job over IPP, at rate 1 and for any device of that rate. `left` are the
-/// units of the quota that are left.
+/// Releases the job for its owner over IPP, at rate 1 and for any device of that rate. `left` are
+/// the units of the quota that are left. The first that applies refuses: incomplete, password,
+/// impressions unknown, quota.
 pub(crate) fn release(s: Standing, has_password: bool, left: i64) -> Result<Standing, Refusal>
     requires standing { IsStanding s }
     requires state { s.state ≡ JobState.Held }
@@ -93,10 +99,10 @@ pub(crate) fn release(s: Standing, has_password: bool, left: i64) -> Result<Stan
     reserving(s, impressions, 1, None, left)
 }
 
-/// A station releases the job for its device, at the device's rate. `kept` is the job's password,
-/// empty where it has none, and `given` the one that was typed. `handed_in` is the number of
-/// impressions that the station tells, which goes before the owner's, or 0. `left` are the units of
-/// the quota that are left. The first that applies refuses: incomplete, password, impressions
+/// Releases the job at a station, for the station's device and at its rate. `kept` is the job's
+/// password, empty where it has none, and `given` the one that was typed. `handed_in` is the number
+/// of impressions that the station tells, which goes before the owner's, or 0. `left` are the units
+/// of the quota that are left. The first that applies refuses: incomplete, password, impressions
 /// unknown, quota.
 pub(crate) fn station_release(
     s: Standing,
@@ -124,7 +130,9 @@ pub(crate) fn station_release(
     reserving(s, impressions, rate, Some(device), left)
 }
 
-/// The job waits for its device, with the units reserved that it will need at most.
+/// Makes the job pending, and reserves the units that it needs at most: impressions of one copy
+/// times copies times rate. Refused where the impressions are 0, which is unknown, or where fewer
+/// units are left. It waits for the device, or with None for any device of rate 1.
 fn reserving(
     s: Standing,
     impressions: u32,
@@ -158,7 +166,8 @@ fn reserving(
     })
 }
 
-/// The device begins to print the job.
+/// Makes the job processing on the device, from the moment `now` on. Refused as `OtherDevice` where
+/// it is bound to another one, and as `Rate` where it is bound to none and the rate is not 1.
 pub(crate) fn start(s: Standing, device: Name, rate: u32, now: Moment) -> Result<Standing, Refusal>
     ensures { result ≡ after_start s device rate now }
 {
@@ -176,8 +185,8 @@ pub(crate) fn start(s: Standing, device: Name, rate: u32, now: Moment) -> Result
     })
 }
 
-/// The device is done with the job, of which it completed so many impressions. Those are charged, at
-/// the rate of the release.
+/// Ends the job at the moment `now`, and charges the impressions that the device completed, at the
+/// rate of the release. Refused as `OtherDevice` where it is bound to another one.
 pub(crate) fn settling(
     s: Standing,
     device: Name,
@@ -206,12 +215,15 @@ pub(crate) fn settling(
     })
 }
 
+/// Whether the job lacks what a release needs: it still takes documents, or has none.
 fn is_incomplete(s: &Standing) -> bool
     ensures { result ≡ is_incomplete s.now }
 {
     s.is_open || s.documents == 0
 }
 
+/// The impressions of one copy that a release at a station counts: those that were handed in there,
+/// or where these are 0 the job's own.
 fn impressions_of(s: &Standing, handed_in: u32) -> u32
     ensures { result ≡ impressions_of s.now handed_in }
 {
@@ -222,12 +234,14 @@ fn impressions_of(s: &Standing, handed_in: u32) -> u32
     }
 }
 
+/// Whether the job has a password, and another one was given.
 fn is_wrong_password(kept: &[u8], given: &[u8]) -> bool
     ensures { result ≡ is_wrong_password kept.now given.now }
 {
     !kept.is_empty() && kept != given
 }
 
+/// Whether the job is bound to another device. Bound to none, it may go to any.
 fn is_bound_elsewhere(bound: Option<Name>, device: Name) -> bool
     ensures { result ≡ is_bound_elsewhere bound device }
 {
@@ -237,6 +251,8 @@ fn is_bound_elsewhere(bound: Option<Name>, device: Name) -> bool
     }
 }
 
+/// The state in which a settled job ends: canceled where it was told to stop, else aborted where
+/// its device failed, else completed.
 fn end_of(stopping: bool, failed: bool) -> JobState
     ensures { result ≡ end_of stopping failed }
 {

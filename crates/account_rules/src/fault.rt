@@ -1,4 +1,4 @@
-//! Why a call of the rules is not answered.
+//! Why a call of the rules, or of the machine on top of them, could not be answered.
 
 ghost use Rattle.std.specs.Prelude.{◌≡◌};
 ghost use Rattle.account_rules.specs.declared.fault.CoreFault.TheVariants.{Memory};

@@ -26,7 +26,7 @@ pub enum JobState {
 }
 
 impl JobState {
-    /// The enum value of job-state.
+    /// The state's value of the enum job-state, which responses and rows have.
     pub fn number(self) -> u32
         ensures number { result ≡ state_number self }
         ensures integer { result ≤ greatest_integer }
@@ -41,7 +41,7 @@ impl JobState {
         }
     }
 
-    /// The state with the number.
+    /// The state with that number, as rows have it. None for any other number.
     pub fn of_number(number: u64) -> Option<JobState>
         ensures some { IfSome result (λ state. number ≡ state_number state) }
         ensures none { result ≡ None → (state : JobStateValue) → number ≢ state_number state }
@@ -134,9 +134,9 @@ pub struct Document {
     pub bytes: List<u8>,
 }
 
-/// A job as Print-Job (closed, with its one document) or Create-Job (open) makes it at the moment
-/// `now`: held, with the copies and the impressions of one copy that the request gives, 0 where
-/// these are unknown.
+/// The standing of a new job, as Print-Job (closed, with its one document) or Create-Job (open)
+/// makes it at the moment `now`: held, with the copies and the impressions of one copy that the
+/// request gives, 0 where these are unknown.
 pub fn fresh(is_print_job: bool, copies: u32, impressions: u32, now: Moment) -> Standing
     ensures made { result ≡ fresh is_print_job copies impressions now }
     // What a request may give makes a standing within the ranges.

@@ -6,47 +6,47 @@ ghost use Rattle.account_rules.specs.Limits.{may_be_job};
 /// The greatest integer that a message carries, which has 32 bits with the sign.
 pub const GREATEST_INTEGER: u32 = 2_147_483_647;
 
-/// Of the name of an account or a device, in bytes.
+/// The longest name of an account or a device, in bytes.
 pub(crate) const LONGEST_NAME: usize = 32;
 
-/// Of a URI, in bytes (RFC 8011 section 5.1.6).
+/// The longest URI, in bytes (RFC 8011 section 5.1.6).
 pub const LONGEST_URI: usize = 1_023;
 
-/// Of a job.
+/// The most copies that a job may have.
 pub const MOST_COPIES: u32 = 999;
 
-/// Of one copy of a job.
+/// The most impressions that one copy of a job may have, and that a device may complete of a job.
 pub const MOST_IMPRESSIONS: u32 = GREATEST_INTEGER;
 
-/// The units that an impression counts on a device, at most.
+/// The most units that an impression may count on a device.
 pub const MOST_RATE: u32 = 100;
 
-/// The units that one release needs, at most.
+/// The most units that one release can need.
 pub(crate) const MOST_NEED: u64 = MOST_IMPRESSIONS as u64 * MOST_COPIES as u64 * MOST_RATE as u64;
 
-/// Of a job.
+/// The most documents that a job may have.
 pub const MOST_DOCUMENTS: u32 = 8;
 
 /// The last moment that the rules know, 2099-12-31T23:59:59Z, in seconds since
 /// 1970-01-01T00:00:00Z.
 pub const LAST_MOMENT: u64 = 4_102_444_799;
 
-/// Of a job's name, in bytes.
+/// The longest name of a job, in bytes.
 pub const LONGEST_JOB_NAME: usize = 255;
 
-/// Of a job's password, in bytes.
+/// The longest password of a job, in bytes.
 pub const LONGEST_PASSWORD: usize = 32;
 
-/// Of a document, in bytes.
+/// The longest document, in bytes: 16 MiB.
 pub const LONGEST_DOCUMENT: usize = 16_777_216;
 
 /// The last number that a job may have.
 pub const LAST_JOB: u32 = 999_999;
 
-/// Of an account: jobs that have not ended.
+/// The most jobs of an account that have not ended.
 pub const MOST_UNFINISHED: u32 = 100;
 
-/// Of one grant.
+/// The most pages of one grant, in units.
 pub const MOST_PAGES: u32 = 1_000_000_000;
 
 /// More units than an account's grants come to, or its jobs ever reserve or were ever charged.

@@ -1,4 +1,4 @@
-//! Moments.
+//! `Moment`: a time in seconds that is known to lie before 2100.
 
 ghost use Rattle.std.specs.Prelude.{◌≡◌, ◌≤◌, ◌<◌, ◌↔◌, IfSome, IsNone};
 ghost use Rattle.account_rules.specs.Limits.{last_moment};
@@ -27,7 +27,7 @@ impl Model for Moment {
 }
 
 impl Moment {
-    /// The moment so many seconds after 1970-01-01T00:00:00Z, and None past `LAST_MOMENT`.
+    /// The moment so many seconds after 1970-01-01T00:00:00Z. None past `LAST_MOMENT`.
     pub fn new(seconds: u64) -> Option<Moment>
         ensures value { IfSome result (λ moment. moment ≡ seconds) }
         ensures none { IsNone result ↔ (last_moment < seconds) }

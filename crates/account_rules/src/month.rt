@@ -1,4 +1,4 @@
-//! Months of moments.
+//! Finds the month of a moment, by the Gregorian calendar in UTC.
 
 ghost use Rattle.std.specs.Prelude.{◌≡◌, ◌+◌, ◌*◌, ◌≤◌, pos, ◌+ℤ◌, ◌*ℤ◌, ◌≤ℤ◌};
 ghost use Rattle.account_rules.specs.Months.{IsMonthOf, month_at};
@@ -18,7 +18,8 @@ pub fn month_of(now: Moment) -> u32
     number(date.year, date.month)
 }
 
-/// The number of a month of a year from 1970 on.
+/// Numbers a month of a year from 1970 on: the year times 12, and 0 for January (`month` 1) to 11
+/// for December (`month` 12).
 fn number(year: i16, month: u8) -> u32
     requires year { pos 1970 ≤ℤ year }
     requires month { (1 ≤ month) × (month ≤ 12) }

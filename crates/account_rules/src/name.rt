@@ -1,4 +1,4 @@
-//! Names of accounts and devices.
+//! `Name`: the name of an account or a device, which is known to be one.
 
 ghost use Rattle.std.specs.Prelude.{◌≡◌, Some, None, IsTrue, if◌then◌else◌};
 ghost use Rattle.std.specs.List.{list_all};
@@ -11,6 +11,7 @@ use std::marker::Model;
 /// of them a letter.
 #[derive(Clone, Copy, PartialEq, Eq, PartialOrd, Ord)]
 pub struct Name {
+    /// How many of the cells, from the first on, are the name. All others are 0.
     size: u8,
     cells: [u8; LONGEST_NAME],
 }
@@ -41,7 +42,7 @@ impl Model for Name {
 }
 
 impl Name {
-    /// The name that the bytes are, and None where they are none.
+    /// Reads the bytes as a name. None where they are none.
     pub fn read(b: &[u8]) -> Option<Name>
         ensures { result ≡ (if is_name b.now then Some b.now else None) }
     {
@@ -56,7 +57,7 @@ impl Name {
         })
     }
 
-    /// Its bytes.
+    /// The bytes of the name, without the cells that it leaves unused.
     pub fn bytes(&self) -> &[u8]
         ensures value { result.now ≡ self.now }
         ensures name { IsTrue (is_name self.now) }
@@ -65,6 +66,8 @@ impl Name {
     }
 }
 
+/// Whether the bytes are a name: 1 to 32 of `a` to `z`, `0` to `9` and `-`, the first of them a
+/// letter.
 fn is_name(bytes: &[u8]) -> bool
     ensures { result ≡ is_name bytes.now }
 {

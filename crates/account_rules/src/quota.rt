@@ -1,4 +1,4 @@
-//! What a release needs, and what is left of a quota.
+//! Reckons with units of the quota: what a release needs, what a job is charged, what is left.
 
 ghost use Rattle.std.specs.Prelude.{◌≡◌, ◌*◌, ◌%◌, ◌≤◌, pos, ◌≤ℤ◌};
 ghost use Rattle.account_rules.specs.Limits.{most_impressions, most_copies, most_rate, most_need, most_units, IsRate};
@@ -9,7 +9,7 @@ use crate::job::Standing;
 use crate::limits::MOST_NEED;
 use crate::refusal::{Refusal, Word};
 
-/// Units that refuse no release: the most that one can need.
+/// So many units that, with these left, the quota refuses no release: the most that one can need.
 pub const ENOUGH_LEFT: i64 = MOST_NEED as i64;
 
 /// What is left of an account's quota, in units: what it was granted, less what its jobs reserve
@@ -55,8 +55,9 @@ pub(crate) fn exceeds(need: u64, left: i64) -> bool
     left < 0 || (left as u64) < need
 }
 
-/// A job as a release made it that was asked with `ENOUGH_LEFT` units, kept to those that are left:
-/// refused as `Quota` where it reserves more.
+/// Keeps a release to the quota: takes the job as a release made it that was asked with
+/// `ENOUGH_LEFT` units, and refuses it as `Quota` where it reserves more than is left. So what is
+/// left need not be summed up for a release that something else refuses.
 pub fn within_quota(released: Standing, left: i64) -> Result<Standing, Refusal>
     ensures { result ≡ within_quota released left }
 {

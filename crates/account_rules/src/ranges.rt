@@ -1,4 +1,4 @@
-//! Whether a job keeps to its ranges.
+//! Whether a standing, as one read from storage, is one that a job can have.
 
 ghost use Rattle.std.specs.Prelude.{◌≡◌, ◌≤◌, ◌↔◌, IsTrue, IfSome};
 ghost use Rattle.account_rules.specs.Limits.{IsMoment};
@@ -23,6 +23,7 @@ impl Standing {
     }
 }
 
+/// Whether copies, impressions, documents, rate and moments lie within their limits.
 fn has_ranges(s: &Standing) -> bool
     ensures { IsTrue result ↔ HasRanges s.now }
 {
@@ -41,6 +42,7 @@ fn has_ranges(s: &Standing) -> bool
     is_moment(s.started) && is_moment(s.ended)
 }
 
+/// Whether there is no moment, or one that the rules know.
 fn is_moment(at: Option<u64>) -> bool
     ensures { IsTrue result ↔ IfSome at IsMoment }
 {
@@ -50,6 +52,7 @@ fn is_moment(at: Option<u64>) -> bool
     }
 }
 
+/// Whether the fields go with the state, as that a job which has ended has a moment of its end.
 fn keeps_to_state(s: &Standing) -> bool
     requires { 1 ≤ s.now.rate }
     ensures { IsTrue result ↔ KeepsToState s.now.state s.now }
@@ -62,12 +65,15 @@ fn keeps_to_state(s: &Standing) -> bool
     }
 }
 
+/// Whether the fields are those of a job that has not ended: no charge, and no moment of its end.
 fn is_unfinished(s: &Standing) -> bool
     ensures { IsTrue result ↔ IsUnfinished s.now }
 {
     s.charged == 0 && s.ended.is_none()
 }
 
+/// Whether the fields are those of a pending or processing job: it is closed, has a document, and
+/// reserves no more than a release can need.
 fn is_released(s: &Standing) -> bool
     ensures { IsTrue result ↔ IsReleased s.now }
 {
@@ -77,6 +83,7 @@ fn is_released(s: &Standing) -> bool
     is_unfinished(s)
 }
 
+/// Whether the fields are those of a held job: at rate 1, with nothing reserved.
 fn is_held(s: &Standing) -> bool
     ensures { IsTrue result ↔ IsHeld s.now }
 {
@@ -86,6 +93,8 @@ fn is_held(s: &Standing) -> bool
     is_unfinished(s)
 }
 
+/// Whether the fields are those of a pending job: released, and where it is bound to no device, at
+/// rate 1.
 fn is_pending(s: &Standing) -> bool
     ensures { IsTrue result ↔ IsPending s.now }
 {
@@ -95,6 +104,7 @@ fn is_pending(s: &Standing) -> bool
     is_released(s)
 }
 
+/// Whether the fields are those of a processing job: released, and bound to its device.
 fn is_processing(s: &Standing) -> bool
     ensures { IsTrue result ↔ IsProcessing s.now }
 {
@@ -104,6 +114,8 @@ fn is_processing(s: &Standing) -> bool
     is_released(s)
 }
 
+/// Whether the fields are those of a job that has ended: it is closed, reserves nothing, has a
+/// moment of its end, and was charged whole impressions at its rate, within the limit.
 fn has_ended(s: &Standing) -> bool
     requires { 1 ≤ s.now.rate }
     ensures { IsTrue result ↔ HasEnded s.now }

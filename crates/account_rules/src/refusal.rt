@@ -1,4 +1,4 @@
-//! Refusals: a status and a word.
+//! Why something is refused: a word, and the IPP status code that goes with it.
 
 ghost use Rattle.std.specs.Prelude.{◌≡◌};
 ghost use Rattle.account_rules.specs.declared.refusal.Word.TheVariants.{TooManyDocuments};
@@ -62,7 +62,7 @@ pub struct Refusal {
 }
 
 impl Refusal {
-    /// client-error-not-possible, for this reason.
+    /// Refuses for the reason that the word says, as client-error-not-possible.
     pub(crate) fn not_possible(word: Word) -> Refusal
         ensures { result ≡ record { status = 0x0404; word = word } }
     {
@@ -72,7 +72,7 @@ impl Refusal {
         }
     }
 
-    /// A job has as many documents as it may have.
+    /// Refuses a further document of a job that has as many as it may have.
     pub(crate) fn too_many_documents() -> Refusal
         ensures { result ≡ record { status = 0x0509; word = TooManyDocuments } }
     {

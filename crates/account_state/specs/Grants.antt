@@ -1,4 +1,4 @@
--- A grant of an account (all this project's own).
+-- A grant of an account, as a record of its month and its pages (all this project's own).
 use Rattle.std.specs.Prelude.{ℕ}
 use Rattle.account_rules.specs.declared.account.Grant.{Grant}
 

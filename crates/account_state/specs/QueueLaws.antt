@@ -1,4 +1,4 @@
--- What the queue of the completed jobs is, however it is computed.
+-- The law of src/laws.rt: what the queue of the completed jobs is, however it is computed.
 use Rattle.std.specs.Prelude.{◌≡◌, List}
 use Rattle.account_rules.specs.declared.job.Job.{Job}
 use Rattle.account_state.specs.Queues.{completed, IsCompletedQueue}

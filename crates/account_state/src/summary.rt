@@ -1,4 +1,4 @@
-//! What an account's jobs come to.
+//! `Summary`: what a statement tells of an account's jobs, and of them in one month.
 
 /// What the jobs of an account come to, and what of it in one month.
 #[derive(Clone, Copy, PartialEq, Eq)]

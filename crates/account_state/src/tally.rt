@@ -1,4 +1,4 @@
-//! What is counted of the jobs of an account.
+//! `Tally`: a count over the jobs of an account, to which one job after another is added.
 
 ghost use Rattle.std.specs.Prelude.{◌≡◌, ◌+◌, [], nat_le, if◌then◌else◌};
 ghost use Rattle.account_rules.specs.JobStates.{is_unfinished, is_processing};
@@ -7,7 +7,8 @@ ghost use Rattle.account_state.specs.Tallies.{tally_of, counted_in_bounds};
 
 use account_rules::{JobState, MOST_UNFINISHED, MOST_UNITS};
 
-/// What is counted of jobs, one after another.
+/// What is counted of jobs, one after another: how many are unfinished, and the units that they
+/// take.
 #[derive(Clone, Copy, PartialEq, Eq)]
 pub struct Tally {
     /// Jobs that have not ended.
@@ -21,7 +22,7 @@ pub struct Tally {
 }
 
 impl Tally {
-    /// Of no job.
+    /// The tally of no jobs.
     pub fn new() -> Tally
         ensures { result ≡ tally_of [] }
     {
@@ -33,8 +34,8 @@ impl Tally {
         }
     }
 
-    /// With one job more. None exactly where more than 100 had not ended, or a sum would pass 10^18
-    /// units, which no account's jobs come to.
+    /// Counts one job more. None exactly where more than 100 had not ended, or a sum would pass
+    /// 10^18 units, which no account's jobs come to.
     pub fn with(self, state: JobState, reserved: u64, charged: u64) -> Option<Tally>
         ensures { result ≡ counted_in_bounds self state reserved charged }
     {
@@ -47,6 +48,7 @@ impl Tally {
     }
 }
 
+/// Counts one job more of the state, if that is an unfinished one. None past 100.
 fn count_of_unfinished(count: u32, state: JobState) -> Option<u32>
     ensures { result
         ≡ (if nat_le (count + (if is_unfinished state then 1 else 0)) most_unfinished
@@ -58,7 +60,7 @@ fn count_of_unfinished(count: u32, state: JobState) -> Option<u32>
         .filter(|sum| *sum <= MOST_UNFINISHED)
 }
 
-/// The sum of units. None exactly where it would pass 10^18.
+/// Adds units. None exactly where the sum would pass 10^18.
 pub fn sum_of_units(units: u64, more: u64) -> Option<u64>
     ensures { result ≡ (if nat_le (units + more) most_units then Some (units + more) else None) }
 {

@@ -1,5 +1,6 @@
-//! The commands that ask a running process, over a connection that each opens: `send`, what asks an
-//! operator's address, as `report`, and what asks a queue, as `print`. They open no database.
+//! The commands that ask a running process, over a connection that each opens: `send` (`sending`),
+//! what asks an operator's address, as `report` (`errands`), and what asks a queue, as `print`
+//! (`owner`). They open no database.
 #![tactic(auto)]
 
 mod connected;

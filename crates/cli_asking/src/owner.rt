@@ -1,4 +1,4 @@
-//! `print`, `jobs`, `cancel`, `hold` and `release`: what is asked of the queue of an account.
+//! The commands `print`, `jobs`, `cancel`, `hold` and `release`, which ask the queue of an account.
 
 use crate::connected::{BUFFER, to_host};
 use crate::errands::judge_done;
@@ -9,8 +9,8 @@ use input_fields::{Counted, StreamFault, read_whole};
 use std::fs::File;
 use std::io::{BufReader, BufWriter, IsTerminal, Write};
 
-/// Asks what the command asks for, and prints what it comes to. What is read is read before the
-/// queue is connected to. `now` is the clock's moment, or `None` where it has none to give.
+/// Asks the queue what the command asks for, and prints the answer. The document and the PIN are
+/// read before it connects. `now` is the clock's moment, or `None` where it has none to give.
 pub fn run_owner_errand<O: Write>(
     rt: &HostRuntime,
     now: Option<u64>,
@@ -30,6 +30,7 @@ pub fn run_owner_errand<O: Write>(
     }
 }
 
+/// Reads the document, and the PIN if there is to be one, and asks the queue to print it.
 fn print<O: Write>(
     rt: &HostRuntime,
     now: Option<u64>,
@@ -50,6 +51,7 @@ fn print<O: Write>(
     ask(rt, now, queue, &Asked::Print(job), output)
 }
 
+/// The job that is asked for, of the format that the document's first bytes tell.
 fn new_job<'a>(
     name: &'a [u8],
     copies: u32,
@@ -67,6 +69,7 @@ fn new_job<'a>(
     }
 }
 
+/// Reads the whole file. `Document` where it is longer than a document may be.
 fn document_in(rt: &HostRuntime, file: &str) -> Result<Vec<u8>, Fault> {
     let file = File::open(rt, file)?;
     match read_whole(rt.alloc(), &mut Counted::new(file), LONGEST_DOCUMENT) {
@@ -76,8 +79,8 @@ fn document_in(rt: &HostRuntime, file: &str) -> Result<Vec<u8>, Fault> {
     }
 }
 
-/// The PIN that standard input has, where there is to be one. It is asked for where standard error is
-/// a terminal.
+/// Reads the PIN from standard input, where there is to be one. Where standard error is a terminal
+/// it prompts for it there.
 fn pin_for(rt: &HostRuntime, has_pin: bool) -> Result<Option<Vec<u8>>, Fault> {
     if !has_pin {
         return Ok(None);

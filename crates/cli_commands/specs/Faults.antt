@@ -1,5 +1,5 @@
--- Rule: What faults of lines, of a database and of its events are to a command (all this project's
--- own).
+-- Rule: The fault of a command for each fault of its lines, of its database and of its events (all
+-- this project's own).
 use Rattle.input_lines.specs.declared.fault.LineFault.{LineFault}
 use Rattle.input_lines.specs.declared.fault.LineFault.TheVariants as lines
 use Rattle.store_rounds.specs.declared.fault.StoreFault.{StoreFault}

@@ -1,4 +1,4 @@
--- Records of grants as events (this project's own).
+-- The event that a record of a file of grants asks for (this project's own).
 use Rattle.std.specs.Prelude.{ℕ, Option, None, Some}
 use Rattle.account_machine.specs.declared.event.Event.{Event}
 use Rattle.account_machine.specs.declared.event.Event.TheVariants.{Grant}

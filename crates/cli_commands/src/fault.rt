@@ -1,4 +1,5 @@
-//! What the faults of lines, of a database and of its events are to a command.
+//! The fault with which a command ends, for each fault of its lines, of its database and of an
+//! event.
 ghost use Rattle.std.specs.Prelude.{◌≡◌, IfErr};
 ghost use Rattle.cli_commands.specs.Faults.{event_fault, line_fault, open_fault};
 ghost use Rattle.cli_words.specs.Statuses.{exit_status_of};
@@ -8,7 +9,7 @@ use input_lines::LineFault;
 use room_store::OpenFault;
 use store_rounds::StoreFault;
 
-/// Lines that are not all of their grammar.
+/// The command's fault where a line is none of its grammar: the line's number; or `Memory`.
 pub(crate) fn line_fault(fault: LineFault) -> Fault
     ensures { result ≡ line_fault fault }
 {
@@ -18,7 +19,7 @@ pub(crate) fn line_fault(fault: LineFault) -> Fault
     }
 }
 
-/// What was opened, or why it was not.
+/// What was opened, or the command's fault where it was not.
 pub fn opened<T: Drop>(done: Result<T, OpenFault>) -> Result<T, Fault>
     ensures status { IfErr result (λ fault. exit_status_of fault ≡ 3) }
 {
@@ -28,7 +29,8 @@ pub fn opened<T: Drop>(done: Result<T, OpenFault>) -> Result<T, Fault>
     }
 }
 
-/// A database that was not opened.
+/// The command's fault where a database was not opened: `Memory` where memory ran out, else
+/// `Store`.
 pub fn open_fault(fault: OpenFault) -> Fault
     ensures fault { result ≡ open_fault fault }
     ensures status { exit_status_of result ≡ 3 }
@@ -39,7 +41,7 @@ pub fn open_fault(fault: OpenFault) -> Fault
     }
 }
 
-/// An event that failed.
+/// The command's fault where an event failed: `Memory` where memory ran out, else `Store`.
 pub(crate) fn event_fault(fault: StoreFault) -> Fault
     ensures { result ≡ event_fault fault }
 {

@@ -1,4 +1,4 @@
-//! Records of grants as events.
+//! The events that the records of a file of grants ask for.
 ghost use Rattle.std.specs.Prelude.{◌≡◌, All, IfOk, IsTrue};
 ghost use Rattle.std.specs.List.{filter_map};
 ghost use Rattle.account_machine.specs.Events.{plain_event};
@@ -27,6 +27,7 @@ pub fn grant_events(
         .collect(alloc)
 }
 
+/// The event of a good record, at the moment. A bad record gives none.
 fn grant_at(moment: u64, line: &GrantLine) -> Option<(u64, Event<'static>)>
     ensures { result ≡ grant_event moment line.now }
 {

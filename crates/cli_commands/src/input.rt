@@ -1,4 +1,4 @@
-//! What standard input has for a command.
+//! How a command reads all of standard input: as lines, as a text, or as records of grants.
 ghost use Rattle.std.specs.Prelude.{◌≡◌, ◌≤◌, ◌<◌, ℕ, List, false, true, IfOk, IsErrOf, All, length};
 ghost use Rattle.cli_commands.specs.Runs.{AreGiven, AreRecords};
 ghost use Rattle.input_fields.specs.GrantFiles.{is_too_large};
@@ -15,7 +15,7 @@ use std::io::Read;
 /// The most bytes that lines may have.
 const MOST_BYTES: usize = 67_108_864;
 
-/// The lines, all of which have to be of the grammar.
+/// Reads all lines of the input. The first that is none of the grammar is the fault.
 pub fn read_lines<R: Read + Drop>(
     alloc: Global,
     input: R,
@@ -30,7 +30,7 @@ pub fn read_lines<R: Read + Drop>(
         .map_err(|fault| line_fault(fault))
 }
 
-/// All of the input, whatever lines it has.
+/// Reads all of the input, at most `MOST_BYTES`, whatever lines it has.
 pub fn read_text<R: Read + Drop>(alloc: Global, input: R) -> Result<Vec<u8>, Fault>
     ensures all { IfOk result (λ text. MayBeLeft (R.remaining input) false text.items) }
     ensures short { IfOk result (λ text. length text.items ≤ MOST_BYTES) }
@@ -40,7 +40,7 @@ pub fn read_text<R: Read + Drop>(alloc: Global, input: R) -> Result<Vec<u8>, Fau
     Ok(read_whole(alloc, &mut Counted::new(input), MOST_BYTES)?)
 }
 
-/// The records of a file of grants, good and bad.
+/// Reads the records of a file of grants, good and bad.
 pub fn read_records<R: Read + Drop>(alloc: Global, input: R) -> Result<Vec<GrantLine>, Fault>
     ensures said { IfOk result
         (λ records. AreRecords (MayBeLeft (R.remaining input) false) records.items) }

@@ -1,4 +1,5 @@
-//! What a command does on one database: done over any reader, any writer and any databases.
+//! The commands on one database, from `create` to `script`, over any reader, any writer and any
+//! databases.
 #![tactic(auto)]
 
 mod fault;

@@ -1,4 +1,4 @@
-//! What a run prints.
+//! What a run prints on standard output: texts, explained messages, and what its events came to.
 ghost use Rattle.std.specs.Prelude.{◌≡◌, IfOk, OnOk, drop};
 ghost use Rattle.std.specs.Io.KnownBytes.{Appends};
 ghost use Rattle.std.specs.List.{flat_map};
@@ -11,7 +11,7 @@ use std::alloc::Global;
 use std::io;
 use std::io::Write;
 
-/// A text as it is.
+/// Prints a text as it is.
 pub fn print_text<W: Write>(output: &mut W, text: &str) -> io::Result<()>
     ensures { OnOk result (Appends (W.contents output.old) (W.contents output.new) text.now) }
 {
@@ -19,13 +19,13 @@ pub fn print_text<W: Write>(output: &mut W, text: &str) -> io::Result<()>
     output.flush()
 }
 
-/// The lines of a text, of which those with a message are explained.
+/// Prints the lines of a text, and explains those that have a message of IPP.
 pub fn print_explained<W: Write>(alloc: Global, output: &mut W, text: &[u8]) -> io::Result<()> {
     ipp_notation::explain(alloc, text, output)?;
     output.flush()
 }
 
-/// What each event came to.
+/// Prints what each event came to.
 pub fn print_outcomes<W: Write>(output: &mut W, outcomes: &[Outcome]) -> io::Result<()>
     ensures { OnOk result (Appends (W.contents output.old) (W.contents output.new)
         (flat_map outcome_lines outcomes.now)) }
@@ -36,8 +36,8 @@ pub fn print_outcomes<W: Write>(output: &mut W, outcomes: &[Outcome]) -> io::Res
     output.flush()
 }
 
-/// Of each record its number from 1 and `bad`, or what its grant came to. The good ones have the
-/// outcomes, in order.
+/// Prints for each record its number from 1, and `bad` or what its grant came to. The outcomes are
+/// those of the good records, in order.
 pub fn print_grants<W: Write>(
     output: &mut W,
     records: &[GrantLine],
@@ -53,7 +53,8 @@ pub fn print_grants<W: Write>(
     output.flush()
 }
 
-/// What one record came to, a good one the first of the outcomes. It answers those that are left.
+/// Prints one record: its number, and `bad` or the first of the outcomes. Answers the outcomes that
+/// are left for the records behind it.
 fn print_record<'a, W: Write>(
     output: &mut W,
     number: usize,
@@ -76,7 +77,7 @@ fn print_record<'a, W: Write>(
     }
 }
 
-/// The first of the outcomes. It answers those behind it.
+/// Prints the first of the outcomes, and answers those behind it.
 fn print_next<'a, W: Write>(output: &mut W, outcomes: &'a [Outcome]) -> io::Result<&'a [Outcome]>
     ensures text { OnOk result (Appends (W.contents output.old) (W.contents output.new)
         (next_lines outcomes.now)) }

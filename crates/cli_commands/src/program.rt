@@ -1,4 +1,5 @@
-//! One run of the program, over any reader, any writers and any databases.
+//! One run of a command on one database, over any reader, any writers and any databases: from its
+//! words to its exit status.
 ghost use Rattle.std.specs.Prelude.{◌≡◌, ◌≤◌, false, IsOk, IsTrue, None, OnOk, codes, map};
 ghost use Rattle.std.specs.Io.KnownBytes.{Appends};
 ghost use Rattle.input_fields.specs.Streams.{MayBeLeft};
@@ -28,7 +29,8 @@ use std::io::{Read, Write};
 /// `opener` is asked for the database once nothing else can be wrong, and gets it back before
 /// anything is printed. In `:memory:` each run makes tables of its own. `explain` asks for none,
 /// and none of its lines is wrong. Of `copy`, `listen`, `serve`, `send` and what is asked over an
-/// address or of a queue it answers `Io` with nothing run, since it has one database and no sockets.
+/// address or of a queue it answers `Io` with nothing run, since it has one database and no
+/// sockets.
 pub fn run<S, F, R, W, E>(
     alloc: Global,
     words: &[&str],
@@ -59,6 +61,7 @@ where
     }
 }
 
+/// Reads the words as a command, and does it.
 fn perform<S, F, R, W>(
     alloc: Global,
     words: &[&str],
@@ -80,6 +83,7 @@ where
     run_command(alloc, &command, now, opener, input, output)
 }
 
+/// Does the command. `Io` for those that need sockets or a second file, which are done elsewhere.
 fn run_command<S, F, R, W>(
     alloc: Global,
     command: &Command<'_>,
@@ -139,12 +143,13 @@ where
     }
 }
 
+/// Does `explain`: prints standard input with its messages explained.
 fn explain<R: Read + Drop, W: Write>(alloc: Global, input: R, output: &mut W) -> Result<(), Fault> {
     let text = read_text(alloc, input)?;
     Ok(print_explained(alloc, output, text.as_slice())?)
 }
 
-// The tables, made or brought up to date.
+/// Does `create` or `migrate`: makes the tables, or brings them up to date, and prints `ok`.
 fn make<S, F, W>(
     alloc: Global,
     opener: F,
@@ -162,7 +167,7 @@ where
     Ok(print_text(output, "ok\n")?)
 }
 
-// One action at the clock's moment.
+/// Applies one action at the clock's moment, and prints what it came to.
 fn run_now<S, F, W>(
     alloc: Global,
     now: Option<u64>,
@@ -183,7 +188,7 @@ where
     run_lines(alloc, opener, database, &[Line { moment, action }], output)
 }
 
-// The station's lines of standard input, at the clock's moment.
+/// Does `station`: applies the station's lines of standard input at the clock's moment.
 fn run_station<S, F, R, W>(
     alloc: Global,
     now: Option<u64>,
@@ -205,7 +210,7 @@ where
     run_input(alloc, grammar, opener, database, input, output)
 }
 
-// The lines of standard input.
+/// Applies the lines of standard input, read by the grammar.
 fn run_input<S, F, R, W>(
     alloc: Global,
     grammar: Grammar,
@@ -226,7 +231,7 @@ where
     run_lines(alloc, opener, database, lines.as_slice(), output)
 }
 
-// Runs all lines and then prints all outcomes.
+/// Applies all lines, and then prints what each came to.
 fn run_lines<S, F, W>(
     alloc: Global,
     opener: F,
@@ -247,7 +252,8 @@ where
     ended(first_failure(outcomes.as_slice()), printed)
 }
 
-// Runs all good records at the clock's moment and then prints what all records came to.
+/// Does `grants`: applies all good records of standard input at the clock's moment, and then prints
+/// what each record came to.
 fn run_grants<S, F, R, W>(
     alloc: Global,
     now: Option<u64>,
@@ -272,7 +278,8 @@ where
     ended(first_failure(outcomes.as_slice()), printed)
 }
 
-// An event that failed comes before a line that could not be written.
+/// The outcome of a run that has printed: the fault of its first failed event, if one failed, and
+/// else whether it could print.
 fn ended(failure: Option<Fault>, printed: io::Result<()>) -> Result<(), Fault>
     ensures answered { OnOk result (failure ≡ None) }
     ensures printed { OnOk result (IsOk printed) }

@@ -1,4 +1,4 @@
-//! The tables of a run's database, and the events that come to them.
+//! How a command comes by the tables of its database, and applies its events to them.
 ghost use Rattle.std.specs.Prelude.{◌≡◌, All, IfErr, IfOk, IsTrue, length, map};
 ghost use Rattle.sqlite.specs.Held.{Held};
 ghost use Rattle.account_machine.specs.Events.{plain_event, plain_timed};
@@ -41,7 +41,7 @@ pub fn prepare<S: Alter + Drop, F: Opener<Kept = Connection<S>> + Drop>(
     Ok(())
 }
 
-/// What each of the events comes to, over tables that are there.
+/// Opens the database, applies the events in order, and closes it. Answers what each came to.
 pub fn outcomes_of<S: Alter + Drop, F: Opener<Kept = Connection<S>> + Drop>(
     alloc: Global,
     mut opener: F,
@@ -62,7 +62,7 @@ pub fn outcomes_of<S: Alter + Drop, F: Opener<Kept = Connection<S>> + Drop>(
     }
 }
 
-/// The first failed event's fault.
+/// The command's fault for the first event that failed, if one did.
 pub fn first_failure(outcomes: &[Outcome]) -> Option<Fault>
     ensures { result ≡ first_failure outcomes.now }
 {
@@ -74,8 +74,8 @@ pub fn first_failure(outcomes: &[Outcome]) -> Option<Fault>
     None
 }
 
-/// The store that a command works on. The tables of `:memory:` are made whatever `how` says; after
-/// a refusal the opener has its connection back, unless the file could not be opened anew.
+/// Opens the store that a command works on. The tables of `:memory:` are made whatever `how` says.
+/// If it is refused the opener has its connection back, unless the file could not be opened anew.
 pub fn store_of<S: Alter + Drop, F: Opener<Kept = Connection<S>>>(
     alloc: Global,
     opener: &mut F,

@@ -1,4 +1,4 @@
--- Rule: What it comes to where a file can't be opened (all this project's own).
+-- Rule: The fault of a file that can't be opened (all this project's own).
 use Rattle.std.specs.IoError.{error_kind}
 use Rattle.std.specs.declared.io.ErrorKind.{ErrorKind}
 use Rattle.std.specs.declared.io.ErrorKind.TheVariants as kind

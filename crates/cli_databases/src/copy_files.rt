@@ -1,23 +1,24 @@
-//! The files of copies of the database that is served.
+//! Where a running process puts its backups: `FILE.part` on this machine, for each that is asked
+//! for.
 
 use crate::placing::{Keeper, OnDisk, part_of, remove_database};
 use cli_words::Fault;
 use sqlite::{Connection, File, FileStore};
 use store_copy::CopyMaker;
 
-/// Makes copies as files of this machine.
+/// The maker of copies that `serve` gives to what it serves: each is a file of this machine.
 #[derive(Drop)]
 pub struct CopyFiles<'a> {
     rt: &'a HostRuntime,
 }
 
 impl<'a> CopyFiles<'a> {
-    /// Makes copies through the files of the process.
+    /// A maker by the files of this process.
     pub fn new(rt: &'a HostRuntime) -> CopyFiles<'a> {
         CopyFiles { rt }
     }
 
-    /// A new `FILE.part`, in the place of what an earlier copy left there.
+    /// Makes an empty `FILE.part`, after it has removed what an earlier copy left there.
     fn make_part(&self, file: &[u8]) -> Result<Connection<FileStore<File>>, Fault> {
         let Ok(file) = str::from_utf8(file) else {
             return Err(Fault::Store);
@@ -40,5 +41,6 @@ impl CopyMaker for CopyFiles<'_> {
         rows.close().is_ok()
     }
 
+    /// Leaves `FILE.part` as it is. The next copy removes it.
     fn give_up(&mut self, _rows: Connection<FileStore<File>>) {}
 }

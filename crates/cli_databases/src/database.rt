@@ -1,4 +1,5 @@
-//! The databases of this machine: in memory, and in files.
+//! How a command comes by its database: one in memory (`InMemory`), or a file (`InFile`); and a run
+//! of the program over it.
 ghost use Rattle.std.specs.Prelude.{◌≤◌};
 
 use crate::copying::copy;
@@ -24,6 +25,7 @@ impl Opener for InMemory {
         Connection::open_in_memory(self.alloc).map_err(|_| OpenFault::Memory)
     }
 
+    /// Drops the database, of which nothing is kept.
     fn close(&mut self, _kept: Connection<MemStore>) {}
 }
 

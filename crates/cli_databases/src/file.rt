@@ -1,4 +1,5 @@
-//! Connections to files of this machine.
+//! Connections to database files of this machine: how they are opened, made, and how much they keep
+//! in memory.
 ghost use Rattle.std.specs.Prelude.{◌≡◌, ◌*◌, ◌≤◌, IfOk};
 ghost use Rattle.cli_databases.specs.FileFaults.{file_fault};
 
@@ -29,9 +30,9 @@ const CHECKPOINT_FRAMES: usize = 250;
 /// Its owner alone reads and writes.
 const OWNER_ALONE: u32 = 0o600;
 
-/// A connection to the file, which is made where it is not there, for its owner alone. `Storage` where
-/// the path is a URI or `:memory:`, which name no file, or the file can't be opened; `Memory` where
-/// memory ran out.
+/// A connection to the file, which is made where it is not there, for its owner alone. `Storage`
+/// where the path is a URI or `:memory:`, which name no file, or the file can't be opened; `Memory`
+/// where memory ran out.
 pub(crate) fn connect(
     rt: &HostRuntime,
     path: &str,
@@ -53,8 +54,8 @@ pub(crate) fn connect(
     }
 }
 
-/// Makes an empty file where none is there, which is an empty database. Its log gets its mode from the
-/// library.
+/// Makes an empty file where none is there, which is an empty database. Its log gets its mode from
+/// the library.
 fn make_missing(rt: &HostRuntime, path: &str) -> io::Result<()> {
     let made = OpenOptions::new()
         .write(true)
@@ -97,7 +98,7 @@ fn cache_pages(length: u64) -> usize
     pages.max(LEAST_CACHE_PAGES)
 }
 
-/// What a file that can't be opened comes to.
+/// The fault of a file that can't be opened: `Memory` where memory ran out, and else `Storage`.
 fn fault_of(error: OpenError) -> OpenFault
     ensures { result ≡ file_fault error }
 {

@@ -1,4 +1,5 @@
-//! The databases of this machine, in memory and in files, and a run of the program over them.
+//! The databases of this machine, in memory and in files, a run of the program over one, and the
+//! two commands that make a second file: `copy` and `backup`.
 #![tactic(auto)]
 
 mod backing_up;

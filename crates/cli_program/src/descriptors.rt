@@ -1,4 +1,4 @@
-//! The descriptors of standard input, standard output and standard error.
+//! A guard against closed standard streams: no file that is opened later takes one's descriptor.
 
 use std::fs::File;
 use std::io;
@@ -7,12 +7,12 @@ use std::os::fd::{AsRawFd, IntoRawFd};
 /// The descriptor of standard error, the last of the three.
 const LAST: i32 = 2;
 
-/// What takes the place of a closed one: a folder that is there on every system, of which no read and
-/// no write succeeds.
+/// What takes the place of a closed one: a folder that is there on every system, of which no read
+/// and no write succeeds.
 const ROOT: &str = "/";
 
-/// Takes each of the three that the program was started without. A file that is opened later could
-/// become one of them, and what is printed would go into a database.
+/// Opens a folder in the place of each standard stream that the program was started without. A file
+/// that is opened later could take its place, and what is printed would go into a database.
 pub(crate) fn take_closed(rt: &HostRuntime) -> io::Result<()> {
     // Opening takes the lowest descriptor that is free.
     for _ in 0..=LAST {

@@ -1,4 +1,5 @@
-//! One run of the program, from its words to its exit status.
+//! One run of the program, from its words to its exit status: which command they are, and the call
+//! for each.
 ghost use Rattle.std.specs.Prelude.{◌≤◌, IfOk};
 
 use crate::backing_up::run_backup;
@@ -13,8 +14,8 @@ use serve_sockets::moment;
 use std::io::{BufWriter, Write};
 
 /// Does what the words after the program's name ask for, over the standard streams, and answers the
-/// exit status. Where that is not 0, standard error has why. `commit` is what the version tells of the
-/// sources that the program is built of.
+/// exit status. Where that is not 0, standard error has why. `commit` is what the version tells of
+/// the sources that the program is built of.
 pub fn start(rt: &HostRuntime, commit: &str) -> u8
     ensures { result ≤ 5 }
 {
@@ -28,7 +29,8 @@ pub fn start(rt: &HostRuntime, commit: &str) -> u8
     }
 }
 
-// The exit status of a run, or why it could not begin.
+/// Reads the words of the command line, and does what they ask for. Answers the exit status, or why
+/// the run ended early.
 fn begin(rt: &HostRuntime, commit: &str) -> Result<u8, Fault>
     ensures { IfOk result (λ status. status ≤ 5) }
 {
@@ -44,6 +46,8 @@ fn begin(rt: &HostRuntime, commit: &str) -> Result<u8, Fault>
     run(rt, words.as_slice(), &mut output)
 }
 
+/// Does the command that the words are: those with sockets here, and all others over one database
+/// (`run_on`), which also tells of wrong words.
 fn run<W: Write>(rt: &HostRuntime, words: &[&str], output: &mut W) -> Result<u8, Fault>
     ensures { IfOk result (λ status. status ≤ 5) }
 {

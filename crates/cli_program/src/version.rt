@@ -1,4 +1,4 @@
-//! Which program this is.
+//! `--version`: the version, and the commit that the program is built of.
 
 use cli_words::{VERSION, is_command};
 use std::io;

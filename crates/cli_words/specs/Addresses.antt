@@ -1,4 +1,4 @@
--- Rule: Where lines are taken (this project's own).
+-- Rule: Which word of a command line is an address, a port or a path (this project's own).
 use Rattle.std.specs.Prelude.{◌≡◌, ◌≤◌, ◌⊎◌, ℕ, Bool, true, false, List, [], nat_le, IsTrue}
 use Rattle.std.specs.Char.{is_ascii_digit}
 use Rattle.std.specs.List.{list_all}

@@ -1,4 +1,5 @@
--- Rule: What other faults are to a command (all this project's own).
+-- Rule: The fault of a command for each fault of a stream, of grants, of a client or of the system
+-- (all this project's own).
 use Rattle.std.specs.declared.io.ErrorKind.{ErrorKind}
 use Rattle.std.specs.declared.io.ErrorKind.TheVariants.{OutOfMemory}
 use Rattle.clap.specs.declared.error.Error.{Error}

@@ -1,4 +1,4 @@
--- Rule: The word of a door (this project's own).
+-- Rule: The parts of the word for a door of `serve` (this project's own).
 use Rattle.std.specs.Prelude.{◌≡◌, ◌==◌, ℕ, Bool, true, false, List, ◌∷◌, ◌++◌, IsTrue}
 use Rattle.std.specs.List.{list_all, slice_split}
 use Rattle.account_rules.specs.Names.{is_name}

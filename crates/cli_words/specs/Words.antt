@@ -1,4 +1,5 @@
--- Rule: The words of a command line (this project's own).
+-- Rule: The words of a command line by their places, the first of which is the command (this
+-- project's own).
 use Rattle.std.specs.Prelude.{◌≡◌, ◌⊎◌, ℕ, if◌then◌else◌, List, [], ◌∷◌, map, codes, Option, Some, option_map, slice_get}
 use Rattle.std.specs.Borrow.{Bor}
 use Rattle.std.specs.Str.{bytes_eq}

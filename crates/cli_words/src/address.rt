@@ -1,4 +1,4 @@
-//! Where lines are taken.
+//! An address on the command line: a port of this machine, or the path of a socket.
 ghost use Rattle.std.specs.Prelude.{◌≡◌, IfNone, IfSome, IsTrue};
 ghost use Rattle.cli_words.specs.Addresses.{has_digits_alone};
 
@@ -7,7 +7,8 @@ use std::fmt;
 /// The last port of a machine.
 pub(crate) const LAST_PORT: u32 = 65_535;
 
-/// Where lines are taken: a port of 127.0.0.1, or the path of a socket of Unix.
+/// An address where a process takes connections: a port of 127.0.0.1, or the path of a socket of
+/// Unix.
 #[derive(Clone, Copy, PartialEq, Eq)]
 pub enum Address<'a> {
     Port(u16),
@@ -35,6 +36,7 @@ impl<'a> Address<'a> {
     }
 }
 
+/// Whether the word has decimal digits alone, so that it is read as a port.
 fn has_digits_alone(word: &str) -> bool
     ensures { result ≡ has_digits_alone word.now }
 {

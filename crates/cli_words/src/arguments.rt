@@ -1,4 +1,4 @@
-//! The words that the program is given.
+//! The words that the system gives the program, as texts.
 
 use crate::command::not_text;
 use crate::fault::Fault;
@@ -16,6 +16,7 @@ pub fn words_of<R: Env + AllocGlobal>(rt: &R) -> Result<Vec<String>, Fault> {
     }
 }
 
+/// Why the words can't be had: a word that is not UTF-8 is a fault of usage.
 fn fault_of(alloc: Global, error: io::Error) -> Fault {
     match error.kind() {
         // A word is not UTF-8.

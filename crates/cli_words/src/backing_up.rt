@@ -13,8 +13,8 @@ use crate::words::{BACKUP, is_command};
 use std::alloc::Global;
 
 /// The command `backup`: an operator's address, whose port is not 0, and the path where the backup
-/// goes. That begins with `/`, since the process there may be in another folder, and has no space and
-/// no line feed, since it is told in a line.
+/// goes. That begins with `/`, since the process there may be in another folder, and has no space
+/// and no line feed, since it is told in a line.
 #[derive(Clone, Copy)]
 pub struct BackingUp<'a> {
     pub address: Address<'a>,
@@ -44,7 +44,7 @@ impl<'a> BackingUp<'a> {
         }
     }
 
-    /// What the two words ask for that stand behind the command's name.
+    /// Reads the two words behind the command's name, an address and a path.
     pub(crate) fn of(address: &'a str, file: &'a str) -> Result<BackingUp<'a>, Unfit>
         ensures address { IfOk result (λ asked. IsAddressOf address.now 1 asked.address) }
         ensures file { IfOk result (λ asked. asked.file.now ≡ file.now) }
@@ -65,6 +65,7 @@ fn can_be_told(path: &str) -> bool
     path.as_bytes().starts_with(b"/") && is_field(path)
 }
 
+/// Whether a path can be one field of a line: it has no space and no line feed.
 fn is_field(path: &str) -> bool
     ensures { result ≡ list_all is_of_field path.now }
 {

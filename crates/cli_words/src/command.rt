@@ -1,4 +1,5 @@
-//! The command line: its commands, and what their words may be.
+//! A command line as a value, and how its words are read: which command it is, and its words and
+//! options, each within its range.
 ghost use Rattle.std.specs.Prelude.{◌≡◌, ◌≤◌, ℕ, List, IfOk, IfSome, IsTrue};
 ghost use Rattle.std.specs.List.{list_any};
 ghost use Rattle.cli_words.specs.Addresses.{has_port_from};
@@ -98,7 +99,7 @@ pub enum Command<'a> {
     Owner(OwnerErrand<'a>),
 }
 
-/// Why words of which one is not UTF-8 are no command line.
+/// The fault of words of which one is not UTF-8, with the parser's usage.
 pub(crate) fn not_text(alloc: Global) -> Fault {
     match program(alloc) {
         Ok(mut program) => Unfit::Text.fault(&mut program),
@@ -118,6 +119,8 @@ impl<'a> Command<'a> {
     }
 }
 
+/// Reads the words with this parser. Where they are no command line, the parser's text is the
+/// fault, unless they ask for help.
 fn read_by<'a>(
     alloc: Global,
     program: &mut clap::Command<'a>,
@@ -132,7 +135,7 @@ fn read_by<'a>(
     }
 }
 
-// What the parser tells in place of a command line, where that is what the words ask for.
+/// The parser's text as the command `Help`, if the words ask for that, and else as a fault.
 fn help_of<'a>(alloc: Global, told: clap::Error, words: &[&str]) -> Result<Command<'a>, Fault>
     ensures range { IfOk result (λ command. IsTrue (is_in_range command)) }
     ensures said { IfOk result (IsSaidBy (placed (texts words.now))) }
@@ -145,7 +148,7 @@ fn help_of<'a>(alloc: Global, told: clap::Error, words: &[&str]) -> Result<Comma
     Ok(Command::Help { text })
 }
 
-// Whether a word asks for help, or for the version.
+/// Whether any word asks for help, or for the version.
 fn ask_for_help(words: &[&str]) -> bool
     ensures { result ≡ list_any asks_for_help (texts words.now) }
 {
@@ -155,6 +158,7 @@ fn ask_for_help(words: &[&str]) -> bool
     }
 }
 
+/// Whether this word asks for help, or for the version.
 fn asks_for_help(word: &str) -> bool
     ensures { result ≡ asks_for_help word.now }
 {
@@ -165,6 +169,7 @@ fn asks_for_help(word: &str) -> bool
         || word.starts_with("-V")
 }
 
+/// The command that the parser has found, with its words read into values.
 fn of_matches<'a>(
     alloc: Global,
     matches: &ArgMatches<'a>,
@@ -190,7 +195,7 @@ fn of_matches<'a>(
     }
 }
 
-// A command with no flags, whose words are read by their places.
+/// Reads a command with no flags, whose words are told by their places.
 fn plain_command<'a>(alloc: Global, words: &[&'a str]) -> Result<Command<'a>, Unfit>
     ensures range { IfOk result (λ command. IsTrue (is_in_range command)) }
     ensures said { IfOk result (IsSaidBy (placed (texts words.now))) }
@@ -229,7 +234,7 @@ fn plain_command<'a>(alloc: Global, words: &[&'a str]) -> Result<Command<'a>, Un
     }
 }
 
-// The words of `copy` are read by their places.
+/// Reads the words of `copy`, which are told by their places.
 fn copy_command<'a>(alloc: Global, words: &[&'a str]) -> Result<Command<'a>, Unfit>
     ensures range { IfOk result (λ command. IsTrue (is_in_range command)) }
     ensures said { IfOk result (IsSaidBy (placed (texts words.now))) }
@@ -241,7 +246,7 @@ fn copy_command<'a>(alloc: Global, words: &[&'a str]) -> Result<Command<'a>, Unf
     Ok(Command::Copy(Copying { database, file }))
 }
 
-// The words of `backup` are read by their places.
+/// Reads the words of `backup`, which are told by their places.
 fn backup_command<'a>(alloc: Global, words: &[&'a str]) -> Result<Command<'a>, Unfit>
     ensures range { IfOk result (λ command. IsTrue (is_in_range command)) }
     ensures said { IfOk result (IsSaidBy (placed (texts words.now))) }
@@ -253,7 +258,7 @@ fn backup_command<'a>(alloc: Global, words: &[&'a str]) -> Result<Command<'a>, U
     Ok(Command::Backup(BackingUp::of(address, file)?))
 }
 
-// The words of `serve` are read by their places, and its options behind them.
+/// Reads the words of `serve`, which are told by their places, and the options behind them.
 fn serve_command<'a>(alloc: Global, words: &[&'a str]) -> Result<Command<'a>, Unfit>
     ensures range { IfOk result (λ command. IsTrue (is_in_range command)) }
     ensures said { IfOk result (IsSaidBy (placed (texts words.now))) }
@@ -270,6 +275,7 @@ fn serve_command<'a>(alloc: Global, words: &[&'a str]) -> Result<Command<'a>, Un
     }))
 }
 
+/// Reads the words of `send`.
 fn send_command<'a>(words: &ArgMatches<'a>) -> Result<Command<'a>, Unfit>
     ensures range { IfOk result (λ command. IsTrue (is_in_range command)) }
     ensures said { (given : List (List ℕ)) → IfOk result (IsSaidBy given) }
@@ -281,6 +287,7 @@ fn send_command<'a>(words: &ArgMatches<'a>) -> Result<Command<'a>, Unfit>
     }))
 }
 
+/// The command that asks an operator's address for this task.
 fn errand<'a>(words: &ArgMatches<'a>, task: Task) -> Result<Command<'a>, Unfit>
     requires { IsTrue (is_task_in_range task) }
     ensures range { IfOk result (λ command. IsTrue (is_in_range command)) }
@@ -290,6 +297,7 @@ fn errand<'a>(words: &ArgMatches<'a>, task: Task) -> Result<Command<'a>, Unfit>
     Ok(Command::Errand(Errand { address, task }))
 }
 
+/// Reads what `report` asks for: a month, or the devices where none is told.
 fn report_task(words: &ArgMatches<'_>) -> Result<Task, Unfit>
     ensures { IfOk result (λ task. IsTrue (is_task_in_range task)) }
 {
@@ -301,6 +309,7 @@ fn report_task(words: &ArgMatches<'_>) -> Result<Task, Unfit>
     Ok(Task::Report { month })
 }
 
+/// Reads what `waiting` asks for: all jobs, or only those made at least so many days ago.
 fn waiting_task(words: &ArgMatches<'_>) -> Result<Task, Unfit>
     ensures { IfOk result (λ task. IsTrue (is_task_in_range task)) }
 {
@@ -313,6 +322,7 @@ fn waiting_task(words: &ArgMatches<'_>) -> Result<Task, Unfit>
     }
 }
 
+/// Reads what `expire` asks for.
 fn expire_task(words: &ArgMatches<'_>) -> Result<Task, Unfit>
     ensures { IfOk result (λ task. IsTrue (is_task_in_range task)) }
 {
@@ -321,6 +331,7 @@ fn expire_task(words: &ArgMatches<'_>) -> Result<Task, Unfit>
     Ok(Task::Expire { days, shown_only })
 }
 
+/// Reads what `refund` asks for.
 fn refund_task(words: &ArgMatches<'_>) -> Result<Task, Unfit>
     ensures { IfOk result (λ task. IsTrue (is_task_in_range task)) }
 {
@@ -334,6 +345,7 @@ fn is_of_owner(command: &str) -> bool {
     matches!(command, PRINT | JOBS | CANCEL | HOLD | RELEASE)
 }
 
+/// Reads the words of a command over the queue of an account.
 fn owner_command<'a>(command: &str, words: &ArgMatches<'a>) -> Result<Command<'a>, Unfit>
     ensures range { IfOk result (λ command. IsTrue (is_in_range command)) }
     ensures said { (given : List (List ℕ)) → IfOk result (IsSaidBy given) }
@@ -343,6 +355,7 @@ fn owner_command<'a>(command: &str, words: &ArgMatches<'a>) -> Result<Command<'a
     Ok(Command::Owner(OwnerErrand { queue, task }))
 }
 
+/// Reads what the command wants of the queue.
 fn owner_task<'a>(command: &str, words: &ArgMatches<'a>) -> Result<OwnerTask<'a>, Unfit>
     ensures { IfOk result (λ task. IsTrue (is_owner_task_in_range task)) }
 {
@@ -356,6 +369,7 @@ fn owner_task<'a>(command: &str, words: &ArgMatches<'a>) -> Result<OwnerTask<'a>
     }
 }
 
+/// Reads what `print` asks for.
 fn print_task<'a>(words: &ArgMatches<'a>) -> Result<OwnerTask<'a>, Unfit>
     ensures { IfOk result (λ task. IsTrue (is_owner_task_in_range task)) }
 {
@@ -369,7 +383,7 @@ fn print_task<'a>(words: &ArgMatches<'a>) -> Result<OwnerTask<'a>, Unfit>
     }))
 }
 
-/// One copy where none are told.
+/// How many copies `--copies` tells, or one where it is left out.
 fn copies(words: &ArgMatches<'_>) -> Result<u32, Unfit>
     ensures { IfOk result (λ copies. (1 ≤ copies) × (copies ≤ MOST_COPIES)) }
 {
@@ -379,6 +393,7 @@ fn copies(words: &ArgMatches<'_>) -> Result<u32, Unfit>
     }
 }
 
+/// How many pages of one copy `--pages` tells, if it is there.
 fn pages(words: &ArgMatches<'_>) -> Result<Option<u32>, Unfit>
     ensures { IfOk result (λ pages. IfSome pages
         (λ count. (1 ≤ count) × (count ≤ MOST_IMPRESSIONS))) }
@@ -389,6 +404,7 @@ fn pages(words: &ArgMatches<'_>) -> Result<Option<u32>, Unfit>
     }
 }
 
+/// An act on the job whose number the words have.
 fn act_task<'a>(words: &ArgMatches<'a>, act: JobAct) -> Result<OwnerTask<'a>, Unfit>
     ensures { IfOk result (λ task. IsTrue (is_owner_task_in_range task)) }
 {
@@ -396,20 +412,24 @@ fn act_task<'a>(words: &ArgMatches<'a>, act: JobAct) -> Result<OwnerTask<'a>, Un
     Ok(OwnerTask::Act { act, job })
 }
 
+/// The word that the parser has found under this name.
 fn word<'a>(words: &ArgMatches<'a>, id: &str) -> Result<&'a str, Unfit> {
     words.get_str(id).ok_or(Unfit::Missing)
 }
 
+/// The account's or device's name in the word that the parser has found under `id`.
 fn name(words: &ArgMatches<'_>, id: &str) -> Result<Name, Unfit> {
     name_in(word(words, id)?)
 }
 
+/// The account's or device's name that a word is.
 fn name_in(word: &str) -> Result<Name, Unfit>
     ensures { IfOk result (λ name. name ≡ word.now) }
 {
     Name::read(word.as_bytes()).ok_or(Unfit::Name)
 }
 
+/// The port, from 1 on, that a word is.
 fn port_in(word: &str) -> Result<u16, Unfit>
     ensures range { IfOk result (λ port. 1 ≤ port) }
     ensures said { IfOk result (SaysNumber word.now) }
@@ -418,6 +438,8 @@ fn port_in(word: &str) -> Result<u16, Unfit>
     Ok(port as u16)
 }
 
+/// The address in the word that the parser has found under `id`, of a port from `least` on. `unfit`
+/// tells why it is none.
 fn address<'a>(
     words: &ArgMatches<'a>,
     id: &str,
@@ -429,6 +451,8 @@ fn address<'a>(
     Address::read(word(words, id)?, least).ok_or(unfit)
 }
 
+/// The number from `least` to `most` in the word that the parser has found under `id`. `unfit`
+/// tells why it is none.
 fn number(
     words: &ArgMatches<'_>,
     id: &str,
@@ -441,6 +465,7 @@ fn number(
     number_in(word(words, id)?, least, most, unfit)
 }
 
+/// The number from `least` to `most` that a word is. `unfit` tells why it is none.
 fn number_in(word: &str, least: u32, most: u32, unfit: Unfit) -> Result<u32, Unfit>
     ensures range { IfOk result (λ number. (least ≤ number) × (number ≤ most)) }
     ensures said { IfOk result (SaysNumber word.now) }

@@ -1,4 +1,4 @@
-//! What the commands over an operator's address ask for.
+//! What `ping`, `end`, `report`, `waiting`, `expire` and `refund` ask an operator's address for.
 ghost use Rattle.std.specs.Prelude.{◌≡◌, ◌↔◌, IfOk, IfSome, IsTrue, None, Ok};
 ghost use Rattle.cli_words.specs.Words.{first_word, IsErrand};
 
@@ -39,6 +39,7 @@ impl<'a> Errand<'a> {
     }
 }
 
+/// Whether the first word is one of these commands.
 fn is_errand(words: &[&str]) -> bool
     ensures { IsTrue result ↔ IsErrand (first_word words.now) }
 {

@@ -1,5 +1,10 @@
 //! The words of the command line: its commands and their options, what each asks for, and the help.
 //! Also why a command ends early, and with which exit status.
+//!
+//! - The parser: `words` (the table of commands), `parser`, `command`, `arguments`, `unfit`.
+//! - What one command asks for: `backing_up`, `copying`, `errand`, `listening`, `owner_errand`,
+//!   `sending`, `serving`, with `served_door`, `served_word`, `visitors` and `address`.
+//! - How it ends: `fault`.
 #![tactic(auto)]
 
 mod address;

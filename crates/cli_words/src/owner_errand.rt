@@ -1,4 +1,4 @@
-//! What the commands over a queue ask for.
+//! What `print`, `jobs`, `cancel`, `hold` and `release` ask the queue of an account for.
 ghost use Rattle.std.specs.Prelude.{◌≡◌, ◌≤◌, ◌↔◌, IfOk, IfSome, IsTrue, None, Ok, length};
 ghost use Rattle.cli_words.specs.Words.{first_word, IsOwnerErrand};
 ghost use Rattle.client_owner.specs.Queues.{IsQueueAt};
@@ -63,6 +63,7 @@ impl<'a> OwnerErrand<'a> {
     }
 }
 
+/// Whether the first word is one of these commands.
 fn is_owner_command(words: &[&str]) -> bool
     ensures { IsTrue result ↔ IsOwnerErrand (first_word words.now) }
 {
@@ -73,14 +74,15 @@ fn is_owner_command(words: &[&str]) -> bool
         || is_command(words, RELEASE)
 }
 
-/// The queue at an address.
+/// The queue that a URI names, or why the word is no queue's URI.
 pub(crate) fn queue_at(uri: &str) -> Result<Queue<'_>, Unfit>
     ensures { IfOk result (IsQueueAt uri.now) }
 {
     Queue::read(uri.as_bytes()).ok_or(Unfit::Queue)
 }
 
-/// The name that a job gets: that which was told, or else the last part of the file's path.
+/// The name that a job gets: that which was told, or else the last part of the file's path. It is
+/// refused where it has more than 255 bytes.
 pub(crate) fn job_name<'a>(told: Option<&'a str>, file: &'a str) -> Result<&'a [u8], Unfit>
     ensures { IfOk result (λ name. length name.now ≤ LONGEST_JOB_NAME) }
 {

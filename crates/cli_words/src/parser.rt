@@ -10,12 +10,13 @@ const PROGRAM: &str = "ipp-room";
 /// The version of the program.
 pub const VERSION: &str = "1.1.0";
 
-/// The program, with all its commands.
+/// The parser of the program's command line, with all its commands.
 pub(crate) fn program<'a>(alloc: Global) -> Result<Command<'a>, AllocError> {
     let commands = commands(alloc)?;
     bare_program(alloc)?.subcommands(commands)
 }
 
+/// The parser without the commands.
 fn bare_program<'a>(alloc: Global) -> Result<Command<'a>, AllocError> {
     Command::new(alloc, PROGRAM)
         .about("Keeps IPP printers whose jobs wait until they are released")
@@ -25,6 +26,7 @@ fn bare_program<'a>(alloc: Global) -> Result<Command<'a>, AllocError> {
         .bin_name(PROGRAM)
 }
 
+/// The parsers of all commands, in the order of the help.
 fn commands<'a>(alloc: Global) -> Result<Vec<Command<'a>>, AllocError> {
     let mut commands = Vec::new(alloc);
     for words in COMMANDS.iter() {
@@ -33,6 +35,7 @@ fn commands<'a>(alloc: Global) -> Result<Vec<Command<'a>>, AllocError> {
     Ok(commands)
 }
 
+/// The parser of one command.
 fn command<'a>(alloc: Global, words: &CommandWords) -> Result<Command<'a>, AllocError> {
     let arguments = arguments(alloc, words.arguments)?;
     Command::new(alloc, words.name)
@@ -40,6 +43,7 @@ fn command<'a>(alloc: Global, words: &CommandWords) -> Result<Command<'a>, Alloc
         .args(arguments)
 }
 
+/// The parsers of a command's words and options.
 fn arguments<'a>(alloc: Global, words: &[Argument]) -> Result<Vec<Arg<'a>>, AllocError> {
     let mut arguments = Vec::new(alloc);
     for argument in words {
@@ -48,6 +52,7 @@ fn arguments<'a>(alloc: Global, words: &[Argument]) -> Result<Vec<Arg<'a>>, Allo
     Ok(arguments)
 }
 
+/// The parser of one word or option, by its kind.
 fn argument_of<'a>(alloc: Global, argument: &Argument) -> Result<Arg<'a>, AllocError> {
     let named = described(alloc, argument);
     match argument.kind {
@@ -73,6 +78,7 @@ fn argument_of<'a>(alloc: Global, argument: &Argument) -> Result<Arg<'a>, AllocE
     }
 }
 
+/// A word or option with its help, and of no kind yet.
 fn described<'a>(alloc: Global, argument: &Argument) -> Arg<'a> {
     let named = Arg::new(alloc, argument.name);
     match argument.help {

@@ -1,4 +1,5 @@
-//! A door that `serve` opens, and the words that say it.
+//! The doors that the words of `serve` name, each with who comes in and where; and its other
+//! options.
 ghost use Rattle.std.specs.Prelude.{◌≡◌, ◌++◌, IfOk, IsTrue, List, OnOk, is_some, option_map};
 ghost use Rattle.cli_words.specs.Addresses.{has_digits_alone};
 ghost use Rattle.cli_words.specs.Visitors.{AreDoors, AreOptions, IsDoorOf, is_no_door, is_required, log_option, pin_option, value_among, value_behind};
@@ -18,7 +19,8 @@ const LOG: &str = "--log";
 /// The word behind which `required` stands, where the pages are to take no file without a PIN.
 const PAGES_PIN: &str = "--pages-pin";
 
-/// A door that `serve` opens. A port of 0 is a free one.
+/// A door that the words of `serve` name: who comes in there, and at which address. A port of 0 is
+/// a free one. `cli_program` opens it.
 #[derive(Clone, Copy)]
 pub struct ServedDoor<'a> {
     pub visitors: Visitors,
@@ -28,7 +30,7 @@ pub struct ServedDoor<'a> {
 }
 
 impl<'a> ServedDoor<'a> {
-    /// The door at the address that a word is, or has behind the names of devices.
+    /// Reads a door from its word: an address, behind the names of devices if it is a bound door.
     fn read(visitors: Visitors, word: &'a str) -> Result<ServedDoor<'a>, Unfit>
         ensures { IfOk result (IsDoorOf visitors word.now) }
     {
@@ -43,7 +45,7 @@ impl<'a> ServedDoor<'a> {
         }
     }
 
-    /// The door of clients at the port that a word is.
+    /// Reads the door of clients from its word, a port.
     fn at_port(word: &'a str) -> Result<ServedDoor<'a>, Unfit>
         ensures door { IfOk result (IsDoorOf Clients word.now) }
         ensures port { IfOk result (λ _. IsTrue (has_digits_alone word.now)) }
@@ -62,7 +64,7 @@ impl<'a> ServedDoor<'a> {
     }
 }
 
-/// The doors that the words behind the database say: three by their places, and further ones by
+/// Reads the doors from the words behind the database: three by their places, and further ones by
 /// options.
 pub(crate) fn doors_of<'a>(alloc: Global, words: &[&'a str]) -> Result<Vec<ServedDoor<'a>>, Unfit>
     ensures { IfOk result (λ doors. AreDoors (texts words.now) doors.items) }
@@ -102,6 +104,7 @@ fn value_behind<'a>(option: &str, words: &[&'a str]) -> Option<&'a str>
     }
 }
 
+/// The value of the first option of that name among these options, each of which has a value.
 fn value_among<'a>(option: &str, options: &[&'a str]) -> Option<&'a str>
     ensures { option_map (λ value. value.now) result ≡ value_among option.now (texts options.now) }
 {
@@ -119,13 +122,14 @@ fn is_no_door(name: &str, value: &str) -> bool
     name == LOG || (name == PAGES_PIN && is_required(value))
 }
 
+/// Whether this is the only value that `--pages-pin` has.
 fn is_required(value: &str) -> bool
     ensures { result ≡ is_required value.now }
 {
     value == "required"
 }
 
-/// Puts the doors that options say behind those that are there.
+/// Reads the options, and adds the doors that they name to those that are there.
 fn put_options<'a>(options: &[&'a str], doors: &mut Vec<ServedDoor<'a>>) -> Result<(), Unfit>
     ensures { OnOk result ((further : List PlainDoor)
         × (doors.new.items ≡ doors.old.items ++ further) × AreOptions (texts options.now) further) }

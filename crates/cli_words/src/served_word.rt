@@ -1,4 +1,5 @@
-//! The word of a door: its address, and before that the names of the devices that it is for.
+//! The parts of the word for a door: its address, and before that, for a bound door, the names of
+//! its devices, as `NAME,NAME=ADDRESS`.
 ghost use Rattle.std.specs.Prelude.{◌≡◌, IfOk};
 ghost use Rattle.cli_words.specs.ServedWords.{SaysPlace, are_devices, is_device};
 ghost use Rattle.cli_words.specs.Visitors.{names_devices};
@@ -7,7 +8,7 @@ use crate::unfit::Unfit;
 use crate::visitors::Visitors;
 use account_rules::Name;
 
-/// What stands in the word of a door.
+/// The two parts of the word for a door.
 #[derive(Clone, Copy)]
 pub(crate) struct ServedWord<'a> {
     /// The names of devices, parted by commas; empty where the door is for all.
@@ -16,7 +17,8 @@ pub(crate) struct ServedWord<'a> {
 }
 
 impl<'a> ServedWord<'a> {
-    /// What stands in the word of a door of the visitors.
+    /// Parts the word for a door of these visitors. It is refused where a bound door's names are
+    /// none.
     pub(crate) fn read(visitors: Visitors, word: &'a str) -> Result<ServedWord<'a>, Unfit>
         ensures { IfOk result (λ read. SaysPlace
             (names_devices visitors) word.now read.devices.now read.address.now) }
@@ -43,6 +45,7 @@ fn are_devices(text: &[u8]) -> bool
     text.split(|byte| *byte == b',').all(|name| is_device(name))
 }
 
+/// Whether a text is the name of a device.
 fn is_device(name: &[u8]) -> bool
     ensures { result ≡ is_device name.now }
 {

@@ -1,4 +1,5 @@
-//! Why words are no command line, where the parser does not find it.
+//! The mistakes in a command line that the parser does not find, such as a number out of its range,
+//! and the text of each.
 
 use crate::fault::Fault;
 use clap::error::ErrorKind;
@@ -32,7 +33,8 @@ pub(crate) enum Unfit {
 }
 
 impl Unfit {
-    /// What is wrong with the words, or `None` where a name is, or memory ran out.
+    /// The text that says what is wrong. `None` for a bad name, and where memory ran out: these
+    /// have faults of their own.
     fn usage(self) -> Option<&'static str> {
         match self {
             Unfit::Missing => Some("a word is missing"),

@@ -1,24 +1,24 @@
-//! Who comes in by the doors of `serve`, and what the command line calls them.
+//! Who may come in by a door of `serve`, with the door's name in the output and its option.
 ghost use Rattle.std.specs.Prelude.{◌≡◌, IfSome};
 ghost use Rattle.cli_words.specs.Visitors.{name_of, names_devices, option_of};
 
-/// Who comes in by a door.
+/// Who comes in by a door, as the command line names it.
 #[derive(Clone, Copy, PartialEq, Eq)]
 pub enum Visitors {
-    /// Over HTTP, at the queues.
+    /// Clients, over HTTP, at the queues.
     Clients,
-    /// Over HTTP, at the pages.
+    /// Browsers, over HTTP, at the pages.
     Pages,
-    /// By lines.
+    /// Stations, by lines, for any device.
     Stations,
-    /// By lines, for some devices alone.
+    /// Stations, by lines, at a bound door: for some devices alone.
     Station,
-    /// By lines.
+    /// Operators, by lines.
     Operators,
 }
 
 impl Visitors {
-    /// The name of their doors.
+    /// The name of their doors in the line that `serve` prints.
     pub fn name(self) -> &'static str
         ensures { result.now ≡ name_of self }
     {
@@ -31,7 +31,7 @@ impl Visitors {
         }
     }
 
-    /// Whether they come for some devices alone, whose names stand before the address.
+    /// Whether the word for their door has the names of devices before the address.
     pub(crate) fn names_devices(self) -> bool
         ensures { result ≡ names_devices self }
     {
@@ -41,7 +41,7 @@ impl Visitors {
         }
     }
 
-    /// Whose door the option is for that the word is.
+    /// Who comes in by the door that this option of `serve` names.
     pub(crate) fn of_option(word: &str) -> Option<Visitors>
         ensures { IfSome result (λ visitors. word.now ≡ option_of visitors) }
     {

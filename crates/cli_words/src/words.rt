@@ -1,4 +1,4 @@
-//! The words of the command line, as its parser and its help know them.
+//! The table of all commands with their words and options, as the parser and the help have them.
 ghost use Rattle.std.specs.Prelude.{◌≡◌, ◌↔◌, ◌++◌, IfOk, IsTrue, OnOk, Some};
 ghost use Rattle.cli_words.specs.Words.{first_word, placed, texts};
 
@@ -16,7 +16,7 @@ pub(crate) const DEVICE: &str = "device";
 
 pub(crate) const RATE: &str = "rate";
 
-/// A command, and what `send` is told where it has a file of grants.
+/// The command `grants`, and the option of `send` by which its input is a file of grants.
 pub(crate) const GRANTS: &str = "grants";
 
 pub(crate) const STATION: &str = "station";
@@ -55,7 +55,7 @@ pub(crate) const HOLD: &str = "hold";
 
 pub(crate) const RELEASE: &str = "release";
 
-/// Behind it no word is a flag.
+/// The word behind which no word is a flag.
 const ESCAPE: &str = "--";
 
 pub(crate) const ON: &str = "on";
@@ -82,15 +82,19 @@ pub(crate) const STATIONS: &str = "STATIONS";
 
 pub(crate) const OPERATORS: &str = "OPERATORS";
 
+/// The option of `serve` for a further door of clients.
 const CLIENTS_TOO: &str = "clients";
 
+/// The option of `serve` for a door of browsers.
 const PAGES_TOO: &str = "pages";
 
+/// The option of `serve` for a further door of stations.
 const STATIONS_TOO: &str = "stations";
 
 /// The value of a station's own door, as the help shows it.
 const DEVICES_AT: &str = "NAME[,NAME..]=ADDRESS";
 
+/// The option of `serve` for a further door of operators.
 const OPERATORS_TOO: &str = "operators";
 
 const LOG: &str = "log";
@@ -125,7 +129,7 @@ pub(crate) const PIN: &str = "pin";
 
 const NUMBER: &str = "N";
 
-/// The only value that the duty of a PIN has.
+/// The only value that `--pages-pin` has.
 const REQUIRED: &str = "required";
 
 /// A command, as the help shows it.
@@ -137,6 +141,7 @@ pub(crate) struct CommandWords {
     pub(crate) arguments: &'static [Argument],
 }
 
+/// A word or an option of a command, as the help shows it.
 #[derive(Clone, Copy)]
 pub(crate) struct Argument {
     pub(crate) name: &'static str,
@@ -144,6 +149,7 @@ pub(crate) struct Argument {
     pub(crate) kind: Kind,
 }
 
+/// Whether an argument is a word or an option, and when it has to be there.
 #[derive(Clone, Copy)]
 pub(crate) enum Kind {
     /// A word that has to be there.
@@ -160,7 +166,8 @@ pub(crate) enum Kind {
     After(&'static str),
     /// A word that follows the flag of the argument's own name. The help calls it so.
     Named(&'static str),
-    /// The same, any number of times.
+    /// A word that follows the flag of the argument's own name, any number of times. The help calls
+    /// it so.
     Each(&'static str),
 }
 
@@ -525,8 +532,8 @@ pub fn is_command(words: &[&str], command: &str) -> bool
     }
 }
 
-/// The words by their places, of which the first `--` has none: behind it a word that begins with a
-/// dash is no flag.
+/// The words without the first `--`, so that each is in its place. Behind that a word that begins
+/// with a dash is no flag.
 pub(crate) fn placed_words<'a>(alloc: Global, words: &[&'a str]) -> Result<Vec<&'a str>, AllocError>
     ensures { IfOk result (λ found. texts found.items ≡ placed (texts words.now)) }
 {
@@ -535,6 +542,7 @@ pub(crate) fn placed_words<'a>(alloc: Global, words: &[&'a str]) -> Result<Vec<&
     Ok(found)
 }
 
+/// Appends the words without the first `--`.
 fn put_placed<'a>(words: &[&'a str], found: &mut Vec<&'a str>) -> Result<(), AllocError>
     ensures { OnOk result
         (texts found.new.items ≡ texts found.old.items ++ placed (texts words.now)) }

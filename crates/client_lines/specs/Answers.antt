@@ -7,18 +7,18 @@ use Rattle.input_fields.specs.GrantLines.{is_decimal}
 use Rattle.client_lines.specs.declared.answer.Answer.{Answer}
 use Rattle.client_lines.specs.declared.answer.Answer.TheVariants.{Failed, BadLine, Documents, Lines, Told, Refused}
 
--- one digit, 0 to 8
+-- how many documents follow: one digit, 0 to 8
 abbrev pub document_count_said : List ℕ → Option ℕ
 document_count_said [] = None
 document_count_said (digit ∷ []) =
     if nat_le 48 digit && nat_le digit 56 then Some (digit - 48) else None
 document_count_said (digit ∷ more ∷ rest) = None
 
--- lines that may follow the first
+-- the most lines that may follow the first
 abbrev pub most_lines : ℕ
 most_lines = 999999
 
--- in decimal, up to the most
+-- how many lines follow: in decimal, up to the most
 abbrev pub line_count_said : List ℕ → Option ℕ
 line_count_said text =
     let count : ℕ = digits_value 10 text in

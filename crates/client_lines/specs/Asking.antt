@@ -1,4 +1,5 @@
--- Rule: What a line is answered that is asked for the sake of its answer (all this project's own).
+-- Rule: What comes back to the caller that asks one line: one line or a list (all this project's
+-- own).
 use Rattle.std.specs.Prelude.{All, ◌≡◌, ℕ, List, length, Some}
 use Rattle.std.specs.List.{flat_map}
 use Rattle.std.specs.Io.KnownBytes.{Consumes}

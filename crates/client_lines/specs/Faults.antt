@@ -1,4 +1,5 @@
--- Rule: What other faults are to the client (all this project's own).
+-- Rule: Which fault of the client an error of reading or writing, or of a file of grants, becomes
+-- (all this project's own).
 use Rattle.std.specs.declared.io.ErrorKind.{ErrorKind}
 use Rattle.std.specs.declared.io.ErrorKind.TheVariants.{OutOfMemory, WouldBlock}
 use Rattle.client_lines.specs.declared.fault.ClientFault.{ClientFault}

@@ -20,7 +20,7 @@ abbrev pub grant_text : (account : List ℕ) (month pages : ℕ) → List ℕ
 grant_text account month pages =
     codes "grant " ++ account ++ codes " " ++ month_text month ++ codes " " ++ decimal pages
 
--- a bad record asks for none
+-- the line that a record asks for: a bad one asks for none
 abbrev pub line_asked : GrantLine → Option (List ℕ)
 line_asked (Good account month pages) = Some (grant_text account month pages)
 line_asked (Bad number) = None

@@ -1,4 +1,4 @@
--- Rule: What a document is called that is kept (this project's own).
+-- Rule: The name under which a document is kept: `ACCOUNT-JOB-NUMBER` (this project's own).
 use Rattle.std.specs.Prelude.{ℕ, List, ◌++◌, codes, decimal}
 
 -- `ACCOUNT-JOB-NUMBER`

@@ -1,4 +1,5 @@
--- Rule: How it went with all that was sent (this project's own).
+-- Rule: How it went with all lines that were sent: how many were refused, and which answer was
+-- worst (this project's own).
 use Rattle.std.specs.Prelude.{ℕ, ◌+◌, Bool, true, false, if◌then◌else◌}
 use Rattle.client_lines.specs.declared.answer.Answer.{Answer}
 use Rattle.client_lines.specs.declared.answer.Answer.TheVariants as answer_is

@@ -1,4 +1,4 @@
-//! What the first line of an answer says.
+//! What the first line of an answer says: done, refused, failed, or how much follows.
 ghost use Rattle.std.specs.Prelude.{◌≡◌, option_map};
 ghost use Rattle.std.specs.List.{list_all};
 ghost use Rattle.client_lines.specs.Answers.{after_list_word, answer_said, document_count_said, is_ok, is_text, is_text_byte, line_count_said, list_or_told};
@@ -9,7 +9,7 @@ use input_fields::number;
 /// The most lines that may follow the first.
 const MOST_LINES: u32 = 999_999;
 
-/// What the first line of an answer says, as far as it is anything to the client.
+/// What the first line of an answer says, as far as the client has to know.
 #[derive(Clone, Copy, PartialEq, Eq)]
 pub(crate) enum Answer {
     /// The event failed.
@@ -27,8 +27,8 @@ pub(crate) enum Answer {
 }
 
 impl Answer {
-    /// What the line says, or `None` where it is to say how many documents or lines follow and does
-    /// not.
+    /// Reads the first line of an answer. `None` where the line is to say how many documents or
+    /// lines follow and does not.
     pub(crate) fn read(line: &[u8]) -> Option<Answer>
         ensures { result ≡ answer_said line.now }
     {
@@ -44,7 +44,7 @@ impl Answer {
         }
     }
 
-    /// How many lines follow, apart from those of documents.
+    /// How many lines follow the first, apart from those of documents.
     pub(crate) fn lines(self) -> u32
         ensures { result ≡ lines_said self }
     {
@@ -55,7 +55,7 @@ impl Answer {
     }
 }
 
-/// How many documents there are: 0 to 8, which is one digit.
+/// Reads how many documents follow: one digit, 0 to 8.
 fn count_said(text: &[u8]) -> Option<u8>
     ensures { result ≡ document_count_said text.now }
 {
@@ -65,8 +65,8 @@ fn count_said(text: &[u8]) -> Option<u8>
     }
 }
 
-/// What a line says that tells of no documents: how many lines follow, or whether it was done.
-/// It is `None` where the line begins with the word of a list, and no number follows.
+/// Reads a line that tells of no documents: how many lines follow, or whether what was asked was
+/// done. `None` where it begins with the word of a list, and no number follows.
 fn list_or_told(line: &[u8]) -> Option<Answer>
     ensures { result ≡ list_or_told line.now (after_list_word line.now) }
 {
@@ -77,15 +77,16 @@ fn list_or_told(line: &[u8]) -> Option<Answer>
     }
 }
 
-/// Whether the line is `ok`, or begins so with a space behind it, or is `sound`.
+/// Whether the line tells that what was asked was done: it is `ok`, begins with `ok` and a space,
+/// or is `sound`.
 fn is_ok(line: &[u8]) -> bool
     ensures { result ≡ is_ok line.now }
 {
     line == b"ok".as_slice() || line.starts_with(b"ok ") || line == b"sound".as_slice()
 }
 
-/// What comes after the word of a list and a space, or `None` where the line begins with no such
-/// word.
+/// Gives what comes behind the word of a list (`jobs`, `grants`, `accounts` or `devices`) and a
+/// space, or `None` where the line begins with none.
 fn after_list_word(line: &[u8]) -> Option<&[u8]>
     ensures { option_map (λ rest. rest.now) result ≡ after_list_word line.now }
 {
@@ -95,14 +96,14 @@ fn after_list_word(line: &[u8]) -> Option<&[u8]>
         .or(line.strip_prefix(b"devices "))
 }
 
-/// How many lines there are: 0 to 999999 in decimal.
+/// Reads how many lines follow: 0 to 999999 in decimal.
 fn line_count_said(text: &[u8]) -> Option<u32>
     ensures { result ≡ line_count_said text.now }
 {
     number(text, 0, MOST_LINES)
 }
 
-/// Whether a line has something to show, and nothing but spaces and what ASCII prints.
+/// Whether a line may be printed: it is not empty, and has only spaces and printable ASCII.
 pub fn is_text(line: &[u8]) -> bool
     ensures { result ≡ is_text line.now }
 {
@@ -112,12 +113,14 @@ pub fn is_text(line: &[u8]) -> bool
     are_text_bytes(line)
 }
 
+/// Whether all bytes are spaces or printable ASCII.
 fn are_text_bytes(line: &[u8]) -> bool
     ensures { result ≡ list_all is_text_byte line.now }
 {
     line.iter().all(|byte| is_text_byte(*byte))
 }
 
+/// Whether the byte is a space or printable ASCII.
 fn is_text_byte(byte: u8) -> bool
     ensures { result ≡ is_text_byte byte }
 {

@@ -1,4 +1,4 @@
-//! The job of which a line wants the documents.
+//! The job whose documents a line (`start`, `again`) asks for, and the names of these documents.
 ghost use Rattle.std.specs.Prelude.{◌≡◌, IfOk, IfSome, string_bytes};
 ghost use Rattle.client_lines.specs.Names.{document_name};
 ghost use Rattle.client_lines.specs.Words.{AsksDocumentsOf, asks_documents};
@@ -9,7 +9,8 @@ use input_fields::number;
 use std::alloc::{AllocError, Global};
 use std::str;
 
-/// The job that a line `start DEVICE ACCOUNT JOB` or `again DEVICE ACCOUNT JOB` names.
+/// The job whose documents a line `start DEVICE ACCOUNT JOB` or `again DEVICE ACCOUNT JOB` asks
+/// for.
 #[derive(Clone, Copy, PartialEq, Eq)]
 pub(crate) struct Asked {
     pub(crate) account: Name,
@@ -17,7 +18,7 @@ pub(crate) struct Asked {
 }
 
 impl Asked {
-    /// The job that the line names, or `None` where it is no such line.
+    /// Reads the job that the line names. `None` where it is no such line.
     pub(crate) fn read(line: &[u8]) -> Option<Asked>
         ensures { IfSome result (λ asked. AsksDocumentsOf line.now asked.account asked.job) }
     {
@@ -32,7 +33,7 @@ impl Asked {
         Some(Asked { account, job })
     }
 
-    /// The name of its document of the number: `ACCOUNT-JOB-NUMBER`.
+    /// Makes the name under which its document of the number is kept: `ACCOUNT-JOB-NUMBER`.
     pub(crate) fn document_name(&self, alloc: Global, number: u8) -> Result<String, AllocError>
         ensures { IfOk result
             (λ name. string_bytes name ≡ document_name self.now.account self.now.job number) }
@@ -52,6 +53,7 @@ fn asks_documents(word: &[u8]) -> bool
     matches!(word, b"start" | b"again")
 }
 
+/// Makes the text `ACCOUNT-JOB-NUMBER`.
 fn name_of(alloc: Global, account: &str, job: u32, number: u8) -> Result<String, AllocError>
     ensures { IfOk result (λ name. string_bytes name ≡ document_name account.now job number) }
 {

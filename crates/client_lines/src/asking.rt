@@ -1,4 +1,4 @@
-//! A line that is asked for the sake of its answer.
+//! Asks one question over a connection: sends a line, and gives its answer to the caller.
 ghost use Rattle.std.specs.Prelude.{◌≡◌, ◌≢◌, ◌++◌, IfErr, IfOk, IsErrOf, IsTrue, List, OnOk, Some, codes, length, map, ℕ};
 ghost use Rattle.std.specs.Io.KnownBytes.{Appends, Consumes};
 ghost use Rattle.client_lines.specs.Answers.{answer_said, is_text};
@@ -35,7 +35,7 @@ pub fn ask_line<R: BufRead, W: Write>(
     Ok(text)
 }
 
-/// Whether no lines and no documents follow a first line.
+/// Whether an answer with this first line ends there: no lines and no documents follow.
 fn is_one_line(text: &[u8]) -> bool {
     !matches!(
         Answer::read(text),
@@ -63,7 +63,8 @@ pub fn ask_list<R: BufRead, W: Write>(
     hear_lines(alloc, peer, count)
 }
 
-/// How many lines a list has behind its first.
+/// Reads how many lines a list has behind its first. A fault where the answer is no list: `Failed`
+/// or `Refused` where it says so, else `Broken`.
 fn count_told(text: &[u8]) -> Result<u32, ClientFault>
     ensures { IfOk result (λ count. answer_said text.now ≡ Some (Answer.Lines count)) }
 {
@@ -77,7 +78,7 @@ fn count_told(text: &[u8]) -> Result<u32, ClientFault>
     }
 }
 
-/// The next lines that come, so many.
+/// Takes the next lines, so many.
 fn hear_lines<R: BufRead, W: Write>(
     alloc: Global,
     peer: &mut Peer<R, W>,
@@ -95,8 +96,8 @@ fn hear_lines<R: BufRead, W: Write>(
     Ok(lines)
 }
 
-/// Whether a line that answered an event tells that it was done: `Failed` and `Refused` where it
-/// was not.
+/// Checks that an answer of one line tells that what was asked was done. `Failed` where it is
+/// `failed`, and `Refused` where it is anything else.
 pub fn judge(text: &[u8]) -> Result<(), ClientFault>
     ensures done { OnOk result (IsDone text.now) }
     ensures not_done { IfErr result (λ _. IsDone text.now → ⊥) }

@@ -1,4 +1,4 @@
-//! What is taken of a reader, so many bytes at a time.
+//! Takes a known number of bytes of a reader, for a document that comes in an answer.
 
 ghost use Rattle.std.specs.Prelude.{◌≡◌, ◌≢◌, ◌+◌, ◌≤◌, IfErr, IfOk, OnOk, codes, length};
 ghost use Rattle.std.specs.Io.KnownBytes.{Consumes};
@@ -8,10 +8,10 @@ use crate::fault::ClientFault;
 use std::alloc::Global;
 use std::io::{ErrorKind, Read};
 
-/// How many bytes are taken at once.
+/// The most bytes that are taken at once.
 const PIECE: usize = 4096;
 
-/// The next bytes, so many.
+/// Takes the next bytes of a reader, so many. Memory is taken as they come, not for all at once.
 pub(crate) fn take_bytes<R: Read>(
     alloc: Global,
     reader: &mut R,
@@ -30,6 +30,7 @@ pub(crate) fn take_bytes<R: Read>(
     Ok(bytes)
 }
 
+/// Takes the next bytes, as many as there is `room`, and adds them.
 fn add_bytes<R: Read>(reader: &mut R, room: usize, bytes: &mut Vec<u8>) -> Result<(), ClientFault>
     requires { room ≤ PIECE }
     ensures added { OnOk result (TakesMore (R.remaining reader.old) (R.remaining reader.new)
@@ -43,7 +44,7 @@ fn add_bytes<R: Read>(reader: &mut R, room: usize, bytes: &mut Vec<u8>) -> Resul
     Ok(bytes.extend_from_slice(front)?)
 }
 
-/// The line feed that has to come next.
+/// Takes the line feed that has to come next. `Broken` where another byte comes.
 pub(crate) fn take_feed<R: Read>(reader: &mut R) -> Result<(), ClientFault>
     ensures feed { OnOk result
         (Consumes (R.remaining reader.old) (R.remaining reader.new) (codes "\n")) }
@@ -57,7 +58,7 @@ pub(crate) fn take_feed<R: Read>(reader: &mut R) -> Result<(), ClientFault>
     Err(ClientFault::Broken)
 }
 
-/// Fills the buffer with the next bytes.
+/// Fills the buffer with the next bytes. `Broken` where the reader ends before.
 fn fill<R: Read>(reader: &mut R, buffer: &mut [u8]) -> Result<(), ClientFault>
     ensures filled { OnOk result
         (Consumes (R.remaining reader.old) (R.remaining reader.new) buffer.new) }

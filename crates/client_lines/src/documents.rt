@@ -1,4 +1,4 @@
-//! The documents of an answer.
+//! Takes the documents of an answer, and gives them to the keeper.
 ghost use Rattle.std.specs.Prelude.{◌≡◌, ◌≢◌, ◌≤◌, ℕ, List, IfErr, IfSome, OnOk};
 ghost use Rattle.account_rules.specs.Limits.{longest_document};
 ghost use Rattle.client_lines.specs.ProofAnswering.{HearsDocument, TakesDocuments};
@@ -14,8 +14,8 @@ use input_fields::number;
 use std::alloc::Global;
 use std::io::{BufRead, Write};
 
-/// Takes so many documents of the job that the line asked for, one after another: of each its line
-/// is printed, and the keeper gets its bytes.
+/// Takes the documents of the job that the line asked for, one after another: prints the line of
+/// each, and gives its bytes to the keeper.
 pub(crate) fn take_documents<R: BufRead, W: Write, K: Keeper, O: Write>(
     alloc: Global,
     peer: &mut Peer<R, W>,
@@ -39,7 +39,7 @@ pub(crate) fn take_documents<R: BufRead, W: Write, K: Keeper, O: Write>(
     Ok(())
 }
 
-/// Takes the document of the number.
+/// Takes the document of the number, from 1: prints its line, and gives its bytes to the keeper.
 fn take_document<R: BufRead, W: Write, K: Keeper, O: Write>(
     alloc: Global,
     peer: &mut Peer<R, W>,
@@ -65,8 +65,8 @@ fn take_document<R: BufRead, W: Write, K: Keeper, O: Write>(
     Ok(())
 }
 
-/// How many bytes a document has by its line `document JOB COPIES FORMAT LENGTH`, or `None` where
-/// that is no line of a document of the job.
+/// Reads how many bytes a document has, of its line `document JOB COPIES FORMAT LENGTH`. `None`
+/// where that is no line of a document of the job.
 fn length_said(line: &[u8], job: u32) -> Option<u32>
     ensures most { IfSome result (λ length. length ≤ longest_document) }
     ensures said { IfSome result (IsHeadOf line.now job) }

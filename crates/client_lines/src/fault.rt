@@ -1,4 +1,4 @@
-//! Why what was to be sent was not sent to its end.
+//! Faults of a client: why what was to be sent was not sent to its end.
 
 ghost use Rattle.std.specs.Prelude.{◌≡◌};
 ghost use Rattle.std.specs.IoError.{error_kind};
@@ -24,10 +24,10 @@ pub enum ClientFault {
     /// The process did not take or send a byte in time.
     #[error("nothing came in time")]
     Silent,
-    /// What was asked failed there.
+    /// The process answered that what was asked failed.
     #[error("what was asked failed")]
     Failed,
-    /// What was asked was refused.
+    /// The process refused what was asked.
     #[error("what was asked was refused")]
     Refused,
     /// A line of the input is longer than any may be, or a file of grants is.

@@ -1,4 +1,4 @@
-//! Files of grants that are sent record by record.
+//! Sends a file of grants, record by record, for `send --grants`.
 ghost use Rattle.std.specs.Prelude.{◌≡◌, ◌≢◌, ◌-◌, ◌^◌, ◌<◌, ◌≤◌, ◌++◌, All, IfErr, IfOk, IsErrOf, OnErr, OnOk, List, ℕ, Some, codes, decimal, option_map, true};
 ghost use Rattle.std.specs.Io.KnownBytes.{Appends};
 ghost use Rattle.account_rules.specs.Limits.{first_month, last_month};
@@ -45,6 +45,7 @@ pub fn send_grants<S: Source, R: BufRead, W: Write, O: Write>(
     send_records(alloc, peer, records.as_slice(), output)
 }
 
+/// Sends the lines of the records, one after another, and prints what each grant came to.
 fn send_records<R: BufRead, W: Write, O: Write>(
     alloc: Global,
     peer: &mut Peer<R, W>,
@@ -96,6 +97,7 @@ fn send_record<R: BufRead, W: Write, O: Write>(
     take_result(alloc, peer, number, output)
 }
 
+/// Prints that the record of the number is bad: `NUMBER bad`.
 fn print_bad<O: Write>(number: usize, output: &mut O) -> Result<(), ClientFault>
     ensures printed { OnOk result (Appends (O.contents output.old) (O.contents output.new)
         (decimal number ++ codes " bad\n")) }
@@ -105,6 +107,7 @@ fn print_bad<O: Write>(number: usize, output: &mut O) -> Result<(), ClientFault>
     Ok(output.flush()?)
 }
 
+/// Prints the number of a record, and a space.
 fn print_number<O: Write>(number: usize, output: &mut O) -> Result<(), ClientFault>
     ensures printed { OnOk result (Appends (O.contents output.old) (O.contents output.new)
         (decimal number ++ codes " ")) }
@@ -113,7 +116,7 @@ fn print_number<O: Write>(number: usize, output: &mut O) -> Result<(), ClientFau
     Ok(write!(output, "{number} ")?)
 }
 
-/// Takes the answer to the line of the record of the number and prints it.
+/// Takes the answer to the line of a record, and prints it behind the record's number.
 fn take_result<R: BufRead, W: Write, O: Write>(
     alloc: Global,
     peer: &mut Peer<R, W>,
@@ -135,7 +138,7 @@ fn take_result<R: BufRead, W: Write, O: Write>(
     Ok(answer)
 }
 
-/// What answers a grant: no documents, and no list.
+/// Reads what a grant was answered. `Broken` where documents or a list follow.
 fn result_said(text: &[u8]) -> Result<Answer, ClientFault>
     ensures said { IfOk result (λ answer. answer_said text.now ≡ Some answer) }
     ensures fault { IfErr result (λ fault. fault ≢ ClientFault.TooLong) }
@@ -146,7 +149,7 @@ fn result_said(text: &[u8]) -> Result<Answer, ClientFault>
     }
 }
 
-/// The line that a record asks for, which is none where it is a bad one.
+/// Makes the line that grants what a record says. `None` where the record is a bad one.
 fn line_of(alloc: Global, said: &GrantLine) -> Result<Option<Vec<u8>>, AllocError>
     requires { IsInRange said.now }
     ensures { IfOk result (λ line. option_map (λ line. line.items) line ≡ line_asked said.now) }
@@ -161,7 +164,7 @@ fn line_of(alloc: Global, said: &GrantLine) -> Result<Option<Vec<u8>>, AllocErro
     }
 }
 
-/// The line `grant ACCOUNT YYYY-MM PAGES`.
+/// Makes the line `grant ACCOUNT YYYY-MM PAGES`.
 pub fn grant_text(
     alloc: Global,
     account: &Name,

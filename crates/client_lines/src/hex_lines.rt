@@ -1,4 +1,4 @@
-//! Documents that are printed and not kept.
+//! The keeper that prints documents as hexadecimal digits, and keeps none.
 ghost use Rattle.hex.specs.Hex.{encode_lower};
 ghost use Rattle.std.specs.Prelude.{◌++◌, Some, codes};
 

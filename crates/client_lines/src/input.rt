@@ -1,4 +1,4 @@
-//! The lines of an input, one at a time.
+//! Takes the lines of an input, one at a time, to be sent.
 
 ghost use Rattle.std.specs.Prelude.{◌≡◌, ◌<◌, IfOk, IfSome, IfNone, IsErrOf, [], length};
 ghost use Rattle.client_lines.specs.ProofTaking.{MayBeLine, TakesAll, TakesLine, TakesTooMany};
@@ -8,8 +8,8 @@ use crate::line::{Taken, take_line};
 use std::alloc::Global;
 use std::io::BufRead;
 
-/// The next line without the line feed that ends it, or `None` at the end. The last line may have
-/// none.
+/// Takes the next line of an input, without the line feed that ends it. `None` at the end. The last
+/// line may have no line feed.
 pub(crate) fn next_line<I: BufRead>(
     alloc: Global,
     input: &mut I,
@@ -29,7 +29,7 @@ pub(crate) fn next_line<I: BufRead>(
     }
 }
 
-/// What is left where no line feed is: a line, or nothing.
+/// Gives what is left behind the last line feed as a line, or `None` where nothing is left.
 fn found(line: Vec<u8>) -> Option<Vec<u8>>
     ensures some { IfSome result (λ found. found ≡ line) }
     ensures not_empty { IfSome result (λ found. 0 < length found.items) }

@@ -1,5 +1,5 @@
-//! What asks a process that serves rooms: lines and grants, sent one after another over a
-//! connection, and what is printed of the answers. It opens no connection and no file.
+//! The client of a server process: it sends lines and grants over a connection, one after another,
+//! and prints the answers. It opens no connection and no file.
 #![tactic(auto)]
 
 mod answer;

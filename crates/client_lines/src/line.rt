@@ -1,4 +1,4 @@
-//! What is taken of a reader, a line at a time.
+//! Takes one line of a reader, of no more bytes than a line may have.
 
 ghost use Rattle.std.specs.Prelude.{◌≡◌, ◌≢◌, ◌+◌, ◌<◌, ◌≤◌, ℕ, List, All, IfOk, IfErr, IfSome, IfNone, codes, length, take, ◌++◌, Ok};
 ghost use Rattle.std.specs.Io.KnownBytes.{Consumes};
@@ -10,7 +10,7 @@ use std::alloc::{AllocError, Global};
 use std::io;
 use std::io::{BufRead, ErrorKind};
 
-/// The most bytes of a line, one way or the other, without the line feed that ends it.
+/// The most bytes of a line, sent or received, without the line feed that ends it.
 pub(crate) const MOST_LINE: usize = 65_536;
 
 /// What was taken of a reader.
@@ -55,8 +55,7 @@ pub(crate) fn take_line<R: BufRead>(alloc: Global, reader: &mut R) -> Result<Tak
     Err(ClientFault::Io)
 }
 
-/// Takes of what the reader shows at once what belongs to the line, of which there may be so many
-/// bytes.
+/// Takes what the reader has at hand of the line, at most `room` bytes, and adds it to the line.
 fn take_piece<R: BufRead>(
     reader: &mut R,
     room: usize,
@@ -79,7 +78,8 @@ fn take_piece<R: BufRead>(
     Ok(piece)
 }
 
-/// A call that a signal interrupts is made again.
+/// Goes on where a signal interrupted the call, so that it is made again. Any other error is the
+/// fault.
 fn none_shown(error: io::Error) -> Result<Piece, ClientFault>
     ensures none { IfOk result (λ piece. piece ≡ Piece.Part) }
     ensures fault { IfErr result (λ fault. fault ≢ ClientFault.TooLong) }
@@ -90,8 +90,8 @@ fn none_shown(error: io::Error) -> Result<Piece, ClientFault>
     Err(ClientFault::from(error))
 }
 
-/// Adds the front of what is shown to the line, up to the first line feed there but no more than so
-/// many bytes, and answers how many bytes are done with, that line feed among them.
+/// Adds the front of what is shown to the line, up to the first line feed there but at most `room`
+/// bytes. Gives how many bytes are done with, that line feed among them.
 fn add_front(shown: &[u8], room: usize, line: &mut Vec<u8>) -> Result<(usize, Piece), AllocError>
     requires { 0 < room }
     ensures shown { IfOk result (λ added. added.0 ≤ length shown.now) }
@@ -117,7 +117,7 @@ fn add_front(shown: &[u8], room: usize, line: &mut Vec<u8>) -> Result<(usize, Pi
     }
 }
 
-/// Where the first line feed is.
+/// Finds the first line feed.
 fn line_feed_in(bytes: &[u8]) -> Option<usize>
     ensures bound { IfSome result (λ end. end < length bytes.now) }
     ensures found { IfSome result

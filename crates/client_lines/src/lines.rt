@@ -1,4 +1,4 @@
-//! Lines that are sent one after another.
+//! Sends the lines of an input one after another, and prints their answers, for `send`.
 
 ghost use Rattle.std.specs.Prelude.{◌≡◌, ◌≢◌, ◌++◌, codes, IfErr, IfOk, IfSome, IfNone, IsErrOf, OnOk, OnErr};
 ghost use Rattle.std.specs.Io.KnownBytes.{Appends};
@@ -52,7 +52,7 @@ pub fn send_lines<I: BufRead, R: BufRead, W: Write, K: Keeper, O: Write>(
     Err(ClientFault::Io)
 }
 
-/// Sends the next line of the input and prints its answer. It is `None` at the end of the input.
+/// Sends the next line of the input and prints its answer. `None` at the end of the input.
 fn send_next<I: BufRead, R: BufRead, W: Write, K: Keeper, O: Write>(
     alloc: Global,
     input: &mut I,
@@ -130,7 +130,7 @@ fn print_answer<R: BufRead, W: Write, K: Keeper, O: Write>(
     take_lines(alloc, peer, answer.lines(), output)
 }
 
-/// Takes so many lines, one after another, and prints each as it is.
+/// Takes so many lines, and prints each as it is.
 fn take_lines<R: BufRead, W: Write, O: Write>(
     alloc: Global,
     peer: &mut Peer<R, W>,

@@ -1,11 +1,11 @@
-//! Months as lines write them.
+//! Writes months as lines have them: `YYYY-MM`.
 ghost use Rattle.std.specs.Prelude.{◌≡◌, ◌+◌, ◌<◌, ◌≤◌, slice_index};
 ghost use Rattle.input_fields.specs.Fields.{digit_said, month_said, two_digits_said};
 ghost use Rattle.account_rules.specs.Limits.{first_month, last_month};
 ghost use Rattle.client_lines.specs.Grants.{month_text, two_digits};
 
-/// The month of the number, twelve times the year and 0 for January to 11 for December, as
-/// `YYYY-MM`.
+/// Writes a month as `YYYY-MM`. Its number is twelve times the year, and 0 for January to 11 for
+/// December.
 pub fn month_text(month: u32) -> [u8; 7]
     requires first { first_month ≤ month }
     requires last { month ≤ last_month }
@@ -19,7 +19,7 @@ pub fn month_text(month: u32) -> [u8; 7]
     [a, b, c, d, b'-', e, f]
 }
 
-/// The two digits that write the number.
+/// Writes a number below 100 with two digits.
 fn two_digits(number: u32) -> [u8; 2]
     requires { number < 100 }
     ensures text { result ≡ two_digits number }
@@ -28,6 +28,7 @@ fn two_digits(number: u32) -> [u8; 2]
     [digit(number / 10), digit(number % 10)]
 }
 
+/// Writes a number below 10 as its digit.
 fn digit(number: u32) -> u8
     requires { number < 10 }
     ensures text { result ≡ 48 + number }

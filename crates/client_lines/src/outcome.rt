@@ -1,4 +1,4 @@
-//! How it went with all that was sent.
+//! How it went with all lines that were sent: how many were refused, and which answer was worst.
 ghost use Rattle.std.specs.Prelude.{◌≡◌, ◌<◌, ◌≤◌};
 ghost use Rattle.client_lines.specs.Outcomes.{is_refused, outcome_after, worst_after};
 
@@ -9,7 +9,7 @@ use crate::answer::Answer;
 pub struct Outcome {
     /// How many lines or records there were.
     pub lines: usize,
-    /// How many of them were not answered by `ok`, by a list or by documents.
+    /// How many of them were answered otherwise than by `ok`, by a list or by documents.
     pub refused: usize,
     pub worst: Worst,
 }
@@ -27,14 +27,14 @@ pub enum Worst {
 }
 
 impl Outcome {
-    /// Nothing was sent yet.
+    /// How it stands before anything is sent.
     pub(crate) const NOTHING_SENT: Outcome = Outcome {
         lines: 0,
         refused: 0,
         worst: Worst::Fine,
     };
 
-    /// How it went once the line of the number is answered too.
+    /// Counts the answer to the line of the number, from 1.
     pub(crate) fn after(self, number: usize, answer: Answer) -> Outcome
         requires { self.refused < number }
         ensures after { result ≡ outcome_after self number answer }
@@ -54,6 +54,7 @@ impl Outcome {
 }
 
 impl Worst {
+    /// Gives the worst of the answers once this one is counted too.
     fn after(self, number: usize, answer: Answer) -> Worst
         ensures { result ≡ worst_after self number answer }
     {
@@ -65,6 +66,7 @@ impl Worst {
     }
 }
 
+/// Whether the answer tells that something was not done.
 fn is_refused(answer: Answer) -> bool
     ensures { result ≡ is_refused answer }
 {

@@ -1,4 +1,4 @@
-//! A connection to what serves rooms: a line goes there, and its answer comes from there.
+//! A connection to a server process: a line goes there, and its answer comes back.
 ghost use Rattle.std.specs.Prelude.{◌≡◌, ◌≢◌, ◌++◌, [], codes, length, IfErr, IfOk, IsTrue, OnOk};
 ghost use Rattle.std.specs.Io.KnownBytes.{Appends, Consumes};
 ghost use Rattle.client_lines.specs.Answers.{is_text};
@@ -12,7 +12,7 @@ use crate::sent::put;
 use std::alloc::Global;
 use std::io::{BufRead, Write};
 
-/// The two ways of a connection.
+/// A connection to a server process: one end to read from, one to write to.
 #[derive(Drop)]
 pub struct Peer<R, W> {
     reader: R,
@@ -22,7 +22,7 @@ pub struct Peer<R, W> {
 impl<R: BufRead, W: Write> Peer<R, W> {
     ghost use Rattle.client_lines.specs.Peers.{reader_of, writer_of};
 
-    /// Nothing was sent yet, and nothing has come.
+    /// Takes the two ends of a connection, over which nothing was sent yet.
     pub fn new(reader: R, writer: W) -> Peer<R, W>
         ensures reader { reader_of result ≡ reader }
         ensures writer { writer_of result ≡ writer }
@@ -44,8 +44,9 @@ impl<R: BufRead, W: Write> Peer<R, W> {
         Ok(self.writer.flush()?)
     }
 
-    /// The next line that comes, without the line feed that ends it. No more is read of one that is
-    /// too long.
+    /// Takes the next line, without the line feed that ends it. `Broken` where the connection ends
+    /// before, or the line is too long or may not be printed. No more is read of one that is too
+    /// long.
     pub(crate) fn hear(&mut self, alloc: Global) -> Result<Vec<u8>, ClientFault>
         ensures line { IfOk result (λ line. Consumes (R.remaining self.old.reader)
             (R.remaining self.new.reader) (line.items ++ codes "\n")) }
@@ -59,7 +60,7 @@ impl<R: BufRead, W: Write> Peer<R, W> {
         }
     }
 
-    /// The bytes that come next, so many, which a line feed has to follow. Memory is taken as they
+    /// Takes the next bytes, so many, and the line feed that has to follow. Memory is taken as they
     /// come.
     pub(crate) fn hear_bytes(&mut self, alloc: Global, count: u32) -> Result<Vec<u8>, ClientFault>
         ensures bytes { IfOk result (λ bytes. Consumes (R.remaining self.old.reader)
@@ -88,6 +89,7 @@ impl<R: BufRead, W: Write> Peer<R, W> {
     }
 }
 
+/// Checks that nothing came before the connection was closed.
 fn be_empty(rest: Vec<u8>) -> Result<(), ClientFault>
     ensures { OnOk result (rest.items ≡ []) }
 {
@@ -97,6 +99,7 @@ fn be_empty(rest: Vec<u8>) -> Result<(), ClientFault>
     Err(ClientFault::Broken)
 }
 
+/// Checks that a line may be printed, and gives it back.
 fn text_of(line: Vec<u8>) -> Result<Vec<u8>, ClientFault>
     ensures same { IfOk result (λ text. text ≡ line) }
     ensures text { IfOk result (λ text. IsTrue (is_text text.items)) }

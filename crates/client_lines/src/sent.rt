@@ -1,4 +1,4 @@
-//! What is written, whole or up to where that fails.
+//! Writes bytes to a connection, all of them or up to where that fails.
 
 ghost use Rattle.std.specs.Prelude.{◌≡◌, ◌≢◌, ◌≤◌, [], IfErr, IfOk, OnOk, OnErr, length, take};
 ghost use Rattle.std.specs.Io.KnownBytes.{Appends};
@@ -8,7 +8,7 @@ use crate::fault::ClientFault;
 use std::io;
 use std::io::{ErrorKind, Write};
 
-/// Writes the bytes, or a front of them where that fails. A call that a signal interrupts is made
+/// Writes all bytes, or a front of them where that fails. A call that a signal interrupts is made
 /// again.
 pub(crate) fn put<W: Write>(writer: &mut W, bytes: &[u8]) -> Result<(), ClientFault>
     ensures whole { OnOk result
@@ -27,7 +27,7 @@ pub(crate) fn put<W: Write>(writer: &mut W, bytes: &[u8]) -> Result<(), ClientFa
     Err(ClientFault::Io)
 }
 
-/// Writes a front of the bytes and answers how many they are.
+/// Writes a front of the bytes, by one call, and gives how many they are.
 fn put_front<W: Write>(writer: &mut W, bytes: &[u8]) -> Result<usize, ClientFault>
     ensures bound { IfOk result (λ count. count ≤ length bytes.now) }
     ensures front { IfOk result (λ count. Appends (W.contents writer.old) (W.contents writer.new)
@@ -42,6 +42,8 @@ fn put_front<W: Write>(writer: &mut W, bytes: &[u8]) -> Result<usize, ClientFaul
     }
 }
 
+/// Gives 0 where a signal interrupted the call, so that it is made again. Any other error is the
+/// fault.
 fn none_put(error: io::Error) -> Result<usize, ClientFault>
     ensures none { IfOk result (λ count. count ≡ 0) }
     ensures fault { IfErr result (λ fault. fault ≢ ClientFault.TooLong) }

@@ -1,9 +1,10 @@
-//! The words of a line, which have a space between each two.
+//! Takes the words of a line apart, at its spaces.
 
 ghost use Rattle.std.specs.Prelude.{◌≡◌, ◌+◌, ◌<◌, ◌++◌, IfSome, codes, length, take};
 ghost use Rattle.client_lines.specs.Words.{HasNoSpace};
 
-/// The bytes before the first space and those after it, or `None` where no space is.
+/// Splits a line at its first space: the bytes before it and those behind it. `None` where it has
+/// no space.
 pub fn first_word(line: &[u8]) -> Option<(&[u8], &[u8])>
     ensures parts { IfSome result (λ parts. line.now ≡ parts.0.now ++ codes " " ++ parts.1.now) }
     ensures word { IfSome result (λ parts. HasNoSpace parts.0.now) }
@@ -12,7 +13,8 @@ pub fn first_word(line: &[u8]) -> Option<(&[u8], &[u8])>
     Some((&line[..end], &line[end + 1..]))
 }
 
-/// What comes after the word and a space, or `None` where that is not what the line begins with.
+/// Gives what comes behind the word and a space, or `None` where the line does not begin with
+/// these.
 pub fn after_word<'a>(line: &'a [u8], word: &[u8]) -> Option<&'a [u8]>
     ensures { IfSome result (λ rest. line.now ≡ word.now ++ codes " " ++ rest.now) }
 {
@@ -23,7 +25,7 @@ pub fn after_word<'a>(line: &'a [u8], word: &[u8]) -> Option<&'a [u8]>
     None
 }
 
-/// Where the first space is.
+/// Finds the first space.
 fn space_in(line: &[u8]) -> Option<usize>
     ensures bound { IfSome result (λ end. end < length line.now) }
     ensures found { IfSome result

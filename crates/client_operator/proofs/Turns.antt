@@ -1,4 +1,4 @@
--- One step after another.
+-- Lemmas on steps that are taken one after another (`InTurn`).
 use Rattle.std.proofs.Common.{◌≡◌, ◌<◌, ◌+◌, ℕ, List, [], ◌∷◌, ◌++◌, ◌∙◌, ap, get_or, length, map, refl, subst, sym, take}
 use Rattle.std.proofs.lemmas.List.{map-append, take_more}
 use Rattle.client_operator.specs.Talks.{InTurn}

@@ -1,4 +1,4 @@
--- Rule: How long ago a moment was (this project's own).
+-- Rule: Whether a moment lies so many days ago (this project's own).
 use Rattle.std.specs.Prelude.{ℕ, ◌+◌, ◌*◌, Bool, nat_le}
 
 -- at least so many days of 86400 seconds before now

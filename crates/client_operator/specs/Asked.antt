@@ -1,4 +1,5 @@
--- Rule: The lines that are sent, without the line feeds that end them (all this project's own).
+-- Rule: The lines that an operator's commands send, without the line feeds that end them (all this
+-- project's own).
 use Rattle.std.specs.Prelude.{ℕ, List, ◌++◌, codes}
 use Rattle.client_lines.specs.Grants.{month_text}
 

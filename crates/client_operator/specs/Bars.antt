@@ -1,4 +1,4 @@
--- Rule: What shows how far a task has come, as contracts see it (this project's own).
+-- Rule: The terminal of a progress bar, as contracts see it (this project's own).
 use Rattle.std.specs.Prelude.{Option}
 use Rattle.client_operator.specs.declared.bar.Bar.{Bar}
 

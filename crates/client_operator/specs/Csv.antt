@@ -27,6 +27,6 @@ record_text [] = codes "\r\n"
 record_text (last ∷ []) = field_text last ++ codes "\r\n"
 record_text (first ∷ next ∷ rest) = field_text first ++ (codes "," ++ record_text (next ∷ rest))
 
--- each of them
+-- the texts of the fields
 abbrev pub texts : List (Bor (List ℕ)) → List (List ℕ)
 texts fields = map (λ (field : Bor (List ℕ)). field.now) fields

@@ -1,4 +1,4 @@
--- Rule: Lines of words (this project's own).
+-- Rule: How words make a line, with a space between each two (this project's own).
 use Rattle.std.specs.Prelude.{ℕ, List, [], ◌∷◌, ◌++◌, codes}
 
 -- a space between each two

@@ -9,7 +9,7 @@ use Rattle.client_operator.specs.Lines.{line_of}
 use Rattle.client_operator.specs.Talks.{At, AsksList, GetsDone}
 use Rattle.client_operator.specs.declared.grant.Granted.{Granted}
 
--- January 2000
+-- January 2000, the first month that is not for refunds
 abbrev pub after_refunds : ℕ
 after_refunds = 24000
 

@@ -1,4 +1,4 @@
--- Rule: A text that somebody chose, as a record shows it (this project's own).
+-- Rule: A text that a user chose, made safe for terminals and spreadsheets (this project's own).
 use Rattle.std.specs.Prelude.{ℕ, List, [], ◌∷◌, ◌++◌, codes, ◌==◌, ◌||◌, nat_lt, Bool, if◌then◌else◌, flat_map}
 use Rattle.std.specs.Char.{encode_utf8}
 use Rattle.std.specs.Int.{is_in_range}

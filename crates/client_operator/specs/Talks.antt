@@ -48,7 +48,7 @@ pub record Prints (from to : At) (text : List ℕ) : Type 0 where
   pub left : to.left ≡ from.left
   pub printed : Appends from.printed to.printed text
 
--- one after another
+-- a step for each of the list, one after another
 abbrev pub InTurn : {X S : Type 0} → (Step : X → S → S → Type 0) → (from to : S) → List X → Type 0
 InTurn Step from to [] = to ≡ from
 InTurn {S = S} Step from to (first ∷ rest) = (mid : S) × Step first from mid × InTurn Step mid to rest

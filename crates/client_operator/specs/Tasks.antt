@@ -1,4 +1,4 @@
--- Rule: What a task comes to (this project's own).
+-- Rule: What each task of an operator sends, hears and prints (this project's own).
 use Rattle.std.specs.Prelude.{◌≡◌, ℕ, Bool, true, Some, codes}
 use Rattle.client_operator.specs.Devices.{ReportsDevices}
 use Rattle.client_operator.specs.Expiry.{Expires}

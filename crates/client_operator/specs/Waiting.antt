@@ -15,11 +15,11 @@ abbrev pub is_of_age : (days : Option ℕ) (now made : ℕ) → Bool
 is_of_age None now made = true
 is_of_age (Some days) now made = is_as_old made days now
 
--- it waits, and is of the age
+-- the job waits, and is of the age
 abbrev pub is_chosen : (age : Age) (job : TellsJob) → Bool
 is_chosen age job = waits job.state.now && is_of_age age.days age.now (digits_value 10 job.made.now)
 
--- `-` is an empty field
+-- the word, where `-` becomes an empty field
 abbrev pub or_empty : List ℕ → List ℕ
 or_empty word = if bytes_eq word (codes "-") then [] else word
 

@@ -1,4 +1,4 @@
-//! The lines that are sent.
+//! Makes the lines that an operator's commands send, without the line feeds that end them.
 ghost use Rattle.std.specs.Prelude.{◌≡◌, ◌≤◌, IfOk};
 ghost use Rattle.account_rules.specs.Limits.{first_month, last_month};
 ghost use Rattle.client_operator.specs.Asked.{account_asked, backup_asked, cancel_asked, slice_asked, statement_asked};
@@ -8,7 +8,8 @@ use account_rules::Name;
 use client_lines::month_text;
 use std::alloc::{AllocError, Global};
 
-/// `accounts NAME` with the last of the names, or `accounts -` where there is none yet.
+/// Makes the line that asks for the next accounts: `accounts NAME` with the last name known, or
+/// `accounts -` where none is yet.
 pub(crate) fn accounts_line(alloc: Global, names: &[Name]) -> Result<Vec<u8>, AllocError>
     ensures { IfOk result (λ line. line.items ≡ accounts_asked (last_of names.now)) }
 {
@@ -18,7 +19,7 @@ pub(crate) fn accounts_line(alloc: Global, names: &[Name]) -> Result<Vec<u8>, Al
     }
 }
 
-/// A word with its space, and an account.
+/// Makes a line of a word, with its space behind it, and an account: as `jobs ACCOUNT`.
 pub(crate) fn account_line(
     alloc: Global,
     word: &[u8],
@@ -31,7 +32,7 @@ pub(crate) fn account_line(
     Ok(line)
 }
 
-/// `statement ACCOUNT YYYY-MM`.
+/// Makes the line `statement ACCOUNT YYYY-MM`.
 pub(crate) fn statement_line(
     alloc: Global,
     account: &Name,
@@ -47,7 +48,7 @@ pub(crate) fn statement_line(
     Ok(line)
 }
 
-/// `cancel ACCOUNT JOB`, the job as an answer told it.
+/// Makes the line `cancel ACCOUNT JOB`, with the job as an answer told it.
 pub(crate) fn cancel_line(alloc: Global, account: &Name, job: &[u8]) -> Result<Vec<u8>, AllocError>
     ensures { IfOk result (λ line. line.items ≡ cancel_asked account.now job.now) }
 {
@@ -57,7 +58,7 @@ pub(crate) fn cancel_line(alloc: Global, account: &Name, job: &[u8]) -> Result<V
     Ok(line)
 }
 
-/// `backup FILE`.
+/// Makes the line `backup FILE`.
 pub(crate) fn backup_line(alloc: Global, file: &str) -> Result<Vec<u8>, AllocError>
     ensures { IfOk result (λ line. line.items ≡ backup_asked file.now) }
 {
@@ -66,7 +67,7 @@ pub(crate) fn backup_line(alloc: Global, file: &str) -> Result<Vec<u8>, AllocErr
     Ok(line)
 }
 
-/// `slice FILE`.
+/// Makes the line `slice FILE`.
 pub(crate) fn slice_line(alloc: Global, file: &str) -> Result<Vec<u8>, AllocError>
     ensures { IfOk result (λ line. line.items ≡ slice_asked file.now) }
 {

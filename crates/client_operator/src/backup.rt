@@ -1,4 +1,4 @@
-//! A backup, which a process makes of its database slice by slice.
+//! Has a process back up its database, slice by slice.
 ghost use Rattle.std.specs.Prelude.{◌≡◌, IfOk, OnOk, codes};
 ghost use Rattle.client_lines.specs.Replies.{Known};
 ghost use Rattle.client_operator.specs.Backups.{AsksSlices, BacksUp, slice_told};
@@ -10,8 +10,8 @@ use std::alloc::Global;
 use std::io::{BufRead, Write};
 
 /// Has the process back up its database into FILE.part, by as many lines `slice` as it takes, until
-/// it tells that this is whole and closed. `Failed` where it tells that the backup failed, `Refused`
-/// where it has none of this file, as while another is under way.
+/// it tells that this is whole and closed. `Failed` where it tells that the backup failed,
+/// `Refused` where it makes none of this file, as while another backup is under way.
 pub fn back_up<R: BufRead, W: Write>(
     alloc: Global,
     peer: &mut Peer<R, W>,
@@ -28,7 +28,7 @@ pub fn back_up<R: BufRead, W: Write>(
     ask_slices(alloc, peer, slice.as_slice())
 }
 
-/// Sends a line that has to be answered by `ok`.
+/// Sends a line, and checks that it is answered by `ok`.
 fn ask_ok<R: BufRead, W: Write>(
     alloc: Global,
     peer: &mut Peer<R, W>,
@@ -42,7 +42,7 @@ fn ask_ok<R: BufRead, W: Write>(
     be_ok(told.as_slice())
 }
 
-/// Sends the line of a slice until more is to come no longer.
+/// Sends the line `slice` again and again, until no more is to come.
 fn ask_slices<R: BufRead, W: Write>(
     alloc: Global,
     peer: &mut Peer<R, W>,
@@ -61,7 +61,7 @@ fn ask_slices<R: BufRead, W: Write>(
     Err(ClientFault::Broken)
 }
 
-/// Sends the line of a slice. Whether more is to come.
+/// Sends the line `slice` once. Gives whether more is to come.
 fn ask_slice<R: BufRead, W: Write>(
     alloc: Global,
     peer: &mut Peer<R, W>,
@@ -75,7 +75,7 @@ fn ask_slice<R: BufRead, W: Write>(
     is_more(told.as_slice())
 }
 
-/// Whether the answer to a slice tells that more is to come. It is to be `ok` where it does not.
+/// Whether the answer to `slice` tells that more is to come. Where it does not, it has to be `ok`.
 fn is_more(told: &[u8]) -> Result<bool, ClientFault>
     ensures { IfOk result (λ is_more. told.now ≡ slice_told is_more) }
 {
@@ -86,7 +86,7 @@ fn is_more(told: &[u8]) -> Result<bool, ClientFault>
     Ok(false)
 }
 
-/// `Failed` or `Refused` where the answer is another than `ok`.
+/// Checks that the answer is `ok`. `Failed` or `Refused` where it says so, else `Broken`.
 fn be_ok(told: &[u8]) -> Result<(), ClientFault>
     ensures { OnOk result (told.now ≡ codes "ok") }
 {

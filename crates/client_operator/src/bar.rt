@@ -1,9 +1,9 @@
-//! How far a task has come.
+//! The progress bar of a task that goes through all accounts.
 ghost use Rattle.std.specs.Prelude.{◌≡◌};
 
 use std::io::Write;
 
-/// Shows how many accounts are done, over what was shown before, where people see it.
+/// A progress bar: shows the operator how many accounts are done, over what was shown before.
 #[derive(Drop)]
 pub struct Bar<E> {
     terminal: Option<E>,
@@ -12,7 +12,7 @@ pub struct Bar<E> {
 impl<E: Write> Bar<E> {
     ghost use Rattle.client_operator.specs.Bars.{terminal_of};
 
-    /// `None` shows nothing.
+    /// Makes a bar on a terminal, or with `None` one that shows nothing.
     pub fn new(terminal: Option<E>) -> Bar<E>
         ensures { terminal_of result ≡ terminal }
     {

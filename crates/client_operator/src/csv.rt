@@ -1,10 +1,10 @@
-//! Comma-separated values (RFC 4180 section 2).
+//! Writes records of comma-separated values (RFC 4180 section 2), for tables that are printed.
 ghost use Rattle.std.specs.Prelude.{◌≡◌, ◌++◌, OnOk};
 ghost use Rattle.client_operator.specs.Csv.{doubled, field_text, needs_quotes, record_text, texts};
 
 use std::alloc::AllocError;
 
-/// Appends a record of at least one field, with the line end behind it.
+/// Appends a record of comma-separated values (at least one field), with the line end behind it.
 pub fn put_record(out: &mut Vec<u8>, fields: &[&[u8]]) -> Result<(), AllocError>
     ensures { OnOk result (out.new.items ≡ out.old.items ++ record_text (texts fields.now)) }
 {
@@ -22,7 +22,7 @@ pub fn put_record(out: &mut Vec<u8>, fields: &[&[u8]]) -> Result<(), AllocError>
     }
 }
 
-/// Appends a field, in double quotes where it has to be.
+/// Appends a field, in double quotes where it needs them.
 fn put_field(out: &mut Vec<u8>, field: &[u8]) -> Result<(), AllocError>
     ensures { OnOk result (out.new.items ≡ out.old.items ++ field_text field.now) }
 {
@@ -34,7 +34,7 @@ fn put_field(out: &mut Vec<u8>, field: &[u8]) -> Result<(), AllocError>
     Ok(out.push(b'"')?)
 }
 
-/// Appends the bytes, each double quote twice.
+/// Appends the bytes of a field, each double quote twice.
 fn put_doubled(out: &mut Vec<u8>, field: &[u8]) -> Result<(), AllocError>
     ensures { OnOk result (out.new.items ≡ out.old.items ++ doubled field.now) }
 {

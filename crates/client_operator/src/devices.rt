@@ -1,4 +1,4 @@
-//! `report --devices`: the devices, with their switches and rates.
+//! The command `report --devices`: prints a CSV record for each device.
 ghost use Rattle.std.specs.Prelude.{◌≡◌, ◌++◌, List, OnOk, map};
 ghost use Rattle.std.specs.List.{flat_map};
 ghost use Rattle.client_operator.specs.Devices.{Device, ReportsDevices, device_text, device_told};
@@ -11,7 +11,8 @@ use client_lines::{ClientFault, Peer, ask_list};
 use std::alloc::Global;
 use std::io::{BufRead, Write};
 
-/// Prints a record for each device: its name, whether it is on, and the units of an impression.
+/// Prints a record for each device: its name, whether it is on, and how many units an impression
+/// costs there.
 pub(crate) fn report_devices<R: BufRead, W: Write, O: Write>(
     alloc: Global,
     peer: &mut Peer<R, W>,

@@ -1,4 +1,4 @@
-//! `end`: a process is asked to end.
+//! The command `end`: asks a process to end, and waits until it has closed the connection.
 ghost use Rattle.std.specs.Prelude.{OnOk};
 ghost use Rattle.client_operator.specs.Talks.{EndsProcess, at};
 
@@ -7,8 +7,8 @@ use client_lines::{ClientFault, Peer};
 use std::alloc::Global;
 use std::io::{BufRead, Write};
 
-/// Prints what `end` is answered, and waits until the connection is closed. `Refused` where the
-/// answer is not `ok`, `Broken` where anything comes behind it.
+/// Sends `end`, prints its answer, and waits until the process closes the connection. `Refused`
+/// where the answer is not `ok`, `Broken` where anything comes behind it.
 pub(crate) fn end<R: BufRead, W: Write, O: Write>(
     alloc: Global,
     peer: &mut Peer<R, W>,

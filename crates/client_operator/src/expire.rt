@@ -1,4 +1,4 @@
-//! `expire`: jobs that waited too long are canceled.
+//! The command `expire`: cancels jobs that waited too long, or shows which they are.
 ghost use Rattle.std.specs.Prelude.{◌≡◌, ◌↔◌, ◌++◌, IfOk, IsTrue, OnOk, codes, map, true};
 ghost use Rattle.std.specs.Io.KnownBytes.{Appends};
 ghost use Rattle.client_lines.specs.Asking.{IsDone};
@@ -17,16 +17,16 @@ use client_lines::{ClientFault, Peer, ask_line, ask_list, judge};
 use std::alloc::{AllocError, Global};
 use std::io::{BufRead, Write};
 
-/// Which jobs expire, and whether they are only to be shown.
+/// Which jobs expire, and whether they are only shown.
 #[derive(Clone, Copy)]
 pub(crate) struct Expiry {
     pub(crate) age: Age,
     pub(crate) shown_only: bool,
 }
 
-/// Cancels each job of the age that waits, of all accounts, and prints `ACCOUNT JOB` and what the
-/// cancellation was answered; without it where jobs are only to be shown. Whether each was canceled
-/// that was to be.
+/// Cancels each job of the age that waits, of all accounts, and prints `ACCOUNT JOB` and the answer
+/// to its cancellation. With `shown_only` it cancels none, and prints `ACCOUNT JOB` alone. Gives
+/// whether each was canceled that was to be.
 pub(crate) fn expire<R: BufRead, W: Write, O: Write, E: Write>(
     alloc: Global,
     peer: &mut Peer<R, W>,
@@ -42,7 +42,8 @@ pub(crate) fn expire<R: BufRead, W: Write, O: Write, E: Write>(
     expire_each(alloc, peer, names.as_slice(), expiry, bar, output)
 }
 
-/// Does it with the jobs of these accounts.
+/// Cancels or shows the jobs of these accounts, and has the bar show how many accounts are done.
+/// Gives whether each was canceled that was to be.
 fn expire_each<R: BufRead, W: Write, O: Write, E: Write>(
     alloc: Global,
     peer: &mut Peer<R, W>,
@@ -63,7 +64,8 @@ fn expire_each<R: BufRead, W: Write, O: Write, E: Write>(
     Ok(all_done)
 }
 
-/// Does it with the jobs of one account. Whether all was done before, and here too.
+/// Asks for the jobs of one account, and cancels or shows those of the age that wait. Gives whether
+/// each was canceled that was to be, here and before (`done_before`).
 fn expire_account<R: BufRead, W: Write, O: Write>(
     alloc: Global,
     peer: &mut Peer<R, W>,
@@ -89,7 +91,8 @@ fn expire_account<R: BufRead, W: Write, O: Write>(
     )
 }
 
-/// Does it with the jobs that the lines tell of.
+/// Cancels or shows those of an account's jobs, told by a line each, that wait and are of the age.
+/// Gives whether each was canceled that was to be, here and before.
 fn expire_lines<R: BufRead, W: Write, O: Write>(
     alloc: Global,
     peer: &mut Peer<R, W>,
@@ -119,7 +122,8 @@ fn expire_lines<R: BufRead, W: Write, O: Write>(
     Ok(all_done)
 }
 
-/// Does it with the job that a line tells of.
+/// Cancels or shows the job that a line tells of, if it waits and is of the age. Gives whether it
+/// was canceled, if it was to be, and all before it.
 fn expire_line<R: BufRead, W: Write, O: Write>(
     alloc: Global,
     peer: &mut Peer<R, W>,
@@ -145,7 +149,8 @@ fn expire_line<R: BufRead, W: Write, O: Write>(
     Ok(done_before && done)
 }
 
-/// Sends the job's cancel line, and prints `ACCOUNT JOB` and its answer. Whether that is `ok`.
+/// Sends the job's cancel line, and prints `ACCOUNT JOB` and its answer. Gives whether that is
+/// `ok`.
 fn cancel_job<R: BufRead, W: Write, O: Write>(
     alloc: Global,
     peer: &mut Peer<R, W>,
@@ -165,7 +170,7 @@ fn cancel_job<R: BufRead, W: Write, O: Write>(
     is_done(told.as_slice())
 }
 
-/// Prints a line of both, with a space between them.
+/// Prints `ACCOUNT JOB` and an answer in one line, with a space between them.
 fn print_told<O: Write>(shown: &[u8], told: &[u8], output: &mut O) -> Result<(), ClientFault>
     ensures { OnOk result (Appends (O.contents output.old) (O.contents output.new)
         (whole_line (shown.now ++ codes " " ++ told.now))) }
@@ -189,6 +194,7 @@ fn show_job<O: Write>(
     print_line(shown.as_slice(), output)
 }
 
+/// Makes the text `ACCOUNT JOB`.
 fn job_line(alloc: Global, account: &Name, job: &[u8]) -> Result<Vec<u8>, AllocError>
     ensures { IfOk result (λ line. line.items ≡ job_shown account.now job.now) }
 {
@@ -198,7 +204,8 @@ fn job_line(alloc: Global, account: &Name, job: &[u8]) -> Result<Vec<u8>, AllocE
     Ok(line)
 }
 
-/// Whether the answer tells that it was done.
+/// Whether the answer is `ok`: `false` where the job was not canceled. Where the event failed, that
+/// is the fault.
 fn is_done(told: &[u8]) -> Result<bool, ClientFault>
     ensures { IfOk result (λ done. IsTrue done ↔ IsDone told.now) }
 {

@@ -1,4 +1,4 @@
-//! A job, as the answer to `jobs` tells it.
+//! Reads a job of a line of the answer to `jobs`.
 
 ghost use Rattle.std.specs.Prelude.{◌≡◌, ◌++◌, IfOk, codes};
 ghost use Rattle.client_lines.specs.Words.{IsNumber};
@@ -8,13 +8,13 @@ use crate::words::Words;
 use client_lines::ClientFault;
 use input_fields::decimal;
 
-/// What a line tells of a job, each word as it was told.
+/// What a line of the answer to `jobs` tells of a job, each word as it was told.
 #[derive(Clone, Copy)]
 pub(crate) struct TellsJob<'a> {
     pub(crate) job: &'a [u8],
     pub(crate) state: &'a [u8],
     pub(crate) device: &'a [u8],
-    /// The moment at which it was made.
+    /// The moment at which it was made, in seconds since 1970-01-01T00:00:00Z.
     pub(crate) made: &'a [u8],
     pub(crate) password: &'a [u8],
     pub(crate) copies: &'a [u8],
@@ -24,8 +24,8 @@ pub(crate) struct TellsJob<'a> {
 }
 
 impl<'a> TellsJob<'a> {
-    /// What `job JOB STATE DEVICE CREATED STARTED ENDED PASSWORD COPIES IMPRESSIONS RESERVED
-    /// CHARGED DOCUMENTS NAME` says. Any other line is broken.
+    /// Reads a line `job JOB STATE DEVICE CREATED STARTED ENDED PASSWORD COPIES IMPRESSIONS
+    /// RESERVED CHARGED DOCUMENTS NAME`. `Broken` where it is any other.
     pub(crate) fn read(line: &'a [u8]) -> Result<TellsJob<'a>, ClientFault>
         ensures { IfOk result (Tells line.now) }
     {
@@ -53,14 +53,15 @@ impl<'a> TellsJob<'a> {
         })
     }
 
-    /// Whether it waits to be printed.
+    /// Whether it waits to be printed: it is held or pending.
     pub(crate) fn waits(&self) -> bool
         ensures { result ≡ waits self.now.state.now }
     {
         self.state == b"held".as_slice() || self.state == b"pending".as_slice()
     }
 
-    /// The moment at which it was made, in seconds.
+    /// Gives the moment at which it was made, in seconds since 1970-01-01T00:00:00Z. `Broken` where
+    /// that was told as no number.
     pub(crate) fn moment(&self) -> Result<u64, ClientFault>
         ensures { IfOk result (IsNumber self.now.made.now) }
     {
@@ -68,7 +69,7 @@ impl<'a> TellsJob<'a> {
     }
 }
 
-/// The next two words.
+/// Takes the next two words.
 fn take_two<'a>(words: &mut Words<'a>) -> Result<(&'a [u8], &'a [u8]), ClientFault>
     ensures { IfOk result (λ both. words.old.rest.now
         ≡ both.0.now ++ codes " " ++ (both.1.now ++ codes " " ++ words.new.rest.now)) }

@@ -1,4 +1,4 @@
-//! The names of all accounts.
+//! Asks for the names of all accounts, for the commands that go through all.
 ghost use Rattle.std.specs.Prelude.{◌≡◌, IfOk, OnOk, map};
 ghost use Rattle.client_lines.specs.Replies.{Known};
 ghost use Rattle.client_operator.specs.Names.{AsksNames, TellsName, account_told, is_behind, last_of};
@@ -10,8 +10,9 @@ use client_lines::{ClientFault, Peer, after_word, ask_list};
 use std::alloc::Global;
 use std::io::{BufRead, Write};
 
-/// Asks for all names, by as many lines `accounts` as it takes: each asks behind the last name that
-/// is known, until none is behind it. Names have to come in rising order.
+/// Asks for the names of all accounts, by as many lines `accounts` as it takes: each asks behind
+/// the last name that is known, until none is behind it. `Broken` where names come in any other
+/// than rising order.
 pub(crate) fn all_names<R: BufRead, W: Write>(
     alloc: Global,
     peer: &mut Peer<R, W>,
@@ -44,7 +45,8 @@ fn put_names(lines: &[Vec<u8>], names: &mut Vec<Name>) -> Result<(), ClientFault
     Ok(())
 }
 
-/// Adds the name that a line `account NAME` tells. It has to come behind all that are there.
+/// Adds the name that a line `account NAME` tells. `Broken` where it does not come behind all that
+/// are there.
 fn put_name(line: &[u8], names: &mut Vec<Name>) -> Result<(), ClientFault>
     ensures { OnOk result (TellsName line.now names.old.items names.new.items) }
 {
@@ -55,7 +57,7 @@ fn put_name(line: &[u8], names: &mut Vec<Name>) -> Result<(), ClientFault>
     Ok(names.push(name)?)
 }
 
-/// The name that a line `account NAME` tells.
+/// Reads the name of a line `account NAME`.
 fn name_said(line: &[u8]) -> Result<Name, ClientFault>
     ensures { IfOk result (λ name. line.now ≡ account_told name) }
 {
@@ -63,7 +65,7 @@ fn name_said(line: &[u8]) -> Result<Name, ClientFault>
     Name::read(name).ok_or(ClientFault::Broken)
 }
 
-/// Whether the name comes behind all of these, which rise.
+/// Whether the name comes behind the last of these, which rise.
 fn is_behind(names: &[Name], name: &Name) -> bool
     ensures { result ≡ is_behind (last_of names.now) name.now }
 {

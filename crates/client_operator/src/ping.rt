@@ -1,4 +1,5 @@
-//! `ping`: whether a process answers; and what else is one line and its answer.
+//! `ping`, which asks whether a process answers; and `tell`, for all that is one line and its
+//! answer.
 ghost use Rattle.std.specs.Prelude.{OnOk, codes};
 ghost use Rattle.client_operator.specs.Talks.{GetsDone, at};
 
@@ -7,7 +8,7 @@ use client_lines::{ClientFault, Peer, ask_line, judge};
 use std::alloc::Global;
 use std::io::{BufRead, Write};
 
-/// Prints what `ping` is answered. `Refused` where that is not `ok`.
+/// Sends `ping`, and prints its answer. `Refused` where that is not `ok`.
 pub(crate) fn ping<R: BufRead, W: Write, O: Write>(
     alloc: Global,
     peer: &mut Peer<R, W>,

@@ -1,4 +1,4 @@
-//! What is printed.
+//! Prints lines, texts and CSV records.
 ghost use Rattle.std.specs.Prelude.{OnOk};
 ghost use Rattle.std.specs.Io.KnownBytes.{Appends};
 ghost use Rattle.client_lines.specs.Replies.{whole_line};
@@ -19,7 +19,7 @@ pub(crate) fn print_line<O: Write>(line: &[u8], output: &mut O) -> Result<(), Cl
     Ok(output.flush()?)
 }
 
-/// Prints a text.
+/// Prints a text as it is.
 pub(crate) fn print_text<O: Write>(text: &[u8], output: &mut O) -> Result<(), ClientFault>
     ensures { OnOk result (Appends (O.contents output.old) (O.contents output.new) text.now) }
 {
@@ -27,7 +27,7 @@ pub(crate) fn print_text<O: Write>(text: &[u8], output: &mut O) -> Result<(), Cl
     Ok(output.flush()?)
 }
 
-/// Prints a record of at least one field. It may wait until more is printed.
+/// Prints a record of at least one field. It may wait in the output's buffer until that is flushed.
 pub(crate) fn print_record<O: Write>(
     alloc: Global,
     fields: &[&[u8]],

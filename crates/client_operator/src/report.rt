@@ -1,4 +1,4 @@
-//! `report`: what each account has, and what it was charged in a month.
+//! The command `report`: prints a CSV record for each account, of what it has and of one month.
 ghost use Rattle.std.specs.Prelude.{◌≤◌, OnOk};
 ghost use Rattle.std.specs.Io.KnownBytes.{Appends};
 ghost use Rattle.client_operator.specs.Csv.{record_text};
@@ -18,7 +18,8 @@ use client_lines::{ClientFault, Peer, ask_line, ask_list, judge};
 use std::alloc::Global;
 use std::io::{BufRead, Write};
 
-/// Prints a record for each account: what it has, and what of it in the month.
+/// Prints a record for each account: what it has, and what of it in the month. `bar` shows how many
+/// are done.
 pub(crate) fn report<R: BufRead, W: Write, O: Write, E: Write>(
     alloc: Global,
     peer: &mut Peer<R, W>,
@@ -36,6 +37,7 @@ pub(crate) fn report<R: BufRead, W: Write, O: Write, E: Write>(
     Ok(output.flush()?)
 }
 
+/// Prints the names of the columns.
 fn print_head<O: Write>(alloc: Global, output: &mut O) -> Result<(), ClientFault>
     ensures { OnOk result (Appends (O.contents output.old) (O.contents output.new)
         (record_text report_head)) }
@@ -54,7 +56,7 @@ fn print_head<O: Write>(alloc: Global, output: &mut O) -> Result<(), ClientFault
     print_record(alloc, &fields, output)
 }
 
-/// Prints the records of these accounts.
+/// Prints the records of these accounts, and has the bar show how many are done.
 fn report_each<R: BufRead, W: Write, O: Write, E: Write>(
     alloc: Global,
     peer: &mut Peer<R, W>,
@@ -96,7 +98,8 @@ fn report_account<R: BufRead, W: Write, O: Write>(
     print_account(alloc, account, &statement, refunded, output)
 }
 
-/// Prints the account's record. `Broken` where more was given back than was granted at all.
+/// Prints the account's record. Pages given back are told by themselves, and not with those
+/// granted. `Broken` where more was given back than was granted at all.
 fn print_account<O: Write>(
     alloc: Global,
     account: &Name,

@@ -1,12 +1,12 @@
-//! A text that somebody chose, as a record shows it.
+//! Makes a text that a user chose, as a job's name, safe for terminals and spreadsheets.
 ghost use Rattle.std.specs.Prelude.{◌≡◌, ◌++◌, IfOk, OnOk, flat_map};
 ghost use Rattle.std.specs.Str.{chars};
 ghost use Rattle.client_operator.specs.Shown.{guard, is_hidden, shown_character, shown_characters, shown_text, starts_formula};
 
 use std::alloc::{AllocError, Global};
 
-/// The text for a terminal and for a spreadsheet. What is no UTF-8, and what is not seen where it
-/// stands, is shown as U+FFFD; what a spreadsheet would compute has `'` before it.
+/// Makes a text safe to show on a terminal and in a spreadsheet. What is no UTF-8, and what is not
+/// seen where it stands, becomes U+FFFD; what a spreadsheet would compute gets `'` before it.
 pub fn shown_text(alloc: Global, text: &[u8]) -> Result<Vec<u8>, AllocError>
     ensures { IfOk result (λ shown. shown.items ≡ shown_text text.now) }
 {
@@ -18,12 +18,14 @@ pub fn shown_text(alloc: Global, text: &[u8]) -> Result<Vec<u8>, AllocError>
     Ok(shown)
 }
 
+/// Gives the characters of a text.
 fn characters_of(alloc: Global, text: &str) -> Result<Vec<char>, AllocError>
     ensures { IfOk result (λ found. found.items ≡ chars text.now) }
 {
     text.chars().collect(alloc)
 }
 
+/// Appends `'` where a spreadsheet would take the text for a formula.
 fn put_guard(out: &mut Vec<u8>, characters: &[char]) -> Result<(), AllocError>
     ensures { OnOk result (out.new.items ≡ out.old.items ++ guard characters.now) }
 {
@@ -33,6 +35,7 @@ fn put_guard(out: &mut Vec<u8>, characters: &[char]) -> Result<(), AllocError>
     }
 }
 
+/// Appends the characters, U+FFFD in the place of each that is hidden.
 fn put_shown(out: &mut Vec<u8>, characters: &[char]) -> Result<(), AllocError>
     ensures { OnOk result
         (out.new.items ≡ out.old.items ++ flat_map shown_character characters.now) }
@@ -43,6 +46,7 @@ fn put_shown(out: &mut Vec<u8>, characters: &[char]) -> Result<(), AllocError>
     Ok(())
 }
 
+/// Appends a character in UTF-8, or U+FFFD where it is hidden.
 fn put_character(out: &mut Vec<u8>, character: char) -> Result<(), AllocError>
     ensures { OnOk result (out.new.items ≡ out.old.items ++ shown_character character) }
 {
@@ -53,7 +57,7 @@ fn put_character(out: &mut Vec<u8>, character: char) -> Result<(), AllocError>
     out.extend_from_slice(character.encode_utf8(&mut bytes).as_bytes())
 }
 
-/// Whether a character is a control, turns what stands behind it the other way, or is not seen.
+/// Whether a character is not seen, is a control, or turns what stands behind it the other way.
 fn is_hidden(character: char) -> bool
     ensures { result ≡ is_hidden character }
 {
@@ -73,7 +77,7 @@ fn is_hidden(character: char) -> bool
     )
 }
 
-/// Whether a spreadsheet takes a text for a formula that starts with the character.
+/// Whether a spreadsheet takes a text that starts with the character for a formula.
 fn starts_formula(character: char) -> bool
     ensures { result ≡ starts_formula character }
 {

@@ -1,4 +1,4 @@
-//! What an account has, and what of it in one month, as the answer to `statement` tells it.
+//! Reads the answer to `statement`: what an account has, and what of it in one month.
 
 ghost use Rattle.std.specs.Prelude.{◌≡◌, ◌++◌, IfOk, codes};
 ghost use Rattle.client_lines.specs.Words.{IsNumber};
@@ -8,7 +8,8 @@ use crate::words::Words;
 use client_lines::ClientFault;
 use input_fields::decimal;
 
-/// The numbers of a statement. All but the first are as they were told.
+/// The numbers of a statement, in units but for `ended_then`. All but the first are as they were
+/// told.
 #[derive(Clone, Copy)]
 pub(crate) struct Statement<'a> {
     pub(crate) granted: u64,
@@ -16,13 +17,15 @@ pub(crate) struct Statement<'a> {
     pub(crate) charged: &'a [u8],
     pub(crate) left: &'a [u8],
     pub(crate) charged_then: &'a [u8],
+    /// How many jobs ended in the month.
     pub(crate) ended_then: &'a [u8],
+    /// Units charged in the month beyond what the jobs' releases let them cost.
     pub(crate) beyond_then: &'a [u8],
 }
 
 impl<'a> Statement<'a> {
-    /// What `ok granted G reserved R charged C left L month M held H pending P processing I ended
-    /// E beyond B` says. Any other line is broken.
+    /// Reads a line `ok granted G reserved R charged C left L month M held H pending P processing I
+    /// ended E beyond B`. `Broken` where it is any other.
     pub(crate) fn read(line: &'a [u8]) -> Result<Statement<'a>, ClientFault>
         ensures { IfOk result (TellsStatement line.now) }
     {
@@ -44,7 +47,7 @@ impl<'a> Statement<'a> {
     }
 }
 
-/// What a statement tells of its month.
+/// The numbers of a statement that are of its month.
 #[derive(Clone, Copy)]
 struct Month<'a> {
     charged: &'a [u8],
@@ -52,7 +55,7 @@ struct Month<'a> {
     beyond: &'a [u8],
 }
 
-/// What `month M held H pending P processing I ended E beyond B` says of the month: M, E and B.
+/// Reads `month M held H pending P processing I ended E beyond B`, and gives M, E and B.
 fn take_month<'a>(words: Words<'a>) -> Result<Month<'a>, ClientFault>
     ensures { IfOk result (TellsMonth words.entry.rest.now) }
 {
@@ -69,7 +72,7 @@ fn take_month<'a>(words: Words<'a>) -> Result<Month<'a>, ClientFault>
     })
 }
 
-/// The word behind the name, which comes next.
+/// Takes a name and the word behind it, and gives that word. `Broken` where another name comes.
 fn next_number<'a>(words: &mut Words<'a>, name: &[u8]) -> Result<&'a [u8], ClientFault>
     ensures { IfOk result (λ word. words.old.rest.now
         ≡ name.now ++ codes " " ++ (word.now ++ codes " " ++ words.new.rest.now)) }
@@ -78,7 +81,7 @@ fn next_number<'a>(words: &mut Words<'a>, name: &[u8]) -> Result<&'a [u8], Clien
     words.take()
 }
 
-/// The words behind the two names, which come next.
+/// Takes two names and the word behind each, and gives these words.
 fn next_two<'a>(
     words: &mut Words<'a>,
     first: &[u8],
@@ -92,6 +95,7 @@ fn next_two<'a>(
     Ok((number, next_number(words, second)?))
 }
 
+/// Reads a number in decimal.
 fn number_of(word: &[u8]) -> Result<u64, ClientFault>
     ensures { IfOk result (IsNumber word.now) }
 {

@@ -1,4 +1,4 @@
-//! What an operator wants done over a connection.
+//! The tasks of an operator's commands, each done over a connection to a server process.
 ghost use Rattle.std.specs.Prelude.{IfOk};
 ghost use Rattle.client_operator.specs.Talks.{at};
 ghost use Rattle.client_operator.specs.Tasks.{Performs};
@@ -17,27 +17,30 @@ use client_lines::{ClientFault, Peer};
 use std::alloc::Global;
 use std::io::{BufRead, Write};
 
-/// What an operator wants done.
+/// What an operator wants done, as a command says it.
 #[derive(Clone, Copy)]
 pub enum Task {
-    /// To hear whether the process answers.
+    /// `ping`: to hear whether the server process answers.
     Ping,
-    /// That the process ends, once what it told has gone.
+    /// `end`: that the server process ends, once what it told has gone.
     End,
-    /// A record for each account, with what it was charged in the month.
+    /// `report`: a record for each account, with what it was charged in the month.
     Report { month: ReportMonth },
-    /// A record for each device.
+    /// `report --devices`: a record for each device.
     Devices,
-    /// A record for each job that waits: all, or those made at least so many days ago.
+    /// `waiting`: a record for each job that waits: all, or those made at least so many days ago.
     Waiting { days: Option<u32> },
-    /// The jobs that wait and were made at least so many days ago are canceled, or only shown.
+    /// `expire`: the jobs that wait and were made at least so many days ago are canceled, or only
+    /// shown.
     Expire { days: u32, shown_only: bool },
-    /// So many pages are given back to an account.
+    /// `refund`: so many pages are given back to an account.
     Refund { account: Name, pages: u32 },
 }
 
-/// Does what is wanted at the moment now, and prints what it comes to. `false` only where a job was
-/// not canceled that was to be. A line is sent once the one before it was answered.
+/// Does the task at the moment now (seconds since 1970-01-01T00:00:00Z), and prints what it comes
+/// to. `bar` shows the operator how many accounts are done, for the tasks that go through all. A
+/// line is sent once the one before it was answered. Gives `false` only where a job was not
+/// canceled that was to be.
 pub fn perform<R: BufRead, W: Write, O: Write, E: Write>(
     alloc: Global,
     peer: &mut Peer<R, W>,

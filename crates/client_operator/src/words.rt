@@ -1,4 +1,4 @@
-//! The words of an answer, which have a space between each two.
+//! Takes the words of an answer, one after another, at its spaces.
 ghost use Rattle.std.specs.Prelude.{◌≡◌, ◌++◌, IfOk, OnOk, codes};
 ghost use Rattle.client_lines.specs.Words.{HasNoSpace};
 
@@ -11,14 +11,14 @@ pub(crate) struct Words<'a> {
 }
 
 impl<'a> Words<'a> {
-    /// All words of the line.
+    /// Begins with the first word of a line.
     pub(crate) fn of(line: &'a [u8]) -> Words<'a>
         ensures { result.rest.now ≡ line.now }
     {
         Words { rest: line }
     }
 
-    /// The next word, which has a space behind it.
+    /// Takes the next word, which has a space behind it. `Broken` where none has.
     pub(crate) fn take(&mut self) -> Result<&'a [u8], ClientFault>
         ensures parts { IfOk result
             (λ word. self.old.rest.now ≡ word.now ++ codes " " ++ self.new.rest.now) }
@@ -29,7 +29,7 @@ impl<'a> Words<'a> {
         Ok(word)
     }
 
-    /// The word that comes next has to be this one.
+    /// Takes the next word, which has to be this one. `Broken` where it is another.
     pub(crate) fn skip(&mut self, wanted: &[u8]) -> Result<(), ClientFault>
         ensures { OnOk result
             (self.old.rest.now ≡ wanted.now ++ codes " " ++ self.new.rest.now) }
@@ -40,7 +40,7 @@ impl<'a> Words<'a> {
         Err(ClientFault::Broken)
     }
 
-    /// The last word, which is what is left.
+    /// Gives the last word: all that is left, which may have spaces, as a job's name has.
     pub(crate) fn last(self) -> &'a [u8]
         ensures { result.now ≡ self.entry.rest.now }
     {

@@ -1,8 +1,8 @@
-//! What an owner does to a job.
+//! The acts of an owner on a job: cancel, hold, release.
 ghost use Rattle.std.specs.Prelude.{◌≡◌};
 ghost use Rattle.client_owner.specs.Requests.{act_id};
 
-/// What an owner does to a job.
+/// What an owner does to a job, each an operation of IPP.
 #[derive(Clone, Copy, PartialEq, Eq)]
 pub enum JobAct {
     /// Cancel-Job.
@@ -14,7 +14,7 @@ pub enum JobAct {
 }
 
 impl JobAct {
-    /// Its operation-id.
+    /// Gives its operation-id (RFC 8011 section 5.4.15).
     pub(crate) fn operation_id(self) -> u16
         ensures { result ≡ act_id self }
     {

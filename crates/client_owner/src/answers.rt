@@ -1,4 +1,4 @@
-//! What is printed of an answer.
+//! Reads the answers of a queue, and makes the text that is printed of each.
 ghost use Rattle.std.specs.Prelude.{◌≡◌, ◌++◌, ℕ, List, Some, IfOk, codes, option_map};
 ghost use Rattle.ipp_coding.specs.Plain.{plain_message};
 ghost use Rattle.client_owner.specs.Answers.{is_success, job_made, reason};
@@ -14,14 +14,15 @@ use client_lines::{ClientFault, is_text};
 use ipp_coding::{Message, ReadFault, read_message};
 use std::alloc::Global;
 
-/// Whether what was asked was done, and what is printed of it.
+/// Whether what was asked was done, and the text that is printed of it.
 #[derive(Drop)]
 pub(crate) struct Told {
     pub(crate) done: bool,
     pub(crate) text: Vec<u8>,
 }
 
-/// What an answer at the moment now tells. `Broken` where it is none to what was asked.
+/// Reads an answer that came at the moment now (seconds since 1970-01-01T00:00:00Z), and makes the
+/// text that is printed of it. `Broken` where it is no answer to what was asked.
 pub(crate) fn read_answer(
     alloc: Global,
     uri: &[u8],
@@ -39,6 +40,7 @@ pub(crate) fn read_answer(
     told_by_ipp(alloc, uri, asked, now, answer.body.as_slice())
 }
 
+/// Reads the body of an answer with status 200, which has to be an IPP message.
 fn told_by_ipp(
     alloc: Global,
     uri: &[u8],
@@ -56,6 +58,7 @@ fn told_by_ipp(
     }
 }
 
+/// Makes the text for an IPP message: of what was done, or why it was refused.
 fn told_by(
     alloc: Global,
     uri: &[u8],
@@ -74,13 +77,14 @@ fn told_by(
     Ok(Told { done: false, text })
 }
 
-/// Whether the status-code is one of success.
+/// Whether the status-code of an IPP message is one of success: below 0x0100.
 fn is_success(code: u16) -> bool
     ensures { result ≡ is_success code }
 {
     code < 0x0100
 }
 
+/// Makes the text for what was done: the new job, the table of jobs, or `ok`.
 fn done_text(
     alloc: Global,
     uri: &[u8],
@@ -101,14 +105,14 @@ fn done_text(
     }
 }
 
-/// The number of the job that was made.
+/// Gives the number of the job that was made.
 fn job_made(message: &Message<'_>) -> Option<u32>
     ensures { result ≡ job_made (plain_message message.now) }
 {
     number_named(job_group(message.groups.as_slice())?, b"job-id")
 }
 
-/// The line that tells why what was asked was refused.
+/// Makes the line that tells why what was asked was refused.
 fn reason_line(alloc: Global, message: &Message<'_>) -> Result<Vec<u8>, ClientFault>
     ensures { IfOk result (λ text. (word : List ℕ)
         × (reason (plain_message message.now) ≡ Some word) × (text.items ≡ word ++ codes "\n")) }
@@ -121,7 +125,8 @@ fn reason_line(alloc: Global, message: &Message<'_>) -> Result<Vec<u8>, ClientFa
     Ok(text)
 }
 
-/// The word that tells why what was asked was refused.
+/// Gives the word that tells why what was asked was refused: the message's status-message. `None`
+/// where that may not be printed.
 fn reason<'a>(message: &Message<'a>) -> Option<&'a [u8]>
     ensures { option_map (λ word. word.now) result ≡ reason (plain_message message.now) }
 {

@@ -1,4 +1,4 @@
-//! What an owner asks of a queue.
+//! What an owner asks of a queue (to print, which jobs there are, acts on a job), and the asking.
 ghost use Rattle.std.specs.Prelude.{IfOk};
 ghost use Rattle.client_owner.specs.Outcomes.{Performs, at};
 
@@ -15,16 +15,16 @@ use std::io::{Read, Write};
 /// What an owner asks of a queue.
 #[derive(Clone, Copy)]
 pub enum Asked<'a> {
-    /// That a document is printed.
+    /// To print a document.
     Print(NewJob<'a>),
     /// Which jobs have not ended.
     Jobs,
-    /// That something is done to a job.
+    /// To cancel, hold or release a job.
     Act { act: JobAct, job: u32 },
 }
 
-/// Asks a queue at the moment now over a connection to it, and prints what the answer tells. `false`
-/// where it was refused.
+/// Asks a queue over a connection to it, at the moment now (seconds since 1970-01-01T00:00:00Z),
+/// and prints what the answer tells. Gives `false` where what was asked was refused.
 pub fn perform<R: Read, W: Write, O: Write>(
     alloc: Global,
     queue: &Queue<'_>,

@@ -1,10 +1,11 @@
-//! The format of a document.
+//! The format of a document, told by its first bytes.
 ghost use Rattle.std.specs.Prelude.{◌≡◌};
 ghost use Rattle.client_owner.specs.Documents.{format_of};
 
 use account_rules::Format;
 
-/// The format that the first bytes of a document tell.
+/// Tells the format of a document by its first bytes. What is none of the known ones is an octet
+/// stream.
 pub fn format_of(document: &[u8]) -> Format
     ensures { result ≡ format_of document.now }
 {

@@ -1,4 +1,4 @@
-//! One request over HTTP, and its answer.
+//! One HTTP request to a queue, and its answer.
 ghost use Rattle.std.specs.Prelude.{◌≡◌, IfOk, OnOk, length};
 ghost use Rattle.std.specs.List.{flat_map};
 ghost use Rattle.std.specs.Io.KnownBytes.{Appends, Consumes};
@@ -12,14 +12,14 @@ use itoa::Buffer;
 use std::alloc::Global;
 use std::io::{Read, Write};
 
-/// An answer over HTTP.
+/// An answer over HTTP: its status and its body.
 #[derive(Drop)]
 pub(crate) struct Answer {
     pub(crate) status: u16,
     pub(crate) body: Vec<u8>,
 }
 
-/// Sends a request with a body to a queue, and takes its answer, and nothing behind that.
+/// Sends an HTTP request with a body to a queue, and takes its answer, and nothing behind that.
 pub(crate) fn exchange<R: Read, W: Write>(
     alloc: Global,
     reader: &mut R,
@@ -36,6 +36,7 @@ pub(crate) fn exchange<R: Read, W: Write>(
     hear(alloc, reader)
 }
 
+/// Sends a POST of an IPP message, after which the connection is to be closed.
 fn send<W: Write>(writer: &mut W, queue: &Queue<'_>, body: &[u8]) -> Result<(), ClientFault>
     ensures { OnOk result (Appends (W.contents writer.old) (W.contents writer.new)
         (http_request queue.now body.now)) }
@@ -57,6 +58,7 @@ fn send<W: Write>(writer: &mut W, queue: &Queue<'_>, body: &[u8]) -> Result<(), 
     send_parts(writer, &parts)
 }
 
+/// Writes the parts one after another, and flushes them.
 fn send_parts<W: Write>(writer: &mut W, parts: &[&[u8]]) -> Result<(), ClientFault>
     ensures { OnOk result (Appends (W.contents writer.old) (W.contents writer.new)
         (flat_map (λ part. part) (texts parts.now))) }
@@ -67,6 +69,7 @@ fn send_parts<W: Write>(writer: &mut W, parts: &[&[u8]]) -> Result<(), ClientFau
     Ok(writer.flush()?)
 }
 
+/// Takes the head of an answer, and the body that it tells the length of.
 fn hear<R: Read>(alloc: Global, reader: &mut R) -> Result<Answer, ClientFault>
     ensures { IfOk result (λ answer. Hears (R.remaining reader.old) (R.remaining reader.new)
         answer.status answer.body.items) }
@@ -79,6 +82,7 @@ fn hear<R: Read>(alloc: Global, reader: &mut R) -> Result<Answer, ClientFault>
     })
 }
 
+/// Takes a body of so many bytes.
 fn take_body<R: Read>(alloc: Global, reader: &mut R, count: u32) -> Result<Vec<u8>, ClientFault>
     ensures bytes { IfOk result
         (λ bytes. Consumes (R.remaining reader.old) (R.remaining reader.new) bytes.items) }

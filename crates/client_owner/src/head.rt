@@ -1,4 +1,4 @@
-//! The head of an answer.
+//! Takes the head of an HTTP answer: its status, and how long its body is.
 ghost use Rattle.std.specs.Prelude.{◌≡◌, ◌≤◌, All, IfOk, IfSome, OnOk, codes, length, map, option_map};
 ghost use Rattle.std.specs.Io.KnownBytes.{Consumes};
 ghost use Rattle.httparse.specs.Spans.{IsHeaderWithin, header_bytes};
@@ -14,10 +14,10 @@ use input_http::HEAD_LIMIT;
 use std::alloc::Global;
 use std::io::{ErrorKind, Read};
 
-/// The most fields of a head.
+/// The most fields that the head of an answer may have.
 const MOST_FIELDS: usize = 64;
 
-/// The most bytes of a body.
+/// The most bytes that the body of an answer may have: 4 MiB.
 const BODY_LIMIT: u32 = 4_194_304;
 
 /// What the head of an answer tells.
@@ -28,7 +28,8 @@ pub(crate) struct Head {
     pub(crate) length: u32,
 }
 
-/// Takes the head of an answer, and nothing behind it.
+/// Takes the head of an HTTP answer, and nothing behind it. `Broken` where it is no head, or does
+/// not tell how long its body is.
 pub(crate) fn take_head<R: Read>(alloc: Global, reader: &mut R) -> Result<Head, ClientFault>
     ensures { IfOk result (TakesHead (R.remaining reader.old) (R.remaining reader.new)) }
 {
@@ -36,7 +37,7 @@ pub(crate) fn take_head<R: Read>(alloc: Global, reader: &mut R) -> Result<Head, 
     head_of(text.as_slice()).ok_or(ClientFault::Broken)
 }
 
-/// Takes what comes up to an empty line.
+/// Takes the bytes up to an empty line, and that. `Broken` where they are more than `HEAD_LIMIT`.
 fn take_text<R: Read>(alloc: Global, reader: &mut R) -> Result<Vec<u8>, ClientFault>
     ensures taken { IfOk result
         (λ text. Consumes (R.remaining reader.old) (R.remaining reader.new) text.items) }
@@ -54,7 +55,7 @@ fn take_text<R: Read>(alloc: Global, reader: &mut R) -> Result<Vec<u8>, ClientFa
     Err(ClientFault::Broken)
 }
 
-/// Fills the buffer with the next bytes.
+/// Fills the buffer with the next bytes. `Broken` where the reader ends before.
 pub(crate) fn fill<R: Read>(reader: &mut R, buffer: &mut [u8]) -> Result<(), ClientFault>
     ensures { OnOk result (Consumes (R.remaining reader.old) (R.remaining reader.new) buffer.new) }
 {
@@ -65,7 +66,7 @@ pub(crate) fn fill<R: Read>(reader: &mut R, buffer: &mut [u8]) -> Result<(), Cli
     }
 }
 
-/// What a head tells, or `None` where the text is not just a head that tells how long its body is.
+/// Reads a head. `None` where the text is not just a head that tells how long its body is.
 fn head_of(text: &[u8]) -> Option<Head>
     ensures { IfSome result (IsHead text.now) }
 {
@@ -78,7 +79,7 @@ fn head_of(text: &[u8]) -> Option<Head>
     }
 }
 
-/// What it tells by its fields.
+/// Makes the head of its status and its fields. `None` where these tell no length within the limit.
 fn head_in(text: &[u8], headers: &[HeaderSpan], status: u16) -> Option<Head>
     requires { All (IsHeaderWithin (length text.now)) headers.now }
     ensures status { IfSome result (λ head. head.status ≡ status) }
@@ -90,7 +91,7 @@ fn head_in(text: &[u8], headers: &[HeaderSpan], status: u16) -> Option<Head>
     Some(Head { status, length })
 }
 
-/// The value of the first Content-Length.
+/// Gives the value of the first field Content-Length.
 fn length_told<'a>(text: &'a [u8], headers: &[HeaderSpan]) -> Option<&'a [u8]>
     requires { All (IsHeaderWithin (length text.now)) headers.now }
     ensures { option_map (λ value. value.now) result
@@ -103,6 +104,7 @@ fn length_told<'a>(text: &'a [u8], headers: &[HeaderSpan]) -> Option<&'a [u8]>
     }
 }
 
+/// Whether the field is Content-Length, whatever its case.
 fn is_length(name: &[u8]) -> bool
     ensures { result ≡ is_same_word name.now (codes "content-length") }
 {

@@ -1,4 +1,4 @@
-//! The table of an owner's jobs.
+//! The table of an owner's jobs, made of the answer to Get-Jobs.
 ghost use Rattle.std.specs.Prelude.{◌≡◌, ◌++◌, ◌-◌, IfOk, OnOk, map, option_map};
 ghost use Rattle.ipp_coding.specs.Plain.{plain_attribute, plain_group};
 ghost use Rattle.client_operator.specs.Csv.{record_text};
@@ -13,7 +13,7 @@ use ipp_coding::{Attribute, Group};
 use itoa::Buffer;
 use std::alloc::Global;
 
-/// A job, as its group tells it.
+/// What the table shows of a job.
 #[derive(Clone, Copy)]
 pub(crate) struct JobRow<'a> {
     number: u32,
@@ -26,8 +26,8 @@ pub(crate) struct JobRow<'a> {
     name: &'a [u8],
 }
 
-/// A record for each job that the groups tell of, behind a header. `Broken` where one is not told
-/// whole.
+/// Makes a CSV record for each job that the groups tell of, behind the names of the columns.
+/// `Broken` where a job is not told whole.
 pub(crate) fn table_of(
     alloc: Global,
     groups: &[Group<'_>],
@@ -42,6 +42,7 @@ pub(crate) fn table_of(
     Ok(text)
 }
 
+/// Appends the names of the columns.
 fn put_head(text: &mut Vec<u8>) -> Result<(), ClientFault>
     ensures { OnOk result (text.new.items ≡ text.old.items ++ record_text head_fields) }
 {
@@ -57,6 +58,7 @@ fn put_head(text: &mut Vec<u8>) -> Result<(), ClientFault>
     Ok(put_record(text, &fields)?)
 }
 
+/// Appends the records of the jobs that the groups tell of.
 fn put_jobs(text: &mut Vec<u8>, groups: &[Group<'_>], now: u64) -> Result<(), ClientFault>
     ensures { OnOk result (InTurn (ListsJob now) text.old.items text.new.items
         (map plain_group groups.now)) }
@@ -67,7 +69,7 @@ fn put_jobs(text: &mut Vec<u8>, groups: &[Group<'_>], now: u64) -> Result<(), Cl
     Ok(())
 }
 
-/// Adds the record of the job that a group tells of. A group of other attributes has none.
+/// Appends the record of the job that a group tells of. A group of other attributes has none.
 fn put_group(text: &mut Vec<u8>, group: &Group<'_>, now: u64) -> Result<(), ClientFault>
     ensures { OnOk result
         (ListsJob now (plain_group group.now) text.old.items text.new.items) }
@@ -81,7 +83,7 @@ fn put_group(text: &mut Vec<u8>, group: &Group<'_>, now: u64) -> Result<(), Clie
     }
 }
 
-/// What the attributes of a job tell.
+/// Reads a job of its attributes. `None` where one that the table needs is missing.
 #[tactic(auto, unfolding(crate::specs::Tables::row_told))]
 fn row_told<'a>(attributes: &[Attribute<'a>], now: u64) -> Option<JobRow<'a>>
     ensures { option_map plain_row result ≡ row_told now (map plain_attribute attributes.now) }
@@ -105,7 +107,7 @@ fn row_told<'a>(attributes: &[Attribute<'a>], now: u64) -> Option<JobRow<'a>>
     })
 }
 
-/// The word of a state of a job that has not ended.
+/// Gives the word of a job-state (RFC 8011 section 5.3.7) that is not an end.
 fn state_word(state: u32) -> Option<&'static [u8]>
     ensures { option_map (λ word. word.now) result ≡ state_word state }
 {
@@ -118,14 +120,15 @@ fn state_word(state: u32) -> Option<&'static [u8]>
     }
 }
 
-/// The moment at which a job was made.
+/// Gives the moment at which a job was made. `up` is the printer's up-time now and `created` that
+/// of the making, both in seconds.
 fn moment_made(now: u64, up: u32, created: u32) -> u64
     ensures { result ≡ moment_made now up created }
 {
     now.saturating_sub(u64::from(up.saturating_sub(created)))
 }
 
-/// Adds the record of a job.
+/// Appends the record of a job.
 fn put_row(text: &mut Vec<u8>, row: &JobRow<'_>) -> Result<(), ClientFault>
     ensures { OnOk result (text.new.items
         ≡ text.old.items ++ record_text (row_fields (plain_row row.now))) }
@@ -148,7 +151,7 @@ fn put_row(text: &mut Vec<u8>, row: &JobRow<'_>) -> Result<(), ClientFault>
     Ok(put_record(text, &fields)?)
 }
 
-/// The digits of a number, and nothing where there is none.
+/// Gives the digits of a number, or nothing where there is none.
 fn number_field(buffer: &mut Buffer, number: Option<u32>) -> &[u8]
     ensures { result.now ≡ number_field number }
 {

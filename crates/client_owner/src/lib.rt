@@ -1,6 +1,5 @@
-//! What an owner asks of a queue over HTTP: to print a document, which jobs there are, and to
-//! cancel, hold or release one; and what is printed of the answers. It opens no connection and no
-//! file.
+//! The owner's client of a queue: asks over HTTP to print a document, which jobs there are, and to
+//! cancel, hold or release one; and prints the answers. It opens no connection and no file.
 #![tactic(auto)]
 
 mod acts;

@@ -1,4 +1,4 @@
-//! A job that is to be printed.
+//! A job that an owner wants printed: its document, and what is told of it.
 
 use account_rules::Format;
 

@@ -1,4 +1,4 @@
-//! The PIN of a job, as its owner types it.
+//! Reads the PIN of a job, as its owner types it.
 ghost use Rattle.std.specs.Prelude.{◌≡◌, IfOk, IfSome, option_map};
 ghost use Rattle.client_owner.specs.Pins.{pin_in, pin_said};
 
@@ -7,7 +7,7 @@ use std::alloc::Global;
 use std::io;
 use std::io::{BufRead, Read};
 
-/// Reads the first line of the input, which is a PIN. `None` where it is empty, or longer than a
+/// Reads the first line of the input, which is the PIN. `None` where it is empty, or longer than a
 /// password may be.
 pub fn read_pin<R: BufRead + Drop>(alloc: Global, input: R) -> io::Result<Option<Vec<u8>>>
     ensures { IfOk result (λ pin. IfSome (R.remaining input)
@@ -23,7 +23,8 @@ pub fn read_pin<R: BufRead + Drop>(alloc: Global, input: R) -> io::Result<Option
     }
 }
 
-/// The PIN that a line is, without the line feed that ends it.
+/// Gives the PIN of a line, without the line feed that ends it. `None` where it is empty or too
+/// long.
 fn pin_in(line: &[u8]) -> Option<&[u8]>
     ensures { option_map (λ pin. pin.now) result ≡ pin_in line.now }
 {

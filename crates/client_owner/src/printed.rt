@@ -1,4 +1,4 @@
-//! What is printed of a job that was made, and of a refusal over HTTP.
+//! The texts that are printed of a job that was made, and of a refusal by HTTP.
 ghost use Rattle.std.specs.Prelude.{◌≡◌, ◌++◌, IfOk, OnOk, decimal, is_some, false, true};
 ghost use Rattle.client_owner.specs.Outcomes.{http_line, job_text, status_words, what_is_left};
 
@@ -7,7 +7,7 @@ use client_lines::ClientFault;
 use itoa::Buffer;
 use std::alloc::Global;
 
-/// The number of a job that was made, and what is left to do.
+/// Makes the text for a job that was made: its number, and how its owner can release it.
 pub(crate) fn job_text(
     alloc: Global,
     uri: &[u8],
@@ -26,6 +26,7 @@ pub(crate) fn job_text(
     Ok(text)
 }
 
+/// Appends a number in decimal.
 fn put_number(text: &mut Vec<u8>, number: u32) -> Result<(), ClientFault>
     ensures { OnOk result (text.new.items ≡ text.old.items ++ decimal number) }
 {
@@ -33,6 +34,8 @@ fn put_number(text: &mut Vec<u8>, number: u32) -> Result<(), ClientFault>
     Ok(text.extend_from_slice(digits.format(number).as_bytes())?)
 }
 
+/// Appends how the owner can release the job: at a station, with what is to be told there, or by a
+/// command too.
 fn put_left(
     text: &mut Vec<u8>,
     uri: &[u8],
@@ -53,7 +56,7 @@ fn put_left(
     Ok(text.extend_from_slice(left.as_bytes())?)
 }
 
-/// Adds that the job can also be released by a command, and by which.
+/// Appends that the job can be released at a station or by a command, and by which.
 fn put_release(text: &mut Vec<u8>, uri: &[u8], number: u32) -> Result<(), ClientFault>
     ensures { OnOk result (text.new.items
         ≡ text.old.items ++ what_is_left uri.now number false true) }
@@ -64,7 +67,7 @@ fn put_release(text: &mut Vec<u8>, uri: &[u8], number: u32) -> Result<(), Client
     put_number(text, number)
 }
 
-/// What an answer over HTTP comes to that is none of IPP.
+/// Makes the line for an answer of HTTP that is none of IPP: its status, and what that means.
 pub(crate) fn http_line(alloc: Global, status: u16) -> Result<Vec<u8>, ClientFault>
     ensures { IfOk result (λ text. text.items ≡ http_line status) }
 {
@@ -76,6 +79,7 @@ pub(crate) fn http_line(alloc: Global, status: u16) -> Result<Vec<u8>, ClientFau
     Ok(text)
 }
 
+/// Gives what a status of HTTP means to an owner, if it is one that a queue answers.
 fn status_words(status: u16) -> &'static str
     ensures { result.now ≡ status_words status }
 {

@@ -1,4 +1,4 @@
-//! The parts of a request as bytes.
+//! Writes the parts of an IPP request as bytes: header, groups and attributes.
 ghost use Rattle.std.specs.Prelude.{◌≡◌, ◌++◌, ◌∷◌, [], OnOk, codes, map};
 ghost use Rattle.std.specs.List.{flat_map};
 ghost use Rattle.ipp_coding.specs.Spelling.{further_spelling, header_spelling};
@@ -12,7 +12,8 @@ use client_lines::ClientFault;
 use ipp_coding::tags::{CHARSET, INTEGER, KEYWORD, NATURAL_LANGUAGE, OPERATION_ATTRIBUTES, URI};
 use ipp_coding::{Header, PutFault, put_attribute, put_end, put_group, put_header, put_more};
 
-/// Puts the header of a request, and its first group up to the queue.
+/// Appends the header of a request, and its first attributes: charset, language and the queue's
+/// URI.
 pub(crate) fn put_front(out: &mut Vec<u8>, operation: u16, uri: &[u8]) -> Result<(), ClientFault>
     ensures { OnOk result (out.new.items ≡ out.old.items
         ++ (header_spelling (request_header operation)
@@ -25,6 +26,7 @@ pub(crate) fn put_front(out: &mut Vec<u8>, operation: u16, uri: &[u8]) -> Result
     put_single(out, URI, b"printer-uri", uri)
 }
 
+/// Appends the header of a request for an operation.
 fn begin_request(out: &mut Vec<u8>, operation: u16) -> Result<(), ClientFault>
     ensures { OnOk result
         (out.new.items ≡ out.old.items ++ header_spelling (request_header operation)) }
@@ -32,6 +34,7 @@ fn begin_request(out: &mut Vec<u8>, operation: u16) -> Result<(), ClientFault>
     put_header(out, request_header(operation)).map_err(|fault| not_put(fault))
 }
 
+/// Makes the header of a request for an operation: IPP 1.1, request-id 1.
 fn request_header(operation: u16) -> Header
     ensures { result ≡ request_header operation }
 {
@@ -43,14 +46,14 @@ fn request_header(operation: u16) -> Header
     }
 }
 
-/// Puts the tag that begins a group.
+/// Appends the tag that begins a group of attributes.
 pub(crate) fn begin_group(out: &mut Vec<u8>, tag: u8) -> Result<(), ClientFault>
     ensures { OnOk result (out.new.items ≡ out.old.items ++ tag ∷ []) }
 {
     put_group(out, tag).map_err(|fault| not_put(fault))
 }
 
-/// Puts an attribute of one value.
+/// Appends an attribute of one value, with the tag of its syntax.
 #[tactic(auto, using(crate::proofs::Spelled::single_text))]
 pub(crate) fn put_single(
     out: &mut Vec<u8>,
@@ -64,7 +67,7 @@ pub(crate) fn put_single(
     put_attribute(out, tag, name, value).map_err(|fault| not_put(fault))
 }
 
-/// Puts an integer.
+/// Appends an attribute whose one value is an integer.
 pub(crate) fn put_integer(out: &mut Vec<u8>, name: &[u8], number: u32) -> Result<(), ClientFault>
     ensures { OnOk result (out.new.items ≡ out.old.items
         ++ attributes_text (attribute_with name.now 0x21 (number_bytes number) ∷ [])) }
@@ -72,7 +75,7 @@ pub(crate) fn put_integer(out: &mut Vec<u8>, name: &[u8], number: u32) -> Result
     put_single(out, INTEGER, name, &number.to_be_bytes())
 }
 
-/// Puts an attribute whose values are keywords.
+/// Appends an attribute whose values are keywords: the first, and those behind it.
 pub(crate) fn put_keywords(
     out: &mut Vec<u8>,
     name: &[u8],
@@ -86,6 +89,7 @@ pub(crate) fn put_keywords(
     put_further(out, further)
 }
 
+/// Appends the further values of an attribute of keywords.
 fn put_further(out: &mut Vec<u8>, further: &[&[u8]]) -> Result<(), ClientFault>
     ensures { OnOk result (out.new.items
         ≡ out.old.items ++ flat_map further_spelling (map (value_with 0x44) (texts further.now))) }
@@ -96,7 +100,7 @@ fn put_further(out: &mut Vec<u8>, further: &[&[u8]]) -> Result<(), ClientFault>
     Ok(())
 }
 
-/// Puts the tag that ends the groups, and the document behind it.
+/// Appends the tag that ends the groups, and the document behind it.
 pub(crate) fn end_groups(out: &mut Vec<u8>, document: &[u8]) -> Result<(), ClientFault>
     ensures { OnOk result (out.new.items ≡ out.old.items ++ end_tag ∷ document.now) }
 {
@@ -104,8 +108,8 @@ pub(crate) fn end_groups(out: &mut Vec<u8>, document: &[u8]) -> Result<(), Clien
     Ok(out.extend_from_slice(document)?)
 }
 
-/// Of the parts of a request, all of which have names and tags, only the length of a value can be
-/// wrong.
+/// Tells why a part of a request was not put: memory, or else a value that is too long. All names
+/// and tags are right here.
 fn not_put(fault: PutFault) -> ClientFault {
     match fault {
         PutFault::Memory => ClientFault::Memory,

@@ -1,4 +1,4 @@
-//! The address of an account's queue.
+//! Reads the address of an account's queue, as a user gives it.
 ghost use Rattle.std.specs.Prelude.{◌≡◌, ◌==◌, ◌<◌, ◌≤◌, ◌↔◌, ℕ, IfNone, IfSome, IsTrue, SomeIff, bytes_eq, codes, is_some, length, option_map};
 ghost use Rattle.std.specs.List.{position};
 ghost use Rattle.std.specs.declared.net.ipv4_addr.Ipv4Addr.{Ipv4Addr as AddressValue};
@@ -34,7 +34,8 @@ pub struct Queue<'a> {
 }
 
 impl<'a> Queue<'a> {
-    /// The queue at an address, or `None` where the words are none.
+    /// Reads the address of a queue: `ipp://HOST[:PORT]/ipp/print/ACCOUNT`, or the same with
+    /// `http`. `None` where the words are none.
     pub fn read(uri: &'a [u8]) -> Option<Queue<'a>>
         ensures said { IfSome result (IsQueueAt uri.now) }
         ensures none { IfNone result ((queue : QueueValue) → IsQueueAt uri.now queue → ⊥) }
@@ -55,7 +56,7 @@ impl<'a> Queue<'a> {
     }
 }
 
-/// What stands behind the scheme of an address.
+/// Gives what stands behind `ipp://` or `http://`. `None` where the address begins with neither.
 #[tactic(auto, unfolding(crate::specs::Queues::behind_scheme))]
 fn behind_scheme(uri: &[u8]) -> Option<&[u8]>
     ensures { option_map (λ rest. rest.now) result ≡ behind_scheme uri.now }
@@ -63,7 +64,7 @@ fn behind_scheme(uri: &[u8]) -> Option<&[u8]>
     uri.strip_prefix(b"ipp://").or(uri.strip_prefix(b"http://"))
 }
 
-/// The address of a host.
+/// Reads a host: `localhost`, or an IPv4 address.
 fn address_of(host: &[u8]) -> Option<Ipv4Addr>
     ensures said { IfSome result (IsHost host.now) }
     ensures none { IfNone result ((address : AddressValue) → IsHost host.now address → ⊥) }
@@ -80,6 +81,7 @@ fn is_localhost(host: &[u8]) -> bool
     host == b"localhost".as_slice()
 }
 
+/// Reads an IPv4 address of four numbers with dots.
 fn dotted(host: &[u8]) -> Option<Ipv4Addr>
     ensures said { IfSome result (IsIpv4Text host.now) }
     ensures none { IfNone result ((address : AddressValue) → IsIpv4Text host.now address → ⊥) }
@@ -90,7 +92,7 @@ fn dotted(host: &[u8]) -> Option<Ipv4Addr>
     }
 }
 
-/// The port that what stands behind a host tells.
+/// Reads the port of what stands behind a host: 631 where nothing does.
 fn port_of(text: &[u8]) -> Option<u16>
     ensures said { IfSome result (IsPort text.now) }
     ensures none { IfNone result ((port : ℕ) → IsPort text.now port → ⊥) }
@@ -102,6 +104,7 @@ fn port_of(text: &[u8]) -> Option<u16>
     }
 }
 
+/// Reads a port, 1 to 65535 in decimal.
 fn port_said(digits: &[u8]) -> Option<u16>
     ensures { SomeIff result (IsDecimal digits.now × (1 ≤ digits_value 10 digits.now)
         × (digits_value 10 digits.now ≤ LAST_PORT)) (digits_value 10 digits.now) }
@@ -110,7 +113,7 @@ fn port_said(digits: &[u8]) -> Option<u16>
     Some(port as u16)
 }
 
-/// The path, where it is that of a queue.
+/// Gives the path, if it is that of a queue: `/ipp/print/ACCOUNT`.
 fn queue_path(path: &[u8]) -> Option<&[u8]>
     ensures value { IfSome result (λ same. same.now ≡ path.now) }
     ensures some { IsTrue (is_some result) ↔ IsTrue (is_queue_path path.now) }

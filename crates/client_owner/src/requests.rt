@@ -1,4 +1,4 @@
-//! What an owner asks, as messages.
+//! Makes the IPP messages of what an owner asks of a queue.
 ghost use Rattle.std.specs.Prelude.{◌≡◌, ◌++◌, ◌∷◌, [], IfOk, OnOk, codes, map};
 ghost use Rattle.ipp_coding.specs.Spelling.{message_spelling};
 ghost use Rattle.account_replies.specs.Attributes.{attribute_of, attribute_with, value_with};
@@ -17,7 +17,8 @@ use ipp_coding::tags::{
 };
 use std::alloc::Global;
 
-/// The message that asks a queue. `TooLong` where a value of it is too long for a message.
+/// Makes the IPP message that asks a queue. `TooLong` where a value of it is too long for a
+/// message.
 pub fn request_text(alloc: Global, uri: &[u8], asked: &Asked<'_>) -> Result<Vec<u8>, ClientFault>
     ensures { IfOk result
         (λ text. text.items ≡ message_spelling (request uri.now asked.now)) }
@@ -27,6 +28,7 @@ pub fn request_text(alloc: Global, uri: &[u8], asked: &Asked<'_>) -> Result<Vec<
     Ok(text)
 }
 
+/// Appends the message that asks a queue.
 fn put_request(out: &mut Vec<u8>, uri: &[u8], asked: &Asked<'_>) -> Result<(), ClientFault>
     ensures { OnOk result
         (out.new.items ≡ out.old.items ++ message_spelling (request uri.now asked.now)) }
@@ -38,7 +40,7 @@ fn put_request(out: &mut Vec<u8>, uri: &[u8], asked: &Asked<'_>) -> Result<(), C
     }
 }
 
-/// Puts a Print-Job, its document behind it.
+/// Appends a Print-Job, its document behind it.
 fn put_print_job(out: &mut Vec<u8>, uri: &[u8], job: &NewJob<'_>) -> Result<(), ClientFault>
     ensures { OnOk result
         (out.new.items ≡ out.old.items ++ message_spelling (print_message uri.now job.now)) }
@@ -50,6 +52,7 @@ fn put_print_job(out: &mut Vec<u8>, uri: &[u8], job: &NewJob<'_>) -> Result<(), 
     end_groups(out, job.document)
 }
 
+/// Appends the operation attributes of a Print-Job: name, format, impressions and password.
 fn put_print_attributes(out: &mut Vec<u8>, job: &NewJob<'_>) -> Result<(), ClientFault>
     ensures { OnOk result
         (out.new.items ≡ out.old.items ++ attributes_text (print_attributes job.now)) }
@@ -72,6 +75,7 @@ fn put_format(out: &mut Vec<u8>, format: Format) -> Result<(), ClientFault>
     )
 }
 
+/// Appends the attribute job-impressions, if they are known.
 fn put_impressions(out: &mut Vec<u8>, count: Option<u32>) -> Result<(), ClientFault>
     ensures { OnOk result (out.new.items ≡ out.old.items ++ attributes_text (impressions count)) }
 {
@@ -81,6 +85,8 @@ fn put_impressions(out: &mut Vec<u8>, count: Option<u32>) -> Result<(), ClientFa
     }
 }
 
+/// Appends the password, which is not encrypted, and the attribute that tells so, if the job has
+/// one.
 fn put_password(out: &mut Vec<u8>, word: Option<&[u8]>) -> Result<(), ClientFault>
     ensures { OnOk result (out.new.items ≡ out.old.items ++ attributes_text (password word.entry)) }
 {
@@ -91,7 +97,7 @@ fn put_password(out: &mut Vec<u8>, word: Option<&[u8]>) -> Result<(), ClientFaul
     put_single(out, KEYWORD, b"job-password-encryption", b"none")
 }
 
-/// Puts a Get-Jobs that asks for the jobs that have not ended.
+/// Appends a Get-Jobs for the jobs that have not ended.
 fn put_get_jobs(out: &mut Vec<u8>, uri: &[u8]) -> Result<(), ClientFault>
     ensures { OnOk result
         (out.new.items ≡ out.old.items ++ message_spelling (get_jobs_message uri.now)) }
@@ -102,6 +108,7 @@ fn put_get_jobs(out: &mut Vec<u8>, uri: &[u8]) -> Result<(), ClientFault>
     end_groups(out, b"")
 }
 
+/// Appends which attributes of each job the answer is to have: those that the table shows.
 fn put_wanted(out: &mut Vec<u8>) -> Result<(), ClientFault>
     ensures { OnOk result (out.new.items ≡ out.old.items ++ attributes_text
         (attribute_of (codes "requested-attributes") (map (value_with 0x44) wanted) ∷ [])) }
@@ -118,7 +125,7 @@ fn put_wanted(out: &mut Vec<u8>) -> Result<(), ClientFault>
     put_keywords(out, b"requested-attributes", b"job-id", &further)
 }
 
-/// Puts a Cancel-Job, Hold-Job or Release-Job.
+/// Appends a Cancel-Job, Hold-Job or Release-Job.
 fn put_act(out: &mut Vec<u8>, uri: &[u8], act: JobAct, job: u32) -> Result<(), ClientFault>
     ensures { OnOk result
         (out.new.items ≡ out.old.items ++ message_spelling (act_message uri.now act job)) }

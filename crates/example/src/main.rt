@@ -1,4 +1,5 @@
-//! The example of README.md, which uses the crates as a library; and the machine of one account by itself.
+//! The example of README.md, which uses the crates as a library; and the machine of one account by
+//! itself.
 #![tactic(auto)]
 
 mod fault;
@@ -23,6 +24,7 @@ fn main(rt: HostRuntime) -> ExitCode {
     }
 }
 
+/// Runs both examples, and prints their replies.
 fn print_answers(rt: &HostRuntime) -> Result<(), Fault> {
     let quota = quota_of_alice(rt.alloc())?;
     print_answer(&mut rt.stdout(), Some(&quota))?;

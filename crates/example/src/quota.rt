@@ -1,4 +1,4 @@
-//! What a user of the library writes.
+//! The example of README.md: a print room in memory, a grant, and the question for a quota.
 
 use crate::fault::Fault;
 use account_machine::{Event, Name, Reply};

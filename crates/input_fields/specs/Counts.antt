@@ -1,4 +1,5 @@
--- A std reader with a count of the calls that failed.
+-- What `Counted` makes of a std reader or writer: what it may still read or was given, and how many
+-- calls failed.
 use Rattle.std.specs.Prelude.{ℕ, Bool}
 use Rattle.input_fields.specs.declared.counted.Counted.{Counted}
 

@@ -1,4 +1,4 @@
--- Rule: What one field of a line says.
+-- Rule: What one field says: numbers, months, choices and bytes.
 use Rattle.std.specs.Prelude.{◌≡◌, ℕ, ◌+◌, ◌*◌, ◌-◌, Bool, true, false, ◌&&◌, ◌==◌, bytes_eq, nat_le, if◌then◌else◌, List, length, slice_index, Option, Some, None, option_map, option_and_then}
 use Rattle.std.specs.Str.Parse.{IsNumeral}
 

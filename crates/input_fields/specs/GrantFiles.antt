@@ -1,4 +1,4 @@
--- Rule: The records of a file of grants, and how many there may be.
+-- Rule: How a file of grants is cut into records, and how many it may have.
 use Rattle.std.specs.Prelude.{ℕ, Bool, ◌||◌, nat_lt, List, length}
 use Rattle.csv.specs.Reading.{default_config, records, strip_bom}
 

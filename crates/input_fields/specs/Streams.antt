@@ -1,5 +1,5 @@
--- What a call of a source takes of the bytes that may be left in it, and a call of a sink of what
--- it is handed.
+-- What a call of a source takes of the bytes that are left in it, and a call of a sink of what it
+-- is handed.
 use Rattle.std.specs.Prelude.{◌≡◌, ◌==◌, ◌&&◌, ℕ, Bool, true, false, if◌then◌else◌, nat_lt, List, [], ◌∷◌, ◌++◌, length, Option, Some, None, Result, Ok, Err, ⊤}
 use Rattle.input_fields.specs.declared.stream_fault.StreamFault.{StreamFault}
 use Rattle.input_fields.specs.declared.stream_fault.StreamFault.TheVariants.{Read, Memory, TooLong}

@@ -1,4 +1,4 @@
-//! A reader or a writer of std as a source or a sink.
+//! `Counted`: makes a `Source` of a std reader, and a `Sink` of a std writer.
 
 ghost use Rattle.std.specs.Prelude.{◌≡◌, ◌+◌, ◌-◌, ◌^◌, ◌<◌, ◌≤◌, ℕ, List, [], false, IfOk, OnErr, length, take};
 ghost use Rattle.std.specs.Io.KnownBytes.{WriteAppends};
@@ -8,8 +8,8 @@ use crate::source::Source;
 use std::io;
 use std::io::{Read, Write};
 
-/// A reader or a writer of std with a count of the calls of it that failed. A reader that has told
-/// its end is not called again.
+/// A reader or a writer of std that counts how many of its calls failed. Once a reader has told its
+/// end, it is not called again.
 #[derive(Drop)]
 pub struct Counted<R> {
     inner: R,
@@ -20,7 +20,7 @@ pub struct Counted<R> {
 impl<R> Counted<R> {
     ghost use Rattle.input_fields.specs.Counts.{failures_of, has_told_end, inner_of};
 
-    /// No call has failed so far.
+    /// Wraps a reader or a writer of which no call has failed yet.
     pub fn new(inner: R) -> Counted<R>
         ensures inner { inner_of result ≡ inner }
         ensures going { has_told_end result ≡ false }

@@ -1,4 +1,4 @@
-//! What a field of a line or of a record says.
+//! Parsers for single fields: numbers, months, choices and bytes.
 
 ghost use Rattle.std.specs.Prelude.{◌≡◌, ◌≤◌, ◌<◌, ◌^◌, IfSome, IfOk, OnOk, IsErr, IsErrOf, Ok, length};
 ghost use Rattle.std.specs.Option.{SomeIff};
@@ -11,7 +11,7 @@ use std::alloc::Global;
 use std::str;
 use thiserror::Error;
 
-/// Why a field gave no value.
+/// Why a field could not be read.
 #[derive(Clone, Copy, Debug, PartialEq, Eq, Error)]
 pub enum FieldFault {
     /// The bytes are not in the field's grammar.
@@ -21,8 +21,8 @@ pub enum FieldFault {
     Memory,
 }
 
-/// The number that the bytes write in decimal, which is `0` or begins with a digit that is not 0.
-/// A sign, a leading zero or a number of 2^64 or more gives `None`.
+/// Reads a number in decimal: `0`, or digits of which the first is not 0. `None` for anything else,
+/// also for a sign, a leading zero, or 2^64 and more.
 pub fn decimal(text: &[u8]) -> Option<u64>
     ensures { SomeIff result (IsDecimal text.now × (digits_value 10 text.now < 2 ^ 64))
         (digits_value 10 text.now) }
@@ -39,7 +39,7 @@ pub fn decimal(text: &[u8]) -> Option<u64>
     }
 }
 
-/// The number that the bytes write in decimal, if it lies between the two.
+/// Reads a number in decimal, from `least` to `most`.
 pub fn number(text: &[u8], least: u32, most: u32) -> Option<u32>
     ensures { SomeIff result
         (IsDecimal text.now × (least ≤ digits_value 10 text.now)
@@ -53,8 +53,8 @@ pub fn number(text: &[u8], least: u32, most: u32) -> Option<u32>
     }
 }
 
-/// The month that the bytes write as `YYYY-MM`, from 1970-01 to 2099-12. Its number is twelve times
-/// the year, and 0 for January to 11 for December.
+/// Reads a month as `YYYY-MM`, from 1970-01 to 2099-12. Its number is twelve times the year, and 0
+/// for January to 11 for December.
 pub fn month(text: &[u8]) -> Option<u32>
     ensures said { result ≡ month_said text.now }
     ensures within { IfSome result (λ m. (first_month ≤ m) × (m ≤ last_month)) }
@@ -71,7 +71,7 @@ pub fn month(text: &[u8]) -> Option<u32>
     }
 }
 
-/// The number that two digits write.
+/// The number that two digits write. `None` where one is no digit.
 fn two_digits(tens: u8, ones: u8) -> Option<u32>
     ensures said { result ≡ two_digits_said tens ones }
     ensures low { IfSome result (λ n. n < 100) }
@@ -79,6 +79,7 @@ fn two_digits(tens: u8, ones: u8) -> Option<u32>
     Some(digit(tens)? * 10 + digit(ones)?)
 }
 
+/// The value of a digit, 0 to 9. `None` for any other byte.
 fn digit(byte: u8) -> Option<u32>
     ensures said { result ≡ digit_said byte }
     ensures low { IfSome result (λ n. n < 10) }
@@ -89,7 +90,8 @@ fn digit(byte: u8) -> Option<u32>
     }
 }
 
-/// Whether the bytes are `yes` or `no`, which are two different words.
+/// Reads one of two words: whether it is `yes`, and `None` where it is neither. The two are
+/// different.
 pub fn choice(text: &[u8], yes: &[u8], no: &[u8]) -> Option<bool>
     ensures { result ≡ choice_said yes.now no.now text.now }
 {
@@ -102,7 +104,7 @@ pub fn choice(text: &[u8], yes: &[u8], no: &[u8]) -> Option<bool>
     }
 }
 
-/// The bytes that one or more pairs of hexadecimal digits write, in lower or upper case.
+/// Reads bytes in hexadecimal: one or more pairs of digits, in lower or upper case.
 pub fn bytes(alloc: Global, text: &[u8]) -> Result<Vec<u8>, FieldFault>
     ensures read { IfOk result (λ bytes. decode_of text.now ≡ Ok bytes.items) }
     ensures pairs { OnOk result (0 < length text.now) }

@@ -1,4 +1,4 @@
-//! Why a file of grants is not read.
+//! `GrantFault`: why a file of grants could not be read.
 
 ghost use Rattle.std.specs.Prelude.{◌≡◌};
 ghost use Rattle.input_fields.specs.GrantFaults.{grant_fault_of};
@@ -8,7 +8,7 @@ use crate::StreamFault;
 use std::alloc::{AllocError, AllocFailed};
 use thiserror::Error;
 
-/// Why a file of grants was not read.
+/// Why a file of grants could not be read.
 #[derive(Clone, Copy, Debug, PartialEq, Eq, Error)]
 pub enum GrantFault {
     #[error("reading failed")]

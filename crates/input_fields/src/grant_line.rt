@@ -1,4 +1,4 @@
-//! One record of a file of grants.
+//! One record of a file of grants: account, month, pages.
 
 ghost use Rattle.std.specs.Prelude.{◌≡◌, ◌≤◌, IfSome};
 ghost use Rattle.csv.specs.Records.{fields_of};
@@ -10,7 +10,7 @@ use crate::{month, number};
 use account_rules::{MOST_PAGES, Name};
 use csv::ByteRecord;
 
-/// What a record says.
+/// What one record of a file of grants says.
 #[derive(Clone, Copy, PartialEq)]
 pub enum GrantLine {
     /// The account is granted pages once, to be used in the month or later. The month is the year
@@ -24,7 +24,8 @@ pub enum GrantLine {
     Bad(u32),
 }
 
-/// What the record of the number says.
+/// Reads a record: `Bad` where it is not an account's name, a month and a number of pages. `number`
+/// is its place in the file, from 1.
 pub(crate) fn grant_line(number: u32, row: &ByteRecord) -> GrantLine
     ensures said { result ≡ grant_line number (fields_of row.now) }
     ensures range { IsInRange result }
@@ -41,6 +42,7 @@ pub(crate) fn grant_line(number: u32, row: &ByteRecord) -> GrantLine
     }
 }
 
+/// The grant of the three fields. `None` where one is malformed.
 fn good_line(account: &[u8], month_text: &[u8], pages: &[u8]) -> Option<GrantLine>
     ensures said { result
         ≡ good_line (account_said account.now) (month_said month_text.now) (pages_said pages.now) }
@@ -53,6 +55,7 @@ fn good_line(account: &[u8], month_text: &[u8], pages: &[u8]) -> Option<GrantLin
     })
 }
 
+/// Reads a number of pages, 0 to `MOST_PAGES`.
 fn pages_in(text: &[u8]) -> Option<u32>
     ensures said { result ≡ pages_said text.now }
     ensures most { IfSome result (λ pages. pages ≤ most_pages) }

@@ -1,4 +1,4 @@
-//! A file of grants as its records.
+//! `read_grants`: reads a file of grants, which is CSV without a header.
 
 ghost use Rattle.std.specs.Prelude.{◌≡◌, ◌+◌, ◌-◌, ◌^◌, ◌<◌, ◌≤◌, ℕ, List, All, IfOk, IfErr, IsErrOf, OnOk, length, true, false};
 ghost use Rattle.csv.specs.Reading.{error_kind, is_flexible};
@@ -13,17 +13,17 @@ use crate::{Source, read_whole};
 use csv::{ByteRecord, Error, ErrorKind, ReaderBuilder};
 use std::alloc::Global;
 
-/// The records of a file, at most.
+/// The most records that a file may have.
 const MOST_RECORDS: usize = 100_000;
 
-/// The bytes of a file, at most.
+/// The most bytes that a file may have: 64 MiB.
 const MOST_BYTES: usize = 67_108_864;
 
-/// What each record of the file that `reader` has left says, in order. No record is a header, and
-/// each may have any number of fields. Where there are too many records or bytes it is `TooMany`,
-/// whatever they say.
+/// Reads all records of a file of grants, in order. No record is a header, and each may have any
+/// number of fields. Where there are too many records or bytes it is `TooMany`, whatever they say.
 ///
-/// The file is read whole first, and of one that is too long no byte after the first too many.
+/// The file is read whole first. Of one that is too long, no byte behind the first too many is
+/// read.
 pub fn read_grants<R: Source>(alloc: Global, reader: &mut R) -> Result<Vec<GrantLine>, GrantFault>
     requires { R.failures reader.old < 2 ^ 64 - 1 }
     ensures lines { IfOk result (λ lines. (bytes : List ℕ) × R.left reader.old bytes
@@ -40,6 +40,7 @@ pub fn read_grants<R: Source>(alloc: Global, reader: &mut R) -> Result<Vec<Grant
     lines_of(alloc, bytes.as_slice())
 }
 
+/// Reads all records of a file that is in memory.
 fn lines_of(alloc: Global, text: &[u8]) -> Result<Vec<GrantLine>, GrantFault>
     ensures lines { IfOk result (λ lines. lines.items ≡ grant_lines (records_of text.now)) }
     ensures ranges { IfOk result (λ lines. All IsInRange lines.items) }
@@ -69,8 +70,8 @@ fn lines_of(alloc: Global, text: &[u8]) -> Result<Vec<GrantLine>, GrantFault>
     }
 }
 
-/// What hinders records of any number of fields from being read of bytes in memory: want of it
-/// alone.
+/// The fault for an error of the CSV reader. Over bytes in memory, with records of any number of
+/// fields, it has one error: memory ran out.
 fn fault_of(error: Error) -> GrantFault
     requires { IsNoLength (error_kind error) }
     ensures { result ≡ GrantFault.Memory }

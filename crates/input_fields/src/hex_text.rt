@@ -1,4 +1,4 @@
-//! Bytes as hexadecimal digits, with no memory taken.
+//! Printing bytes as hexadecimal digits, without taking memory.
 ghost use Rattle.hex.specs.Hex.{encode_lower};
 ghost use Rattle.std.specs.Io.KnownBytes.{Appends};
 ghost use Rattle.std.specs.Prelude.{◌≤◌, ◌*◌, OnOk, length};
@@ -9,6 +9,7 @@ use std::io::Write;
 /// How many bytes are turned into digits at once.
 const CHUNK: usize = 512;
 
+/// How many digits these are.
 const DIGITS: usize = 2 * CHUNK;
 
 /// Prints two digits of each byte, in lower case.
@@ -25,6 +26,7 @@ pub fn print_hex<O: Write>(output: &mut O, bytes: &[u8]) -> io::Result<()>
     Ok(())
 }
 
+/// Prints the digits of at most `CHUNK` bytes.
 fn print_chunk<O: Write>(output: &mut O, chunk: &[u8]) -> io::Result<()>
     requires { length chunk.now ≤ CHUNK }
     ensures { OnOk result

@@ -1,5 +1,6 @@
-//! What comes from outside: streams that count the calls that failed, what one field says (of a
-//! line, of a record or of the command line), and files of grants. Bytes as hexadecimal digits.
+//! What comes from outside the program: `Source` and `Sink` for bytes, what one field says (of a
+//! line, of a record, or of the command line), and files of grants. Also bytes printed as
+//! hexadecimal digits.
 #![tactic(auto)]
 
 mod counted;

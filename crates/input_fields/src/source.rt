@@ -1,12 +1,12 @@
-//! What bytes are read from, and one byte of it.
+//! `Source`: what bytes are read from; and `read_byte`.
 
 ghost use Rattle.std.specs.Prelude.{◌≡◌, ◌+◌, ◌-◌, ◌^◌, ◌<◌, ◌≤◌, ℕ, List, [], IfNone, IfOk, OnErr, length, take};
 ghost use Rattle.input_fields.specs.Streams.{IsSpent, Yields, byte_list, failed_reads};
 
 use std::io;
 
-/// What bytes are read from. It tells how many calls of `read` failed so far, each by whatever
-/// error: `Interrupted` counts as well.
+/// What bytes are read from. Its contracts count the calls of `read` that failed, each by whatever
+/// error: `Interrupted` counts too.
 pub trait Source {
     // The bytes that may be left to be read, up to the end.
     ghost left: { Self → List ℕ → Type 0 };
@@ -14,8 +14,8 @@ pub trait Source {
     // How many calls failed so far.
     ghost failures: { Self → ℕ };
 
-    /// Puts the next bytes at the front of `buffer` and answers how many. 0 in a buffer that is not
-    /// empty tells the end. A call that fails takes nothing of what is left.
+    /// Reads the next bytes into the front of `buffer` and answers how many. 0 tells the end, where
+    /// the buffer is not empty. A call that fails takes nothing of what is left.
     fn read(&mut self, buffer: &mut [u8]) -> io::Result<usize>
         requires { failures self.old < 2 ^ 64 - 1 }
         ensures bound { IfOk result (λ n. n ≤ length buffer.old) }
@@ -29,7 +29,7 @@ pub trait Source {
     ghost some_left: { (s : Self) → (rest : List ℕ) × left s rest };
 }
 
-/// Reads the next byte, and none behind it. `None` tells the end.
+/// Reads the next byte, and nothing behind it. `None` at the end.
 pub fn read_byte<R: Source>(reader: &mut R) -> io::Result<Option<u8>>
     requires { R.failures reader.old < 2 ^ 64 - 1 }
     ensures took { IfOk result

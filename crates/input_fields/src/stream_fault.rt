@@ -1,4 +1,4 @@
-//! Why an input is not read whole.
+//! `StreamFault`: why an input could not be read whole.
 
 ghost use Rattle.std.specs.Prelude.{◌≡◌};
 ghost use Rattle.input_fields.specs.declared.stream_fault.StreamFault.TheVariants.{Memory};
@@ -6,7 +6,7 @@ ghost use Rattle.input_fields.specs.declared.stream_fault.StreamFault.TheVariant
 use std::alloc::AllocError;
 use thiserror::Error;
 
-/// Why an input was not read whole.
+/// Why an input could not be read whole.
 #[derive(Clone, Copy, Debug, PartialEq, Eq, Error)]
 pub enum StreamFault {
     #[error("reading failed")]

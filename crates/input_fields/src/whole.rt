@@ -1,4 +1,4 @@
-//! An input read whole.
+//! `read_whole`: reads an input to its end, up to a limit.
 
 ghost use Rattle.std.specs.Prelude.{◌≡◌, ◌+◌, ◌-◌, ◌^◌, ◌<◌, ◌≤◌, ℕ, List, IfOk, IsErrOf, OnOk, length};
 ghost use Rattle.input_fields.specs.Streams.{IsSpent, Yields, read_faults};
@@ -7,11 +7,11 @@ use crate::source::Source;
 use crate::stream_fault::StreamFault;
 use std::alloc::Global;
 
+/// How many bytes are read at once.
 const PIECE: usize = 4096;
 
-/// All the bytes that are left in `reader`, of which there may be `most`: `TooLong` where there are
-/// more. No byte after the one that makes them too many is read, and a call that failed is not
-/// tried again.
+/// Reads all that is left in `reader`, `most` bytes at most. `TooLong` where there is more: then no
+/// byte behind the first too many is read. A call that failed is not tried again.
 #[tactic(auto, using(crate::proofs::Leaving::Yields_more))]
 pub fn read_whole<R: Source>(
     alloc: Global,

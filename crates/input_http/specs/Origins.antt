@@ -1,5 +1,5 @@
--- Rule: Which site sent a form, as browsers tell (RFC 6454 section 7; Fetch Metadata Request
--- Headers section 2.4).
+-- Rule: Whether a page of another site sent a form, as browsers tell (RFC 6454 section 7; Fetch
+-- Metadata Request Headers section 2.4).
 use Rattle.std.specs.Prelude.{ℕ, Bool, true, false, not, ◌&&◌, ◌||◌, List, Option, Some, None, codes, bytes_eq, is_some}
 use Rattle.http.specs.Request.{head_of}
 use Rattle.http.specs.declared.request.Request.{Request}

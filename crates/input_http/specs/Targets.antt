@@ -1,4 +1,4 @@
--- Rule: Which account a request is for, and whether what it brings is a message of IPP.
+-- Rule: Which account a request is for, and whether what it brings is an IPP message.
 use Rattle.std.specs.Prelude.{◌&&◌, ℕ, Bool, true, List, [], ◌∷◌, Option, Some, None, codes, drop, if◌then◌else◌, length, nat_le, nat_lt, option_and_then}
 use Rattle.std.specs.Char.{is_ascii_digit}
 use Rattle.std.specs.List.{list_all}

@@ -1,4 +1,5 @@
--- Rule: The texts that are written: status lines (RFC 9112 section 4) and the fields after them.
+-- Rule: The texts of HTTP answers that are written: status lines (RFC 9112 section 4) and header
+-- fields.
 use Rattle.std.specs.Prelude.{ℕ, Bool, true, false, List, [], ◌++◌, codes, decimal, if◌then◌else◌, length, unwrap_or}
 use Rattle.http.specs.StatusCode.{code_digits, reason_phrase}
 use Rattle.input_http.specs.declared.refusal.Refusal.{Refusal}
@@ -17,8 +18,8 @@ unfoldable pub status_line : ℕ → List ℕ
 status_line status = codes "HTTP/1.1 " ++ code_digits status ++ codes " "
     ++ unwrap_or (reason_phrase status) [] ++ codes "\r\n"
 
--- a refusal of the method names the one that there is (RFC 9110 section 15.5.6), and one for want of
--- space tells after how many seconds to ask again (RFC 9110 section 10.2.3)
+-- a refusal of the method names the one that there is (RFC 9110 section 15.5.6), and one for want
+-- of space tells after how many seconds to ask again (RFC 9110 section 10.2.3)
 abbrev pub more_fields : Refusal → List ℕ
 more_fields MethodNotAllowed = codes "Allow: POST\r\n"
 more_fields NoSpace = codes "Retry-After: 60\r\n"

@@ -1,4 +1,4 @@
--- Rule: Words of a head, and parts of a value (RFC 9110 section 5.6).
+-- Rule: How the value of a header field is cut into parts (RFC 9110 section 5.6).
 use Rattle.std.specs.Prelude.{ℕ, ◌==◌, Bool, List, [], ◌∷◌, bytes_eq, if◌then◌else◌, map, reverse, take}
 use Rattle.std.specs.Char.{to_ascii_lowercase}
 use Rattle.std.specs.List.{list_any, position_or_len}

@@ -1,4 +1,4 @@
-//! The texts of answers, in memory of a fixed size.
+//! Writing the heads of HTTP answers, and whole refusals, into buffers of a fixed size.
 ghost use Rattle.std.specs.Prelude.{◌≡◌, ◌+◌, ◌++◌, ◌≤◌, [], length, true, unwrap_or};
 ghost use Rattle.input_http.specs.Limits.{longest_answer_head, longest_status_line, longest_phrase};
 ghost use Rattle.http.specs.StatusCode.{reason_phrase};
@@ -10,10 +10,10 @@ use arrayvec::ArrayVec;
 use http::StatusCode;
 use itoa::Buffer;
 
-/// Room for the head of an answer.
+/// The bytes of a buffer that has room for the head of any answer.
 const HEAD_ROOM: usize = 256;
 
-/// Adds bytes that there is room for.
+/// Adds bytes to a buffer that has room for them.
 pub fn put<const N: usize>(text: &mut ArrayVec<u8, N>, bytes: &[u8])
     requires { array_vec_len text.old + length bytes.now ≤ N }
     ensures items { text.new.items ≡ text.old.items ++ bytes.now }
@@ -36,16 +36,16 @@ fn put_status<const N: usize>(text: &mut ArrayVec<u8, N>, status: StatusCode)
     put(text, b"\r\n");
 }
 
-/// The phrase that goes with a status.
+/// The reason phrase of a status, as `Not Found`.
 fn phrase_of(status: StatusCode) -> &'static str
     ensures { result.now ≡ unwrap_or (reason_phrase status) [] }
 {
     status.canonical_reason().unwrap_or("")
 }
 
-/// The answer to what is refused, which ends the connection. For the method it names the one that
-/// there is (RFC 9110 section 15.5.6), and for want of space it tells after how many seconds to ask
-/// again (RFC 9110 section 10.2.3).
+/// The whole answer to a message that is refused, which ends the connection. `MethodNotAllowed`
+/// names the method that is allowed (RFC 9110 section 15.5.6), and `NoSpace` after how many seconds
+/// to ask again (RFC 9110 section 10.2.3).
 pub fn refusal_text(refusal: Refusal) -> ArrayVec<u8, HEAD_ROOM>
     ensures { result.items ≡ refusal_text refusal }
 {
@@ -57,7 +57,7 @@ pub fn refusal_text(refusal: Refusal) -> ArrayVec<u8, HEAD_ROOM>
     text
 }
 
-/// What a refusal tells beside its status.
+/// The header fields that an answer has for this refusal alone.
 fn more_fields(refusal: Refusal) -> &'static [u8]
     ensures value { result.now ≡ more_fields refusal }
     ensures short { length result.now ≤ 17 }
@@ -69,7 +69,8 @@ fn more_fields(refusal: Refusal) -> &'static [u8]
     }
 }
 
-/// Adds the head of an answer of so many bytes, which tells where the connection ends with it.
+/// Adds the head of an IPP response of `size` bytes. `closes` adds that the connection ends with
+/// it.
 pub fn put_answer_head<const N: usize>(text: &mut ArrayVec<u8, N>, size: usize, closes: bool)
     requires { array_vec_len text.old + longest_answer_head ≤ N }
     ensures items { text.new.items ≡ text.old.items ++ answer_head size closes }
@@ -86,7 +87,7 @@ pub fn put_answer_head<const N: usize>(text: &mut ArrayVec<u8, N>, size: usize, 
     put(text, b"\r\n");
 }
 
-/// The head of an answer of so many bytes that ends the connection.
+/// The head of an IPP response of `size` bytes that ends the connection.
 pub fn last_answer_head(size: usize) -> ArrayVec<u8, HEAD_ROOM>
     ensures { result.items ≡ answer_head size true }
 {

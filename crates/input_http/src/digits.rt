@@ -1,17 +1,17 @@
-//! Numbers in decimal digits.
+//! Decimal digits, without a sign.
 ghost use Rattle.std.specs.Prelude.{◌≡◌, ◌≤◌, ◌<◌, ◌^◌, length, IsTrue};
 ghost use Rattle.std.specs.Char.{is_ascii_digit};
 ghost use Rattle.std.specs.List.{list_all};
 ghost use Rattle.std.specs.Str.Parse.{digits_value};
 
-/// Whether all of these bytes are digits.
+/// Whether all bytes are decimal digits.
 pub fn are_digits(bytes: &[u8]) -> bool
     ensures { result ≡ list_all is_ascii_digit bytes.now }
 {
     bytes.iter().all(|byte| byte.is_ascii_digit())
 }
 
-/// The number that 18 digits at most write.
+/// The number that at most 18 decimal digits write.
 pub fn number_of(digits: &[u8]) -> u64
     requires are_digits { IsTrue (list_all is_ascii_digit digits.now) }
     requires few { length digits.now ≤ 18 }

@@ -1,5 +1,6 @@
-//! Requests of IPP over HTTP/1.1, however they are read: which account one is for, why one is
-//! refused, how long its parts may be, numbers in digits, and the texts of answers.
+//! Rules of IPP over HTTP/1.1 that `listen` and `serve` share: which account a request is for, why
+//! one is refused, how long its parts may be, whether another site sent it, and the texts of
+//! answers.
 #![tactic(auto)]
 
 mod answer;

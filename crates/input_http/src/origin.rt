@@ -1,4 +1,5 @@
-//! Which site sent a form.
+//! Whether a form was sent by a page of another site, by what the browser tells (Fetch Metadata,
+//! Origin).
 ghost use Rattle.std.specs.Prelude.{◌≡◌, option_copied};
 ghost use Rattle.input_http.specs.Origins.{is_foreign, is_origin_of, is_own, is_own_origin, is_own_site};
 
@@ -6,14 +7,16 @@ use crate::targets::is_post;
 use bytes::Bytes;
 use http::{HeaderValue, Request};
 
-/// Whether it asks for something to be done, and its browser does not tell that a page of this site
-/// asks, or its owner.
+/// Whether the request is a POST that may come from a page of another site: its browser tells
+/// neither that a page of this site sent it nor that its owner did.
 pub fn is_foreign(request: &Request<Bytes>) -> bool
     ensures { result ≡ is_foreign request.now }
 {
     is_post(request.method().as_str().as_bytes()) && !is_own(request)
 }
 
+/// Whether the browser tells, by Sec-Fetch-Site or Origin, that this site or its owner sent the
+/// request, and by neither that another did.
 fn is_own(request: &Request<Bytes>) -> bool
     ensures { result ≡ is_own request.now }
 {
@@ -23,6 +26,8 @@ fn is_own(request: &Request<Bytes>) -> bool
     (site.is_some() || origin.is_some()) && is_own_site(site) && is_own_origin(origin, host)
 }
 
+/// Whether Sec-Fetch-Site, if it is there, tells of this site (`same-origin`) or of the owner
+/// (`none`).
 fn is_own_site(site: Option<&HeaderValue>) -> bool
     ensures { result ≡ is_own_site (option_copied site.entry) }
 {
@@ -34,6 +39,7 @@ fn is_own_site(site: Option<&HeaderValue>) -> bool
     }
 }
 
+/// Whether Origin, if it is there, is that of Host.
 fn is_own_origin(origin: Option<&HeaderValue>, host: Option<&HeaderValue>) -> bool
     ensures { result ≡ is_own_origin (option_copied origin.entry) (option_copied host.entry) }
 {
@@ -44,7 +50,7 @@ fn is_own_origin(origin: Option<&HeaderValue>, host: Option<&HeaderValue>) -> bo
     }
 }
 
-/// Whether the origin is that of a page of the host.
+/// Whether the origin is the host by `https://` or `http://`.
 fn is_origin_of(origin: &[u8], host: &[u8]) -> bool
     ensures { result ≡ is_origin_of origin.now host.now }
 {

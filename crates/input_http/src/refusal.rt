@@ -1,4 +1,4 @@
-//! The refusals of a message, and the status of each.
+//! `Refusal`: why an HTTP message is refused, with the status of each.
 
 ghost use Rattle.std.specs.Prelude.{◌≡◌, ◌≤◌, [], length, unwrap_or};
 ghost use Rattle.input_http.specs.Limits.{longest_phrase};
@@ -7,7 +7,7 @@ ghost use Rattle.input_http.specs.Texts.{status_of};
 
 use http::StatusCode;
 
-/// Why a message is not carried out. The connection ends with it.
+/// Why an HTTP message is not carried out. The connection ends with it.
 #[derive(Clone, Copy, PartialEq, Eq)]
 pub enum Refusal {
     /// What came is no message of HTTP, or none of this profile.
@@ -27,8 +27,8 @@ pub enum Refusal {
 }
 
 impl Refusal {
-    /// The status of its answer (RFC 9110 section 15.5, and 15.6.4 for `NoSpace`; RFC 6585 section 5
-    /// for `HeadTooLarge`).
+    /// The status of its answer (RFC 9110 section 15.5, and 15.6.4 for `NoSpace`; RFC 6585 section
+    /// 5 for `HeadTooLarge`).
     pub fn status(self) -> StatusCode
         ensures value { result ≡ status_of self }
         ensures phrase { length (unwrap_or (reason_phrase result) []) ≤ longest_phrase }

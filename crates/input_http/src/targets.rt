@@ -1,4 +1,4 @@
-//! Which account a request is for, and whether it brings a message of IPP.
+//! What a request is for, by its method, its path and its content type.
 ghost use Rattle.std.specs.Prelude.{◌≡◌, ◌≤◌, bytes_eq, codes, length};
 ghost use Rattle.input_http.specs.Targets.{account_of, is_ipp_type, is_job_part, queue_in};
 
@@ -13,8 +13,8 @@ pub fn is_post(method: &[u8]) -> bool
     method == b"POST".as_slice()
 }
 
-/// The account, open or not, that the target of a request line names: `/ipp/print/NAME`, or
-/// `/ipp/print/NAME/` and 1 to 6 digits, up to the first `?`. None for any other. Nothing is
+/// The account that the target of a request names, open or not: `/ipp/print/NAME`, or
+/// `/ipp/print/NAME/` and 1 to 6 digits, up to the first `?`. `None` for any other. Nothing is
 /// percent-decoded.
 pub fn account_of(target: &[u8]) -> Option<Name>
     ensures { result ≡ account_of target.now }
@@ -22,7 +22,7 @@ pub fn account_of(target: &[u8]) -> Option<Name>
     queue_in(before(b'?', target).strip_prefix(QUEUES)?)
 }
 
-/// The name at the front of what stands after `/ipp/print/`.
+/// The account's name in what stands behind `/ipp/print/`.
 fn queue_in(rest: &[u8]) -> Option<Name>
     ensures { result ≡ queue_in rest.now }
 {
@@ -34,7 +34,7 @@ fn queue_in(rest: &[u8]) -> Option<Name>
     }
 }
 
-/// Whether this may stand after the name of a queue: nothing, or `/` and 1 to 6 digits.
+/// Whether this may stand behind the name of a queue: nothing, or `/` and 1 to 6 digits.
 fn is_job_part(part: &[u8]) -> bool
     ensures { result ≡ is_job_part part.now }
 {

@@ -1,4 +1,4 @@
--- Rule: What a line asks that changes nothing, and who may ask it (this project's own).
+-- Rule: Which lines are questions, who may ask them, and what they ask (this project's own).
 use Rattle.std.specs.Prelude.{◌≡◌, ℕ, ◌≤◌, Bool, true, false, List, [], ◌∷◌, codes}
 use Rattle.input_lines.specs.Saying.{AreFields, SaysMonth, SaysNumber, name_said}
 use Rattle.account_questions.specs.declared.question.About.{About}
@@ -6,7 +6,8 @@ use Rattle.account_questions.specs.declared.question.About.TheVariants.{Left, St
 use Rattle.account_questions.specs.declared.question.Question.{Question}
 use Rattle.account_questions.specs.declared.question.Question.TheVariants.{Ping, End, Devices, Accounts, Check, Account}
 
--- a station asks what waits for an account, and for a job's documents again; an operator all else that lines ask
+-- a station asks what waits for an account, and for a job's documents again; an operator all else
+-- that lines ask
 abbrev pub is_of_station : Question → Bool
 is_of_station (Account account (Waiting device)) = true
 is_of_station (Account account (Again device job)) = true

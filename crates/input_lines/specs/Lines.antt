@@ -1,4 +1,5 @@
--- Rule: Which lines a grammar lets through (this project's own).
+-- Rule: Whose lines a grammar lets through: a script's, a station's or an operator's (this
+-- project's own).
 use Rattle.std.specs.Prelude.{◌≡◌, IsTrue}
 use Rattle.input_lines.specs.Actions.{is_of_operator, is_of_script, is_of_station}
 use Rattle.input_lines.specs.declared.lines.Grammar.{Grammar}

@@ -1,4 +1,4 @@
--- Rule: What the program prints of what an event came to (all this project's own).
+-- Rule: What the program prints of the answer to an event (all this project's own).
 use Rattle.std.specs.Prelude.{ℕ, List, ◌++◌, codes, Option, Some, None}
 use Rattle.std.specs.List.{flat_map}
 use Rattle.hex.specs.Hex.{encode_lower}

@@ -1,4 +1,4 @@
--- Rule: What a line says (this project's own).
+-- Rule: What a line that asks for an event says, field by field (this project's own).
 use Rattle.std.specs.Prelude.{◌≡◌, ◌≢◌, ◌⊎◌, ℕ, ◌<◌, Bool, All, List, [], ◌∷◌, ◌++◌, codes, length, Option, Some, None, Ok}
 use Rattle.std.specs.List.{AllZip, join_with_byte}
 use Rattle.std.specs.Str.Parse.{digits_value}

@@ -1,8 +1,8 @@
-//! What a line asks for.
+//! `Action`: what a line asks to be done, and the event that it is.
 use crate::owner_request::OwnerRequest;
 use account_machine::{Event, Name};
 
-/// One thing that a line asks the rooms or the devices to do.
+/// One thing that a line asks to be done.
 #[derive(Drop)]
 pub enum Action {
     /// Opens an account.
@@ -62,7 +62,8 @@ impl Action {
     ghost use Rattle.account_machine.specs.Fits.{fits};
     ghost use Rattle.input_lines.specs.Actions.{event_of_action, is_in_range};
 
-    /// The event that it is. A release without impressions leaves those of the job.
+    /// The event that the action is. Impressions that a release leaves out are 0, which leaves the
+    /// job's own.
     pub fn event(&self) -> Event<'_>
         requires { IsTrue (is_in_range self.now) }
         ensures fit { IsTrue (fits (plain_event result)) }

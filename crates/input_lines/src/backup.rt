@@ -1,4 +1,4 @@
-//! The grammar of a backup's lines: the fields of a line, as in `lines`.
+//! Parsing an operator's lines of a backup: `backup FILE` and `slice FILE`.
 ghost use Rattle.std.specs.Prelude.{IfOk};
 ghost use Rattle.input_lines.specs.Backups.{IsBackupOf};
 
@@ -14,7 +14,7 @@ pub enum BackupLine<'a> {
     Slice { file: &'a [u8] },
 }
 
-/// A line of a backup, without what ends it. `Malformed` where the line is none.
+/// Parses a line of a backup, without its line feed. `Malformed` where it is none.
 pub fn read_backup(line: &[u8]) -> Result<BackupLine<'_>, FieldFault>
     ensures said { IfOk result (IsBackupOf line.now) }
 {

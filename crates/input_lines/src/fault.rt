@@ -1,8 +1,8 @@
-//! Why an input is not read as lines.
+//! `LineFault`: why an input of lines could not be read.
 
 use thiserror::Error;
 
-/// Why an input is not read as lines.
+/// Why an input of lines could not be read.
 #[derive(Clone, Copy, Debug, PartialEq, Error)]
 pub enum LineFault {
     /// The line of this number, counted from 1, is the first that is no line of its grammar.

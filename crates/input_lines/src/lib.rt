@@ -1,5 +1,5 @@
-//! The lines of scripts, stations and operators: what each asks for, and what is printed of the
-//! answers.
+//! The lines that scripts, stations and operators write: parsers from a line's text to the event,
+//! question or backup that it asks for, and what the program prints of answers.
 #![tactic(auto)]
 
 mod action;

@@ -1,4 +1,4 @@
-//! A line that was read.
+//! `Line`: a line that was parsed, with its moment.
 ghost use Rattle.std.specs.Prelude.{◌≡◌, ℕ, All, IfOk, IfSome, IsTrue, length, slice_get, vec_len};
 ghost use Rattle.account_machine.specs.Fits.{fits};
 ghost use Rattle.account_machine.specs.Events.{plain_event, plain_timed};
@@ -8,7 +8,7 @@ use crate::action::Action;
 use account_machine::Event;
 use std::alloc::{AllocError, Global};
 
-/// What to do, and the moment at which it counts as done, in seconds since 1970-01-01T00:00:00Z.
+/// What a line asks to be done, and the moment at which it counts as done, in seconds from 1970.
 #[derive(Drop)]
 pub struct Line {
     pub moment: u64,
@@ -17,7 +17,7 @@ pub struct Line {
 }
 
 impl Line {
-    /// The event that it asks for.
+    /// The event that the line asks for.
     pub fn event(&self) -> Event<'_>
         ensures fit { IsTrue (fits (plain_event result)) }
         ensures same { plain_event result ≡ event_of_action self.now.action }
@@ -37,6 +37,7 @@ pub fn events_of(alloc: Global, lines: &[Line]) -> Result<Vec<(u64, Event<'_>)>,
     lines.iter().map(timed).collect(alloc)
 }
 
+/// The line's event with its moment.
 fn timed(line: &Line) -> (u64, Event<'_>)
     ensures fit { IsTrue (fits (plain_event result.1)) }
     ensures of_line { plain_timed result ≡ (line.now.moment, event_of_action line.now.action) }

@@ -1,6 +1,6 @@
-//! The grammar of lines: fields parted by one space, lines ended by a line feed, the last of which
-//! may be missing. Nothing is trimmed, so a carriage return, a tab or a further space makes a line
-//! bad.
+//! Parsing lines that ask for events. Fields are parted by one space, and lines end in a line feed,
+//! which the last may lack. Nothing is trimmed: a carriage return, a tab or a further space makes a
+//! line malformed.
 ghost use Rattle.std.specs.Prelude.{◌∷◌, All, IfOk, IsTrue};
 ghost use Rattle.input_lines.specs.Actions.{is_in_range, is_of_operator, is_of_script, is_of_station};
 ghost use Rattle.input_lines.specs.Lines.{IsAllowed};
@@ -17,7 +17,7 @@ use account_machine::{LAST_JOB, MOST_IMPRESSIONS, MOST_PAGES, MOST_RATE};
 use input_fields::FieldFault;
 use std::alloc::Global;
 
-/// Which lines an input may have.
+/// Whose lines an input has, and so which lines it may have.
 #[derive(Clone, Copy)]
 pub enum Grammar {
     /// Every kind of line, each begun by its moment and a space.
@@ -29,8 +29,8 @@ pub enum Grammar {
 }
 
 impl Grammar {
-    /// The lines of an input in order, or the number of the first bad line. An input of no bytes
-    /// has no lines.
+    /// Parses all lines of an input, in order, or tells the number of the first that is malformed.
+    /// An input of no bytes has no lines.
     pub fn read(self, alloc: Global, input: &[u8]) -> Result<Vec<Line>, LineFault>
         ensures allowed { IfOk result (λ lines. All (IsAllowed self) lines.items) }
         ensures said { IfOk result (λ lines. AreLinesOf self input.now lines.items) }
@@ -50,7 +50,7 @@ impl Grammar {
         Ok(lines)
     }
 
-    /// One line, without what ends it. `Malformed` where it is none of the grammar's.
+    /// Parses one line, without its line feed. `Malformed` where the grammar has no such line.
     pub fn read_line(self, alloc: Global, line: &[u8]) -> Result<Line, FieldFault>
         ensures allowed { IfOk result (IsAllowed self) }
         ensures said { IfOk result (IsLineOf self line.now) }
@@ -77,6 +77,8 @@ impl Grammar {
     }
 }
 
+/// Parses a line of a script behind its moment: any line of a station, an operator's `open`,
+/// `device`, `rate` or `grant`, or `ipp`.
 fn script_action(alloc: Global, fields: &mut Fields<'_>) -> Result<Action, FieldFault>
     ensures range { IfOk result (λ action. IsTrue (is_in_range action)) }
     ensures scripts { IfOk result (λ action. IsTrue (is_of_script action)) }
@@ -93,8 +95,8 @@ fn script_action(alloc: Global, fields: &mut Fields<'_>) -> Result<Action, Field
     }
 }
 
-/// A line at an operator's door is one that a script may have too, or asks in the place of an
-/// account's owner.
+/// Parses a line that an operator sends to a running `serve`: one that a script may have too, or
+/// `cancel` or `hold`, by which the operator acts for the account's owner.
 fn door_action(alloc: Global, kind: &[u8], fields: &mut Fields<'_>) -> Result<Action, FieldFault>
     ensures range { IfOk result (λ action. IsTrue (is_in_range action)) }
     ensures kind { IfOk result (λ action. IsTrue (is_of_operator action)) }
@@ -108,6 +110,7 @@ fn door_action(alloc: Global, kind: &[u8], fields: &mut Fields<'_>) -> Result<Ac
     }
 }
 
+/// Parses `cancel` or `hold` behind that word: account and job.
 fn owner_action(alloc: Global, act: OwnerAct, fields: &mut Fields<'_>) -> Result<Action, FieldFault>
     ensures range { IfOk result (λ action. IsTrue (is_in_range action)) }
     ensures kind { IfOk result (λ action. IsTrue (is_of_operator action)) }
@@ -122,6 +125,7 @@ fn owner_action(alloc: Global, act: OwnerAct, fields: &mut Fields<'_>) -> Result
     }
 }
 
+/// Parses `open`, `device`, `rate` or `grant`, behind that word, which is `kind`.
 fn operator_action(kind: &[u8], fields: &mut Fields<'_>) -> Result<Action, FieldFault>
     ensures range { IfOk result (λ action. IsTrue (is_in_range action)) }
     ensures scripts { IfOk result (λ action. IsTrue (is_of_script action)) }
@@ -150,6 +154,7 @@ fn operator_action(kind: &[u8], fields: &mut Fields<'_>) -> Result<Action, Field
     }
 }
 
+/// Parses `release`, `start` or `settle`, behind that word, which is `kind`.
 fn station_action(alloc: Global, kind: &[u8], fields: &mut Fields<'_>) -> Result<Action, FieldFault>
     ensures range { IfOk result (λ action. IsTrue (is_in_range action)) }
     ensures scripts { IfOk result (λ action. IsTrue (is_of_script action)) }

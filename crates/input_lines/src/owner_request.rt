@@ -1,4 +1,4 @@
-//! What an operator asks about a job in the place of the account's owner, as the message that the
+//! `OwnerRequest`: an operator's `cancel` or `hold` of a job, as the IPP message that the account's
 //! owner could send.
 ghost use Rattle.std.specs.Prelude.{◌≡◌, ◌≤◌, ◌<◌, ◌++◌, ◌∷◌, [], IfOk, OnOk, codes, length};
 ghost use Rattle.ipp_coding.specs.Spelling.{Fits, first_spelling, header_spelling};
@@ -12,7 +12,7 @@ use ipp_coding::tags::{CHARSET, INTEGER, NATURAL_LANGUAGE, OPERATION_ATTRIBUTES,
 use ipp_coding::{Header, PutFault, put_attribute, put_end, put_group, put_header};
 use std::alloc::{AllocError, Global};
 
-/// What is asked.
+/// What an operator may do to a job for its owner.
 #[derive(Clone, Copy, PartialEq, Eq)]
 pub enum OwnerAct {
     /// Cancel-Job.
@@ -22,7 +22,7 @@ pub enum OwnerAct {
 }
 
 impl OwnerAct {
-    /// Its operation-id.
+    /// The operation-id of its request (RFC 8011).
     fn operation_id(self) -> u16
         ensures { result ≡ operation_id self }
     {
@@ -45,7 +45,7 @@ impl OwnerAct {
     }
 }
 
-/// A request that the owner of an account could send about a job, and its message.
+/// An operator's request about a job, with the IPP message that the account's owner could send.
 #[derive(Drop)]
 pub struct OwnerRequest {
     pub act: OwnerAct,
@@ -56,7 +56,7 @@ pub struct OwnerRequest {
 }
 
 impl OwnerRequest {
-    /// The request for an act on a job of the account.
+    /// Makes the request, and its message.
     pub(crate) fn new(
         alloc: Global,
         act: OwnerAct,
@@ -77,7 +77,7 @@ impl OwnerRequest {
     }
 }
 
-/// The bytes of the message.
+/// The bytes of the IPP message.
 fn request_text(
     alloc: Global,
     act: OwnerAct,
@@ -95,7 +95,8 @@ fn request_text(
     Ok(text)
 }
 
-/// The address of an account's queue. Its host is not looked at.
+/// The printer-uri of an account's queue, for messages that the program makes itself. Its host is
+/// not looked at.
 pub fn queue_uri(alloc: Global, account: Name) -> Result<Vec<u8>, AllocError>
     ensures uri { IfOk result (λ uri. uri.items ≡ queue_uri account) }
     ensures short { IfOk result (λ uri. length uri.items ≤ 58) }
@@ -107,7 +108,7 @@ pub fn queue_uri(alloc: Global, account: Name) -> Result<Vec<u8>, AllocError>
     Ok(uri)
 }
 
-/// Puts the header, and the first group up to its charset and its language.
+/// Writes the header, and the first group with its charset and its language.
 fn put_front(out: &mut Vec<u8>, act: OwnerAct) -> Result<(), AllocError>
     ensures { OnOk result (out.new.items ≡ out.old.items ++ header_spelling (request_header act)
         ++ 0x01 ∷ (first_spelling (codes "attributes-charset") (value_with 0x47 (codes "utf-8"))
@@ -119,7 +120,7 @@ fn put_front(out: &mut Vec<u8>, act: OwnerAct) -> Result<(), AllocError>
     put_single(out, NATURAL_LANGUAGE, b"attributes-natural-language", b"en")
 }
 
-/// Puts an attribute of one value.
+/// Writes an attribute with one value.
 fn put_single(out: &mut Vec<u8>, tag: u8, name: &[u8], value: &[u8]) -> Result<(), AllocError>
     requires named { 0 < length name.now }
     requires name { Fits name.now }
@@ -131,14 +132,14 @@ fn put_single(out: &mut Vec<u8>, tag: u8, name: &[u8], value: &[u8]) -> Result<(
     put_attribute(out, tag, name, value).map_err(|fault| want_of_memory(fault))
 }
 
-/// Puts the tag that ends the groups.
+/// Writes the tag that ends the message's groups.
 fn end_groups(out: &mut Vec<u8>) -> Result<(), AllocError>
     ensures { OnOk result (out.new.items ≡ out.old.items ++ end_tag ∷ []) }
 {
     put_end(out).map_err(|fault| want_of_memory(fault))
 }
 
-/// The fault of a part of a message that nothing but lack of memory refused.
+/// The fault of writing a part that is well-formed: only memory can be wanting.
 fn want_of_memory(fault: PutFault) -> AllocError
     requires { fault ≡ PutFault.Memory }
 {

@@ -1,4 +1,4 @@
-//! What the program prints for each event, with no memory taken.
+//! What the program prints of the answer to each event, without taking memory.
 ghost use Rattle.std.specs.Prelude.{◌++◌, codes, option_copied, OnOk};
 ghost use Rattle.std.specs.Io.KnownBytes.{Appends};
 ghost use Rattle.std.specs.List.{flat_map};
@@ -10,8 +10,8 @@ use input_fields::print_hex;
 use std::io;
 use std::io::Write;
 
-/// Writes what was answered to an event as a line, and of each document its line and a line of its
-/// bytes; of an event that failed, which has no answer, the line `failed`.
+/// Prints the answer to an event as a line; documents as two lines each, its own and one of its
+/// bytes in hexadecimal. Of an event that failed, which has no answer, it prints `failed`.
 pub fn print_answer<W: Write>(output: &mut W, answer: Option<&Reply>) -> io::Result<()>
     ensures { OnOk result (Appends (W.contents output.old) (W.contents output.new)
         (answer_lines (option_copied answer.entry))) }
@@ -26,6 +26,7 @@ pub fn print_answer<W: Write>(output: &mut W, answer: Option<&Reply>) -> io::Res
     }
 }
 
+/// Prints an IPP response: `ipp` and its bytes in hexadecimal.
 fn print_message<W: Write>(output: &mut W, message: &[u8]) -> io::Result<()>
     ensures { OnOk result (Appends (W.contents output.old) (W.contents output.new)
         (codes "ipp " ++ encode_lower message.now ++ codes "\n")) }
@@ -35,6 +36,7 @@ fn print_message<W: Write>(output: &mut W, message: &[u8]) -> io::Result<()>
     output.write_all(b"\n")
 }
 
+/// Prints a text and a line feed.
 fn print_line<W: Write>(output: &mut W, text: &[u8]) -> io::Result<()>
     ensures { OnOk result (Appends (W.contents output.old) (W.contents output.new)
         (text.now ++ codes "\n")) }
@@ -43,6 +45,7 @@ fn print_line<W: Write>(output: &mut W, text: &[u8]) -> io::Result<()>
     output.write_all(b"\n")
 }
 
+/// Prints documents, each as two lines.
 fn print_parts<W: Write>(output: &mut W, parts: &[Part]) -> io::Result<()>
     ensures { OnOk result (Appends (W.contents output.old) (W.contents output.new)
         (flat_map part_lines parts.now)) }
@@ -53,6 +56,7 @@ fn print_parts<W: Write>(output: &mut W, parts: &[Part]) -> io::Result<()>
     Ok(())
 }
 
+/// Prints a document: its line, and a line of its bytes in hexadecimal.
 fn print_part<W: Write>(output: &mut W, part: &Part) -> io::Result<()>
     ensures { OnOk result (Appends (W.contents output.old) (W.contents output.new)
         (part_lines part.now)) }

@@ -1,4 +1,4 @@
-//! The grammar of questions: the fields of a line, as in `lines`.
+//! Parsing lines that ask questions, of an operator or of a station.
 ghost use Rattle.std.specs.Prelude.{◌≡◌, ◌∷◌, false, true, IfOk};
 ghost use Rattle.input_lines.specs.Asking.{IsQuestionOf, SaysQuestion, is_of_station};
 ghost use Rattle.input_lines.specs.ProofTaking.{TakesSome, left};
@@ -8,10 +8,10 @@ use account_machine::LAST_JOB;
 use account_questions::{About, Question};
 use input_fields::FieldFault;
 
-/// How many jobs that have ended a question may ask for.
+/// How many ended jobs an `ended` question may ask for, at most.
 const MOST_ENDED: u32 = 100;
 
-/// A question of an operator, without what ends its line. `Malformed` where the line is none.
+/// Parses an operator's question, without its line feed. `Malformed` where it is none.
 pub fn read_question(line: &[u8]) -> Result<Question, FieldFault>
     ensures said { IfOk result (IsQuestionOf line.now) }
     ensures operators { IfOk result (λ question. is_of_station question ≡ false) }
@@ -23,7 +23,7 @@ pub fn read_question(line: &[u8]) -> Result<Question, FieldFault>
     Ok(question)
 }
 
-/// A question of a station, without what ends its line. `Malformed` where the line is none.
+/// Parses a station's question, without its line feed. `Malformed` where it is none.
 pub fn read_station_question(line: &[u8]) -> Result<Question, FieldFault>
     ensures said { IfOk result (IsQuestionOf line.now) }
     ensures stations { IfOk result (λ question. is_of_station question ≡ true) }
@@ -35,6 +35,7 @@ pub fn read_station_question(line: &[u8]) -> Result<Question, FieldFault>
     Ok(question)
 }
 
+/// Parses an operator's question behind its first word, which is `kind`.
 fn operator_question(kind: &[u8], fields: &mut Fields<'_>) -> Result<Question, FieldFault>
     ensures said { IfOk result (λ question. TakesSome (left fields.old) (left fields.new)
         (λ taken. SaysQuestion (kind.now ∷ taken) question)) }
@@ -51,6 +52,7 @@ fn operator_question(kind: &[u8], fields: &mut Fields<'_>) -> Result<Question, F
     }
 }
 
+/// Parses an operator's question about one account, behind its first word, which is `kind`.
 fn account_question(kind: &[u8], fields: &mut Fields<'_>) -> Result<Question, FieldFault>
     ensures said { IfOk result (λ question. TakesSome (left fields.old) (left fields.new)
         (λ taken. SaysQuestion (kind.now ∷ taken) question)) }
@@ -90,6 +92,7 @@ fn account_question(kind: &[u8], fields: &mut Fields<'_>) -> Result<Question, Fi
     }
 }
 
+/// Parses a station's question, `list` or `again`, behind its first word, which is `kind`.
 fn station_question(kind: &[u8], fields: &mut Fields<'_>) -> Result<Question, FieldFault>
     ensures said { IfOk result (λ question. TakesSome (left fields.old) (left fields.new)
         (λ taken. SaysQuestion (kind.now ∷ taken) question)) }

@@ -1,4 +1,4 @@
--- Fronts of messages (RFC 8010 section 3.1.1).
+-- The front of a message, closed by an end tag (RFC 8010 section 3.1.1).
 use Rattle.std.specs.Prelude.{ℕ, List, [], ◌∷◌, ◌++◌}
 
 -- the end-of-attributes-tag after what stands before it

@@ -1,4 +1,4 @@
-//! Bytes as hexadecimal digits.
+//! Bytes printed as hexadecimal digits, two for each.
 
 use std::fmt;
 

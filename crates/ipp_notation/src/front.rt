@@ -1,4 +1,5 @@
-//! Where the reading of bytes ends that are no message.
+//! How much can be explained of bytes that are no message: the longest front that is whole parts of
+//! one. A front is the first so many bytes.
 
 ghost use Rattle.std.specs.Prelude.{◌≡◌, ◌≤◌, ◌⊎◌, IfOk, IfSome, IsSome, length, take};
 ghost use Rattle.ipp_coding.specs.Reading.{message_of};
@@ -7,11 +8,13 @@ ghost use Rattle.ipp_notation.specs.Fronts.{closed_by_end};
 use ipp_coding::{ReadFault, read_message};
 use std::alloc::{AllocError, Global};
 
+/// The bytes before the first group.
 const HEADER_LENGTH: usize = 8;
 
 /// The longest name or value, in bytes.
 const LONGEST: usize = 32767;
 
+/// The end tag of a message's groups (RFC 8010 section 3.5.1).
 const END_OF_ATTRIBUTES: u8 = 0x03;
 
 /// What the last whole part was.
@@ -49,7 +52,7 @@ pub(crate) fn closed(alloc: Global, front: &[u8]) -> Result<Vec<u8>, AllocError>
     Ok(bytes)
 }
 
-/// How many bytes the whole parts at the front have.
+/// How many bytes at the front are whole parts: the header, tags of groups, and values.
 fn whole_length(bytes: &[u8]) -> usize
     ensures { result ≤ length bytes.now }
 {
@@ -65,7 +68,8 @@ fn whole_length(bytes: &[u8]) -> usize
     length
 }
 
-/// The length of the part at the front, after this one, and what it is.
+/// The length of the part that follows `part` at the front of `rest`, and its kind. `None` where
+/// that part is not whole.
 fn next_part(part: Part, rest: &[u8]) -> Option<(usize, Part)>
     ensures { IfSome result (λ next. next.0 ≤ length rest.now) }
 {
@@ -87,7 +91,8 @@ fn next_part(part: Part, rest: &[u8]) -> Option<(usize, Part)>
     }
 }
 
-/// The length of the name or the value at the front, with the two bytes of its own length.
+/// The length of the name or the value at the front, with the two bytes that tell it. `None` where
+/// it is not whole.
 fn field_length(bytes: &[u8]) -> Option<usize>
     ensures { IfSome result (λ n. n ≤ length bytes.now) }
 {

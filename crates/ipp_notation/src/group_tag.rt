@@ -1,4 +1,4 @@
-//! The tags of attribute groups by their names.
+//! What a tag of an attribute group is called.
 
 use std::fmt;
 

@@ -1,4 +1,5 @@
-//! IPP messages as people read them: a notation in which the messages of lines are explained.
+//! IPP messages as people read them: the command `explain` prints each message of a line in this
+//! notation, a part on each line.
 #![tactic(auto)]
 
 mod digits;

@@ -1,4 +1,4 @@
-//! Which lines have a message.
+//! Which lines of a text have a message, and the message's bytes.
 
 ghost use Rattle.std.specs.Prelude.{◌≡◌, ◌↔◌, List, ℕ, IfOk, IfSome, IsNone, IsTrue, Ok, None};
 ghost use Rattle.ipp_notation.specs.Lines.{HasMessage, HasNoMessage, IsOfScript, IsParted};
@@ -32,8 +32,8 @@ pub(crate) struct MessageLine<'a> {
 }
 
 impl<'a> MessageLine<'a> {
-    /// That of the line, without what ends it, if it is one: digits are one or more pairs of
-    /// hexadecimal digits, and the moment and the account may be any words.
+    /// Reads a line, without what ends it. `None` where it has no message: digits are one or more
+    /// pairs of hexadecimal digits, and the moment and the account may be any words.
     pub(crate) fn read(alloc: Global, line: &'a [u8]) -> Result<Option<MessageLine<'a>>, AllocError>
         ensures message { IfOk result (λ found. IfSome found
             (λ m. HasMessage m.origin m.words.now m.bytes.items line.now)) }
@@ -53,7 +53,7 @@ impl<'a> MessageLine<'a> {
         }
     }
 
-    /// What the code of the message says.
+    /// What the code of the line's message says: an operation, or a status.
     pub(crate) fn said(&self, code: u16) -> Said {
         match self.origin {
             Origin::Script => Said::Operation(Operation(code)),
@@ -63,8 +63,8 @@ impl<'a> MessageLine<'a> {
     }
 }
 
-/// Where the line is from, the words before its last one, and the last, which need be no digits.
-/// None where the words are of none of the three forms.
+/// Parts a line: where it is from, the words before its last one, and the last, which need be no
+/// digits. `None` where the words are of none of the three forms.
 fn parted(line: &[u8]) -> Option<(Origin, &[u8], &[u8])>
     ensures parted { IfSome result (λ x. IsParted x.0 x.1.now x.2.now line.now) }
     ensures other { IsNone result →
@@ -96,7 +96,7 @@ fn is_of_script(words: &[u8]) -> bool
     }
 }
 
-/// What the code of a message says.
+/// What the code of a message says: of a request an operation, of a response a status.
 #[derive(Clone, Copy)]
 pub(crate) enum Said {
     Operation(Operation),

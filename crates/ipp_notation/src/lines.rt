@@ -1,4 +1,4 @@
-//! Lines, of which those with a message are explained.
+//! `explain`: prints the lines of a text, and those with a message in the notation.
 
 ghost use Rattle.std.specs.Prelude.{◌≡◌, ◌∷◌, ◌++◌, [], OnOk};
 ghost use Rattle.std.specs.Io.KnownBytes.{Appends};
@@ -46,6 +46,7 @@ pub fn explain<W: Write>(alloc: Global, text: &[u8], output: &mut W) -> io::Resu
     Ok(())
 }
 
+/// Prints one line as it is, or, if it has a message, its words and the message explained.
 fn explain_line<W: Write>(alloc: Global, line: &[u8], output: &mut W) -> io::Result<()>
     // A line without a message is printed as it is.
     ensures same { HasNoMessage line.now → OnOk result
@@ -61,6 +62,7 @@ fn explain_line<W: Write>(alloc: Global, line: &[u8], output: &mut W) -> io::Res
     explain_message(alloc, output, "  ", &line)
 }
 
+/// Prints the message of a line, each part on a line behind the indent.
 fn explain_message<W: Write>(
     alloc: Global,
     output: &mut W,
@@ -78,6 +80,7 @@ fn explain_message<W: Write>(
     }
 }
 
+/// Prints bytes that are no message: the whole parts at their front, and the rest in digits.
 fn explain_front<W: Write>(
     alloc: Global,
     output: &mut W,
@@ -96,6 +99,7 @@ fn explain_front<W: Write>(
     print_rest(output, indent, &bytes[place..], place)
 }
 
+/// Prints a line as it is, and a line feed.
 fn print_line<W: Write>(output: &mut W, line: &[u8]) -> io::Result<()>
     ensures { OnOk result
         (Appends (W.contents output.old) (W.contents output.new) (line.now ++ LINE_FEED ∷ [])) }

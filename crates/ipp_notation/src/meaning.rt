@@ -1,4 +1,5 @@
-//! A value as the notation has it, and what people read of it.
+//! A value as the notation shows it (`Shown`), and the comment behind it that people read
+//! (`Meaning`).
 
 use crate::digits::Digits;
 use crate::numbers::number_name;
@@ -13,9 +14,9 @@ use std::{fmt, str};
 /// What begins a comment after something.
 const COMMENT: &str = "  #";
 
-/// A value in the notation: `""` where it is empty, hexadecimal digits where it is a number, a truth,
-/// a date, a resolution or a range, and otherwise in quotes, or in hexadecimal digits where it cannot
-/// stand in quotes.
+/// A value in the notation: `""` where it is empty, hexadecimal digits where it is a number, a
+/// truth, a date, a resolution or a range, and otherwise in quotes, or in hexadecimal digits where
+/// it cannot stand in quotes.
 #[derive(Clone, Copy)]
 pub(crate) enum Shown<'a> {
     Digits(&'a [u8]),
@@ -24,6 +25,7 @@ pub(crate) enum Shown<'a> {
 }
 
 impl<'a> Shown<'a> {
+    /// How this value is shown.
     pub(crate) fn of(value: Value<'a>) -> Shown<'a> {
         let bytes = value.bytes;
         let shown = match value.tag {
@@ -116,6 +118,7 @@ impl fmt::Display for Meaning<'_> {
     }
 }
 
+/// Writes what the value says, or that it is malformed.
 fn tell<W: fmt::Write, S: fmt::Display + Drop>(
     f: &mut fmt::Formatter<W>,
     said: Option<S>,
@@ -126,6 +129,7 @@ fn tell<W: fmt::Write, S: fmt::Display + Drop>(
     }
 }
 
+/// Writes the text of a value that is shown in digits, if it is a text.
 fn tell_text<W: fmt::Write>(f: &mut fmt::Formatter<W>, text: Option<&[u8]>) -> fmt::Result {
     let Some(text) = text else {
         return Ok(());

@@ -1,4 +1,4 @@
-//! What the number of an enum is called.
+//! The names of the numbers of enums, by their attribute.
 
 use crate::operation::Operation;
 

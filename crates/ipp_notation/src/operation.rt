@@ -1,4 +1,4 @@
-//! The operations by their names.
+//! What an operation-id is called.
 
 use std::fmt;
 

@@ -125,7 +125,7 @@ fn print_first<W: Write>(
     }
 }
 
-/// Prints a further value.
+/// Prints a value that follows another of its attribute, and `more` behind the comment.
 fn print_further<W: Write>(
     output: &mut W,
     indent: &str,

@@ -1,4 +1,4 @@
-//! The statuses by their names.
+//! What a status-code is called.
 
 use std::fmt;
 

@@ -1,4 +1,5 @@
-//! Values of more than one number (RFC 8010 section 3.9).
+//! The values of several numbers, as they are printed: a date, a resolution, a range (RFC 8010
+//! section 3.9).
 
 use std::fmt;
 
@@ -18,8 +19,8 @@ pub(crate) struct DateTime {
 }
 
 impl DateTime {
-    /// That of eleven bytes, the ninth of which is `+` or `-`. Whether there is such a moment is
-    /// not looked at.
+    /// Reads eleven bytes, the ninth of which is `+` or `-`. Whether there is such a moment is not
+    /// looked at.
     pub(crate) fn read(bytes: &[u8]) -> Option<DateTime> {
         match bytes {
             [
@@ -80,7 +81,7 @@ pub(crate) struct Resolution {
 }
 
 impl Resolution {
-    /// That of nine bytes: two numbers, and the units.
+    /// Reads nine bytes: two numbers, and the units.
     pub(crate) fn read(bytes: &[u8]) -> Option<Resolution> {
         let [a, b, c, d, e, f, g, h, units] = bytes else {
             return None;
@@ -93,7 +94,7 @@ impl Resolution {
     }
 }
 
-/// With the units of RFC 8011 section 5.1.16; others by their number.
+/// Prints the units by their names in RFC 8011 section 5.1.16, and others by their number.
 impl fmt::Display for Resolution {
     fn fmt<W: fmt::Write>(&self, f: &mut fmt::Formatter<W>) -> fmt::Result {
         let Resolution {
@@ -118,7 +119,7 @@ pub(crate) struct Range {
 }
 
 impl Range {
-    /// That of eight bytes: two numbers.
+    /// Reads eight bytes: two numbers.
     pub(crate) fn read(bytes: &[u8]) -> Option<Range> {
         let [a, b, c, d, e, f, g, h] = bytes else {
             return None;

@@ -1,4 +1,4 @@
-//! The tags of values by their names.
+//! What a tag of a value is called, and the tags that the notation looks at.
 
 use std::fmt;
 

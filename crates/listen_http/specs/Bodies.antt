@@ -1,4 +1,4 @@
--- Rule: What stands after a head in the place of its body.
+-- Rule: What may stand behind a head where a body is expected, and what it is read as.
 use Rattle.std.specs.Prelude.{◌≡◌, ℕ, ◌<◌, ◌≤◌, List, ◌++◌, length}
 use Rattle.httparse.specs.Grammar.{ChunkLine, print_chunk_line}
 use Rattle.input_http.specs.Limits.{longest_body}

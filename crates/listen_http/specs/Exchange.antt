@@ -1,4 +1,5 @@
--- Rule: What a call takes of an input, and writes.
+-- Rule: What reading a message takes of an input, what may be written meanwhile, and how many calls
+-- fail.
 use Rattle.std.specs.Prelude.{◌≡◌, ℕ, ◌+◌, ◌*◌, ◌<◌, ◌≤◌, ⊤, Bool, true, List, [], ◌++◌, length, take, Option, Result, Ok, Err}
 use Rattle.std.specs.Io.KnownBytes.{Appends}
 use Rattle.input_http.specs.Limits.{longest_body, longest_head, longest_size_line, longest_trailers, shortest_body}

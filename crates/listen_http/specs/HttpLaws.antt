@@ -1,4 +1,4 @@
--- That an input is read in one way, but in two places (all this project's own).
+-- That an input of HTTP can be read in one way only, but in two places (all this project's own).
 use Rattle.std.specs.Prelude.{◌≡◌, ◌⊎◌, ℕ, false, List, ◌++◌, length}
 use Rattle.httparse.specs.Grammar.{EndsInTarget, HasNoRequest, NeverHasRequest}
 use Rattle.httparse.specs.Spans.{RequestExceeds}

@@ -1,4 +1,5 @@
--- For the proof of the code alone: texts of a kind, as heads, lines and trailers are.
+-- For the proof of the code alone: where a text of some kind (a head, a line, trailers) is at the
+-- front of another.
 use Rattle.std.specs.Prelude.{◌≡◌, ◌==◌, ◌&&◌, ◌||◌, ℕ, Bool, List, ◌++◌, codes, nat_eq}
 use Rattle.std.specs.List.{ends_with, list_any}
 

@@ -1,4 +1,4 @@
--- Rule: Words that a value lists (RFC 9110 section 5.6).
+-- Rule: Lists of words in the value of a header field (RFC 9110 section 5.6).
 use Rattle.std.specs.Prelude.{ℕ, ◌==◌, Bool, List, [], ◌∷◌}
 use Rattle.std.specs.List.{list_any, slice_split}
 use Rattle.httparse.specs.Ascii.{comma}

@@ -1,4 +1,4 @@
-//! Reading the body of a message, and nothing after it.
+//! Reading the body of a message, and no byte after it.
 ghost use Rattle.std.specs.Prelude.{◌≡◌, ◌+◌, ◌-◌, ◌^◌, ◌<◌, IfErr, IfOk, length};
 ghost use Rattle.listen_http.specs.Exchange.{TakesAtMost, most_of_body, read_faults};
 ghost use Rattle.listen_http.specs.Judging.{FitsLimit};
@@ -11,10 +11,10 @@ use crate::trailers::read_trailers;
 use input_fields::Source;
 use std::alloc::Global;
 
-/// How many bytes are asked for at once.
+/// How many bytes are read at once.
 pub(crate) const PIECE: usize = 16384;
 
-/// What came in the place of a body.
+/// What was read where a body was expected.
 #[derive(Drop)]
 pub(crate) enum Body {
     Whole(Vec<u8>),
@@ -24,8 +24,8 @@ pub(crate) enum Body {
     TooLong,
 }
 
-/// Reads exactly so many bytes and no byte after them, by way of `piece`, and adds them to the
-/// body. `false` where the input ends before.
+/// Reads exactly `count` bytes, and adds them to the body; `piece` is the buffer. `false` where the
+/// input ends before.
 pub(crate) fn read_into<R: Source>(
     reader: &mut R,
     body: &mut Vec<u8>,
@@ -76,6 +76,7 @@ pub(crate) fn read_body<R: Source>(
     }
 }
 
+/// Reads a body of `size` bytes. `Bad` where the input ends before.
 fn read_sized<R: Source>(alloc: Global, reader: &mut R, size: usize) -> Result<Body, WireFault>
     requires ready { R.failures reader.old < 2 ^ 64 - 1 }
     ensures is { IfOk result
@@ -92,6 +93,7 @@ fn read_sized<R: Source>(alloc: Global, reader: &mut R, size: usize) -> Result<B
     Ok(Body::Whole(body))
 }
 
+/// Reads a body in chunks, with the trailers behind it.
 fn read_chunked<R: Source>(alloc: Global, reader: &mut R) -> Result<Body, WireFault>
     requires ready { R.failures reader.old < 2 ^ 64 - 1 }
     ensures is { IfOk result (BodyIs Framing.Chunked (R.left reader.old) (R.left reader.new)) }

@@ -1,4 +1,5 @@
-//! Reading the chunks of a body, and nothing after them.
+//! Reading the chunks of a body (RFC 9112 section 7.1), up to the line of size 0 and no byte after
+//! it.
 ghost use Rattle.std.specs.Prelude.{◌≡◌, ◌+◌, ◌-◌, ◌^◌, ◌<◌, ◌≤◌, ℕ, List, [], IfErr, IfOk, length};
 ghost use Rattle.listen_http.specs.Exchange.{TakesAtMost, most_of_chunks, read_faults};
 ghost use Rattle.listen_http.specs.ProofReading.{ChunksAre, IsReading, LineEndIs, SizeLineIs};
@@ -11,10 +12,10 @@ use httparse::{Status, parse_chunk_size};
 use input_fields::Source;
 use input_http::BODY_LIMIT;
 
-/// The most bytes of a line that tells a size, its end among them.
+/// The most bytes that the line with a chunk's size may have, its end included.
 const LINE_LIMIT: usize = 256;
 
-/// What came in the place of a line that tells a size.
+/// What was read where the line with a chunk's size was expected.
 #[derive(Clone, Copy, PartialEq, Eq)]
 pub(crate) enum SizeLine {
     Size(u64),
@@ -22,7 +23,7 @@ pub(crate) enum SizeLine {
     Invalid,
 }
 
-/// What came in the place of the chunks.
+/// What was read where chunks were expected.
 #[derive(Clone, Copy, PartialEq, Eq)]
 pub(crate) enum Chunks {
     /// Chunks, and the line of size 0.
@@ -33,7 +34,7 @@ pub(crate) enum Chunks {
     TooLong,
 }
 
-/// Reads a line that tells a size.
+/// Reads the line that tells a chunk's size.
 pub(crate) fn read_size_line<R: Source>(reader: &mut R) -> Result<SizeLine, WireFault>
     requires { R.failures reader.old < 2 ^ 64 - 1 }
     ensures is { IfOk result (SizeLineIs (R.left reader.old) (R.left reader.new)) }
@@ -59,7 +60,7 @@ pub(crate) fn read_size_line<R: Source>(reader: &mut R) -> Result<SizeLine, Wire
     Ok(SizeLine::Invalid)
 }
 
-/// Reads CR LF. `false` where something else came, or the end.
+/// Reads CR LF, which ends a chunk. `false` where something else came, or the end.
 pub(crate) fn read_line_end<R: Source>(reader: &mut R) -> Result<bool, WireFault>
     requires { R.failures reader.old < 2 ^ 64 - 1 }
     ensures is { IfOk result (LineEndIs (R.left reader.old) (R.left reader.new)) }
@@ -82,7 +83,8 @@ pub(crate) fn read_line_end<R: Source>(reader: &mut R) -> Result<bool, WireFault
     Ok(true)
 }
 
-/// Reads the chunks of a body up to the line of size 0 into an empty body.
+/// Reads the chunks of a body up to the line of size 0, and puts their bytes in `body`, which is
+/// empty before.
 pub(crate) fn read_chunks<R: Source>(
     reader: &mut R,
     body: &mut Vec<u8>,

@@ -1,4 +1,4 @@
-//! How a connection breaks off.
+//! `WireFault`: why a connection broke off.
 
 ghost use Rattle.std.specs.Prelude.{◌≡◌};
 ghost use Rattle.listen_http.specs.declared.fault.WireFault.TheVariants.{Memory};
@@ -6,7 +6,7 @@ ghost use Rattle.listen_http.specs.declared.fault.WireFault.TheVariants.{Memory}
 use std::alloc::{AllocError, AllocFailed};
 use thiserror::Error;
 
-/// Why a message was not answered, or not whole. The connection has ended with it.
+/// Why a message was not answered, or not whole. The connection has ended then.
 #[derive(Clone, Copy, Debug, PartialEq, Eq, Error)]
 pub enum WireFault {
     #[error("reading failed")]

@@ -1,9 +1,9 @@
-//! The fields of a head by their names, which are compared in any case.
+//! The header fields of a request, looked up by their names in any case.
 ghost use Rattle.std.specs.Prelude.{◌≡◌, ℕ, List, map};
 ghost use Rattle.listen_http.specs.Fields.{is_named, plain_field, values_named};
 ghost use Rattle.listen_http.specs.ProofFinding.{FindsMore, FoundIs};
 
-/// A field of a head.
+/// A header field of a request.
 #[derive(Clone, Copy, Default)]
 pub struct Field<'a> {
     pub name: &'a [u8],
@@ -12,6 +12,7 @@ pub struct Field<'a> {
 }
 
 impl<'a> Field<'a> {
+    /// Whether the field has this name, in any case.
     pub(crate) fn is_named(&self, name: &[u8]) -> bool
         ensures { result ≡ is_named name.now (plain_field self.now) }
     {
@@ -19,7 +20,7 @@ impl<'a> Field<'a> {
     }
 }
 
-/// The fields of a name.
+/// How many fields of a name there are, and the value of the first.
 #[derive(Clone, Copy)]
 pub(crate) enum Found<'a> {
     Absent,
@@ -30,7 +31,7 @@ pub(crate) enum Found<'a> {
 }
 
 impl<'a> Found<'a> {
-    /// One more field.
+    /// Counts one more field, of this value.
     fn and(self, value: &'a [u8]) -> Found<'a>
         ensures { FindsMore self.entry value.now result }
     {
@@ -42,7 +43,7 @@ impl<'a> Found<'a> {
     }
 }
 
-/// Looks the fields of a name up.
+/// Looks up all fields of a name.
 pub(crate) fn find_field<'a>(fields: &[Field<'a>], name: &[u8]) -> Found<'a>
     ensures { FoundIs (values_named name.now (map plain_field fields.now)) result }
 {

@@ -1,4 +1,4 @@
-//! Where the body of a message ends.
+//! How the header fields tell where the body of a message ends (RFC 9112 section 6).
 
 ghost use Rattle.std.specs.Prelude.{◌≡◌, map};
 ghost use Rattle.listen_http.specs.Fields.{plain_field};
@@ -7,7 +7,7 @@ ghost use Rattle.listen_http.specs.Framing.{framing_of};
 use crate::digits::short_number;
 use crate::fields::{Field, Found, find_field};
 
-/// Where the body of a message ends (RFC 9112 section 6).
+/// How a body is told to end.
 #[derive(Clone, Copy, PartialEq, Eq)]
 pub enum Framing {
     /// It has so many bytes.
@@ -16,9 +16,9 @@ pub enum Framing {
     Chunked,
 }
 
-/// How the fields frame the body: by one Content-Length of 1 to 18 digits, or by one
-/// Transfer-Encoding, which is chunked. With neither it is empty. None where they say anything
-/// else.
+/// How the fields say that the body ends: by one Content-Length of 1 to 18 digits, or by one
+/// Transfer-Encoding, which is `chunked`. With neither the body is empty. `None` where they say
+/// anything else.
 pub(crate) fn framing_of(fields: &[Field<'_>]) -> Option<Framing>
     ensures { result ≡ framing_of (map plain_field fields.now) }
 {

@@ -1,4 +1,4 @@
-//! Reading the head of a request, byte by byte, so that nothing after it is taken.
+//! Reading the head of a request, byte by byte, so that no byte after it is taken.
 ghost use Rattle.std.specs.Prelude.{◌≡◌, ◌+◌, ◌-◌, ◌^◌, ◌<◌, ◌≤◌, ◌&&◌, [], length, IfErr, IfOk, IfNone, OnOk};
 ghost use Rattle.listen_http.specs.ProofKinds.{ends_empty_line};
 ghost use Rattle.input_fields.specs.Streams.{IsSpent, Yields, byte_list};
@@ -11,7 +11,7 @@ use httparse::{Error, Status};
 use input_fields::Source;
 use input_http::HEAD_LIMIT;
 
-/// What came in the place of a head.
+/// What was read where a head was expected.
 #[derive(Clone, Copy)]
 pub(crate) enum Head {
     /// A head, and nothing after it.
@@ -28,7 +28,7 @@ pub(crate) enum Head {
     TooLong,
 }
 
-/// Reads one byte. None where the input is at its end.
+/// Reads one byte. `None` at the end of the input.
 pub(crate) fn read_byte<R: Source>(reader: &mut R) -> Result<Option<u8>, WireFault>
     requires { R.failures reader.old < 2 ^ 64 - 1 }
     ensures took { IfOk result
@@ -44,9 +44,9 @@ pub(crate) fn read_byte<R: Source>(reader: &mut R) -> Result<Option<u8>, WireFau
     }
 }
 
-/// Reads the head of a request into an empty text, which is then what was taken. The parser is
-/// asked where an empty line has ended after the first space, since a head has a space and ends
-/// so: once for each message, however many empty lines come before it.
+/// Reads the head of a request into `text`, which is empty before, and parses it. Where an empty
+/// line has ended and a space came before, a head may end: only there the parser is asked, so once
+/// for each message, however many empty lines come before it.
 #[tactic(auto, using(crate::proofs::Streams::Yields_more, crate::proofs::Heads::no_head_with_byte, crate::proofs::Heads::whole_head))]
 pub(crate) fn read_head<R: Source>(
     reader: &mut R,
@@ -90,7 +90,7 @@ pub(crate) fn read_head<R: Source>(
     }
 }
 
-/// Whether a head may end here: after a space, where an empty line has ended by CR LF or LF.
+/// Whether a head may end here: a space has come, and an empty line has ended by CR LF or LF.
 fn may_end(has_space: bool, text: &[u8]) -> bool
     ensures { result ≡ (has_space && ends_empty_line text.now) }
 {

@@ -1,4 +1,4 @@
-//! What a head is refused for, or what it orders.
+//! Judging a head: why it is refused, or what it orders.
 ghost use Rattle.std.specs.Prelude.{◌≡◌, IfOk, codes, map};
 ghost use Rattle.std.specs.List.{list_any};
 ghost use Rattle.listen_http.specs.Fields.{plain_field, values_named};
@@ -10,7 +10,7 @@ use crate::words::lists;
 use account_rules::Name;
 use input_http::{BODY_LIMIT, Refusal, account_of, is_ipp_type, is_post};
 
-/// The head of a request.
+/// The head of a request, in its parts.
 #[derive(Clone, Copy)]
 pub struct Request<'a> {
     pub method: &'a [u8],
@@ -20,7 +20,7 @@ pub struct Request<'a> {
     pub fields: &'a [Field<'a>],
 }
 
-/// What a head that is not refused orders.
+/// What a head that is not refused asks for.
 #[derive(Clone, Copy)]
 pub struct Order {
     /// Whose queue the message is for.
@@ -33,9 +33,9 @@ pub struct Order {
     pub closes: bool,
 }
 
-/// What the head orders, or the first refusal that applies: `BadRequest` where its fields do not
-/// frame a body, `MethodNotAllowed`, `NotFound` for a path of no queue, `UnsupportedMediaType`,
-/// `PayloadTooLarge` for a Content-Length past `BODY_LIMIT`.
+/// Judges a head: what it orders, or the first refusal that applies. `BadRequest` where its fields
+/// do not frame a body, `MethodNotAllowed`, `NotFound` for a path of no queue,
+/// `UnsupportedMediaType`, `PayloadTooLarge` for a Content-Length past `BODY_LIMIT`.
 #[tactic(auto, unfolding(crate::specs::Judging::judged))]
 pub fn judge(request: &Request<'_>) -> Result<Order, Refusal>
     ensures value { result ≡ judged (said request.now) }
@@ -76,7 +76,7 @@ fn is_ipp(fields: &[Field<'_>]) -> bool
 }
 
 impl Framing {
-    /// Whether it tells of more bytes than a body may have.
+    /// Whether a Content-Length is more than a body may have.
     fn passes_limit(self) -> bool
         ensures { result ≡ passes_limit self }
     {
@@ -88,15 +88,16 @@ impl Framing {
 }
 
 impl Request<'_> {
-    /// Whether a client of HTTP/1.1 waits for `100 Continue` (RFC 9110 section 10.1.1).
+    /// Whether the client waits for `100 Continue` before it sends the body (RFC 9110 section
+    /// 10.1.1). One of HTTP/1.0 never does.
     fn expects(&self) -> bool
         ensures { result ≡ expects (said self.now) }
     {
         self.minor == 1 && has_expectation(self.fields)
     }
 
-    /// Whether the connection ends with the answer: after HTTP/1.0, and where the client says so
-    /// (RFC 9112 section 9.6).
+    /// Whether the connection ends with the answer: always of HTTP/1.0, and where the client says
+    /// so (RFC 9112 section 9.6).
     fn closes(&self) -> bool
         ensures { result ≡ closes (said self.now) }
     {
@@ -104,12 +105,14 @@ impl Request<'_> {
     }
 }
 
+/// Whether a field is `Expect: 100-continue`.
 fn has_expectation(fields: &[Field<'_>]) -> bool
     ensures { result ≡ list_any (λ field. is_expectation (plain_field field)) fields.now }
 {
     fields.iter().any(|field| field.is_expectation())
 }
 
+/// Whether a field is a `Connection` that lists `close`.
 fn has_close(fields: &[Field<'_>]) -> bool
     ensures { result ≡ list_any (λ field. is_close (plain_field field)) fields.now }
 {

@@ -1,6 +1,6 @@
-//! Messages of IPP over HTTP/1.1, as `listen` has them: what a head and a body are, and the refusals
-//! in their order. One part judges values, another reads them from a source and writes to a sink.
-//! `serve` has its messages read by `http_server`; what both judge stands in `input_http`.
+//! Messages of IPP over HTTP/1.1, as the program's `listen` takes them: reading a head and a body
+//! from a source, judging them, and writing answers to a sink. `serve` has its messages read by the
+//! crate `http_server` instead; what both judge is in `input_http`.
 #![tactic(auto)]
 
 mod body;

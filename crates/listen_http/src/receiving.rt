@@ -1,4 +1,4 @@
-//! One message from a source, and nothing after it.
+//! `receive`: one whole message is read, head and body, and no byte after it.
 ghost use Rattle.std.specs.Prelude.{◌≡◌, ◌+◌, ◌-◌, ◌^◌, ◌<◌, ◌≤◌, All, IfErr, IfOk, length, map};
 ghost use Rattle.httparse.specs.Grammar.{RequestHead};
 ghost use Rattle.httparse.specs.Spans.{IsHeaderWithin, IsRequestAt, IsRequestWithin, header_bytes};
@@ -20,14 +20,14 @@ use input_fields::{Sink, Source};
 use input_http::Refusal;
 use std::alloc::Global;
 
-/// The most fields of a head.
+/// The most header fields that a head may have.
 const MOST_FIELDS: usize = 64;
 
-/// The fewest bytes of a body: those of a message of IPP up to its request-id (RFC 8010 section
-/// 3.1.1).
+/// The fewest bytes that a body may have: those of an IPP message up to its request-id (RFC 8010
+/// section 3.1.1).
 const SHORTEST_BODY: usize = 8;
 
-/// What came in the place of a message.
+/// What was read where a message was expected.
 #[derive(Drop)]
 pub enum Received {
     /// The end, before any byte.
@@ -38,7 +38,7 @@ pub enum Received {
     Carried(Order, Vec<u8>),
 }
 
-/// What came in the place of a head.
+/// What a head came to, before any body is read.
 #[derive(Clone, Copy)]
 pub(crate) enum Opening {
     Nothing,
@@ -87,7 +87,7 @@ pub fn receive<R: Source, W: Sink>(
     }
 }
 
-/// Reads a head, and judges it.
+/// Reads a head and judges it.
 pub(crate) fn read_order<R: Source>(alloc: Global, reader: &mut R) -> Result<Opening, WireFault>
     requires { R.failures reader.old < 2 ^ 64 - 1 }
     ensures is { IfOk result (OpeningIs (R.left reader.old) (R.left reader.new)) }
@@ -110,7 +110,7 @@ pub(crate) fn read_order<R: Source>(alloc: Global, reader: &mut R) -> Result<Ope
     }
 }
 
-/// Judges a head by the places of its parts.
+/// Judges a head that was parsed: `spans` and `headers` tell where its parts are in `text`.
 pub(crate) fn judge_spans(
     text: &[u8],
     spans: RequestSpans,
@@ -131,7 +131,7 @@ pub(crate) fn judge_spans(
     })
 }
 
-/// The fields in these places.
+/// The header fields that `headers` tells the places of in `text`.
 pub(crate) fn fields_of<'a>(
     text: &'a [u8],
     headers: &[HeaderSpan],

@@ -1,4 +1,4 @@
-//! Writing texts whole.
+//! Writing answers: a response, a refusal, or the 100 text.
 ghost use Rattle.std.specs.Prelude.{◌≡◌, ◌+◌, ◌-◌, ◌^◌, ◌<◌, ◌≤◌, ◌++◌, IfErr, OnErr, OnOk, length, true};
 ghost use Rattle.std.specs.Io.KnownBytes.{Appends};
 ghost use Rattle.listen_http.specs.Exchange.{AppendsFront, write_faults};
@@ -9,11 +9,11 @@ use arrayvec::ArrayVec;
 use input_fields::Sink;
 use input_http::{Refusal, put, put_answer_head, refusal_text};
 
-/// The most bytes of the first piece of an answer.
+/// The most bytes that are written by the first call of an answer.
 const FIRST_PIECE: usize = 65536;
 
-/// Writes a text whole. A call that failed is not tried again: a front of the text was written then
-/// that is not all of it.
+/// Writes all of a text. A call that failed is not tried again: only a front of the text was
+/// written then.
 #[tactic(auto, using(crate::proofs::Streams::Appends_more, crate::proofs::Streams::wrote_more))]
 pub(crate) fn write_all<W: Sink>(writer: &mut W, text: &[u8]) -> Result<(), WireFault>
     requires { W.failures writer.old < 2 ^ 64 - 1 }
@@ -33,7 +33,8 @@ pub(crate) fn write_all<W: Sink>(writer: &mut W, text: &[u8]) -> Result<(), Wire
     Ok(())
 }
 
-/// Tells a client that waits for it to send the body (RFC 9110 section 15.2.1).
+/// Writes `100 Continue`, where the client waits for that before it sends the body (RFC 9110
+/// section 15.2.1).
 #[tactic(auto, using(crate::proofs::Streams::nothing_sent))]
 pub(crate) fn send_interim<W: Sink>(writer: &mut W, expects: bool) -> Result<(), WireFault>
     requires { W.failures writer.old < 2 ^ 64 - 1 }
@@ -51,7 +52,7 @@ pub(crate) fn send_interim<W: Sink>(writer: &mut W, expects: bool) -> Result<(),
     write_all(writer, b"HTTP/1.1 100 Continue\r\n\r\n")
 }
 
-/// Writes the answer to what is refused.
+/// Writes the whole answer to a message that is refused.
 pub fn send_refusal<W: Sink>(writer: &mut W, refusal: Refusal) -> Result<(), WireFault>
     requires { W.failures writer.old < 2 ^ 64 - 1 }
     ensures sent { OnOk result
@@ -65,8 +66,8 @@ pub fn send_refusal<W: Sink>(writer: &mut W, refusal: Refusal) -> Result<(), Wir
     write_all(writer, text.as_slice())
 }
 
-/// Writes an answer of IPP after its head: in one piece where they have at most 64 KiB together,
-/// and else the head with the first part of it first. It takes no memory.
+/// Writes an IPP response with its HTTP head: in one piece where they have at most 64 KiB together,
+/// and else the head with the first part of it in one piece, and then the rest. It takes no memory.
 pub fn send_answer<W: Sink>(writer: &mut W, answer: &[u8], closes: bool) -> Result<(), WireFault>
     requires { W.failures writer.old < 2 ^ 64 - 1 }
     ensures sent { OnOk result

@@ -1,4 +1,4 @@
-//! What follows the last chunk of a body.
+//! Reading the trailers of a body in chunks (RFC 9112 section 7.1.2), which are ignored.
 
 ghost use Rattle.std.specs.Prelude.{◌≡◌, ◌+◌, ◌-◌, ◌^◌, ◌<◌, IfErr, IfOk};
 ghost use Rattle.listen_http.specs.Exchange.{TakesAtMost, read_faults};
@@ -12,11 +12,11 @@ use httparse::spans::{EMPTY_HEADER_SPAN, parse_headers};
 use input_fields::Source;
 use input_http::TRAILERS_LIMIT;
 
-/// The most fields of the trailers.
+/// The most fields that the trailers may have.
 const MOST_TRAILERS: usize = 64;
 
-/// Reads the trailers of a body in chunks, and lets them go. `false` where something else came, or
-/// the end.
+/// Reads the trailers up to and with the empty line, and ignores what they say. `false` where
+/// something else came, or the end.
 pub(crate) fn read_trailers<R: Source>(reader: &mut R) -> Result<bool, WireFault>
     requires { R.failures reader.old < 2 ^ 64 - 1 }
     ensures is { IfOk result (TrailersAre (R.left reader.old) (R.left reader.new)) }

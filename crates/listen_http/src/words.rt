@@ -1,10 +1,10 @@
-//! Words that a value lists.
+//! Lists of words in the value of a header field, as in `Connection: close, upgrade`.
 ghost use Rattle.std.specs.Prelude.{◌≡◌};
 ghost use Rattle.listen_http.specs.Words.{lists};
 
 use input_http::without_margin;
 
-/// Whether the value lists the word between commas.
+/// Whether the value, a list parted by commas, has the word in any case.
 pub(crate) fn lists(word: &[u8], value: &[u8]) -> bool
     ensures { result ≡ lists word.now value.now }
 {

@@ -1,4 +1,4 @@
--- Of each byte, and then of each text.
+-- Lemmas on escaped text, of each byte and then of each text: it is no markup, and is read back.
 use Rattle.std.proofs.Common.{◌≡◌, ℕ, true, false, eqb, List, [], ◌∷◌, ◌++◌, flat_map, refl, inl, inr, subst, sym, arith, false-eqb}
 use Rattle.std.proofs.lemmas.Bool.{cases_Bool, eqb-true}
 use Rattle.std.specs.List.{AllByRecursion}

@@ -1,4 +1,5 @@
--- Rule: Moments and months in a reader's words, in UTC.
+-- Rule: Moments and months as a page shows them, in UTC: in words for readers, and as programs read
+-- them.
 use Rattle.std.specs.Prelude.{ℕ, ◌+◌, ◌-◌, ◌/◌, ◌%◌, ◌==◌, if◌then◌else◌, min, List, ◌++◌, codes, decimal}
 use Rattle.account_rules.specs.Limits.{last_moment}
 use Rattle.account_rules.specs.Months.{day_of, days_before, month_at}

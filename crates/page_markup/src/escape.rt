@@ -1,12 +1,12 @@
-//! Text as a page shows it.
+//! Escapes text from outside for HTML, so that none of it becomes markup.
 
 ghost use Rattle.std.specs.Prelude.{◌≡◌, ◌++◌, OnOk, flat_map};
 ghost use Rattle.page_markup.specs.Escaping.{escaped, is_control, shown_byte};
 
 use std::alloc::AllocError;
 
-/// Appends a text as HTML shows it, in an element or in a quoted attribute. What is no UTF-8 and
-/// what controls a terminal is shown as U+FFFD.
+/// Appends a text from outside, escaped for HTML, for an element or a quoted attribute. What is no
+/// UTF-8, and each control, goes out as U+FFFD.
 pub(crate) fn put_escaped(out: &mut Vec<u8>, text: &[u8]) -> Result<(), AllocError>
     ensures { OnOk result (out.new.items ≡ out.old.items ++ escaped text.now) }
 {
@@ -14,6 +14,7 @@ pub(crate) fn put_escaped(out: &mut Vec<u8>, text: &[u8]) -> Result<(), AllocErr
     put_readable(out, readable.as_bytes())
 }
 
+/// Appends a text that is UTF-8, with each byte escaped that HTML would take for markup.
 fn put_readable(out: &mut Vec<u8>, text: &[u8]) -> Result<(), AllocError>
     ensures { OnOk result (out.new.items ≡ out.old.items ++ flat_map shown_byte text.now) }
 {
@@ -23,6 +24,8 @@ fn put_readable(out: &mut Vec<u8>, text: &[u8]) -> Result<(), AllocError>
     Ok(())
 }
 
+/// Appends one byte: a control as U+FFFD, one that HTML would take for markup as a character
+/// reference, and any other as it is.
 fn put_byte(out: &mut Vec<u8>, byte: u8) -> Result<(), AllocError>
     ensures { OnOk result (out.new.items ≡ out.old.items ++ shown_byte byte) }
 {
@@ -39,6 +42,7 @@ fn put_byte(out: &mut Vec<u8>, byte: u8) -> Result<(), AllocError>
     }
 }
 
+/// Whether the byte is a control of ASCII: below 32, or 127.
 fn is_control(byte: u8) -> bool
     ensures { result ≡ is_control byte }
 {

@@ -1,4 +1,4 @@
-//! What holds of each text that is shown.
+//! Laws of the text that a page shows: none of it becomes markup, and a browser reads it back.
 
 ghost use Rattle.page_markup.specs.Laws.{IsReadBack, NeverMarksUp};
 

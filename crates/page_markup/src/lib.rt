@@ -1,5 +1,5 @@
-//! What pages are made of: pieces of markup, of text, of numbers and moments, and the bytes of each. Only
-//! text comes from outside, and it goes out escaped.
+//! What pages are made of: pieces of markup, of text, of numbers and moments, and the bytes of
+//! each. Only text comes from outside, and it goes out escaped.
 #![tactic(auto)]
 
 mod escape;

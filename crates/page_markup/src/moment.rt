@@ -1,4 +1,5 @@
-//! Moments and months in a reader's words.
+//! Moments and months as a page shows them, in UTC: in words for readers, and as programs read
+//! them.
 
 ghost use Rattle.std.specs.Prelude.{◌≡◌, ◌++◌, ◌<◌, ◌≤◌, min, OnOk, IfOk, string_bytes};
 ghost use Rattle.account_rules.specs.Limits.{last_moment};
@@ -18,21 +19,22 @@ const TIME_MIDDLE: &str = "\">";
 
 const TIME_END: &str = "</time>";
 
-/// Appends a moment as an element that programs read too. One past the last that the rules know is
-/// shown as that.
+/// Appends a moment (seconds since 1970-01-01T00:00:00Z) as an element `<time>`, which readers and
+/// programs read. A moment past the last that the rules know goes out as that last one.
 pub(crate) fn put_moment(out: &mut Vec<u8>, at: u64) -> Result<(), AllocError>
     ensures { OnOk result (out.new.items ≡ out.old.items ++ moment_text at) }
 {
     put_known(out, known(at))
 }
 
-/// A moment that the rules know: past their last it is that.
+/// Gives the moment, or the last that the rules know where it lies past that.
 pub fn known(at: u64) -> Moment
     ensures { result ≡ min at last_moment }
 {
     Moment::new(at.min(LAST_MOMENT)).unwrap()
 }
 
+/// Appends the element `<time>` of a moment that the rules know.
 #[tactic(auto, using(std::proofs::Common::append_assoc), unfolding(crate::specs::Moments::known_text))]
 fn put_known(out: &mut Vec<u8>, now: Moment) -> Result<(), AllocError>
     ensures { OnOk result (out.new.items ≡ out.old.items ++ known_text now) }
@@ -44,7 +46,7 @@ fn put_known(out: &mut Vec<u8>, now: Moment) -> Result<(), AllocError>
     out.extend_from_slice(TIME_END.as_bytes())
 }
 
-/// Appends a moment as a program reads it (RFC 3339).
+/// Appends a moment for programs, as `2026-11-30T20:12Z`.
 #[tactic(auto, using(std::proofs::Common::append_assoc), unfolding(crate::specs::Moments::machine_text))]
 fn put_machine(out: &mut Vec<u8>, now: Moment) -> Result<(), AllocError>
     ensures { OnOk result (out.new.items ≡ out.old.items ++ machine_text now) }
@@ -58,7 +60,7 @@ fn put_machine(out: &mut Vec<u8>, now: Moment) -> Result<(), AllocError>
     out.extend_from_slice(text.as_bytes())
 }
 
-/// Appends a moment in a reader's words.
+/// Appends a moment for readers, as `30 Nov 2026, 20:12`.
 #[tactic(auto, using(std::proofs::Common::append_assoc), unfolding(crate::specs::Moments::readers_text))]
 fn put_readers(out: &mut Vec<u8>, now: Moment) -> Result<(), AllocError>
     ensures { OnOk result (out.new.items ≡ out.old.items ++ readers_text now) }
@@ -72,7 +74,7 @@ fn put_readers(out: &mut Vec<u8>, now: Moment) -> Result<(), AllocError>
     out.extend_from_slice(text.as_bytes())
 }
 
-/// The hour and the minute.
+/// Gives the hour and the minute of a moment, as `20:12`.
 #[tactic(auto, unfolding(crate::specs::Moments::clock_text))]
 fn clock_text(alloc: Global, now: Moment) -> Result<String, AllocError>
     ensures { IfOk result (λ text. string_bytes text ≡ clock_text now) }
@@ -81,6 +83,7 @@ fn clock_text(alloc: Global, now: Moment) -> Result<String, AllocError>
     time_text(alloc, seconds % 86_400 / 3600, seconds % 3600 / 60)
 }
 
+/// Gives an hour and a minute with two digits each, as `20:12`.
 fn time_text(alloc: Global, hour: u64, minute: u64) -> Result<String, AllocError>
     ensures { IfOk result (λ text. string_bytes text ≡ time_text hour minute) }
 {
@@ -91,7 +94,7 @@ fn time_text(alloc: Global, hour: u64, minute: u64) -> Result<String, AllocError
     format!(in alloc; "{hour_tens}{hour_ones}:{minute_tens}{minute_ones}")
 }
 
-/// The day in its month, from 1.
+/// Gives the day of a moment in its month, 1 to 31.
 pub fn day_in_month(now: Moment) -> u8
     ensures { result ≡ day_in_month now }
 {
@@ -100,7 +103,8 @@ pub fn day_in_month(now: Moment) -> u8
     date.day
 }
 
-/// Appends a month in words.
+/// Appends a month as `November 2026`. Its number is twelve times the year, and 0 for January to 11
+/// for December.
 #[tactic(auto, unfolding(crate::specs::Moments::month_words))]
 pub(crate) fn put_month(out: &mut Vec<u8>, month: u32) -> Result<(), AllocError>
     ensures { OnOk result (out.new.items ≡ out.old.items ++ month_words month) }
@@ -111,7 +115,7 @@ pub(crate) fn put_month(out: &mut Vec<u8>, month: u32) -> Result<(), AllocError>
     out.extend_from_slice(text.as_bytes())
 }
 
-/// Appends a month as YYYY-MM.
+/// Appends a month of that number as `2026-11`.
 pub fn put_month_number(out: &mut Vec<u8>, month: u32) -> Result<(), AllocError>
     ensures { OnOk result (out.new.items ≡ out.old.items ++ month_text month) }
 {
@@ -122,6 +126,7 @@ pub fn put_month_number(out: &mut Vec<u8>, month: u32) -> Result<(), AllocError>
     out.extend_from_slice(text.as_bytes())
 }
 
+/// Gives the English name of the month at a place in its year: 0 is January, 11 is December.
 #[tactic(auto, unfolding(crate::specs::Moments::month_name))]
 fn month_name(place: u32) -> &'static str
     ensures { result.now ≡ month_name place }
@@ -142,6 +147,7 @@ fn month_name(place: u32) -> &'static str
     }
 }
 
+/// Gives the three letters of the month at a place in its year: 0 is Jan, 11 is Dec.
 #[tactic(auto, unfolding(crate::specs::Moments::short_month_name))]
 fn short_month_name(place: u32) -> &'static str
     ensures { result.now ≡ short_month_name place }

@@ -1,4 +1,4 @@
-//! The pieces that pages are made of.
+//! A piece of a page, and the bytes that go out for it.
 
 ghost use Rattle.std.specs.Prelude.{◌≡◌, ◌++◌, IfOk, OnOk, map, decimal, string_bytes};
 ghost use Rattle.std.specs.Fmt.{signed_decimal};
@@ -17,15 +17,16 @@ pub enum Piece<'a> {
     /// A text from outside, escaped.
     Text(&'a [u8]),
     Number(u64),
-    /// A number, where 0 is one that is not known.
+    /// A number, where 0 stands for one that is not known and goes out as `unknown`.
     Known(u32),
     /// A moment, in seconds since 1970-01-01T00:00:00Z.
     Moment(u64),
-    /// The same, or that it is not known.
+    /// A moment, or `unknown` where there is none.
     Ending(Option<u64>),
-    /// A month in words.
+    /// A month as `November 2026`. Its number is twelve times the year, and 0 for January to 11 for
+    /// December.
     Month(u32),
-    /// A month as YYYY-MM.
+    /// A month of that number as `2026-11`.
     MonthNumber(u32),
 }
 
@@ -39,6 +40,7 @@ pub fn put_all(out: &mut Vec<u8>, pieces: &[Piece<'_>]) -> Result<(), AllocError
     Ok(())
 }
 
+/// Appends the bytes of one piece.
 fn put(out: &mut Vec<u8>, piece: Piece<'_>) -> Result<(), AllocError>
     ensures { OnOk result (out.new.items ≡ out.old.items ++ shown (part_of piece.entry)) }
 {
@@ -62,6 +64,7 @@ fn put_number(out: &mut Vec<u8>, number: u64) -> Result<(), AllocError>
     out.extend_from_slice(digits.as_bytes())
 }
 
+/// Appends a number, or `unknown` where it is 0.
 fn put_known(out: &mut Vec<u8>, number: u32) -> Result<(), AllocError>
     ensures { OnOk result (out.new.items ≡ out.old.items ++ count_text number) }
 {
@@ -71,6 +74,7 @@ fn put_known(out: &mut Vec<u8>, number: u32) -> Result<(), AllocError>
     put_number(out, number as u64)
 }
 
+/// Appends a moment, or `unknown` where there is none.
 fn put_ending(out: &mut Vec<u8>, at: Option<u64>) -> Result<(), AllocError>
     ensures { OnOk result (out.new.items ≡ out.old.items ++ ending_text at) }
 {
@@ -80,7 +84,7 @@ fn put_ending(out: &mut Vec<u8>, at: Option<u64>) -> Result<(), AllocError>
     }
 }
 
-/// A number that may be negative, as a text.
+/// Gives the decimal digits of a number, behind a `-` where it is negative.
 pub fn signed_text(alloc: Global, number: i64) -> Result<String, AllocError>
     ensures { IfOk result (λ text. string_bytes text ≡ signed_decimal number) }
 {

@@ -1,4 +1,5 @@
-//! The English texts of numbers and moments. All have ASCII alone, and none has a character of markup.
+//! The English names of the months, and the word for what is not known. All have ASCII alone, and
+//! none has a character of markup.
 
 pub(crate) const UNKNOWN: &str = "unknown";
 

@@ -1,4 +1,4 @@
--- Rule: What the surveys of accounts come to together (all this project's own).
+-- Rule: An overview: what the surveys of accounts come to together (all this project's own).
 use Rattle.std.specs.Prelude.{◌≡◌, ℕ, ◌<◌, List, [], ◌∷◌, map, fold, if◌then◌else◌, length, take, nat_lt, slice_index}
 use Rattle.std.specs.List.{flat_map, sum_by}
 use Rattle.page_overview.specs.Lines.{account_line, begun_lines, longest_lines}
@@ -10,7 +10,7 @@ use Rattle.page_overview.specs.declared.survey.Survey.{Survey}
 use Rattle.page_pages.specs.declared.begun.BegunLine.{BegunLine}
 use Rattle.page_pages.specs.declared.longest.LongestLine.{LongestLine}
 
--- an account that was surveyed
+-- an account by its name, with what it came to
 abbrev pub Surveyed : Type 0
 Surveyed = List ℕ × Survey
 

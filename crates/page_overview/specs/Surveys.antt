@@ -1,4 +1,5 @@
--- Rule: What the rows of one account come to for the print room's page (all this project's own).
+-- Rule: A survey: what the rows of one account come to for the print room's page (all this
+-- project's own).
 use Rattle.std.specs.Prelude.{◌≡◌, ℕ, ◌<◌, ◌≤◌, ◌-◌, ◌==◌, ◌&&◌, Bool, false, if◌then◌else◌, min, nat_le, Option, None, Some, slice_index}
 use Rattle.std.specs.Option.{option_map_or}
 use Rattle.std.specs.List.{sum_by}

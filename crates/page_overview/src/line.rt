@@ -1,4 +1,4 @@
-//! What the print room's page tells of one account, and of its jobs.
+//! Rows of the print room's page, made of what one account and its jobs are.
 
 ghost use Rattle.std.specs.Prelude.{◌≡◌};
 ghost use Rattle.page_overview.specs.Lines.{account_line, begun_at, begun_line, longest_line};
@@ -8,7 +8,7 @@ use crate::survey::Survey;
 use account_rules::{Job, Name};
 use page_pages::{AccountLine, BegunLine, LongestLine, phase_of};
 
-/// What is told of the account.
+/// Makes the row of an account: what is left of its units, and how many jobs have not ended.
 pub(crate) fn account_line(account: Name, survey: &Survey) -> AccountLine
     requires { IsInBounds survey.now }
     ensures { result ≡ account_line account survey.now }
@@ -21,7 +21,7 @@ pub(crate) fn account_line(account: Name, survey: &Survey) -> AccountLine
     }
 }
 
-/// What is told of a job that has not ended, where a device began it.
+/// Makes the row of a job that has not ended, if a device began it.
 pub(crate) fn begun_line(account: Name, job: &Job) -> Option<BegunLine>
     ensures { result ≡ begun_line account job.now }
 {
@@ -31,6 +31,7 @@ pub(crate) fn begun_line(account: Name, job: &Job) -> Option<BegunLine>
     begun_at(account, job.job, job.standing.device, job.standing.started)
 }
 
+/// Makes the row, if the job tells both its device and when that began it.
 fn begun_at(
     account: Name,
     job: u32,
@@ -49,7 +50,7 @@ fn begun_at(
     })
 }
 
-/// What is told of a job that has not ended, where no device began it.
+/// Makes the row of a job that has not ended, if no device began it: it waits.
 pub(crate) fn longest_line(account: Name, job: &Job) -> Option<LongestLine>
     ensures { result ≡ longest_line account job.now }
 {

@@ -1,4 +1,4 @@
-//! The oldest lines of all.
+//! Lists of the oldest jobs of all accounts: those that devices began, and those that wait.
 
 ghost use Rattle.std.specs.Prelude.{◌≡◌, ◌≤◌, fold, insert, length, OnOk};
 ghost use Rattle.page_overview.specs.Overviews.{put_in, put_oldest};
@@ -9,16 +9,17 @@ use account_rules::{Job, Name};
 use page_pages::{BegunLine, LongestLine};
 use std::alloc::AllocError;
 
-/// How many lines are kept.
+/// How many rows a list of the oldest keeps.
 pub(crate) const MOST_OLDEST: usize = 20;
 
-/// A line that tells of a job.
+/// A row that tells of a job.
 pub(crate) trait Aged: Sized {
     ghost use Rattle.std.specs.Prelude.{ℕ};
 
     // The moment from which its age counts.
     ghost from: { Self → ℕ };
 
+    /// Gives the moment from which its age counts, in seconds since 1970-01-01T00:00:00Z.
     fn from(&self) -> u64
         ensures from { result ≡ from self.now };
 }
@@ -43,8 +44,8 @@ impl Aged for LongestLine {
     }
 }
 
-/// Puts a line in its place, and keeps the oldest. The older stands first, and of two that are as
-/// old the one that was put in before.
+/// Puts a row in its place by age, and keeps the oldest `MOST_OLDEST`. The older stands first, and
+/// of two that are as old the one that was put in before.
 fn put_oldest<L: Aged + Drop>(lines: &mut Vec<L>, line: L) -> Result<(), AllocError>
     ensures { OnOk result (lines.new.items ≡ put_oldest L.from lines.old.items line) }
 {
@@ -54,7 +55,7 @@ fn put_oldest<L: Aged + Drop>(lines: &mut Vec<L>, line: L) -> Result<(), AllocEr
     Ok(())
 }
 
-/// The place of the first line that is younger, or behind all.
+/// Finds the place of the first row that is younger, or the place behind all.
 fn place_of<L: Aged>(lines: &[L], line: &L) -> usize
     ensures place { put_in L.from lines.now line.now ≡ insert lines.now result line.now }
     ensures within { result ≤ length lines.now }
@@ -67,7 +68,7 @@ fn place_of<L: Aged>(lines: &[L], line: &L) -> usize
     lines.len()
 }
 
-/// Puts in a line, if there is one.
+/// Puts in a row, if there is one.
 fn put_any<L: Aged + Drop>(lines: &mut Vec<L>, line: Option<L>) -> Result<(), AllocError>
     ensures { OnOk result (lines.new.items ≡ put_any L.from lines.old.items line) }
 {
@@ -77,7 +78,7 @@ fn put_any<L: Aged + Drop>(lines: &mut Vec<L>, line: Option<L>) -> Result<(), Al
     }
 }
 
-/// Puts in what is told of those of the jobs that a device began.
+/// Puts in the rows of those of an account's jobs that a device began.
 pub(crate) fn put_begun(
     lines: &mut Vec<BegunLine>,
     account: Name,
@@ -92,7 +93,7 @@ pub(crate) fn put_begun(
     Ok(())
 }
 
-/// Puts in what is told of those that wait.
+/// Puts in the rows of those of an account's jobs that wait.
 pub(crate) fn put_longest(
     lines: &mut Vec<LongestLine>,
     account: Name,

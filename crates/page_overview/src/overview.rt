@@ -1,4 +1,4 @@
-//! What all accounts come to.
+//! An overview: what all accounts come to together, added one after another.
 
 ghost use Rattle.std.specs.Prelude.{◌≡◌, ◌∷◌, ◌++◌, ◌<◌, ◌+◌, [], true, nat_le, vec_len, ℕ, List, OnOk, slice_index};
 ghost use Rattle.page_overview.specs.Overviews.{Shows, Surveyed};
@@ -14,7 +14,7 @@ use ipp_coding::List;
 use page_pages::{AccountLine, BegunLine, LongestLine};
 use std::alloc::{AllocError, Global};
 
-/// So many accounts are gathered at most: some ten megabytes.
+/// The most accounts that an overview takes: some ten megabytes.
 pub const MOST_ACCOUNTS: usize = 100_000;
 
 /// What the accounts that were surveyed come to together, in one month.
@@ -31,8 +31,9 @@ pub struct Overview {
     pub(crate) unsettled: u64,
     /// Units of those that were charged in the month beyond what the jobs' releases let them cost.
     pub(crate) beyond: u64,
-    /// Units that were charged in the month, and on each day of it.
+    /// Units that were charged in the month.
     pub(crate) charged: u64,
+    /// Units that were charged on each day of the month.
     pub(crate) days: [u64; MOST_DAYS],
     /// What a device began first, of what is not settled.
     pub(crate) begun: Vec<BegunLine>,
@@ -42,12 +43,12 @@ pub struct Overview {
     pub(crate) accounts: Vec<AccountLine>,
     /// Whether accounts were left out whose rows are damaged.
     pub(crate) skips: bool,
-    /// Whether there are more.
+    /// Whether more accounts are open than it took.
     pub(crate) has_more: bool,
 }
 
 impl Overview {
-    /// Where nothing was gathered yet.
+    /// Makes an overview for a time when nothing was gathered yet.
     pub fn nothing(alloc: Global, month: u32) -> Overview
         ensures shows { Shows [] result }
         ensures as_of { result.as_of ≡ None }
@@ -58,7 +59,7 @@ impl Overview {
         Overview::new(alloc, None, month, devices)
     }
 
-    /// One that begins at a moment, for its month, with these devices.
+    /// Makes an overview of no account yet, which begins at a moment, for its month.
     pub fn begin(alloc: Global, at: Moment, devices: List<Device>) -> Overview
         ensures shows { Shows [] result }
         ensures as_of { result.as_of ≡ Some at }
@@ -68,6 +69,7 @@ impl Overview {
         Overview::new(alloc, Some(at.seconds()), month_of(at), devices)
     }
 
+    /// Makes an overview of no account yet.
     fn new(alloc: Global, as_of: Option<u64>, month: u32, devices: List<Device>) -> Overview
         ensures shows { Shows [] result }
         ensures as_of { result.as_of ≡ as_of }
@@ -112,21 +114,21 @@ impl Overview {
         self.accounts.len() >= MOST_ACCOUNTS
     }
 
-    /// From now on it tells that there are more accounts.
+    /// Has it tell from now on that there are more accounts.
     pub fn leave_rest(&mut self)
         ensures { self.new ≡ record self.old { has_more = true } }
     {
         self.has_more = true;
     }
 
-    /// From now on it tells that accounts were left out whose rows are damaged.
+    /// Has it tell from now on that accounts were left out whose rows are damaged.
     pub fn skip(&mut self)
         ensures { self.new ≡ record self.old { skips = true } }
     {
         self.skips = true;
     }
 
-    /// Adds an account. Where memory runs out it tells nothing any more.
+    /// Adds what an account comes to. Where memory runs out what it shows is no longer right.
     pub fn add(&mut self, account: Name, survey: &Survey) -> Result<(), AllocError>
         requires { IsInBounds survey.now }
         ensures shows { OnOk result ((surveys : List Surveyed) → Shows surveys self.old
@@ -148,7 +150,7 @@ impl Overview {
     }
 }
 
-/// Adds the units of each day.
+/// Adds the units of each day, place by place.
 fn add_days(days: &mut [u64; MOST_DAYS], more: &[u64; MOST_DAYS])
     ensures { (place : ℕ) → place < MOST_DAYS
         → slice_index days.new place ≡ told (slice_index days.old place + slice_index more.now place) }

@@ -1,4 +1,4 @@
-//! The page that shows an overview.
+//! The print room's page of an overview: which days and which accounts it lists.
 
 ghost use Rattle.std.specs.Prelude.{◌≡◌, ◌++◌, ◌≤◌, ℕ, length, List, IfOk, OnOk};
 ghost use Rattle.page_overview.specs.Pages.{begins_so, comes_behind, days_in, found, is_listed, next_behind, numbered, IsPage, Lists};
@@ -11,12 +11,13 @@ use jiff_core::civil::days_in_month;
 use page_pages::{AccountLine, DayLine, Room, put_room_page};
 use std::alloc::{AllocError, Global};
 
-/// So many accounts are listed on one page.
+/// The most accounts that one page lists.
 const MOST_LISTED: usize = 100;
 
 impl Overview {
-    /// Appends the print room's page. Of the accounts it lists those whose names begin so and come
-    /// behind a name, at most 100. `gathers`: all accounts are being gathered anew.
+    /// Appends the print room's page. It lists at most 100 of the accounts: those whose names begin
+    /// with `front` and come behind the name `behind`, where these are given. `gathers`: all
+    /// accounts are being gathered anew.
     pub fn put_page(
         &self,
         out: &mut Vec<u8>,
@@ -42,7 +43,8 @@ impl Overview {
         )
     }
 
-    /// Appends the page with these days and accounts.
+    /// Appends the page with these days and these accounts. `behind` is the last of them, if more
+    /// come behind it.
     fn put_listed(
         &self,
         out: &mut Vec<u8>,
@@ -79,7 +81,7 @@ impl Overview {
     }
 }
 
-/// How many days the month has. One past the last that the rules know has as many as that.
+/// Gives how many days a month has. One past the last that the rules know has as many as that.
 fn days_in(month: u32) -> usize
     ensures days { result ≡ days_in month }
     ensures high { result ≤ 31 }
@@ -88,7 +90,7 @@ fn days_in(month: u32) -> usize
     days_in_month((known / 12) as i16, (known % 12 + 1) as u8) as usize
 }
 
-/// The units of each day, with its number.
+/// Gives the units of each day with the day's number, from 1.
 fn day_lines(alloc: Global, units: &[u64]) -> Result<Vec<DayLine>, AllocError>
     requires { length units.now ≤ 31 }
     ensures { IfOk result (λ lines. lines.items ≡ numbered 1 units.now) }
@@ -105,7 +107,7 @@ fn day_lines(alloc: Global, units: &[u64]) -> Result<Vec<DayLine>, AllocError>
     Ok(lines)
 }
 
-/// The first accounts of those that are asked for, and one more where there are more.
+/// Finds the first 100 of the accounts that are asked for, and one more where there are more.
 fn find(
     alloc: Global,
     lines: &[AccountLine],
@@ -122,12 +124,14 @@ fn find(
         .collect(alloc)
 }
 
+/// Whether the account is one of those that are asked for.
 fn is_listed(front: &Option<Name>, behind: &Option<Name>, line: &AccountLine) -> bool
     ensures { result ≡ is_listed front.now behind.now line.now }
 {
     begins_so(front, line.account) && comes_behind(behind, line.account)
 }
 
+/// Whether the account's name begins with `front`, if that is given.
 fn begins_so(front: &Option<Name>, account: Name) -> bool
     ensures { result ≡ begins_so front.now account }
 {
@@ -137,6 +141,7 @@ fn begins_so(front: &Option<Name>, account: Name) -> bool
     }
 }
 
+/// Whether the account's name comes behind this one, if one is given.
 fn comes_behind(behind: &Option<Name>, account: Name) -> bool
     ensures { result ≡ comes_behind behind.now account }
 {
@@ -146,7 +151,7 @@ fn comes_behind(behind: &Option<Name>, account: Name) -> bool
     }
 }
 
-/// The last account that is listed, where more were found.
+/// Gives the last account that is listed, where more were found.
 fn next_behind(lines: &[AccountLine]) -> Option<Name>
     ensures { result ≡ next_behind lines.now }
 {

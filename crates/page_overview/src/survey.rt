@@ -1,4 +1,4 @@
-//! What one account comes to.
+//! A survey: what one account comes to for the print room's page.
 
 use crate::days::MOST_DAYS;
 use account_rules::Job;

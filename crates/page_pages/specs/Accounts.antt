@@ -1,4 +1,4 @@
--- Rule: Accounts, with what is left and what waits.
+-- Rule: The card of accounts, on the print room's page: what each has left, and how much waits.
 use Rattle.std.specs.Prelude.{ℕ, ◌==◌, if◌then◌else◌, length, List, [], ◌∷◌, ◌++◌, Option, Some, None, codes, flat_map}
 use Rattle.std.specs.Fmt.{signed_decimal}
 use Rattle.page_pages.specs.Frames.{card, remark}
@@ -7,7 +7,7 @@ use Rattle.page_pages.specs.declared.accounts.AccountLine.{AccountLine}
 use Rattle.page_pages.specs.declared.markup.TheConstants.{END_OF_CARD, END_OF_TABLE}
 use Rattle.page_pages.specs.declared.texts.TheConstants.{ACCOUNT, ACCOUNTS, JOBS_WAITING, LEFT, NEXT_ACCOUNTS, NO_ACCOUNTS}
 
--- an account
+-- the row of an account
 unfoldable pub account_row : (account left : List ℕ) (waiting : ℕ) → List Part
 account_row account left waiting =
     Mark (codes "<tr><th scope=\"row\"><a href=\"/")

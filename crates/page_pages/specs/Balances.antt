@@ -1,4 +1,4 @@
--- Rule: What is left of an account's quota, as a bar and in numbers.
+-- Rule: The card that shows what is left of an account's quota, as a bar and in numbers.
 use Rattle.std.specs.Prelude.{ℕ, pos, ◌-◌, ◌*◌, ◌/◌, ◌==◌, if◌then◌else◌, min, List, [], ◌∷◌, ◌++◌, codes}
 use Rattle.std.specs.Fmt.{signed_decimal}
 use Rattle.account_rules.specs.Quota.{left_of}
@@ -9,12 +9,12 @@ use Rattle.page_pages.specs.declared.texts.TheConstants.{CHARGED, GRANTED, LEFT,
 abbrev pub permille : (part whole : ℕ) → ℕ
 permille part whole = if whole == 0 then 0 else min part whole * 1000 / whole
 
--- how much of the bar shows what is reserved: at most what the charges leave
+-- the width of the reserved part, in thousandths of the bar: at most what the charges leave
 abbrev pub reserved_width : (granted reserved charged : ℕ) → ℕ
 reserved_width granted reserved charged =
     min (permille reserved granted) (1000 - permille charged granted)
 
--- how many units are left
+-- the start of the card, which tells how many units are left
 unfoldable pub units_left : (left : List ℕ) → List Part
 units_left left =
     Mark (codes "<section class=\"card balance\" aria-labelledby=\"left\">\n<div><h2 ")
@@ -25,7 +25,7 @@ units_left left =
     ∷ Mark (codes "</p></div>\n<div>")
     ∷ []
 
--- a bar, of two parts of a thousand
+-- a bar, whose two parts have widths in thousandths of it
 unfoldable pub bar : (charged reserved : ℕ) → List Part
 bar charged reserved =
     Mark (codes "<svg class=\"bar\" viewBox=\"0 0 1000 1\" preserveAspectRatio=\"none\" ")
@@ -38,7 +38,7 @@ bar charged reserved =
     ∷ Mark (codes "\" height=\"1\"/></svg>\n")
     ∷ []
 
--- the numbers of a quota
+-- the units of a quota, and the end of the card
 unfoldable pub quota_facts : (granted reserved charged : ℕ) (left : List ℕ) → List Part
 quota_facts granted reserved charged left =
     Mark (codes "<dl class=\"facts\">\n<div><dt class=\"key key-charged\">")

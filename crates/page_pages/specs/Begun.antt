@@ -1,4 +1,4 @@
--- Rule: What devices began and have not settled.
+-- Rule: The card of the jobs that devices began and have not settled.
 use Rattle.std.specs.Prelude.{ℕ, ◌==◌, if◌then◌else◌, length, List, [], ◌∷◌, ◌++◌, codes, flat_map}
 use Rattle.page_pages.specs.Frames.{card, remark}
 use Rattle.page_markup.specs.Parts.{Part, html, Mark, Text, Number, Moment}
@@ -6,7 +6,7 @@ use Rattle.page_pages.specs.declared.begun.BegunLine.{BegunLine}
 use Rattle.page_pages.specs.declared.markup.TheConstants.{END_OF_CARD, END_OF_TABLE}
 use Rattle.page_pages.specs.declared.texts.TheConstants.{ACCOUNT, BEGUN, BEGUN_AT, DEVICE, JOB, NOTHING_BEGUN}
 
--- a job that a device began
+-- the row of a job that a device began
 unfoldable pub begun_row : (account : List ℕ) (job : ℕ) (device : List ℕ) (started : ℕ) → List Part
 begun_row account job device started =
     Mark (codes "<tr><th scope=\"row\"><a href=\"/")

@@ -1,4 +1,4 @@
--- That the page of an owner offers what goes through.
+-- Laws: what the page of an owner offers goes through.
 use Rattle.std.specs.Prelude.{◌≡◌, ℤ, false, not, ◌==◌, length, IsOk, Result}
 use Rattle.account_rules.specs.Acts.{HoldJob, ReleaseJob}
 use Rattle.account_rules.specs.Moves.{move}

@@ -6,7 +6,7 @@ use Rattle.page_pages.specs.declared.chart.DayLine.{DayLine}
 use Rattle.page_pages.specs.declared.markup.TheConstants.{END_OF_CHART}
 use Rattle.page_pages.specs.declared.texts.TheConstants.{AS_TABLE, CHART, DAY, HIGHEST, UNITS_IN_MONTH, UNITS_OF_DAY}
 
--- the head of the chart
+-- the start of the card, and of the drawing
 unfoldable pub chart_start : (month highest last : ℕ) → List Part
 chart_start month highest last =
     Mark (codes "<section class=\"card\" aria-labelledby=\"month\">\n<header><h2 ")
@@ -24,7 +24,7 @@ chart_start month highest last =
     ∷ Mark (codes "\">\n")
     ∷ []
 
--- a bar
+-- the bar of a day, in thousandths of the drawing
 unfoldable pub bar_of_day : (left top_of height : ℕ) → List Part
 bar_of_day left top_of height =
     Mark (codes "<rect class=\"charged\" x=\"")
@@ -52,7 +52,7 @@ chart_middle last =
     ∷ Mark (codes "</th></tr></thead>\n<tbody>\n")
     ∷ []
 
--- a day and its units
+-- the row of a day and its units
 unfoldable pub row_of_day : (day units : ℕ) → List Part
 row_of_day day units =
     Mark (codes "<tr><th scope=\"row\">")

@@ -1,4 +1,4 @@
--- Rule: The jobs that ended.
+-- Rule: The jobs that ended, as a table: on the owner's page and on a statement.
 use Rattle.std.specs.Prelude.{ℕ, ◌==◌, if◌then◌else◌, length, List, [], ◌∷◌, ◌++◌, Option, Some, None, codes, flat_map}
 use Rattle.account_rules.specs.declared.job.Job.{Job}
 use Rattle.page_pages.specs.Frames.{card, remark}

@@ -4,7 +4,7 @@ use Rattle.page_markup.specs.Parts.{Part, Mark, Text}
 use Rattle.page_pages.specs.declared.markup.TheConstants.{BODY, DOCUMENT, SIGNS}
 use Rattle.page_pages.specs.declared.texts.TheConstants.{PRODUCT, SKIP, TIMES, UNITS}
 
--- the begin of a page with its title
+-- the start of a page, with its title
 unfoldable pub document : (title : List ℕ) → List Part
 document title =
     Mark DOCUMENT.now
@@ -50,7 +50,7 @@ card name heading =
     ∷ Mark (codes "</h2></header>\n")
     ∷ []
 
--- a sentence
+-- a sentence as a paragraph in small print
 unfoldable pub remark : (said : List ℕ) → List Part
 remark said =
     Mark (codes "<p class=\"quiet\">")

@@ -1,4 +1,4 @@
--- Rule: What has waited longest.
+-- Rule: The card of the jobs that have waited longest, on the print room's page.
 use Rattle.std.specs.Prelude.{ℕ, ◌==◌, if◌then◌else◌, length, List, [], ◌∷◌, ◌++◌, codes, flat_map}
 use Rattle.page_pages.specs.Frames.{card, remark}
 use Rattle.page_markup.specs.Parts.{Part, html, Mark, Text, Number, Moment}
@@ -7,7 +7,7 @@ use Rattle.page_pages.specs.declared.longest.LongestLine.{LongestLine}
 use Rattle.page_pages.specs.declared.markup.TheConstants.{END_OF_CARD, END_OF_TABLE}
 use Rattle.page_pages.specs.declared.texts.TheConstants.{ACCOUNT, JOB, LONGEST, NOTHING_WAITS, SINCE, STATE}
 
--- a job that waits
+-- the row of a job that waits
 unfoldable pub longest_row : (account : List ℕ) (job : ℕ) (symbol state : List ℕ) (created : ℕ)
     → List Part
 longest_row account job symbol state created =

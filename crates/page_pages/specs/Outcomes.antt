@@ -1,4 +1,4 @@
--- Rule: What came of the last act, in a sentence.
+-- Rule: What came of the last act, told at the head of the owner's page.
 use Rattle.std.specs.Prelude.{ℕ, List, [], ◌∷◌, ◌++◌, Option, Some, None, codes}
 use Rattle.account_rules.specs.declared.refusal.Word.{Word}
 use Rattle.page_markup.specs.Parts.{Part, html, Mark, Number}
@@ -18,7 +18,7 @@ done Hold = DONE_HOLD.now
 done Cancel = DONE_CANCEL.now
 done Print = DONE_PRINT.now
 
--- what follows
+-- what follows once the act was done
 abbrev pub next_of : Act → List ℕ
 next_of Release = THEN_RELEASE.now
 next_of Hold = THEN_HOLD.now

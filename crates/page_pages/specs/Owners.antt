@@ -1,4 +1,4 @@
--- Rule: The owner's page.
+-- Rule: The page of an account's owner: what is left, what waits and ended, the form to print.
 use Rattle.std.specs.Prelude.{ℕ, Bool, true, false, ◌&&◌, not, ◌==◌, if◌then◌else◌, length, List, [], ◌∷◌, ◌++◌, codes}
 use Rattle.page_pages.specs.Balances.{balance}
 use Rattle.page_pages.specs.Devices.{devices_on}

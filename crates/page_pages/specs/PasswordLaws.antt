@@ -1,4 +1,4 @@
--- What a page tells of passwords.
+-- Law: a page tells whether a job has a password, and never which.
 use Rattle.std.specs.Prelude.{◌≡◌, ℕ, List, ◌∷◌}
 use Rattle.account_rules.specs.declared.job.Job.{Job}
 use Rattle.page_pages.specs.Ended.{ended_job}

@@ -62,7 +62,7 @@ sentence Printed = NOTHING.now
 sentence Canceled = NOTHING.now
 sentence Failed = NOTHING.now
 
--- the name of its sign
+-- the name of the sign that is drawn for the phase
 abbrev pub sign : Phase → List ℕ
 sign Incomplete = codes "open"
 sign Locked = codes "lock"

@@ -1,4 +1,4 @@
--- Rule: Why something was refused, in plain words.
+-- Rule: Why something was refused, in plain words for an account's owner.
 use Rattle.std.specs.Prelude.{ℕ, List, [], ◌∷◌}
 use Rattle.std.specs.Fmt.{signed_decimal}
 use Rattle.account_rules.specs.declared.refusal.Word.{Word}

@@ -1,4 +1,4 @@
--- Rule: The print room's page.
+-- Rule: The print room's page, for operators: sums, a chart and lists over all accounts.
 use Rattle.std.specs.Prelude.{ℕ, ◌||◌, Bool, true, false, List, [], ◌∷◌, ◌++◌, Option, Some, None, codes, is_none}
 use Rattle.page_pages.specs.Accounts.{accounts_card}
 use Rattle.page_pages.specs.Begun.{begun_card}

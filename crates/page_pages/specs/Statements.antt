@@ -1,4 +1,4 @@
--- Rule: A statement for paper: one account, one month.
+-- Rule: A statement for paper: what one account was granted and charged, and its jobs of one month.
 use Rattle.std.specs.Prelude.{ℕ, Bool, false, ◌==◌, if◌then◌else◌, min, List, [], ◌∷◌, ◌++◌, Option, Some, None, codes, flat_map}
 use Rattle.account_rules.specs.Limits.{last_moment}
 use Rattle.account_rules.specs.Months.{month_at}
@@ -31,7 +31,7 @@ statement_title account month now =
     ∷ Mark (codes " UTC</p></header>\n")
     ∷ []
 
--- the sums
+-- the table of sums
 unfoldable pub statement_sums : (granted reserved charged charged_then : ℕ) (left : List ℕ)
     → List Part
 statement_sums granted reserved charged charged_then left =
@@ -70,7 +70,7 @@ statement_count count =
     ∷ Mark (codes "</p>\n")
     ∷ []
 
--- what stands below the sheet
+-- the end of the statement, and the foot of the page
 unfoldable pub sheet_foot : List Part
 sheet_foot =
     Mark (codes "</section>\n</article>\n</main>\n<footer class=\"foot sheet\"><p ")

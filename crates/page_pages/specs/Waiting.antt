@@ -1,4 +1,4 @@
--- Rule: The jobs that wait, with what their owner may do with them.
+-- Rule: The card of the jobs that wait, with what their owner may do with them.
 use Rattle.std.specs.Prelude.{ℕ, ◌==◌, if◌then◌else◌, length, List, [], ◌∷◌, ◌++◌, Option, Some, None, codes, flat_map}
 use Rattle.account_rules.specs.declared.job.Job.{Job}
 use Rattle.page_pages.specs.Frames.{card, remark}
@@ -75,7 +75,7 @@ device_words phase None = no_device_words phase
 
 -- ---- its buttons
 
--- the head of the form of a job
+-- the start of a job's form
 unfoldable pub acts_start : (account : List ℕ) (number : ℕ) → List Part
 acts_start account number =
     Mark (codes "<td class=\"acts\"><form method=\"post\" action=\"/")
@@ -85,7 +85,7 @@ acts_start account number =
     ∷ Mark (codes "\">")
     ∷ []
 
--- a button of the form of a job
+-- a button of a job's form
 unfoldable pub button : (look act label : List ℕ) (number : ℕ) → List Part
 button look act label number =
     Mark (codes "<button")

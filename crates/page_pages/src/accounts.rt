@@ -1,4 +1,4 @@
-//! Accounts, with what is left and what waits.
+//! The card of accounts, on the print room's page: what each has left, and how much waits.
 
 ghost use Rattle.std.specs.Prelude.{◌≡◌, ◌++◌, OnOk, flat_map};
 ghost use Rattle.page_pages.specs.Accounts.{account_row, accounts_columns, next_link, accounts_card, accounts_item, link_if_more, table_of_accounts};
@@ -12,7 +12,7 @@ use account_rules::Name;
 use page_markup::{Piece, put_all, signed_text};
 use std::alloc::AllocError;
 
-/// An account.
+/// What the list shows of one account.
 #[derive(Clone, Copy)]
 pub struct AccountLine {
     pub account: Name,
@@ -22,7 +22,8 @@ pub struct AccountLine {
     pub waiting: u64,
 }
 
-/// Appends the card.
+/// Appends the card. `front` is what the listed names begin with, and `behind` the last account of
+/// this list, if more come behind it.
 #[tactic(auto, using(std::proofs::Common::append_assoc), unfolding(crate::specs::Accounts::accounts_card))]
 pub(crate) fn put_accounts_card(
     out: &mut Vec<u8>,
@@ -39,6 +40,7 @@ pub(crate) fn put_accounts_card(
     out.extend_from_slice(END_OF_CARD.as_bytes())
 }
 
+/// Appends the link to the next list, if more accounts come.
 fn put_link_if_more(out: &mut Vec<u8>, front: &[u8], behind: Option<Name>) -> Result<(), AllocError>
     ensures { OnOk result (out.new.items ≡ out.old.items ++ link_if_more front.now behind) }
 {
@@ -48,6 +50,7 @@ fn put_link_if_more(out: &mut Vec<u8>, front: &[u8], behind: Option<Name>) -> Re
     }
 }
 
+/// Appends the table of the accounts, or that none has such a name.
 fn put_table_of_accounts(out: &mut Vec<u8>, lines: &[AccountLine]) -> Result<(), AllocError>
     ensures { OnOk result (out.new.items ≡ out.old.items ++ table_of_accounts lines.now) }
 {
@@ -57,6 +60,7 @@ fn put_table_of_accounts(out: &mut Vec<u8>, lines: &[AccountLine]) -> Result<(),
     put_table(out, lines)
 }
 
+/// Appends the table, with a row for each account.
 #[tactic(auto, using(std::proofs::Common::append_assoc))]
 fn put_table(out: &mut Vec<u8>, lines: &[AccountLine]) -> Result<(), AllocError>
     ensures { OnOk result (out.new.items ≡ out.old.items ++ (html accounts_columns
@@ -67,6 +71,7 @@ fn put_table(out: &mut Vec<u8>, lines: &[AccountLine]) -> Result<(), AllocError>
     out.extend_from_slice(END_OF_TABLE.as_bytes())
 }
 
+/// Appends a row for each account.
 fn put_lines(out: &mut Vec<u8>, lines: &[AccountLine]) -> Result<(), AllocError>
     ensures { OnOk result (out.new.items ≡ out.old.items ++ flat_map accounts_item lines.now) }
 {
@@ -76,6 +81,7 @@ fn put_lines(out: &mut Vec<u8>, lines: &[AccountLine]) -> Result<(), AllocError>
     Ok(())
 }
 
+/// Appends the row of an account.
 fn put_accounts_item(out: &mut Vec<u8>, line: &AccountLine) -> Result<(), AllocError>
     ensures { OnOk result (out.new.items ≡ out.old.items ++ accounts_item line.now) }
 {
@@ -83,7 +89,7 @@ fn put_accounts_item(out: &mut Vec<u8>, line: &AccountLine) -> Result<(), AllocE
     put_account_row(out, line.account.bytes(), left.as_str(), line.waiting)
 }
 
-/// Appends the heads of the columns of accounts.
+/// Appends the start of the table, with the heads of its columns.
 fn put_accounts_columns(out: &mut Vec<u8>) -> Result<(), AllocError>
     ensures { OnOk result (out.new.items ≡ out.old.items ++ html accounts_columns) }
 {
@@ -101,7 +107,7 @@ fn put_accounts_columns(out: &mut Vec<u8>) -> Result<(), AllocError>
     )
 }
 
-/// Appends an account.
+/// Appends the row of an account. What is left comes as a text, since it may be negative.
 fn put_account_row<'a>(
     out: &mut Vec<u8>,
     account: &'a [u8],
@@ -127,7 +133,7 @@ fn put_account_row<'a>(
     )
 }
 
-/// Appends the way to the accounts that come next.
+/// Appends the link to the accounts that come next: those behind a name.
 fn put_next_link<'a>(out: &mut Vec<u8>, front: &'a [u8], behind: &'a [u8]) -> Result<(), AllocError>
     ensures { OnOk result (out.new.items ≡ out.old.items ++ html (next_link front.now behind.now)) }
 {

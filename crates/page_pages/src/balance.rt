@@ -1,4 +1,4 @@
-//! What is left of an account's quota.
+//! The card that shows what is left of an account's quota, on its owner's page.
 
 ghost use Rattle.std.specs.Prelude.{◌≡◌, ◌++◌, ◌-◌, ◌≤◌, OnOk};
 ghost use Rattle.account_rules.specs.Limits.{most_units};
@@ -10,7 +10,7 @@ use account_rules::left;
 use page_markup::{Piece, put_all, signed_text};
 use std::alloc::AllocError;
 
-/// Appends what is left: a bar, and the numbers.
+/// Appends the card of what is left of a quota: a bar, and the numbers. All are units.
 pub(crate) fn put_balance(
     out: &mut Vec<u8>,
     granted: u64,
@@ -28,6 +28,7 @@ pub(crate) fn put_balance(
     put_quota(out, granted, reserved, charged, left.as_str())
 }
 
+/// Appends the card. What is left comes as a text, since it may be negative.
 #[tactic(auto, using(std::proofs::Common::append_assoc), unfolding(crate::specs::Balances::quota))]
 fn put_quota(
     out: &mut Vec<u8>,
@@ -48,7 +49,7 @@ fn put_quota(
     put_quota_facts(out, granted, reserved, charged, left)
 }
 
-/// A part of the whole in thousandths, at most all of them.
+/// Gives a part of a whole in thousandths, 0 to 1000. Of a whole of 0 it is 0.
 pub(crate) fn permille(part: u64, whole: u64) -> u64
     ensures { result ≡ permille part whole }
 {
@@ -58,14 +59,15 @@ pub(crate) fn permille(part: u64, whole: u64) -> u64
     (part.min(whole) as u128 * 1000 / whole as u128) as u64
 }
 
-/// How much of the bar shows what is reserved: at most what the charges leave.
+/// Gives the width of the bar's reserved part, in thousandths of the bar: what is reserved of what
+/// was granted, but no more than the charged part leaves.
 fn reserved_width(granted: u64, reserved: u64, charged: u64) -> u64
     ensures { result ≡ reserved_width granted reserved charged }
 {
     permille(reserved, granted).min(1000u64.saturating_sub(permille(charged, granted)))
 }
 
-/// Appends how many units are left.
+/// Appends the start of the card, which tells how many units are left.
 fn put_units_left(out: &mut Vec<u8>, left: &str) -> Result<(), AllocError>
     ensures { OnOk result (out.new.items ≡ out.old.items ++ html (units_left left.now)) }
 {
@@ -82,7 +84,8 @@ fn put_units_left(out: &mut Vec<u8>, left: &str) -> Result<(), AllocError>
     )
 }
 
-/// Appends a bar, of two parts of a thousand.
+/// Appends the bar, whose charged part comes first and whose reserved part behind it. Both widths
+/// are in thousandths of the bar.
 pub(crate) fn put_bar(out: &mut Vec<u8>, charged: u64, reserved: u64) -> Result<(), AllocError>
     ensures { OnOk result (out.new.items ≡ out.old.items ++ html (bar charged reserved)) }
 {
@@ -101,7 +104,7 @@ pub(crate) fn put_bar(out: &mut Vec<u8>, charged: u64, reserved: u64) -> Result<
     )
 }
 
-/// Appends the numbers of a quota.
+/// Appends the units that are charged, reserved, left and granted, and the end of the card.
 fn put_quota_facts(
     out: &mut Vec<u8>,
     granted: u64,

@@ -1,4 +1,4 @@
-//! What devices began and have not settled.
+//! The card of the jobs that devices began and have not settled, on the print room's page.
 
 ghost use Rattle.std.specs.Prelude.{◌≡◌, ◌++◌, OnOk, flat_map};
 ghost use Rattle.page_pages.specs.Begun.{begun_columns, begun_row, begun_card, begun_item, table_of_begun};
@@ -22,7 +22,7 @@ pub struct BegunLine {
     pub started: u64,
 }
 
-/// Appends the card.
+/// Appends the card of the jobs that devices began and have not settled.
 #[tactic(auto, using(std::proofs::Common::append_assoc), unfolding(crate::specs::Begun::begun_card))]
 pub(crate) fn put_begun_card(out: &mut Vec<u8>, lines: &[BegunLine]) -> Result<(), AllocError>
     ensures { OnOk result (out.new.items ≡ out.old.items ++ begun_card lines.now) }
@@ -32,6 +32,7 @@ pub(crate) fn put_begun_card(out: &mut Vec<u8>, lines: &[BegunLine]) -> Result<(
     out.extend_from_slice(END_OF_CARD.as_bytes())
 }
 
+/// Appends the table of the jobs, or that there are none.
 fn put_table_of_begun(out: &mut Vec<u8>, lines: &[BegunLine]) -> Result<(), AllocError>
     ensures { OnOk result (out.new.items ≡ out.old.items ++ table_of_begun lines.now) }
 {
@@ -41,6 +42,7 @@ fn put_table_of_begun(out: &mut Vec<u8>, lines: &[BegunLine]) -> Result<(), Allo
     put_table(out, lines)
 }
 
+/// Appends the table, with a row for each job.
 #[tactic(auto, using(std::proofs::Common::append_assoc))]
 fn put_table(out: &mut Vec<u8>, lines: &[BegunLine]) -> Result<(), AllocError>
     ensures { OnOk result (out.new.items ≡ out.old.items ++ (html begun_columns
@@ -51,6 +53,7 @@ fn put_table(out: &mut Vec<u8>, lines: &[BegunLine]) -> Result<(), AllocError>
     out.extend_from_slice(END_OF_TABLE.as_bytes())
 }
 
+/// Appends a row for each job.
 fn put_lines(out: &mut Vec<u8>, lines: &[BegunLine]) -> Result<(), AllocError>
     ensures { OnOk result (out.new.items ≡ out.old.items ++ flat_map begun_item lines.now) }
 {
@@ -60,6 +63,7 @@ fn put_lines(out: &mut Vec<u8>, lines: &[BegunLine]) -> Result<(), AllocError>
     Ok(())
 }
 
+/// Appends the row of a job.
 fn put_begun_item(out: &mut Vec<u8>, line: &BegunLine) -> Result<(), AllocError>
     ensures { OnOk result (out.new.items ≡ out.old.items ++ begun_item line.now) }
 {
@@ -72,7 +76,7 @@ fn put_begun_item(out: &mut Vec<u8>, line: &BegunLine) -> Result<(), AllocError>
     )
 }
 
-/// Appends the heads of the columns of what was begun.
+/// Appends the start of the table, with the heads of its columns.
 fn put_begun_columns(out: &mut Vec<u8>) -> Result<(), AllocError>
     ensures { OnOk result (out.new.items ≡ out.old.items ++ html begun_columns) }
 {
@@ -92,7 +96,7 @@ fn put_begun_columns(out: &mut Vec<u8>) -> Result<(), AllocError>
     )
 }
 
-/// Appends a job that a device began.
+/// Appends the row of a job. It was begun at a moment in seconds since 1970-01-01T00:00:00Z.
 fn put_begun_row<'a>(
     out: &mut Vec<u8>,
     account: &'a [u8],

@@ -1,4 +1,4 @@
-//! The units of each day of a month, as bars and as a table.
+//! The chart of the print room's page: units of each day of a month, as bars and as a table.
 
 ghost use Rattle.std.specs.Prelude.{◌≡◌, ◌++◌, OnOk, flat_map};
 ghost use Rattle.page_pages.specs.Charts.{bar_of_day, chart_middle, chart_start, row_of_day, bar_item, chart, day_item, highest};
@@ -18,7 +18,7 @@ pub struct DayLine {
     pub units: u64,
 }
 
-/// Appends the chart of a month.
+/// Appends the card of a month: a bar and a row for each of its days.
 #[tactic(auto, using(std::proofs::Common::append_assoc), unfolding(crate::specs::Charts::chart))]
 pub(crate) fn put_chart(out: &mut Vec<u8>, month: u32, days: &[DayLine]) -> Result<(), AllocError>
     ensures { OnOk result (out.new.items ≡ out.old.items ++ chart month days.now) }
@@ -32,6 +32,7 @@ pub(crate) fn put_chart(out: &mut Vec<u8>, month: u32, days: &[DayLine]) -> Resu
     out.extend_from_slice(END_OF_CHART.as_bytes())
 }
 
+/// Gives the most units of any day, by which the bars are scaled.
 fn highest(days: &[DayLine]) -> u64
     ensures { result ≡ highest days.now }
 {
@@ -42,6 +43,7 @@ fn highest(days: &[DayLine]) -> u64
     most
 }
 
+/// Appends a bar for each day.
 fn put_bars(out: &mut Vec<u8>, highest: u64, days: &[DayLine]) -> Result<(), AllocError>
     ensures { OnOk result
         (out.new.items ≡ out.old.items ++ flat_map (bar_item highest) days.now) }
@@ -52,6 +54,7 @@ fn put_bars(out: &mut Vec<u8>, highest: u64, days: &[DayLine]) -> Result<(), All
     Ok(())
 }
 
+/// Appends the bar of a day, as high in thousandths as its units are of the highest.
 fn put_bar_item(out: &mut Vec<u8>, highest: u64, day: &DayLine) -> Result<(), AllocError>
     ensures { OnOk result (out.new.items ≡ out.old.items ++ bar_item highest day.now) }
 {
@@ -64,6 +67,7 @@ fn put_bar_item(out: &mut Vec<u8>, highest: u64, day: &DayLine) -> Result<(), Al
     )
 }
 
+/// Appends a row for each day.
 fn put_days(out: &mut Vec<u8>, days: &[DayLine]) -> Result<(), AllocError>
     ensures { OnOk result (out.new.items ≡ out.old.items ++ flat_map day_item days.now) }
 {
@@ -73,7 +77,7 @@ fn put_days(out: &mut Vec<u8>, days: &[DayLine]) -> Result<(), AllocError>
     Ok(())
 }
 
-/// Appends the head of the chart.
+/// Appends the start of the card, and of the drawing. `last` is how many days it is wide.
 fn put_chart_start(out: &mut Vec<u8>, month: u32, highest: u64, last: u64) -> Result<(), AllocError>
     ensures { OnOk result (out.new.items ≡ out.old.items ++ html (chart_start month highest last)) }
 {
@@ -97,7 +101,8 @@ fn put_chart_start(out: &mut Vec<u8>, month: u32, highest: u64, last: u64) -> Re
     )
 }
 
-/// Appends a bar.
+/// Appends a bar. It stands `left` days from the left, and `top_of` and `height` are in thousandths
+/// of the drawing.
 fn put_bar_of_day(out: &mut Vec<u8>, left: u64, top_of: u64, height: u64) -> Result<(), AllocError>
     ensures { OnOk result (out.new.items ≡ out.old.items ++ html (bar_of_day left top_of height)) }
 {
@@ -115,7 +120,7 @@ fn put_bar_of_day(out: &mut Vec<u8>, left: u64, top_of: u64, height: u64) -> Res
     )
 }
 
-/// Appends what stands between the chart and its table.
+/// Appends the end of the drawing, the days below it, and the start of the table.
 fn put_chart_middle(out: &mut Vec<u8>, last: u64) -> Result<(), AllocError>
     ensures { OnOk result (out.new.items ≡ out.old.items ++ html (chart_middle last)) }
 {
@@ -137,7 +142,7 @@ fn put_chart_middle(out: &mut Vec<u8>, last: u64) -> Result<(), AllocError>
     )
 }
 
-/// Appends a day and its units.
+/// Appends the row of a day and its units.
 fn put_row_of_day(out: &mut Vec<u8>, day: u32, units: u64) -> Result<(), AllocError>
     ensures { OnOk result (out.new.items ≡ out.old.items ++ html (row_of_day day units)) }
 {

@@ -1,4 +1,4 @@
-//! The devices, and what a page costs on each.
+//! The card of devices, and what a page costs on each: on the owner's and the print room's page.
 
 ghost use Rattle.std.specs.Prelude.{◌≡◌, ◌++◌, OnOk, flat_map};
 ghost use Rattle.std.specs.List.{list_any};
@@ -13,7 +13,7 @@ use account_rules::Device;
 use page_markup::{Piece, put_all};
 use std::alloc::AllocError;
 
-/// Appends the devices that are on.
+/// Appends the card of the devices that are on, for the owner's page.
 #[tactic(auto, using(std::proofs::Common::append_assoc), unfolding(crate::specs::Devices::devices_on))]
 pub(crate) fn put_devices_on(out: &mut Vec<u8>, devices: &[Device]) -> Result<(), AllocError>
     ensures { OnOk result (out.new.items ≡ out.old.items ++ devices_on devices.now) }
@@ -23,6 +23,7 @@ pub(crate) fn put_devices_on(out: &mut Vec<u8>, devices: &[Device]) -> Result<()
     out.extend_from_slice(END_OF_CARD.as_bytes())
 }
 
+/// Appends the list of those devices that are on, or that none is.
 #[tactic(auto, using(std::proofs::Common::append_assoc))]
 fn put_list_on(out: &mut Vec<u8>, devices: &[Device]) -> Result<(), AllocError>
     ensures { OnOk result (out.new.items ≡ out.old.items ++ list_of_devices devices.now) }
@@ -41,6 +42,7 @@ fn is_any_on(devices: &[Device]) -> bool
     devices.iter().any(|device| device.on)
 }
 
+/// Appends an item for each device that is on.
 fn put_each_on(out: &mut Vec<u8>, devices: &[Device]) -> Result<(), AllocError>
     ensures { OnOk result (out.new.items ≡ out.old.items ++ flat_map device_if_on devices.now) }
 {
@@ -50,6 +52,7 @@ fn put_each_on(out: &mut Vec<u8>, devices: &[Device]) -> Result<(), AllocError>
     Ok(())
 }
 
+/// Appends the item of a device, if it is on.
 fn put_if_on(out: &mut Vec<u8>, device: &Device) -> Result<(), AllocError>
     ensures { OnOk result (out.new.items ≡ out.old.items ++ device_if_on device.now) }
 {
@@ -59,7 +62,7 @@ fn put_if_on(out: &mut Vec<u8>, device: &Device) -> Result<(), AllocError>
     put_device_row(out, device)
 }
 
-/// Appends all devices.
+/// Appends the card of all devices, on or off, for the print room's page.
 #[tactic(auto, using(std::proofs::Common::append_assoc), unfolding(crate::specs::Devices::all_devices))]
 pub(crate) fn put_all_devices(out: &mut Vec<u8>, devices: &[Device]) -> Result<(), AllocError>
     ensures { OnOk result (out.new.items ≡ out.old.items ++ all_devices devices.now) }
@@ -71,6 +74,7 @@ pub(crate) fn put_all_devices(out: &mut Vec<u8>, devices: &[Device]) -> Result<(
     out.extend_from_slice(END_OF_CARD.as_bytes())
 }
 
+/// Appends an item for each device.
 fn put_each(out: &mut Vec<u8>, devices: &[Device]) -> Result<(), AllocError>
     ensures { OnOk result (out.new.items ≡ out.old.items ++ flat_map device_row devices.now) }
 {
@@ -80,7 +84,7 @@ fn put_each(out: &mut Vec<u8>, devices: &[Device]) -> Result<(), AllocError>
     Ok(())
 }
 
-/// Appends a device.
+/// Appends the item of a device.
 #[tactic(auto, unfolding(crate::specs::Devices::device_row))]
 fn put_device_row(out: &mut Vec<u8>, device: &Device) -> Result<(), AllocError>
     ensures { OnOk result (out.new.items ≡ out.old.items ++ device_row device.now) }
@@ -95,25 +99,28 @@ fn put_device_row(out: &mut Vec<u8>, device: &Device) -> Result<(), AllocError>
     )
 }
 
+/// Gives the class of a device's item: one that is off has a dashed border.
 fn look_of(on: bool) -> &'static str
     ensures { result.now ≡ look_of on }
 {
     if on { "" } else { " class=\"off\"" }
 }
 
+/// Gives the name of the sign that tells whether a device is on.
 fn on_sign(on: bool) -> &'static str
     ensures { result.now ≡ on_sign on }
 {
     if on { "on" } else { "off" }
 }
 
+/// Gives the word that tells whether a device is on.
 fn on_word(on: bool) -> &'static str
     ensures { result.now ≡ on_word on }
 {
     if on { ON } else { OFF }
 }
 
-/// Appends a device, and what a page costs on it.
+/// Appends the item of a device: its name, whether it is on, and how many units a page costs there.
 fn put_device_item<'a>(
     out: &mut Vec<u8>,
     look: &'a str,

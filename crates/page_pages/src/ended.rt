@@ -1,4 +1,4 @@
-//! The jobs that ended.
+//! The jobs that ended, as a table: on the owner's page and on a statement.
 
 ghost use Rattle.std.specs.Prelude.{◌≡◌, ◌++◌, OnOk, flat_map};
 ghost use Rattle.page_pages.specs.Ended.{ended_columns, ended_counts, ended_name, device_or_none, ended_card, ended_job, table_of_ended};
@@ -16,7 +16,7 @@ use account_rules::{Job, Name};
 use page_markup::{Piece, put_all};
 use std::alloc::AllocError;
 
-/// Appends the jobs that ended last.
+/// Appends the card of the jobs that ended last.
 #[tactic(auto, using(std::proofs::Common::append_assoc), unfolding(crate::specs::Ended::ended_card))]
 pub(crate) fn put_ended_card(out: &mut Vec<u8>, jobs: &[Job]) -> Result<(), AllocError>
     ensures { OnOk result (out.new.items ≡ out.old.items ++ ended_card jobs.now) }
@@ -26,7 +26,7 @@ pub(crate) fn put_ended_card(out: &mut Vec<u8>, jobs: &[Job]) -> Result<(), Allo
     out.extend_from_slice(END_OF_CARD.as_bytes())
 }
 
-/// Appends a table of jobs that ended, or that there is none.
+/// Appends the table of the jobs, or that none has ended.
 pub(crate) fn put_table_of_ended(out: &mut Vec<u8>, jobs: &[Job]) -> Result<(), AllocError>
     ensures { OnOk result (out.new.items ≡ out.old.items ++ table_of_ended jobs.now) }
 {
@@ -36,6 +36,7 @@ pub(crate) fn put_table_of_ended(out: &mut Vec<u8>, jobs: &[Job]) -> Result<(), 
     put_table(out, jobs)
 }
 
+/// Appends the table, with a row for each job.
 #[tactic(auto, using(std::proofs::Common::append_assoc))]
 fn put_table(out: &mut Vec<u8>, jobs: &[Job]) -> Result<(), AllocError>
     ensures { OnOk result (out.new.items ≡ out.old.items ++ (html ended_columns
@@ -46,6 +47,7 @@ fn put_table(out: &mut Vec<u8>, jobs: &[Job]) -> Result<(), AllocError>
     out.extend_from_slice(END_OF_TABLE.as_bytes())
 }
 
+/// Appends a row for each job.
 fn put_jobs(out: &mut Vec<u8>, jobs: &[Job]) -> Result<(), AllocError>
     ensures { OnOk result (out.new.items ≡ out.old.items ++ flat_map ended_job jobs.now) }
 {
@@ -55,7 +57,7 @@ fn put_jobs(out: &mut Vec<u8>, jobs: &[Job]) -> Result<(), AllocError>
     Ok(())
 }
 
-/// Appends a job that ended.
+/// Appends the row of a job that ended.
 #[tactic(auto, using(std::proofs::Common::append_assoc), unfolding(crate::specs::Ended::ended_job))]
 pub(crate) fn put_ended_job(out: &mut Vec<u8>, job: &Job) -> Result<(), AllocError>
     ensures { OnOk result (out.new.items ≡ out.old.items ++ ended_job job.now) }
@@ -70,6 +72,7 @@ pub(crate) fn put_ended_job(out: &mut Vec<u8>, job: &Job) -> Result<(), AllocErr
     )
 }
 
+/// Gives the name of the device that had the job, or `none`.
 fn device_or_none(device: &Option<Name>) -> &[u8]
     ensures { result.now ≡ device_or_none device.now }
 {
@@ -79,7 +82,7 @@ fn device_or_none(device: &Option<Name>) -> &[u8]
     }
 }
 
-/// Appends the heads of the columns of jobs that ended.
+/// Appends the start of the table, with the heads of its columns.
 pub(crate) fn put_ended_columns(out: &mut Vec<u8>) -> Result<(), AllocError>
     ensures { OnOk result (out.new.items ≡ out.old.items ++ html ended_columns) }
 {
@@ -135,7 +138,7 @@ fn put_ended_name<'a>(
     )
 }
 
-/// Appends where and when a job ended, and what it was charged.
+/// Appends where and when a job ended, and how many units it was charged.
 fn put_ended_counts(
     out: &mut Vec<u8>,
     device: &[u8],

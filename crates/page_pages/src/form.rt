@@ -1,4 +1,4 @@
-//! The form to print a file.
+//! The form to print a file, on the owner's page.
 
 ghost use Rattle.std.specs.Prelude.{◌≡◌, ◌++◌, OnOk};
 ghost use Rattle.page_pages.specs.Forms.{duty_mark, form_counts, form_end, form_file, form_password, form_start, password_help, print_form};
@@ -12,7 +12,8 @@ use crate::texts::{
 use page_markup::{Piece, put_all};
 use std::alloc::AllocError;
 
-/// Appends the form to print a file in the account, with a password alone or without one too.
+/// Appends the form to print a file in the account. `needs_password`: no file is taken without a
+/// password.
 #[tactic(auto, using(std::proofs::Common::append_assoc), unfolding(crate::specs::Forms::print_form))]
 pub(crate) fn put_print_form(
     out: &mut Vec<u8>,
@@ -33,7 +34,7 @@ pub(crate) fn put_print_form(
     put_form_end(out)
 }
 
-/// Appends the head of the form to print, with what its script says.
+/// Appends the start of the form, with the texts that its script shows.
 fn put_form_start(out: &mut Vec<u8>, account: &[u8]) -> Result<(), AllocError>
     ensures { OnOk result (out.new.items ≡ out.old.items ++ html (form_start account.now)) }
 {
@@ -102,7 +103,8 @@ fn put_form_counts(out: &mut Vec<u8>) -> Result<(), AllocError>
     )
 }
 
-/// Appends the field of the password, with the mark of a duty, and what helps.
+/// Appends the field of the password. `duty` is its attribute `required` or nothing, `help` the
+/// text below it.
 fn put_form_password<'a>(out: &mut Vec<u8>, duty: &'a str, help: &'a str) -> Result<(), AllocError>
     ensures { OnOk result
         (out.new.items ≡ out.old.items ++ html (form_password duty.now help.now)) }
@@ -122,12 +124,14 @@ fn put_form_password<'a>(out: &mut Vec<u8>, duty: &'a str, help: &'a str) -> Res
     )
 }
 
+/// Gives the attribute of the password's field that has the browser insist on one, if it is to.
 fn duty_mark(needs_password: bool) -> &'static str
     ensures { result.now ≡ duty_mark needs_password }
 {
     if needs_password { " required" } else { "" }
 }
 
+/// Gives the text below the password's field: that one is needed, or that it may be empty.
 fn password_help(needs_password: bool) -> &'static str
     ensures { result.now ≡ password_help needs_password }
 {

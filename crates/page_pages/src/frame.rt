@@ -1,4 +1,4 @@
-//! What stands around the content of a page, and of a card of it.
+//! What stands around the content of a page (title, banner, foot), and the start of a card.
 
 ghost use Rattle.std.specs.Prelude.{◌≡◌, ◌++◌, OnOk};
 ghost use Rattle.page_pages.specs.Frames.{card, document, foot, reload, remark, top};
@@ -9,7 +9,7 @@ use crate::texts::{PRODUCT, SKIP, TIMES, UNITS};
 use page_markup::{Piece, put_all};
 use std::alloc::AllocError;
 
-/// Appends what has a browser load the page of an account anew.
+/// Appends the element that has a browser load an account's page anew after 30 seconds.
 pub(crate) fn put_reload(out: &mut Vec<u8>, account: &[u8]) -> Result<(), AllocError>
     ensures { OnOk result (out.new.items ≡ out.old.items ++ html (reload account.now)) }
 {
@@ -23,7 +23,7 @@ pub(crate) fn put_reload(out: &mut Vec<u8>, account: &[u8]) -> Result<(), AllocE
     )
 }
 
-/// Appends the begin of a page with its title.
+/// Appends the start of a page, with its title.
 pub(crate) fn put_document(out: &mut Vec<u8>, title: &[u8]) -> Result<(), AllocError>
     ensures { OnOk result (out.new.items ≡ out.old.items ++ html (document title.now)) }
 {
@@ -40,7 +40,8 @@ pub(crate) fn put_document(out: &mut Vec<u8>, title: &[u8]) -> Result<(), AllocE
     )
 }
 
-/// Appends what stands above the content of a page.
+/// Appends the start of the body: the signs, a link to the content, and a banner that names the
+/// place (`PRINT_ROOM` or `OPERATORS`).
 pub(crate) fn put_top(out: &mut Vec<u8>, place: &str) -> Result<(), AllocError>
     ensures { OnOk result (out.new.items ≡ out.old.items ++ html (top place.now)) }
 {
@@ -61,7 +62,7 @@ pub(crate) fn put_top(out: &mut Vec<u8>, place: &str) -> Result<(), AllocError>
     )
 }
 
-/// Appends the begin of a card with its heading.
+/// Appends the start of a card with its heading. The name is the id of the heading.
 pub(crate) fn put_card<'a>(
     out: &mut Vec<u8>,
     name: &'a str,
@@ -83,7 +84,7 @@ pub(crate) fn put_card<'a>(
     )
 }
 
-/// Appends a sentence.
+/// Appends a sentence as a paragraph in small print.
 pub(crate) fn put_remark(out: &mut Vec<u8>, said: &str) -> Result<(), AllocError>
     ensures { OnOk result (out.new.items ≡ out.old.items ++ html (remark said.now)) }
 {
@@ -97,7 +98,7 @@ pub(crate) fn put_remark(out: &mut Vec<u8>, said: &str) -> Result<(), AllocError
     )
 }
 
-/// Appends the head of what stands below the content.
+/// Appends the end of the content and the start of the foot, which explains units and times.
 pub(crate) fn put_foot(out: &mut Vec<u8>) -> Result<(), AllocError>
     ensures { OnOk result (out.new.items ≡ out.old.items ++ html foot) }
 {

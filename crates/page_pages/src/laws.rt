@@ -1,4 +1,5 @@
-//! What holds of the rows of a page, and of what it offers.
+//! Laws of the pages: no name breaks a row, buttons that are shown go through, and no password
+//! shows.
 
 ghost use Rattle.page_pages.specs.ButtonLaws.{HoldsGoThrough, ReleasesAreOffered, ReleasesGoThrough};
 ghost use Rattle.page_pages.specs.PasswordLaws.{PasswordsAreKept};

@@ -1,4 +1,4 @@
-//! What has waited longest.
+//! The card of the jobs that have waited longest, on the print room's page.
 
 ghost use Rattle.std.specs.Prelude.{◌≡◌, ◌++◌, OnOk, flat_map};
 ghost use Rattle.page_pages.specs.Longest.{longest_columns, longest_row, longest_card, longest_item, table_of_longest};
@@ -24,7 +24,7 @@ pub struct LongestLine {
     pub created: u64,
 }
 
-/// Appends the card.
+/// Appends the card of the jobs that have waited longest.
 #[tactic(auto, using(std::proofs::Common::append_assoc), unfolding(crate::specs::Longest::longest_card))]
 pub(crate) fn put_longest_card(out: &mut Vec<u8>, lines: &[LongestLine]) -> Result<(), AllocError>
     ensures { OnOk result (out.new.items ≡ out.old.items ++ longest_card lines.now) }
@@ -34,6 +34,7 @@ pub(crate) fn put_longest_card(out: &mut Vec<u8>, lines: &[LongestLine]) -> Resu
     out.extend_from_slice(END_OF_CARD.as_bytes())
 }
 
+/// Appends the table of the jobs, or that nothing waits.
 fn put_table_of_longest(out: &mut Vec<u8>, lines: &[LongestLine]) -> Result<(), AllocError>
     ensures { OnOk result (out.new.items ≡ out.old.items ++ table_of_longest lines.now) }
 {
@@ -43,6 +44,7 @@ fn put_table_of_longest(out: &mut Vec<u8>, lines: &[LongestLine]) -> Result<(), 
     put_table(out, lines)
 }
 
+/// Appends the table, with a row for each job.
 #[tactic(auto, using(std::proofs::Common::append_assoc))]
 fn put_table(out: &mut Vec<u8>, lines: &[LongestLine]) -> Result<(), AllocError>
     ensures { OnOk result (out.new.items ≡ out.old.items ++ (html longest_columns
@@ -53,6 +55,7 @@ fn put_table(out: &mut Vec<u8>, lines: &[LongestLine]) -> Result<(), AllocError>
     out.extend_from_slice(END_OF_TABLE.as_bytes())
 }
 
+/// Appends a row for each job.
 fn put_lines(out: &mut Vec<u8>, lines: &[LongestLine]) -> Result<(), AllocError>
     ensures { OnOk result (out.new.items ≡ out.old.items ++ flat_map longest_item lines.now) }
 {
@@ -62,6 +65,7 @@ fn put_lines(out: &mut Vec<u8>, lines: &[LongestLine]) -> Result<(), AllocError>
     Ok(())
 }
 
+/// Appends the row of a job.
 fn put_longest_item(out: &mut Vec<u8>, line: &LongestLine) -> Result<(), AllocError>
     ensures { OnOk result (out.new.items ≡ out.old.items ++ longest_item line.now) }
 {
@@ -75,7 +79,7 @@ fn put_longest_item(out: &mut Vec<u8>, line: &LongestLine) -> Result<(), AllocEr
     )
 }
 
-/// Appends the heads of the columns of what waits.
+/// Appends the start of the table, with the heads of its columns.
 fn put_longest_columns(out: &mut Vec<u8>) -> Result<(), AllocError>
     ensures { OnOk result (out.new.items ≡ out.old.items ++ html longest_columns) }
 {
@@ -95,7 +99,7 @@ fn put_longest_columns(out: &mut Vec<u8>) -> Result<(), AllocError>
     )
 }
 
-/// Appends a job that waits.
+/// Appends the row of a job. It was made at a moment in seconds since 1970-01-01T00:00:00Z.
 fn put_longest_row<'a>(
     out: &mut Vec<u8>,
     account: &'a [u8],

@@ -1,5 +1,7 @@
-//! Markup that is the same on each page.
+//! The constant markup of the pages: what goes out as it is, with no text and no number in it. (The
+//! pieces of a page are those of the crate page_markup.)
 
+/// The start of each page, up to its title.
 pub(crate) const DOCUMENT: &str = "<!DOCTYPE html>
 <html lang=\"en\">
 <head>
@@ -9,14 +11,15 @@ pub(crate) const DOCUMENT: &str = "<!DOCTYPE html>
 <link rel=\"stylesheet\" href=\"/style.css\">
 ";
 
+/// Loads the script of the form to print, on the owner's page.
 pub(crate) const PAGE_SCRIPT: &str = "<script src=\"/print.js\" defer></script>\n";
 
-/// Has a browser load the page that it shows anew.
+/// Has a browser load the print room's page anew after 2 seconds.
 pub(crate) const RELOAD_SOON: &str = "<meta http-equiv=\"refresh\" content=\"2\">\n";
 
 pub(crate) const BODY: &str = "</head>\n<body>\n";
 
-/// The signs, each with the name by which it is drawn.
+/// The signs that a page draws (`sign` of a phase), each with its name.
 pub(crate) const SIGNS: &str = "<svg class=\"unseen\" aria-hidden=\"true\">
 <symbol id=\"sprig\" viewBox=\"0 0 24 24\"><path d=\"M12 22V8m0 5L7.5 8.500M12 13l4.500-4.500M12 18l-5.500-5.500M12 18l5.500-5.500\"/><circle cx=\"12\" cy=\"4.500\" r=\"2.500\"/></symbol>
 <symbol id=\"held\" viewBox=\"0 0 16 16\"><path d=\"M5.500 3.500v9m5-9v9\"/></symbol>
@@ -33,25 +36,31 @@ pub(crate) const SIGNS: &str = "<svg class=\"unseen\" aria-hidden=\"true\">
 </svg>
 ";
 
-/// The look of the act that a job waits for.
+/// The class of the button for the act that a job waits for.
 pub(crate) const FIRST_ACT: &str = " class=\"first\"";
 
+/// Ends the buttons of a job, and its row.
 pub(crate) const END_OF_ACTS: &str = "</form></td></tr>\n";
 
 pub(crate) const END_OF_TABLE: &str = "</tbody>\n</table>\n";
 
 pub(crate) const END_OF_CARD: &str = "</section>\n";
 
+/// Ends what is told of the last act.
 pub(crate) const END_OF_NOTE: &str = "</p></div>\n";
 
 pub(crate) const LIST_OF_DEVICES: &str = "<ul class=\"devices\">\n";
 
 pub(crate) const END_OF_LIST: &str = "</ul>\n";
 
+/// Begins a box of two cards, which stand side by side where there is room.
 pub(crate) const PAIR: &str = "<div class=\"pair\">\n";
 
+/// Ends the box of two cards.
 pub(crate) const END_OF_PAIR: &str = "</div>\n";
 
+/// Ends the table of a chart's days, and the chart's card.
 pub(crate) const END_OF_CHART: &str = "</tbody>\n</table></div>\n</details>\n</section>\n";
 
+/// Ends the foot, and the page.
 pub(crate) const END_OF_PAGE: &str = "</p></footer>\n</body>\n</html>\n";

@@ -1,4 +1,4 @@
-//! What came of the last act, in a sentence.
+//! What came of the last act, told at the head of the owner's page.
 
 ghost use Rattle.std.specs.Prelude.{◌≡◌, ◌++◌, OnOk};
 ghost use Rattle.page_pages.specs.Outcomes.{done_note, failed_note, refused_file, refused_job, done, next_of, not_done, outcome_if_any, refused, refused_start, told};
@@ -15,7 +15,7 @@ use account_rules::Word;
 use page_markup::{Piece, put_all};
 use std::alloc::AllocError;
 
-/// What an owner may ask on a page.
+/// What an owner may do by a page.
 #[derive(Clone, Copy)]
 pub enum Act {
     Release,
@@ -48,6 +48,7 @@ pub(crate) fn put_outcome_if_any(
     }
 }
 
+/// Appends what came of an act.
 fn put_outcome(out: &mut Vec<u8>, outcome: Outcome) -> Result<(), AllocError>
     ensures { OnOk result (out.new.items ≡ out.old.items ++ told outcome) }
 {
@@ -58,6 +59,7 @@ fn put_outcome(out: &mut Vec<u8>, outcome: Outcome) -> Result<(), AllocError>
     }
 }
 
+/// Appends that an act was refused, and why.
 #[tactic(auto, using(std::proofs::Common::append_assoc), unfolding(crate::specs::Outcomes::refused))]
 fn put_refused(out: &mut Vec<u8>, act: Act, job: u32, word: Word) -> Result<(), AllocError>
     ensures { OnOk result (out.new.items ≡ out.old.items ++ refused act job word) }
@@ -67,6 +69,7 @@ fn put_refused(out: &mut Vec<u8>, act: Act, job: u32, word: Word) -> Result<(), 
     out.extend_from_slice(END_OF_NOTE.as_bytes())
 }
 
+/// Appends what was refused: a file, or an act on a job.
 fn put_refused_start(out: &mut Vec<u8>, act: Act, job: u32) -> Result<(), AllocError>
     ensures { OnOk result (out.new.items ≡ out.old.items ++ refused_start act job) }
 {
@@ -76,6 +79,7 @@ fn put_refused_start(out: &mut Vec<u8>, act: Act, job: u32) -> Result<(), AllocE
     }
 }
 
+/// Gives the words that tell, behind `Job NUMBER`, that the act was done.
 fn done(act: Act) -> &'static str
     ensures { result.now ≡ done act }
 {
@@ -87,6 +91,7 @@ fn done(act: Act) -> &'static str
     }
 }
 
+/// Gives the sentence that tells what follows, once the act was done.
 fn next_of(act: Act) -> &'static str
     ensures { result.now ≡ next_of act }
 {
@@ -98,6 +103,7 @@ fn next_of(act: Act) -> &'static str
     }
 }
 
+/// Gives the words that tell that the act was not done. Those of `Print` stand by themselves.
 fn not_done(act: Act) -> &'static str
     ensures { result.now ≡ not_done act }
 {
@@ -109,7 +115,7 @@ fn not_done(act: Act) -> &'static str
     }
 }
 
-/// Appends that an act was done, and what follows.
+/// Appends that an act was done with a job, and what follows.
 fn put_done_note<'a>(
     out: &mut Vec<u8>,
     number: u32,
@@ -136,7 +142,7 @@ fn put_done_note<'a>(
     )
 }
 
-/// Appends what was not done with a job.
+/// Appends that an act was not done with a job. The reason goes behind it.
 fn put_refused_job(out: &mut Vec<u8>, number: u32, said: &str) -> Result<(), AllocError>
     ensures { OnOk result (out.new.items ≡ out.old.items ++ html (refused_job number said.now)) }
 {
@@ -155,7 +161,7 @@ fn put_refused_job(out: &mut Vec<u8>, number: u32, said: &str) -> Result<(), All
     )
 }
 
-/// Appends that a file was not taken.
+/// Appends that a file was not taken. The reason goes behind it.
 fn put_refused_file(out: &mut Vec<u8>) -> Result<(), AllocError>
     ensures { OnOk result (out.new.items ≡ out.old.items ++ html refused_file) }
 {
@@ -171,7 +177,7 @@ fn put_refused_file(out: &mut Vec<u8>) -> Result<(), AllocError>
     )
 }
 
-/// Appends that the store failed.
+/// Appends that the store failed, and that nothing was done.
 fn put_failed_note(out: &mut Vec<u8>) -> Result<(), AllocError>
     ensures { OnOk result (out.new.items ≡ out.old.items ++ html failed_note) }
 {

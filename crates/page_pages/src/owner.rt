@@ -1,4 +1,4 @@
-//! The owner's page.
+//! The page of an account's owner: what is left, what waits and ended, and the form to print.
 
 ghost use Rattle.std.specs.Prelude.{◌≡◌, ◌++◌, ◌≤◌, OnOk};
 ghost use Rattle.account_rules.specs.Limits.{most_units};
@@ -63,6 +63,7 @@ pub fn put_owner_page(out: &mut Vec<u8>, owner: &Owner) -> Result<(), AllocError
     put_owner_end(out, owner)
 }
 
+/// Appends the start of the page, up to its banner.
 #[tactic(auto, using(std::proofs::Common::append_assoc), unfolding(crate::specs::Owners::owner_start))]
 fn put_owner_start(out: &mut Vec<u8>, owner: &Owner) -> Result<(), AllocError>
     ensures { OnOk result (out.new.items ≡ out.old.items ++ owner_start owner.now) }
@@ -72,6 +73,7 @@ fn put_owner_start(out: &mut Vec<u8>, owner: &Owner) -> Result<(), AllocError>
     put_top(out, PRINT_ROOM)
 }
 
+/// Appends the title, and has a browser load the page anew where it is to.
 #[tactic(auto, using(std::proofs::Common::append_assoc), unfolding(crate::specs::Owners::owner_document))]
 fn put_owner_document(out: &mut Vec<u8>, owner: &Owner) -> Result<(), AllocError>
     ensures { OnOk result (out.new.items ≡ out.old.items ++ owner_document owner.now) }
@@ -87,6 +89,7 @@ fn does_reload(owner: &Owner) -> bool
     !owner.stays && !owner.waiting.as_slice().is_empty()
 }
 
+/// Appends the element that has a browser load the page anew, if it is to.
 fn put_reload_if(out: &mut Vec<u8>, reloads: bool, account: &[u8]) -> Result<(), AllocError>
     ensures { OnOk result (out.new.items ≡ out.old.items ++ reload_if reloads account.now) }
 {
@@ -96,6 +99,7 @@ fn put_reload_if(out: &mut Vec<u8>, reloads: bool, account: &[u8]) -> Result<(),
     put_reload(out, account)
 }
 
+/// Appends what came of the last act, the account's name, and what is left of its quota.
 #[tactic(auto, using(std::proofs::Common::append_assoc), unfolding(crate::specs::Owners::content))]
 fn put_content(out: &mut Vec<u8>, owner: &Owner) -> Result<(), AllocError>
     requires granted { owner.now.granted ≤ most_units }
@@ -108,6 +112,8 @@ fn put_content(out: &mut Vec<u8>, owner: &Owner) -> Result<(), AllocError>
     put_balance(out, owner.granted, owner.reserved, owner.charged)
 }
 
+/// Appends the jobs that wait, the form to print, the devices that are on, and the jobs that ended
+/// last.
 #[tactic(auto, using(std::proofs::Common::append_assoc), unfolding(crate::specs::Owners::lists))]
 fn put_lists(out: &mut Vec<u8>, owner: &Owner) -> Result<(), AllocError>
     ensures { OnOk result (out.new.items ≡ out.old.items ++ lists owner.now) }
@@ -118,6 +124,7 @@ fn put_lists(out: &mut Vec<u8>, owner: &Owner) -> Result<(), AllocError>
     put_ended_card(out, owner.ended.as_slice())
 }
 
+/// Appends the foot, which also tells whether the page loads itself anew.
 #[tactic(auto, using(std::proofs::Common::append_assoc), unfolding(crate::specs::Owners::owner_end))]
 fn put_owner_end(out: &mut Vec<u8>, owner: &Owner) -> Result<(), AllocError>
     ensures { OnOk result (out.new.items ≡ out.old.items ++ owner_end owner.now) }
@@ -137,7 +144,7 @@ fn put_reload_words(out: &mut Vec<u8>, owner: &Owner) -> Result<(), AllocError>
     put_reloads(out, owner.account.bytes())
 }
 
-/// Appends the name of the account, and the way to its statement.
+/// Appends the name of the account, and the link to its statement of the month.
 fn put_account_title(out: &mut Vec<u8>, account: &[u8], month: u32) -> Result<(), AllocError>
     ensures { OnOk result
         (out.new.items ≡ out.old.items ++ html (account_title account.now month)) }
@@ -161,7 +168,7 @@ fn put_account_title(out: &mut Vec<u8>, account: &[u8], month: u32) -> Result<()
     )
 }
 
-/// Appends that the page loads itself anew, and the way to stop that.
+/// Appends that the page loads itself anew, and the link that stops it.
 fn put_reloads(out: &mut Vec<u8>, account: &[u8]) -> Result<(), AllocError>
     ensures { OnOk result (out.new.items ≡ out.old.items ++ html (reloads account.now)) }
 {
@@ -178,7 +185,7 @@ fn put_reloads(out: &mut Vec<u8>, account: &[u8]) -> Result<(), AllocError>
     )
 }
 
-/// Appends that the page stays as it is, and the way to change that.
+/// Appends that the page stays as it is, and the link that has it load itself anew.
 fn put_stays(out: &mut Vec<u8>, account: &[u8]) -> Result<(), AllocError>
     ensures { OnOk result (out.new.items ≡ out.old.items ++ html (stays account.now)) }
 {

@@ -1,4 +1,4 @@
-//! How a job stands, as its owner is told.
+//! The phase of a job: how it stands, as its owner is told, with a word, a sentence and a sign.
 
 ghost use Rattle.std.specs.Prelude.{◌≡◌};
 ghost use Rattle.page_pages.specs.Phases.{held_phase, is_incomplete, phase_of, sentence, sign, word};
@@ -29,7 +29,7 @@ pub enum Phase {
     Failed,
 }
 
-/// How the job stands.
+/// Gives the phase of a job, by its state and by what it still lacks.
 pub fn phase_of(job: &Job) -> Phase
     ensures { result ≡ phase_of job.now }
 {
@@ -44,6 +44,7 @@ pub fn phase_of(job: &Job) -> Phase
     }
 }
 
+/// Gives the phase of a job that is held: what keeps its owner from releasing it, if anything.
 fn held_phase(standing: &Standing, password: &[u8]) -> Phase
     ensures { result ≡ held_phase standing.now password.now }
 {
@@ -59,13 +60,14 @@ fn held_phase(standing: &Standing, password: &[u8]) -> Phase
     Phase::Ready
 }
 
+/// Whether documents of the job are still to come, or it has none.
 fn is_incomplete(standing: &Standing) -> bool
     ensures { result ≡ is_incomplete standing.now }
 {
     standing.is_open || standing.documents == 0
 }
 
-/// Its word.
+/// Gives the word of the phase, for a job's row.
 pub(crate) fn word(phase: Phase) -> &'static str
     ensures { result.now ≡ word phase }
 {
@@ -80,7 +82,7 @@ pub(crate) fn word(phase: Phase) -> &'static str
     }
 }
 
-/// The sentence that explains it, of a job that waits.
+/// Gives the sentence that explains the phase. A job that has ended needs none.
 pub(crate) fn sentence(phase: Phase) -> &'static str
     ensures { result.now ≡ sentence phase }
 {
@@ -96,7 +98,7 @@ pub(crate) fn sentence(phase: Phase) -> &'static str
     }
 }
 
-/// The name of its sign.
+/// Gives the name of the phase's sign (`SIGNS`).
 pub(crate) fn sign(phase: Phase) -> &'static str
     ensures { result.now ≡ sign phase }
 {

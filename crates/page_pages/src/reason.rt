@@ -1,4 +1,4 @@
-//! Why something was refused, in plain words.
+//! Why something was refused, in plain words for an account's owner.
 
 ghost use Rattle.std.specs.Prelude.{◌≡◌, ◌++◌, OnOk};
 ghost use Rattle.std.specs.Fmt.{signed_decimal};
@@ -16,7 +16,7 @@ use account_rules::Word;
 use page_markup::{Piece, put_all, signed_text};
 use std::alloc::AllocError;
 
-/// Appends why something was refused.
+/// Appends the sentence that tells why something was refused.
 pub(crate) fn put_reason(out: &mut Vec<u8>, word: Word) -> Result<(), AllocError>
     ensures { OnOk result (out.new.items ≡ out.old.items ++ reason word) }
 {
@@ -26,6 +26,7 @@ pub(crate) fn put_reason(out: &mut Vec<u8>, word: Word) -> Result<(), AllocError
     }
 }
 
+/// Appends how many units were needed, and how many were left, which may be fewer than none.
 fn put_quota(out: &mut Vec<u8>, need: u64, left: i64) -> Result<(), AllocError>
     ensures { OnOk result
         (out.new.items ≡ out.old.items ++ html (quota_reason need (signed_decimal left))) }
@@ -34,7 +35,8 @@ fn put_quota(out: &mut Vec<u8>, need: u64, left: i64) -> Result<(), AllocError>
     put_quota_reason(out, need, left.as_str())
 }
 
-/// The sentence of a word. That of the quota has numbers, and is made where it goes out.
+/// Gives the sentence of a word. That of the quota is empty: it has numbers, which `put_quota`
+/// appends.
 fn sentence_of(word: Word) -> &'static str
     ensures { result.now ≡ sentence_of word }
 {
@@ -76,7 +78,7 @@ fn sentence_of(word: Word) -> &'static str
     }
 }
 
-/// Appends what was needed, and what is left.
+/// Appends the sentence of the quota. What was left comes as a text.
 fn put_quota_reason(out: &mut Vec<u8>, need: u64, left: &str) -> Result<(), AllocError>
     ensures { OnOk result (out.new.items ≡ out.old.items ++ html (quota_reason need left.now)) }
 {

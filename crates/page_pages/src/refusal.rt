@@ -51,6 +51,7 @@ pub fn put_refusal_page(out: &mut Vec<u8>, refusal: Refusal) -> Result<(), Alloc
     put_refusal_card(out, heading(refusal), sentence(refusal))
 }
 
+/// Gives the heading of the page: what kind of refusal it is.
 fn heading(refusal: Refusal) -> &'static str
     ensures { result.now ≡ heading refusal }
 {
@@ -66,6 +67,7 @@ fn heading(refusal: Refusal) -> &'static str
     }
 }
 
+/// Gives the sentence that tells why, and what to do.
 fn sentence(refusal: Refusal) -> &'static str
     ensures { result.now ≡ sentence refusal }
 {
@@ -84,7 +86,7 @@ fn sentence(refusal: Refusal) -> &'static str
     }
 }
 
-/// Appends the heading, the sentence, and the way to the first page.
+/// Appends the card with heading and sentence, the link to the first page, and the page's end.
 fn put_refusal_card<'a>(
     out: &mut Vec<u8>,
     heading: &'a str,

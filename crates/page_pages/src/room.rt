@@ -1,4 +1,4 @@
-//! The print room's page.
+//! The print room's page, for operators: sums, a chart of the month, and lists over all accounts.
 
 ghost use Rattle.std.specs.Prelude.{◌≡◌, ◌++◌, OnOk};
 ghost use Rattle.page_pages.specs.Accounts.{accounts_card};
@@ -56,11 +56,11 @@ pub struct Room<'a> {
     pub longest: &'a [LongestLine],
     /// All devices, by name.
     pub devices: &'a [Device],
-    /// How the names of the accounts begin that are listed, if not all are.
+    /// What the names of the listed accounts begin with, if not all are listed.
     pub front: Option<Name>,
-    /// A page of accounts, by name.
+    /// The accounts that this page lists, by name.
     pub accounts: &'a [AccountLine],
-    /// Behind which name more accounts come, if there are more.
+    /// The last account of this list, if more come behind it: there the next list begins.
     pub behind: Option<Name>,
 }
 
@@ -77,6 +77,8 @@ pub fn put_room_page(out: &mut Vec<u8>, room: &Room<'_>) -> Result<(), AllocErro
     out.extend_from_slice(END_OF_PAGE.as_bytes())
 }
 
+/// Appends the start of the page, up to its banner. It loads itself anew in 2 seconds while
+/// accounts are being gathered, or where nothing was gathered yet.
 #[tactic(auto, using(std::proofs::Common::append_assoc), unfolding(crate::specs::Rooms::room_start))]
 fn put_room_start(out: &mut Vec<u8>, room: &Room<'_>) -> Result<(), AllocError>
     ensures { OnOk result (out.new.items ≡ out.old.items ++ room_start room.now) }
@@ -86,6 +88,7 @@ fn put_room_start(out: &mut Vec<u8>, room: &Room<'_>) -> Result<(), AllocError>
     put_top(out, OPERATORS)
 }
 
+/// Appends the element that has a browser load the page anew, if it is to.
 fn put_reload_if(out: &mut Vec<u8>, reloads: bool) -> Result<(), AllocError>
     ensures { OnOk result (out.new.items ≡ out.old.items ++ reload_if reloads) }
 {
@@ -95,6 +98,8 @@ fn put_reload_if(out: &mut Vec<u8>, reloads: bool) -> Result<(), AllocError>
     out.extend_from_slice(RELOAD_SOON.as_bytes())
 }
 
+/// Appends the heading, and the remarks that hold: accounts are being gathered, some were left out,
+/// there are more.
 #[tactic(auto, using(std::proofs::Common::append_assoc), unfolding(crate::specs::Rooms::room_head))]
 fn put_room_head(out: &mut Vec<u8>, room: &Room<'_>) -> Result<(), AllocError>
     ensures { OnOk result (out.new.items ≡ out.old.items ++ room_head room.now) }
@@ -105,6 +110,7 @@ fn put_room_head(out: &mut Vec<u8>, room: &Room<'_>) -> Result<(), AllocError>
     put_remark_if(out, room.has_more, HAS_MORE)
 }
 
+/// Appends a sentence, if it holds.
 fn put_remark_if(out: &mut Vec<u8>, holds: bool, said: &str) -> Result<(), AllocError>
     ensures { OnOk result (out.new.items ≡ out.old.items ++ remark_if holds said.now) }
 {
@@ -114,6 +120,7 @@ fn put_remark_if(out: &mut Vec<u8>, holds: bool, said: &str) -> Result<(), Alloc
     put_remark(out, said)
 }
 
+/// Appends the sums over all accounts, and the chart of the month's days.
 #[tactic(auto, using(std::proofs::Common::append_assoc), unfolding(crate::specs::Rooms::room_sums))]
 fn put_room_sums(out: &mut Vec<u8>, room: &Room<'_>) -> Result<(), AllocError>
     ensures { OnOk result (out.new.items ≡ out.old.items ++ room_sums room.now) }
@@ -129,6 +136,8 @@ fn put_room_sums(out: &mut Vec<u8>, room: &Room<'_>) -> Result<(), AllocError>
     put_chart(out, room.month, room.days)
 }
 
+/// Appends the lists: side by side the jobs that devices began and the jobs that have waited
+/// longest, below them all devices, and last a list of accounts with a link to the next (`behind`).
 #[tactic(auto, using(std::proofs::Common::append_assoc), unfolding(crate::specs::Rooms::room_lists))]
 fn put_room_lists(out: &mut Vec<u8>, room: &Room<'_>) -> Result<(), AllocError>
     ensures { OnOk result (out.new.items ≡ out.old.items ++ room_lists room.now) }
@@ -141,6 +150,7 @@ fn put_room_lists(out: &mut Vec<u8>, room: &Room<'_>) -> Result<(), AllocError>
     put_accounts_card(out, front_text(&room.front), room.accounts, room.behind)
 }
 
+/// Gives what the names of the listed accounts begin with: nothing, where all are listed.
 fn front_text(front: &Option<Name>) -> &[u8]
     ensures { result.now ≡ front_text front.now }
 {
@@ -150,7 +160,7 @@ fn front_text(front: &Option<Name>) -> &[u8]
     }
 }
 
-/// Appends the heading, as of when it is, and the form to find an account.
+/// Appends the heading, from which moment the numbers are, and the form to find an account.
 #[tactic(auto, using(std::proofs::Common::append_assoc), unfolding(crate::specs::Rooms::room_title))]
 fn put_room_title(out: &mut Vec<u8>, at: Option<u64>, front: &[u8]) -> Result<(), AllocError>
     ensures { OnOk result (out.new.items ≡ out.old.items ++ room_title at front.now) }
@@ -160,6 +170,7 @@ fn put_room_title(out: &mut Vec<u8>, at: Option<u64>, front: &[u8]) -> Result<()
     put_find_form(out, front)
 }
 
+/// Appends the start of the heading.
 fn put_title_start(out: &mut Vec<u8>) -> Result<(), AllocError>
     ensures { OnOk result (out.new.items ≡ out.old.items ++ html title_start) }
 {
@@ -173,6 +184,7 @@ fn put_title_start(out: &mut Vec<u8>) -> Result<(), AllocError>
     )
 }
 
+/// Appends from which moment the numbers are, or that nothing was counted yet.
 fn put_as_of_text(out: &mut Vec<u8>, at: Option<u64>) -> Result<(), AllocError>
     ensures { OnOk result (out.new.items ≡ out.old.items ++ as_of_text at) }
 {
@@ -182,6 +194,7 @@ fn put_as_of_text(out: &mut Vec<u8>, at: Option<u64>) -> Result<(), AllocError>
     }
 }
 
+/// Appends from which moment the numbers are.
 fn put_as_of(out: &mut Vec<u8>, at: u64) -> Result<(), AllocError>
     ensures { OnOk result (out.new.items ≡ out.old.items ++ html (as_of at)) }
 {
@@ -191,7 +204,7 @@ fn put_as_of(out: &mut Vec<u8>, at: u64) -> Result<(), AllocError>
     )
 }
 
-/// Appends the end of the heading, and the form to find an account.
+/// Appends the end of the heading, and the form to find accounts by what their names begin with.
 fn put_find_form(out: &mut Vec<u8>, front: &[u8]) -> Result<(), AllocError>
     ensures { OnOk result (out.new.items ≡ out.old.items ++ html (find_form front.now)) }
 {
@@ -216,7 +229,8 @@ fn put_find_form(out: &mut Vec<u8>, front: &[u8]) -> Result<(), AllocError>
     )
 }
 
-/// Appends the sums over all accounts.
+/// Appends the sums over all accounts: accounts open, jobs waiting, jobs begun and not settled,
+/// units charged this month, and units of these beyond what was released.
 fn put_tiles(
     out: &mut Vec<u8>,
     accounts: u64,

@@ -1,4 +1,4 @@
-//! A statement for paper: one account, one month.
+//! A statement for paper: what one account was granted and charged, and its jobs of one month.
 
 ghost use Rattle.std.specs.Prelude.{◌≡◌, ◌++◌, ◌≤◌, OnOk, flat_map};
 ghost use Rattle.account_rules.specs.Limits.{most_units};
@@ -40,7 +40,7 @@ pub struct Statement {
     pub ended: List<Job>,
 }
 
-/// Appends a statement.
+/// Appends the page of a statement.
 #[tactic(auto, using(std::proofs::Common::append_assoc), unfolding(crate::specs::Statements::statement_page))]
 pub fn put_statement(out: &mut Vec<u8>, statement: &Statement) -> Result<(), AllocError>
     requires granted { statement.now.granted ≤ most_units }
@@ -55,6 +55,7 @@ pub fn put_statement(out: &mut Vec<u8>, statement: &Statement) -> Result<(), All
     out.extend_from_slice(END_OF_PAGE.as_bytes())
 }
 
+/// Appends the start of the page, up to the statement's heading.
 #[tactic(auto, using(std::proofs::Common::append_assoc), unfolding(crate::specs::Statements::statement_start))]
 fn put_statement_start(out: &mut Vec<u8>, statement: &Statement) -> Result<(), AllocError>
     ensures { OnOk result (out.new.items ≡ out.old.items ++ statement_start statement.now) }
@@ -69,6 +70,7 @@ fn put_statement_start(out: &mut Vec<u8>, statement: &Statement) -> Result<(), A
     )
 }
 
+/// Appends the sums of the account, with what is left of its units.
 fn put_sums(out: &mut Vec<u8>, statement: &Statement) -> Result<(), AllocError>
     requires granted { statement.now.granted ≤ most_units }
     requires reserved { statement.now.reserved ≤ most_units }
@@ -91,6 +93,7 @@ fn put_sums(out: &mut Vec<u8>, statement: &Statement) -> Result<(), AllocError>
     )
 }
 
+/// Appends the jobs that ended in the month, as a table, and how many they are.
 #[tactic(auto, using(std::proofs::Common::append_assoc), unfolding(crate::specs::Statements::statement_jobs))]
 fn put_statement_jobs(out: &mut Vec<u8>, statement: &Statement) -> Result<(), AllocError>
     ensures { OnOk result (out.new.items ≡ out.old.items ++ statement_jobs statement.now) }
@@ -101,6 +104,7 @@ fn put_statement_jobs(out: &mut Vec<u8>, statement: &Statement) -> Result<(), Al
     out.extend_from_slice(END_OF_TABLE.as_bytes())
 }
 
+/// Appends the rows of those of the jobs that ended in the month.
 fn put_jobs_then(out: &mut Vec<u8>, month: u32, jobs: &[Job]) -> Result<(), AllocError>
     ensures { OnOk result
         (out.new.items ≡ out.old.items ++ flat_map (job_if_then month) jobs.now) }
@@ -111,6 +115,7 @@ fn put_jobs_then(out: &mut Vec<u8>, month: u32, jobs: &[Job]) -> Result<(), Allo
     Ok(())
 }
 
+/// Appends the row of a job, if it ended in the month.
 fn put_job_if_then(out: &mut Vec<u8>, month: u32, job: &Job) -> Result<(), AllocError>
     ensures { OnOk result (out.new.items ≡ out.old.items ++ job_if_then month job.now) }
 {
@@ -120,7 +125,7 @@ fn put_job_if_then(out: &mut Vec<u8>, month: u32, job: &Job) -> Result<(), Alloc
     put_ended_job(out, job)
 }
 
-/// Whether an end was in the month.
+/// Whether a job that ended at this moment did so in the month. One that has not ended did not.
 fn is_then(month: u32, ended: Option<u64>) -> bool
     ensures { result ≡ is_then month ended }
 {
@@ -130,7 +135,7 @@ fn is_then(month: u32, ended: Option<u64>) -> bool
     }
 }
 
-/// Appends whose statement it is, of which month, and when it was drawn up.
+/// Appends the heading: whose statement it is, of which month, and when it was drawn up.
 fn put_statement_title(
     out: &mut Vec<u8>,
     account: &[u8],
@@ -164,7 +169,8 @@ fn put_statement_title(
     )
 }
 
-/// Appends the sums.
+/// Appends the table of sums, in units. `charged_then` are those of the jobs that ended in the
+/// month, and `left` is a text, since it may be negative.
 fn put_statement_sums(
     out: &mut Vec<u8>,
     granted: u64,
@@ -223,7 +229,7 @@ fn put_statement_count(out: &mut Vec<u8>, count: u64) -> Result<(), AllocError>
     )
 }
 
-/// Appends what stands below the sheet.
+/// Appends the end of the statement, and the foot of the page.
 fn put_sheet_foot(out: &mut Vec<u8>) -> Result<(), AllocError>
     ensures { OnOk result (out.new.items ≡ out.old.items ++ html sheet_foot) }
 {

@@ -1,4 +1,5 @@
-//! What the pages fetch beside themselves, a style sheet and a script, and what a browser may do.
+//! The style sheet and the script that pages fetch, and the policy of what a browser may load for
+//! them.
 
 /// The style sheet of all pages, `/style.css`.
 pub const STYLE_SHEET: &str =

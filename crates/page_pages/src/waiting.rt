@@ -1,4 +1,4 @@
-//! The jobs that wait, with what their owner may do with them.
+//! The card of the jobs that wait, on the owner's page, with what their owner may do with them.
 
 ghost use Rattle.std.specs.Prelude.{◌≡◌, ◌++◌, OnOk, flat_map};
 ghost use Rattle.page_pages.specs.Frames.{card, remark};
@@ -17,7 +17,7 @@ use account_rules::{Job, Name};
 use page_markup::{Piece, put_all};
 use std::alloc::AllocError;
 
-/// Appends the jobs that wait.
+/// Appends the card of an account's jobs that wait.
 #[tactic(auto, using(std::proofs::Common::append_assoc), unfolding(crate::specs::Waiting::waiting_card))]
 pub(crate) fn put_waiting_card(
     out: &mut Vec<u8>,
@@ -31,6 +31,7 @@ pub(crate) fn put_waiting_card(
     out.extend_from_slice(END_OF_CARD.as_bytes())
 }
 
+/// Appends the table of the jobs, or that nothing waits.
 fn put_table_of_waiting(out: &mut Vec<u8>, account: &[u8], jobs: &[Job]) -> Result<(), AllocError>
     ensures { OnOk result
         (out.new.items ≡ out.old.items ++ table_of_waiting account.now jobs.now) }
@@ -41,6 +42,7 @@ fn put_table_of_waiting(out: &mut Vec<u8>, account: &[u8], jobs: &[Job]) -> Resu
     put_table(out, account, jobs)
 }
 
+/// Appends the table, with a row for each job.
 #[tactic(auto, using(std::proofs::Common::append_assoc))]
 fn put_table(out: &mut Vec<u8>, account: &[u8], jobs: &[Job]) -> Result<(), AllocError>
     ensures { OnOk result (out.new.items ≡ out.old.items ++ (html waiting_columns
@@ -51,6 +53,7 @@ fn put_table(out: &mut Vec<u8>, account: &[u8], jobs: &[Job]) -> Result<(), Allo
     out.extend_from_slice(END_OF_TABLE.as_bytes())
 }
 
+/// Appends a row for each job.
 fn put_jobs(out: &mut Vec<u8>, account: &[u8], jobs: &[Job]) -> Result<(), AllocError>
     ensures { OnOk result
         (out.new.items ≡ out.old.items ++ flat_map (job_row account.now) jobs.now) }
@@ -61,6 +64,7 @@ fn put_jobs(out: &mut Vec<u8>, account: &[u8], jobs: &[Job]) -> Result<(), Alloc
     Ok(())
 }
 
+/// Appends the row of a job: its name, how it stands, its counts, and its buttons.
 #[tactic(auto, using(std::proofs::Common::append_assoc), unfolding(crate::specs::Waiting::job_row))]
 fn put_job_row(out: &mut Vec<u8>, account: &[u8], job: &Job) -> Result<(), AllocError>
     ensures { OnOk result (out.new.items ≡ out.old.items ++ job_row account.now job.now) }
@@ -72,6 +76,7 @@ fn put_job_row(out: &mut Vec<u8>, account: &[u8], job: &Job) -> Result<(), Alloc
     put_job_acts(out, account, phase, job.job)
 }
 
+/// Appends the cells of a job's device, pages, copies, files, and when it was made.
 fn put_counts(out: &mut Vec<u8>, phase: Phase, job: &Job) -> Result<(), AllocError>
     ensures { OnOk result (out.new.items ≡ out.old.items ++ html (job_counts
         (device_words phase job.now.standing.device)
@@ -90,7 +95,7 @@ fn put_counts(out: &mut Vec<u8>, phase: Phase, job: &Job) -> Result<(), AllocErr
     )
 }
 
-/// Where a job may be printed, or is.
+/// Gives the name of the device where the job may be printed, or is, or words in its place.
 fn device_words(phase: Phase, device: &Option<Name>) -> &[u8]
     ensures { result.now ≡ device_words phase device.now }
 {
@@ -100,6 +105,7 @@ fn device_words(phase: Phase, device: &Option<Name>) -> &[u8]
     }
 }
 
+/// Gives the words for a job of no device: any may print it once it is released, else none yet.
 fn no_device_words(phase: Phase) -> &'static str
     ensures { result.now ≡ no_device_words phase }
 {
@@ -109,6 +115,7 @@ fn no_device_words(phase: Phase) -> &'static str
     }
 }
 
+/// Appends the form of a job, with a button for each act that may go through.
 #[tactic(auto, using(std::proofs::Common::append_assoc), unfolding(crate::specs::Waiting::job_acts))]
 fn put_job_acts(
     out: &mut Vec<u8>,
@@ -124,7 +131,7 @@ fn put_job_acts(
     out.extend_from_slice(END_OF_ACTS.as_bytes())
 }
 
-/// Appends a button for each act that may go through.
+/// Appends a button for each act that may go through: release, hold or cancel.
 fn put_buttons(out: &mut Vec<u8>, phase: Phase, number: u32) -> Result<(), AllocError>
     ensures { OnOk result (out.new.items ≡ out.old.items ++ buttons phase number) }
 {
@@ -138,6 +145,7 @@ fn put_buttons(out: &mut Vec<u8>, phase: Phase, number: u32) -> Result<(), Alloc
     }
 }
 
+/// Appends the buttons of a job that its owner may release.
 #[tactic(auto, using(std::proofs::Common::append_assoc), unfolding(crate::specs::Waiting::release_buttons))]
 fn put_release_buttons(out: &mut Vec<u8>, number: u32) -> Result<(), AllocError>
     ensures { OnOk result (out.new.items ≡ out.old.items ++ release_buttons number) }
@@ -146,6 +154,7 @@ fn put_release_buttons(out: &mut Vec<u8>, number: u32) -> Result<(), AllocError>
     put_cancel_button(out, number)
 }
 
+/// Appends the buttons of a job that is released.
 #[tactic(auto, using(std::proofs::Common::append_assoc), unfolding(crate::specs::Waiting::hold_buttons))]
 fn put_hold_buttons(out: &mut Vec<u8>, number: u32) -> Result<(), AllocError>
     ensures { OnOk result (out.new.items ≡ out.old.items ++ hold_buttons number) }
@@ -161,7 +170,7 @@ fn put_cancel_button(out: &mut Vec<u8>, number: u32) -> Result<(), AllocError>
     put_button(out, "", "cancel", CANCEL, number)
 }
 
-/// Appends the heads of the columns.
+/// Appends the start of the table, with the heads of its columns.
 fn put_waiting_columns(out: &mut Vec<u8>) -> Result<(), AllocError>
     ensures { OnOk result (out.new.items ≡ out.old.items ++ html waiting_columns) }
 {
@@ -236,7 +245,8 @@ fn put_job_state<'a>(
     )
 }
 
-/// Appends where a job may be printed, how much it is, and when it was made.
+/// Appends where a job may be printed, its pages, copies and files, and when it was made (in
+/// seconds since 1970-01-01T00:00:00Z).
 fn put_job_counts(
     out: &mut Vec<u8>,
     device: &[u8],
@@ -277,7 +287,7 @@ fn put_job_counts(
     )
 }
 
-/// Appends the head of the form of a job.
+/// Appends the start of a job's form, which goes to `/ACCOUNT/JOB`.
 fn put_acts_start(out: &mut Vec<u8>, account: &[u8], number: u32) -> Result<(), AllocError>
     ensures { OnOk result (out.new.items ≡ out.old.items ++ html (acts_start account.now number)) }
 {
@@ -293,7 +303,8 @@ fn put_acts_start(out: &mut Vec<u8>, account: &[u8], number: u32) -> Result<(), 
     )
 }
 
-/// Appends a button of the form of a job.
+/// Appends a button of a job's form. `look` is its class or nothing, `act` what the form sends,
+/// `label` what it says.
 fn put_button<'a>(
     out: &mut Vec<u8>,
     look: &'a str,

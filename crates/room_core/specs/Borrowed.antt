@@ -1,4 +1,4 @@
--- What is borrowed, by its value.
+-- The values that a borrowed station and borrowed jobs stand for.
 use Rattle.std.specs.Prelude.{List, map}
 use Rattle.std.specs.Borrow.{Bor}
 use Rattle.room_core.specs.declared.stations.Station.{Station}

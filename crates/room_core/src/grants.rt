@@ -1,4 +1,5 @@
-//! Look-ups in the grants of an account.
+//! Finds, sums and adds grants in the list that a room in memory keeps. The server keeps accounts
+//! in tables, and does not use this.
 
 ghost use Rattle.std.specs.Prelude.{◌≡◌, ◌≤◌, ◌++◌, ◌∷◌, [], ◌==◌, pos, find, OnOk, OnErr};
 ghost use Rattle.std.specs.Option.{option_map};
@@ -11,7 +12,7 @@ use account_rules::Grant;
 use ipp_coding::List;
 use std::alloc::AllocError;
 
-/// What was granted for the month.
+/// Finds the pages that were granted for the month.
 pub(crate) fn find_pages(grants: &[Grant], month: u32) -> Option<u32>
     ensures { result
         ≡ option_map (λ grant. grant.pages) (find (λ grant. grant.month == month) grants.now) }
@@ -22,7 +23,7 @@ pub(crate) fn find_pages(grants: &[Grant], month: u32) -> Option<u32>
         .map(|grant| grant.pages)
 }
 
-/// What was granted for the months up to the given one.
+/// Adds up the pages that were granted for the months up to the given one.
 pub(crate) fn pages_up_to(grants: &[Grant], month: u32) -> i64
     requires { sum_by (λ grant. pages_by month (by_month grant)) grants.now ≤ most_units }
     ensures { result ≡ pos (sum_by (λ grant. pages_by month (by_month grant)) grants.now) }
@@ -31,6 +32,7 @@ pub(crate) fn pages_up_to(grants: &[Grant], month: u32) -> i64
     pages as i64
 }
 
+/// The pages of the grant, where its month is at most the given one, else 0.
 fn pages_by(grant: &Grant, month: u32) -> u64
     ensures { result ≡ pages_by month (by_month grant.now) }
 {

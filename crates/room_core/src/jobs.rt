@@ -1,4 +1,5 @@
-//! Look-ups and changes in the jobs of an account, and what is counted of them.
+//! Finds, adds and changes jobs in the list that a room in memory keeps, and counts over them. The
+//! server keeps accounts in tables, and does not use this.
 
 ghost use Rattle.std.specs.Prelude.{◌≡◌, ◌++◌, ◌∷◌, [], ◌==◌, map, find, option_copied, IsTrue, OnOk, OnErr};
 ghost use Rattle.std.specs.Option.{option_to_list};
@@ -47,6 +48,7 @@ pub(crate) fn restand(jobs: &mut List<Job>, number: u32, standing: &Standing)
     restand_each(&mut jobs.items, number, standing);
 }
 
+/// Gives each job of the list with the number the standing, of which there is one at most.
 fn restand_each(jobs: &mut [Job], number: u32, standing: &Standing)
     ensures { jobs.new ≡ map (restood_job number standing.now) jobs.old }
 {
@@ -55,6 +57,7 @@ fn restand_each(jobs: &mut [Job], number: u32, standing: &Standing)
     }
 }
 
+/// Gives the job the standing, if it has the number.
 fn restand_numbered(job: &mut Job, number: u32, standing: &Standing)
     ensures { job.new ≡ restood_job number standing.now job.old }
 {
@@ -63,7 +66,7 @@ fn restand_numbered(job: &mut Job, number: u32, standing: &Standing)
     }
 }
 
-/// Of all the jobs.
+/// Counts over all the jobs: how many are unfinished, and the units that they take.
 pub(crate) fn tally_of(jobs: &[Job]) -> Tally
     requires { IsTrue (is_in_bounds (tally_of jobs.now)) }
     ensures { result ≡ tally_of jobs.now }

@@ -1,4 +1,5 @@
-//! One account whole, and how it changes.
+//! `Room`: one account whole in memory, as lists of jobs, documents and grants. For tests and
+//! programs that need no file; the server keeps accounts in tables.
 
 ghost use Rattle.std.specs.Prelude.{◌≡◌, ◌≤◌, pos, is_some, option_copied, IfSome, IsNone, IsOk, OnOk, OnErr};
 ghost use Rattle.std.specs.List.{AllByRecursion};
@@ -83,7 +84,7 @@ impl Room {
         }
     }
 
-    /// When it was opened, and the number of its next job.
+    /// When the account was opened, and the number of its next job.
     pub fn account(&self) -> Account
         ensures account { result ≡ record { opened = self.now.opened; next_job = self.now.next } }
         ensures opened { self.now.opened ≤ last_moment }

@@ -1,4 +1,5 @@
-//! What an act on a job makes of the room.
+//! Gives a job of a room in memory its next standing. The server does this over tables, in
+//! `store_events`.
 
 ghost use Rattle.std.specs.Prelude.{◌≡◌, OnOk, OnErr};
 ghost use Rattle.room_core.specs.Prelude.{CanMove, with_moved};
@@ -7,7 +8,7 @@ use crate::room::Room;
 use account_rules::Standing;
 use std::alloc::AllocError;
 
-/// Gives the job its next standing; one that ends loses its documents.
+/// Gives the job with the number its next standing. One that ends loses its documents.
 pub(crate) fn stand(room: &mut Room, number: u32, standing: &Standing) -> Result<(), AllocError>
     requires { CanMove room.old number standing.now }
     ensures changed { OnOk result (room.new ≡ with_moved room.old number standing.now) }

@@ -1,5 +1,5 @@
--- One account's machine by itself, and the devices by themselves, from left to right (all this
--- project's own).
+-- What an account's own events, one after another, make of it by its machine, as if there were no
+-- others; and the devices' of them (all this project's own).
 use Rattle.std.specs.Prelude.{List, [], ◌∷◌, ◌++◌, Option, if◌then◌else◌}
 use Rattle.account_machine.specs.DeviceEvents.{device_answered}
 use Rattle.account_machine.specs.Machine.{Answer, answered}

@@ -27,8 +27,8 @@ IsMessage (now, OfAccount account (Ipp body)) = Unit {0}
 IsMessage _ = ⊥
 
 module _ {S : Type 0} (store : Ghosts S) where
-  -- A message was taken of the input, and nothing after it; it was applied, once; and its answer was
-  -- written, behind the 100 text where its head asks for that, or a front of it.
+  -- A message was taken of the input, and nothing after it; it was applied, once; and its answer
+  -- was written, behind the 100 text where its head asks for that, or a front of it.
   pub record IsCarriedOut (before after : List ℕ → Type 0) (given given2 : Option (List ℕ))
       (e : Timed) (outcome : Outcome) (old new : Held S) : Type 0 where
     pub order : Order

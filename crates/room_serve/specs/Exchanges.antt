@@ -1,5 +1,5 @@
--- What is done about one message of HTTP: which it was, what was written, and what it did to the
--- tables (all this project's own).
+-- What `serve_one` does about one message of HTTP: which message it was, what was written, and what
+-- it did to the tables (all this project's own).
 use Rattle.std.specs.Prelude.{◌≡◌, ◌<◌, ℕ, Bool, true, List, ◌++◌, length, take, if◌then◌else◌, Option, Result, Ok, Err}
 use Rattle.std.specs.Io.KnownBytes.{Appends}
 use Rattle.sqlite.specs.Held.{Held, state}

@@ -1,4 +1,4 @@
--- An account's own events in a list of anybody's (all this project's own).
+-- Which events of a list of anybody's are an account's own (all this project's own).
 use Rattle.std.specs.Prelude.{ℕ, Bool, true, false, ◌||◌, List, filter, bytes_eq}
 use Rattle.account_machine.specs.Events.{PlainEvent, Timed, OfAccount, OfDevice}
 

@@ -1,5 +1,5 @@
--- What a list of events leaves of a database: event by event, of each account and of the devices,
--- and of all that is none of theirs (all this project's own).
+-- What a list of events makes of a database, event by event: of each account, of the devices, and
+-- of all that is none of theirs (all this project's own).
 use Rattle.std.specs.Prelude.{◌≡◌, ℕ, Bool, List, [], ◌∷◌, filter, Option, IsTrue}
 use Rattle.sqlite_trees.specs.declared.store.Store.{Ghosts}
 use Rattle.sqlite.specs.Effect.{Database}

@@ -1,4 +1,4 @@
--- A connection, as contracts see it.
+-- The parts of a connection of HTTP, as contracts name them.
 use Rattle.std.specs.Prelude.{Bool}
 use Rattle.room_serve.specs.declared.wire.Wire.{Wire}
 

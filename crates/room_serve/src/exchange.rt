@@ -1,4 +1,4 @@
-//! One message of HTTP, and its answer.
+//! `serve_one`: one message of HTTP is read, applied as an event, and answered.
 ghost use Rattle.std.specs.Prelude.{◌≡◌, ◌↔◌, ◌+◌, ◌-◌, ◌^◌, ◌<◌, ◌≤◌, true, false, Err, IfErr, IfOk, IsErr, OnErr, OnOk, Ok, Result, length};
 ghost use Rattle.std.specs.Io.KnownBytes.{Appends};
 ghost use Rattle.sqlite.specs.Held.{state};
@@ -62,6 +62,7 @@ pub fn serve_one<S: Alter, R: Source, W: Sink>(
     outcome
 }
 
+/// The work of `serve_one` on a connection that has not ended.
 #[tactic(auto, using(crate::proofs::Exchanging::not_received))]
 fn exchange<S: Alter, R: Source, W: Sink>(
     alloc: Global,
@@ -95,7 +96,7 @@ fn exchange<S: Alter, R: Source, W: Sink>(
     }
 }
 
-/// Applies a message, once, and tells the outcome.
+/// Applies the message as an event of its account, once, and writes the answer.
 fn carry_out<S: Alter, W: Sink>(
     alloc: Global,
     store: &mut Store<S>,
@@ -126,7 +127,7 @@ fn carry_out<S: Alter, W: Sink>(
     tell(writer, &told, body, order.closes)
 }
 
-/// Tells the outcome of a message, and whether the connection goes on.
+/// Writes what the store answered, and says whether the connection goes on.
 fn tell<W: Sink>(
     writer: &mut W,
     told: &Result<Reply, StoreFault>,
@@ -157,7 +158,8 @@ fn tell<W: Sink>(
     }
 }
 
-/// Tells that a message could not be answered (RFC 8011 section B.1.5.1).
+/// Writes the response internal-error (RFC 8011 section B.1.5.1), for a message that the store
+/// could not answer, and says whether the connection goes on.
 fn tell_internal_error<W: Sink>(
     writer: &mut W,
     body: &[u8],
@@ -181,6 +183,7 @@ fn tell_internal_error<W: Sink>(
     }
 }
 
+/// Whether the connection goes on after an answer that was written.
 fn after_answer(closes: bool) -> After
     ensures { result ≡ after_answer closes }
 {

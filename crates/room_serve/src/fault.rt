@@ -1,4 +1,4 @@
-//! Why a list of events is not run.
+//! `RunFault`: why `run_events` answers nothing.
 
 use std::alloc::AllocError;
 use thiserror::Error;

@@ -1,4 +1,5 @@
-//! What is promised to each account, as laws that hold of any two runs.
+//! What is promised to each account: laws that hold of any two runs, which the check proves.
+//! Nothing calls them.
 ghost use Rattle.room_serve.specs.Agreement.{AgreeAgain, HoldTheSame};
 ghost use Rattle.room_serve.specs.Crashes.{AnsweredIsFound, ListsAreFound, UnderWayIsFound};
 ghost use Rattle.room_serve.specs.Isolation.{Isolation, RunsJoin};
@@ -14,8 +15,8 @@ pub fn isolation()
     ensures { Isolation }
 {}
 
-/// What an account's rows are in one of two databases that agree, they are in the other; and where
-/// they are the same in both, the two agree.
+/// Of two databases that agree on an account: what its rows are in the one, they are in the other.
+/// And where they are the same in both, the two agree.
 pub fn agreement()
     ensures rows { HoldTheSame }
     ensures again { AgreeAgain }

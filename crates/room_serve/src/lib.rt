@@ -1,5 +1,7 @@
-//! Lists of events of many accounts over one store, and what each account may rely on whatever the
-//! others ask; and messages of HTTP, each one event:
+//! What a user of the library calls: `run_events`, for lists of events of many accounts over one
+//! store, and `serve_one`, for messages of HTTP, each one event. And the laws of what each account
+//! may rely on whatever the others ask. The program's `script` and `listen` are built on this; its
+//! `serve` is in the crates `serve_..`.
 //!
 //! ```text
 //! let events = [(now, Event::Open { account }), (now, Event::Ipp { account, body })];

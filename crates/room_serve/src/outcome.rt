@@ -1,4 +1,4 @@
-//! The outcome of an event of a list.
+//! `Outcome`: what became of one event of a list.
 
 ghost use Rattle.std.specs.Prelude.{◌≡◌, option_copied};
 ghost use Rattle.room_serve.specs.Outcomes.{outcome_of, reply_of};
@@ -6,7 +6,7 @@ ghost use Rattle.room_serve.specs.Outcomes.{outcome_of, reply_of};
 use account_machine::Reply;
 use store_rounds::StoreFault;
 
-/// The outcome of an event of a list.
+/// What became of one event of a list.
 #[derive(Drop)]
 pub enum Outcome {
     Answered(Reply),
@@ -15,7 +15,7 @@ pub enum Outcome {
 }
 
 impl Outcome {
-    /// What was answered, if it was.
+    /// The answer, unless the event failed.
     pub fn reply(&self) -> Option<&Reply>
         ensures { option_copied result ≡ reply_of self.now }
     {

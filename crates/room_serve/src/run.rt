@@ -1,4 +1,4 @@
-//! A list of events, one after another.
+//! `run_events`: a list of events is applied, one after another.
 ghost use Rattle.std.specs.Prelude.{◌≡◌, ◌++◌, ◌∷◌, [], ◌<◌, ◌≤◌, ℕ, true, List, length, map, All, IfOk, OnErr, IsTrue};
 ghost use Rattle.std.specs.Vec.{vec_capacity, vec_len};
 ghost use Rattle.sqlite.specs.Held.{state};
@@ -68,7 +68,7 @@ pub fn run_events<S: Alter>(
     Ok(outcomes)
 }
 
-/// Adds an outcome for which there is room.
+/// Adds an outcome to a vector that was made large enough for all.
 fn keep(outcomes: &mut Vec<Outcome>, outcome: Outcome)
     requires room { vec_len outcomes.old < vec_capacity outcomes.old }
     ensures kept { outcomes.new.items ≡ outcomes.old.items ++ outcome ∷ [] }

@@ -1,8 +1,8 @@
-//! A connection of HTTP, one message after another.
+//! `Wire`: a connection of HTTP for `serve_one`, as a reader and a writer.
 
 ghost use Rattle.std.specs.Prelude.{◌≡◌, false};
 
-/// A connection: what messages are read from, and what answers are written to.
+/// A connection of HTTP: what messages are read from, and what answers are written to.
 #[derive(Drop)]
 pub struct Wire<R, W> {
     pub(crate) reader: R,
@@ -10,7 +10,7 @@ pub struct Wire<R, W> {
     pub(crate) has_ended: bool,
 }
 
-/// Whether a connection goes on.
+/// Whether the connection goes on after a call of `serve_one`.
 #[derive(Clone, Copy, PartialEq, Eq)]
 pub enum After {
     /// Another message may come.

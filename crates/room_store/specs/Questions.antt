@@ -1,4 +1,5 @@
--- Which rows a question is about, what of them is read, and what it leaves (all this project's own).
+-- Which rows a question is about, what of them is read to answer it, and that it changes nothing
+-- (all this project's own).
 use Rattle.std.specs.Prelude.{◌≡◌, ◌⊎◌, ℕ, ⊤, true, false, List, Option, Some, None, Result, Err, IfOk, IsSome, IsTrue, OnOk}
 use Rattle.sqlite.specs.Effect.{Database}
 use Rattle.sqlite.specs.Held.{Held, state}
@@ -135,8 +136,9 @@ abbrev pub TellsOfAnyRows : Question → (db : Database) (told : Reply) → Type
 TellsOfAnyRows (Check name) db told = TellsWhetherSound name db told
 TellsOfAnyRows _ db told = ⊤
 
--- It is answered by the rows that it is about, of a connection that was open. Whether it is answered or
--- not the tables are as they were, and a crash finds nothing that it could not have found before.
+-- It is answered by the rows that it is about, of a connection that was open. Whether it is
+-- answered or not the tables are as they were, and a crash finds nothing that it could not have
+-- found before.
 pub record AnswersQuestion {S : Type 0} (store : Ghosts S) (asked : Question) (old new : Held S)
     (result : Result Reply StoreFault) : Type 0 where
   pub told : IfOurTables store old new (λ db. IfOk result (λ told.

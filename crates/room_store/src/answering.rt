@@ -1,4 +1,4 @@
-//! A question is answered where no round is under way.
+//! `answer`: a question to a store whose events may be in rounds.
 
 ghost use Rattle.room_store.specs.Questions.{AnswersQuestion};
 
@@ -9,7 +9,7 @@ use sqlite::Alter;
 use std::alloc::Global;
 use store_rounds::{Rounds, StoreFault};
 
-/// Answers a question as `Store::answer` does. `Storage` tells also that a round is under way:
+/// Answers a question, as `Store::answer` does. `Storage` also where a round is under way, since
 /// what it has changed may still be undone.
 pub fn answer<S: Alter>(
     alloc: Global,

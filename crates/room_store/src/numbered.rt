@@ -1,4 +1,5 @@
-//! A connection that is opened anew, of which it is known that no row number comes twice.
+//! `Numbered`: a connection that was opened anew, of which it is then known that no row number
+//! comes twice in a table. `Store::reopen` needs that before it may keep sums in memory.
 
 ghost use Rattle.std.specs.Prelude.{◌≡◌, IfOk, IsTrue};
 ghost use Rattle.sqlite.specs.Held.{state};
@@ -13,8 +14,8 @@ use sqlite_trees::store::Shape;
 use std::alloc::Global;
 use std::marker::Model;
 
-/// A connection of which it is known that in no table of the store a row number comes twice.
-/// Contracts see it as the connection.
+/// A connection of which it is known that no table of the store has a row number twice. Contracts
+/// see it as the connection.
 pub(crate) struct Numbered<S: Alter> {
     connection: Connection<S>,
 }
@@ -47,7 +48,7 @@ impl<S: Alter> Numbered<S> {
     ghost use Rattle.sqlite.specs.State.{HasCleanDisk};
     ghost use Rattle.rows_tables.specs.Keyed.{AreNumbered};
 
-    /// The connection.
+    /// The connection itself.
     pub(crate) fn into_connection(self) -> Connection<S>
         ensures same { result ≡ self }
         ensures numbered { HasCleanDisk (state S.Store result)
@@ -58,8 +59,8 @@ impl<S: Alter> Numbered<S> {
     }
 }
 
-/// The database of the connection, opened anew. What was not committed is undone. `NotOurs` where a
-/// table of the store is none.
+/// Opens the connection's database anew. What was not committed is undone. `NotOurs` where the file
+/// is broken, or a tree where a table of the store belongs is none.
 pub(crate) fn reopen<S: Alter + Drop>(
     alloc: Global,
     connection: Connection<S>,
@@ -77,6 +78,7 @@ pub(crate) fn reopen<S: Alter + Drop>(
     }
 }
 
+/// Whether each table of the store has its tree in the file.
 fn are_tables<S: Alter>(store: &S) -> bool
     ensures { IsTrue result → AreTables (S.Store.view store.now).shape room_schema.tables }
 {
@@ -89,6 +91,7 @@ fn are_tables<S: Alter>(store: &S) -> bool
         && is_table(store, 11)
 }
 
+/// Whether the tree of this number is a table.
 fn is_table<S: Alter>(store: &S, tree: u32) -> bool
     ensures { IsTrue result → (S.Store.view store.now).shape tree ≡ shape.Table }
 {

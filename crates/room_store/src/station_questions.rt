@@ -1,4 +1,5 @@
-//! What a station asks about an account that is open.
+//! Questions of a station about one account: which jobs wait there, and the documents of a job once
+//! more. `questions` has asked before whether the account is open.
 
 ghost use Rattle.std.specs.Prelude.{◌≡◌, Err, IfOk};
 ghost use Rattle.std.specs.FinMap.{get};
@@ -16,7 +17,7 @@ use std::alloc::Global;
 use store_events::{parts, refusal_line};
 use store_rounds::{Rounds, find_device, find_documents, look_up, unfinished_jobs};
 
-/// Tells the jobs that a station may release, start or settle for the owner.
+/// Answers the jobs of the account that the station may release, start or settle, one in a line.
 pub(crate) fn tell_waiting<S: Alter>(
     alloc: Global,
     connection: &mut Rounds<S>,
@@ -36,7 +37,8 @@ pub(crate) fn tell_waiting<S: Alter>(
     Ok(Reply::Line(jobs_lines(alloc, waiting.as_slice())?))
 }
 
-/// Hands the documents of a job to the device once more that started it and has not settled it.
+/// Answers once more with the documents of a job that the station's device has started, until it is
+/// settled.
 pub(crate) fn tell_again<S: Alter>(
     alloc: Global,
     connection: &mut Rounds<S>,
@@ -55,7 +57,7 @@ pub(crate) fn tell_again<S: Alter>(
     hand_printed(alloc, connection, account, device, number)
 }
 
-/// Hands the documents of a job over that the device prints.
+/// Answers with the documents of the job if the device is printing it, and else refuses.
 fn hand_printed<S: Alter>(
     alloc: Global,
     connection: &mut Rounds<S>,
@@ -74,7 +76,7 @@ fn hand_printed<S: Alter>(
     hand_again(alloc, connection, account, printed_by(device, found))
 }
 
-/// Hands the job's documents over, as they are.
+/// Answers with the documents of the job that was decided on, or with the refusal.
 fn hand_again<S: Alter>(
     alloc: Global,
     connection: &mut Rounds<S>,

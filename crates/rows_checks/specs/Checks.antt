@@ -1,5 +1,5 @@
--- The rows of an account in order, key by key: such rows are those of one room (all this project's
--- own).
+-- When the rows of an account are in order, key by key, as the check reads them: then they are
+-- those of one room (all this project's own).
 use Rattle.std.specs.Prelude.{◌≡◌, ◌≢◌, ℕ, ◌<◌, ◌≤◌, ◌^◌, ◌&&◌, nat_le, ℤ, pos, negsuc, Bool, true, false, List, [], ◌∷◌, ◌++◌, length, Option, Some, None, option_map, IfSome, IsSome, IsTrue}
 use Rattle.sqlite_value.specs.declared.value.Value.TheVariants.{Int, Text, Blob}
 use Rattle.sqlite_value.specs.Order.{Row, column}

@@ -1,4 +1,5 @@
-//! Whether all rows of an account are in order.
+//! `check_account`: the check of all rows of an account. The other files have its parts, one for
+//! each table.
 
 ghost use Rattle.std.specs.Prelude.{◌≡◌, Err, IfOk, None, OnOk, Some};
 ghost use Rattle.rows_checks.specs.Checks.{AreOfNoRoom, IsSoundAs, OthersAreInOrder};
@@ -14,9 +15,10 @@ use rows_tables::TableFault;
 use sqlite::{Alter, Connection};
 use std::alloc::Global;
 
-/// Whether the account is open, where its rows are sound. All of them are read, and the numbers of
-/// its jobs, of their documents and of the months of its grants are kept meanwhile. `Damaged` tells
-/// that they are not sound; `Storage` and `Memory` that the storage failed or memory ran out.
+/// Checks all rows of the account, and answers whether it is open. `Damaged` where they are not
+/// sound. `Storage` and `Memory` where the storage failed or memory ran out: then nothing is known
+/// of the rows. The numbers of its jobs, of their documents and of the months of its grants are in
+/// memory meanwhile.
 pub fn check_account<S: Alter>(
     alloc: Global,
     connection: &mut Connection<S>,
@@ -40,7 +42,8 @@ pub fn check_account<S: Alter>(
     }
 }
 
-/// Checks that an account without a row of its own has no other. `Damaged` tells that it has one.
+/// Checks that an account without a row of its own has no rows in other tables. `Damaged` where it
+/// has.
 fn check_nothing<S: Alter>(connection: &mut Connection<S>, account: Name) -> Result<(), TableFault>
     ensures nothing { IfOurTables S.Store connection.old connection.new (λ db.
         OnOk result (account_at db account ≡ None → HoldsNothing db account)) }
@@ -53,8 +56,8 @@ fn check_nothing<S: Alter>(connection: &mut Connection<S>, account: Name) -> Res
     check_no_grant(connection, account)
 }
 
-/// Checks all rows of the account but its own, which gives its next job that number. `Damaged` tells
-/// that the rows of such an account are not sound.
+/// Checks all rows of an open account but its own, by which its next job gets the number
+/// `next_job`. `Damaged` where they are not sound.
 fn check_room<S: Alter>(
     alloc: Global,
     connection: &mut Connection<S>,

@@ -1,4 +1,5 @@
-//! Whether each document of an account is one that its job has.
+//! The part of the check that reads documents: whether each belongs to an unfinished job that has
+//! it, and whether no document is missing.
 
 ghost use Rattle.std.specs.Prelude.{◌≡◌, ◌&&◌, ℤ, [], ◌∷◌, Err, IfOk, IfSome, None, OnOk, Some, option_map, pos};
 ghost use Rattle.account_rules.specs.declared.job.Document.{Document as DocumentValue};
@@ -18,7 +19,7 @@ use sqlite::{Alter, Connection, Error, Row};
 use sqlite_value::value::ValueRef;
 use std::alloc::Global;
 
-/// Checks that the account has no document. `Damaged` tells that it has one.
+/// Checks that the account has no document. `Damaged` where it has one.
 pub(crate) fn check_no_document<S: Alter>(
     connection: &mut Connection<S>,
     account: Name,
@@ -34,8 +35,7 @@ pub(crate) fn check_no_document<S: Alter>(
     walk_places(connection, account, &mut nothing)
 }
 
-/// The document of a job with the number, or that there is none. `Damaged` tells that the row that
-/// is there can be none of sound rows.
+/// Reads one document of a job. `None` where it is not there; `Damaged` where its row is broken.
 fn find_document<S: Alter>(
     connection: &mut Connection<S>,
     account: Name,
@@ -58,6 +58,7 @@ fn find_document<S: Alter>(
     }
 }
 
+/// Runs the query of `find_document`.
 fn document_row<S: Alter>(
     connection: &mut Connection<S>,
     account: Name,
@@ -81,7 +82,8 @@ fn document_row<S: Alter>(
     )
 }
 
-/// The document with the number that the row tells behind its key.
+/// Reads a document from the row of that query. `Damaged` where its format or length is none that a
+/// document can have.
 fn document_told(row: &Row, job: u32, document: u32) -> Result<Document, TableFault>
     ensures read { IfOk result (ShowsContent row.now) }
     ensures in_range { IfOk result (IsDocumentAt (job, document)) }
@@ -101,8 +103,8 @@ fn document_told(row: &Row, job: u32, document: u32) -> Result<Document, TableFa
     })
 }
 
-/// Checks that each document of the account is one that its job has. `Damaged` tells that the rows
-/// of the account are not sound.
+/// Checks each document of the account: its job has to be unfinished, and to have so many.
+/// `Damaged` where the rows are not sound.
 pub(crate) fn check_places<S: Alter>(
     alloc: Global,
     connection: &mut Connection<S>,
@@ -125,15 +127,14 @@ pub(crate) fn check_places<S: Alter>(
     Ok(())
 }
 
-/// Whether a job has a document with the number: it has not ended, and was given so many.
+/// Whether the job has a document of this number: it is unfinished, and was given at least so many.
 fn has_document(job: &Job, document: u32) -> bool
     ensures { result ≡ has_document (Some job.now) document }
 {
     job.standing.state.is_unfinished() && document >= 1 && document <= job.standing.documents
 }
 
-/// Checks that a document of a job, if it is there, is one that the job has. `Damaged` tells that
-/// the rows of the account are not sound.
+/// Checks that a document, if it is there, is one that its job has. `Damaged` where it is not.
 fn check_place<S: Alter>(
     connection: &mut Connection<S>,
     account: Name,
@@ -155,8 +156,8 @@ fn check_place<S: Alter>(
     }
 }
 
-/// Whether the job is there and has a document with the number. `Damaged` tells that the row of the
-/// job can be none of sound rows.
+/// Whether the job is there and has a document of this number. `Damaged` where the row of the job
+/// is broken.
 fn has_job_with<S: Alter>(
     connection: &mut Connection<S>,
     account: Name,
@@ -175,8 +176,7 @@ fn has_job_with<S: Alter>(
     }
 }
 
-/// Checks that a document of a job is there. `Damaged` tells that it is not, or that the row that
-/// is there can be none of sound rows.
+/// Checks that a document of a job is there. `Damaged` where it is missing, or its row is broken.
 pub(crate) fn check_there<S: Alter>(
     connection: &mut Connection<S>,
     account: Name,

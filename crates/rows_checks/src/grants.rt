@@ -1,4 +1,4 @@
-//! Whether the grants of an account are in order.
+//! The part of the check that reads grants: whether each has a month and pages in range.
 
 ghost use Rattle.std.specs.Prelude.{◌≡◌, ℤ, Err, None, OnOk, Some};
 ghost use Rattle.rows_checks.specs.Checks.{GrantIsInOrder, GrantsAreInOrder};
@@ -12,7 +12,7 @@ use rows_tables::TableFault;
 use sqlite::{Alter, Connection};
 use std::alloc::Global;
 
-/// Checks that the account has no grant. `Damaged` tells that it has one.
+/// Checks that the account has no grant. `Damaged` where it has one.
 pub(crate) fn check_no_grant<S: Alter>(
     connection: &mut Connection<S>,
     account: Name,
@@ -28,7 +28,7 @@ pub(crate) fn check_no_grant<S: Alter>(
     walk_months(connection, account, &mut nothing)
 }
 
-/// Checks each grant of the account. `Damaged` tells that the rows of the account are not sound.
+/// Checks each grant of the account. `Damaged` where one is out of range.
 pub(crate) fn check_grants<S: Alter>(
     alloc: Global,
     connection: &mut Connection<S>,
@@ -51,8 +51,8 @@ pub(crate) fn check_grants<S: Alter>(
     Ok(())
 }
 
-/// Checks that the grant of the month, if there is one, is in its range. `Damaged` tells that the
-/// rows of the account are not sound.
+/// Checks the grant of the month, if there is one. `Damaged` where the month or the pages are out
+/// of range.
 fn check_grant<S: Alter>(
     connection: &mut Connection<S>,
     account: Name,

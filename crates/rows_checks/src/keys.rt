@@ -1,4 +1,6 @@
-//! The keys of the rows of an account: a walk gathers them, or tells that there is one.
+//! The first pass of the check: walks that list the keys of an account's rows (jobs, months of
+//! grants, documents), or find out that there are none. The rows are then read one by one, since a
+//! connection can read nothing else during a walk.
 
 ghost use Rattle.std.specs.Prelude.{◌≡◌, Err, map, IsPermutation};
 ghost use Rattle.rows_checks.specs.Checks.{ListsNumber, ListsPlace, all_documents, place_cells, refuses_number, refuses_place};
@@ -14,7 +16,7 @@ use sqlite::{Alter, Connection, Row};
 use sqlite_value::value::ValueRef;
 use std::marker::Model;
 
-/// What takes no row: a walk with it tells whether there is one.
+/// Refuses the first row of a walk: for a check that there are no rows.
 #[derive(Drop)]
 pub(crate) struct Nothing {}
 
@@ -30,7 +32,7 @@ impl Gather for Nothing {
     }
 }
 
-/// Gathers the numbers of all jobs of the account.
+/// Hands the numbers of all jobs of the account to `gathered`.
 pub(crate) fn walk_jobs<S: Alter, G: Gather>(
     connection: &mut Connection<S>,
     account: Name,
@@ -50,7 +52,7 @@ pub(crate) fn walk_jobs<S: Alter, G: Gather>(
     )
 }
 
-/// Gathers the months of all grants of the account.
+/// Hands the months of all grants of the account to `gathered`.
 pub(crate) fn walk_months<S: Alter, G: Gather>(
     connection: &mut Connection<S>,
     account: Name,
@@ -70,7 +72,7 @@ pub(crate) fn walk_months<S: Alter, G: Gather>(
     )
 }
 
-/// The numbers of jobs, or the months of grants.
+/// A list of the numbers of jobs, or of the months of grants.
 #[derive(Drop)]
 pub(crate) struct Numbers {
     pub(crate) items: Vec<u32>,
@@ -106,7 +108,8 @@ impl Gather for Numbers {
     }
 }
 
-/// Gathers the numbers of all documents of the account, each behind that of its job.
+/// Hands the keys of all documents of the account to `gathered`: the number of the job, and that of
+/// the document.
 pub(crate) fn walk_places<S: Alter, G: Gather>(
     connection: &mut Connection<S>,
     account: Name,
@@ -126,7 +129,7 @@ pub(crate) fn walk_places<S: Alter, G: Gather>(
     )
 }
 
-/// The numbers of documents, each behind that of its job.
+/// A list of keys of documents: the number of the job, and that of the document.
 #[derive(Drop)]
 pub(crate) struct Places {
     pub(crate) items: Vec<(u32, u32)>,

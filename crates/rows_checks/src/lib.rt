@@ -1,4 +1,5 @@
-//! Whether the rows of an account are in order: what a check of them reads, key by key.
+//! The check that an operator's `check` question asks for: whether all rows of one account are in
+//! order, table by table.
 #![tactic(auto)]
 
 mod account;

@@ -1,4 +1,5 @@
--- What a change leaves as it was (all this project's own).
+-- What a change leaves as it was: all rows but those of one account, or of the devices (all this
+-- project's own).
 use Rattle.std.specs.Prelude.{◌≡◌, ◌≢◌, ℕ, List}
 use Rattle.sqlite.specs.Effect.{Database}
 use Rattle.rows_tables.specs.Tables.{meta}

@@ -1,4 +1,5 @@
--- The documents of a job, as the rows of the table `document` show them (all this project's own).
+-- The documents of a job, as they are read from the rows of the table `document` (all this
+-- project's own).
 use Rattle.std.specs.Prelude.{◌≡◌, ℕ, ◌-◌, ◌≤◌, Bool, List, [], ◌∷◌, length, map, filter, Option, Some, slice_set}
 use Rattle.sqlite_value.specs.declared.value.Value.TheVariants.{Null, Text, Blob}
 use Rattle.sqlite_value.specs.Order.{Row, column}

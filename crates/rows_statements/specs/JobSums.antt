@@ -1,5 +1,5 @@
--- What an account's jobs reserve and were charged and how many of them have not ended, by the rows of
--- its jobs alone, whatever else its rows are (all this project's own).
+-- What an account's jobs reserve and were charged, and how many are unfinished, by the rows of its
+-- jobs alone, whatever its other rows are (all this project's own).
 use Rattle.std.specs.Prelude.{◌≡◌, if◌then◌else◌, ℕ, ◌+◌, ℤ, List, length, Some, is_some, option_map}
 use Rattle.std.specs.List.{sum_by}
 use Rattle.std.specs.Ordering.{nat_cmp}

@@ -1,5 +1,5 @@
--- The names of accounts that come next, as the rows of their table show them (all this project's
--- own).
+-- A page of the names of accounts, as it is read from the rows of the table `account` (all this
+-- project's own).
 use Rattle.std.specs.Prelude.{◌≡◌, ◌≢◌, ℕ, List, [], ◌∷◌, ◌++◌, map, Option, IsSome, IsTrue}
 use Rattle.sqlite_value.specs.declared.value.Value.TheVariants.{Text}
 use Rattle.sqlite_value.specs.Order.{Row, column}

@@ -1,5 +1,5 @@
--- That each account is one of a name is no part of sound rows, which are those of one account: it
--- stays so by what each change leaves alone (all this project's own).
+-- Each row of `account` has a valid name, and every change keeps that. It is no part of sound rows,
+-- which are those of one account (all this project's own).
 use Rattle.std.specs.Prelude.{◌≡◌, ℕ, List, None, IsTrue}
 use Rattle.sqlite.specs.Effect.{Database}
 use Rattle.account_rules.specs.Names.{is_name}

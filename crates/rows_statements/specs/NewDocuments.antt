@@ -1,4 +1,4 @@
--- A document that is not kept yet, as a document of its job (all this project's own).
+-- A document that is to be inserted, as a document of its job (all this project's own).
 use Rattle.std.specs.Prelude.{ℕ, Option, option_map}
 use Rattle.account_rules.specs.declared.job.Document.{Document}
 use Rattle.rows_statements.specs.declared.new_document.NewDocument.{NewDocument}

@@ -1,5 +1,5 @@
--- The rows that a change sets, one write after another (all this project's own). The tables between
--- two writes are those of no event.
+-- The rows that each change sets, one write after another (all this project's own). The tables as
+-- they stand between two writes are those of no event.
 use Rattle.std.specs.Prelude.{◌≡◌, ℕ, ◌+◌, Bool, true, false, pos, ⊤, List, [], ◌∷◌, Option, Some, None}
 use Rattle.sqlite_value.specs.declared.value.Value.TheVariants.{Text}
 use Rattle.sqlite.specs.Effect.{Database}

@@ -1,4 +1,4 @@
--- What the columns that a query shows of a job tell (all this project's own).
+-- Which job the columns of a query stand for (all this project's own).
 use Rattle.std.specs.Prelude.{◌≡◌, ◌≤◌, [], ◌∷◌, length}
 use Rattle.sqlite_value.specs.declared.value.Value.TheVariants.{Blob}
 use Rattle.sqlite_value.specs.Order.{Row, column}

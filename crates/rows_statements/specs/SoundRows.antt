@@ -1,4 +1,4 @@
--- What a read can find in sound rows: where it tells `Damaged`, what it read is none of these (all
+-- What a read can find in sound rows. A read tells `Damaged` only of what is none of these (all
 -- this project's own).
 use Rattle.std.specs.Prelude.{◌≡◌, ℕ, ◌≤◌, pos, negsuc, All, Bool, ⊤, List, [], ◌∷◌, length, map, filter, drop, IsPermutation, Option, Some, option_map, IfSome, IsSome, IsTrue}
 use Rattle.std.specs.declared.cmp.Ordering.{Ordering}

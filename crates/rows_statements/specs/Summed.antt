@@ -1,4 +1,4 @@
--- What the jobs of an account come to for the statement of a month, one after another (all this
+-- How the jobs of an account are added up for the statement of a month, one after another (all this
 -- project's own). What all of a list come to is summary_of of account_state.
 use Rattle.std.specs.Prelude.{◌≡◌, ℕ, ◌+◌, ◌≤◌, if◌then◌else◌, [], ◌∷◌, Option, IfSome}
 use Rattle.sqlite_value.specs.Order.{Row, column}
@@ -12,8 +12,8 @@ use Rattle.rows_tables.specs.Cells.{moment, number}
 use Rattle.rows_statements.specs.Totals.{TellsCounted}
 use Rattle.rows_statements.specs.declared.summaries.Summed.{Summed}
 
--- the cells of a job that are summed: those that are counted, that of its end, and those of what its
--- release let it cost
+-- the cells of a job that are summed: those that are counted, that of its end, and those of what
+-- its release let it cost
 abbrev pub summed_cells : Row → Row
 summed_cells cells =
     cell job_column.state cells ∷ cell job_column.reserved cells ∷ cell job_column.charged cells

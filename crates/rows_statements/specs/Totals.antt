@@ -1,5 +1,5 @@
--- What the rows of an account come to, one after another, and those of the devices (all this
--- project's own).
+-- How the rows of an account, or of the devices, are added up or counted, one after another (all
+-- this project's own).
 use Rattle.std.specs.Prelude.{◌≡◌, ◌≢◌, ◌||◌, Bool, ℕ, ◌+◌, ◌<◌, ◌≤◌, [], ◌∷◌, Some, None}
 use Rattle.sqlite_value.specs.Order.{Row, column}
 use Rattle.account_rules.specs.Limits.{most_unfinished, most_units}

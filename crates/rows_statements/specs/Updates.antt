@@ -1,4 +1,4 @@
--- What the statements that change a part of a row make of that row (all this project's own).
+-- What the UPDATE statements make of the row that they change (all this project's own).
 use Rattle.std.specs.Prelude.{◌≡◌, ℕ, pos, List, Some}
 use Rattle.sqlite.specs.Effect.{Database}
 use Rattle.account_rules.specs.declared.account.Account.{Account}

@@ -1,4 +1,5 @@
-//! The names of accounts.
+//! The names of all accounts, read from the table `account` in pages of at most 100. A backup and
+//! an operator's `accounts` question page through them.
 
 ghost use Rattle.std.specs.Prelude.{◌≡◌, ℕ, List, Err, IfOk, IsSome};
 ghost use Rattle.account_state.specs.Names.{from_name, next_names, AreNames};
@@ -18,8 +19,9 @@ use sqlite::{Alter, Connection, Row};
 use sqlite_value::value::ValueRef;
 use std::alloc::Global;
 
-/// The names of accounts that come next behind a name, or first, in the order of their bytes, at most
-/// 100. `Damaged` tells that a row that is there has no name of an account.
+/// Reads the next page of names: at most 100 that come after `behind`, or the first, in the order
+/// of their bytes. An operator who lists the accounts, and a backup, ask again behind the last name
+/// of a page. `Damaged` where a row has no valid name.
 pub fn next_accounts<S: Alter>(
     alloc: Global,
     connection: &mut Connection<S>,
@@ -39,6 +41,7 @@ pub fn next_accounts<S: Alter>(
     Ok(names)
 }
 
+/// Gathers the names of the page.
 fn walk_names<S: Alter>(
     connection: &mut Connection<S>,
     behind: &Option<Name>,
@@ -56,7 +59,8 @@ fn walk_names<S: Alter>(
     )
 }
 
-/// The name behind which to begin, or the empty text, which is before all names, as a parameter.
+/// The name behind which the page begins, as a parameter of the statement. The empty text is before
+/// all names.
 fn start_text(behind: &Option<Name>) -> ValueRef<'_>
     ensures { owned result ≡ Text (from_name behind.now) }
 {
@@ -66,6 +70,7 @@ fn start_text(behind: &Option<Name>) -> ValueRef<'_>
     }
 }
 
+/// Gathers names: adds that of each row to the list.
 impl Gather for List<Name> {
     ghost use Rattle.rows_statements.specs.NameLists.{ListsName, refuses_name};
 

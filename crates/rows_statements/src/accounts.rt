@@ -1,4 +1,5 @@
-//! The rows of the table `account`.
+//! Statements on the table `account`, which has one row for each account: when it was opened, and
+//! the number of its next job.
 
 ghost use Rattle.std.specs.Prelude.{◌≡◌, ◌≢◌, [], ◌∷◌, Some, Err, option_map, IfOk, IfSome};
 ghost use Rattle.rows_statements.specs.Prelude.{Changes, GetsRow, IfOurTables, IsRowOf, KeepsOpen, ReadsStore, SetsRow, WritesInSavepoint, column, number};
@@ -15,7 +16,8 @@ use rows_tables::{TableFault, find_row, write};
 use sqlite::{Alter, Connection, Error, Row, Savepoint};
 use sqlite_value::value::ValueRef;
 
-/// The account's own row. `Damaged` tells that the row that is there can be none of sound rows.
+/// Reads the account's own row. `None` where the account is not open. `Damaged` where the row is
+/// broken.
 pub fn find_account<S: Alter>(
     connection: &mut Connection<S>,
     account: Name,
@@ -35,6 +37,7 @@ pub fn find_account<S: Alter>(
     }
 }
 
+/// Runs the query of `find_account`.
 fn account_row<S: Alter>(
     connection: &mut Connection<S>,
     account: Name,
@@ -51,6 +54,7 @@ fn account_row<S: Alter>(
     )
 }
 
+/// Reads an account from the row of that query. `Damaged` where a value is out of range.
 fn account_from(row: &Row) -> Result<Account, TableFault>
     ensures read { IfOk result (λ it.
         (column row.now 0 ≡ number it.opened) × (column row.now 1 ≡ number it.next_job)) }
@@ -69,7 +73,7 @@ fn account_from(row: &Row) -> Result<Account, TableFault>
     })
 }
 
-/// Sets the account's own row, inside a savepoint.
+/// Inserts or replaces the account's own row, inside a savepoint.
 pub fn set_account<S: Alter>(
     savepoint: &mut Savepoint<'_, S>,
     account: Name,
@@ -91,7 +95,7 @@ pub fn set_account<S: Alter>(
     )
 }
 
-/// Sets the number of the next job of an account that is there, inside a savepoint.
+/// Sets the number that the next job of an open account gets, inside a savepoint.
 pub fn set_next_job<S: Alter>(
     savepoint: &mut Savepoint<'_, S>,
     account: Name,

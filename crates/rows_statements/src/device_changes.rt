@@ -1,4 +1,4 @@
-//! A device is turned on or off, or gets another rate.
+//! Changes of devices, each in one savepoint: turning one on or off, and setting its rate.
 
 ghost use Rattle.std.specs.Prelude.{IsTrue};
 ghost use Rattle.rows_statements.specs.Prelude.{Changes, ChangesWhole, SetsRow, WritesInSavepoint};
@@ -13,7 +13,7 @@ use crate::{set_device, set_rate};
 use account_rules::Name;
 use sqlite::{Alter, Connection, Error, Savepoint};
 
-/// Turns the device on or off. A device that is new gets rate 1.
+/// Turns the device on or off. Where it is new (`is_new`) it is added, and gets rate 1.
 pub fn turn_device<S: Alter>(
     connection: &mut Connection<S>,
     name: Name,
@@ -26,6 +26,7 @@ pub fn turn_device<S: Alter>(
     put_device(connection, name, on, is_new)
 }
 
+/// The work of `turn_device`, in one savepoint.
 fn put_device<S: Alter>(
     connection: &mut Connection<S>,
     name: Name,
@@ -41,6 +42,7 @@ fn put_device<S: Alter>(
     savepoint.commit()
 }
 
+/// The work of `turn_device`, inside a savepoint.
 fn switch<S: Alter>(
     savepoint: &mut Savepoint<'_, S>,
     name: Name,
@@ -72,6 +74,7 @@ pub fn rate_device<S: Alter>(
     put_rate(connection, name, units)
 }
 
+/// The work of `rate_device`, in one savepoint.
 fn put_rate<S: Alter>(connection: &mut Connection<S>, name: Name, units: u32) -> Result<(), Error>
     ensures sets { ChangesWhole S.Store connection.old connection.new result
         (SetsRow rates_table (units_cells name units)) }

@@ -1,4 +1,4 @@
-//! All devices as a list.
+//! Reading all devices with their rates, as an operator, the pages and a backup list them.
 
 ghost use Rattle.std.specs.Prelude.{◌≡◌, ℕ, Some, Err, IfOk};
 ghost use Rattle.std.specs.FinMap.{values};
@@ -19,7 +19,8 @@ use rows_tables::values::{flag_at, name_at};
 use sqlite::{Alter, Connection, Row};
 use std::alloc::Global;
 
-/// The devices, by name. `Damaged` tells that a row that is there can be none of sound rows.
+/// Reads all devices with their rates, by name. `Damaged` where a row is broken, or a device has no
+/// rate.
 pub fn list_devices<S: Alter>(
     alloc: Global,
     connection: &mut Connection<S>,
@@ -43,6 +44,7 @@ pub fn list_devices<S: Alter>(
     Ok(List { items })
 }
 
+/// Gathers each device's name, and whether it takes jobs.
 fn walk_switches<S: Alter>(
     connection: &mut Connection<S>,
     switches: &mut List<(Name, bool)>,
@@ -59,7 +61,7 @@ fn walk_switches<S: Alter>(
     )
 }
 
-// Of each device its name, and whether it takes jobs.
+// Gathers each device's name, and whether it takes jobs.
 impl Gather for List<(Name, bool)> {
     ghost use Rattle.rows_statements.specs.DeviceLists.{ListsSwitch, refuses_switch};
 
@@ -75,7 +77,7 @@ impl Gather for List<(Name, bool)> {
     }
 }
 
-/// The device with its rate. `Damaged` tells that it has none.
+/// Adds its rate to a device. `Damaged` where it has none, or the row of the rate is broken.
 fn with_rate<S: Alter>(
     connection: &mut Connection<S>,
     name: Name,

@@ -1,4 +1,4 @@
-//! The rows of the table `device`.
+//! Statements on the table `device`, which tells of each device whether it takes jobs.
 
 ghost use Rattle.std.specs.Prelude.{◌≡◌, ◌↔◌, ℕ, Bool, ⊤, List, true, [], ◌∷◌, map, Some, Err, option_map, IfOk, IsTrue, IsPermutation};
 ghost use Rattle.rows_statements.specs.Prelude.{Changes, GetsRow, IfOurTables, IsRowOf, KeepsOpen, ReadsStore, SetsRow, WalksStore, WritesInSavepoint, column};
@@ -18,8 +18,8 @@ use rows_tables::{TableFault, find_row, write};
 use sqlite::{Alter, Connection, Error, Row, Savepoint};
 use sqlite_value::value::ValueRef;
 
-/// Whether the device of this name takes jobs now. `None` where there is no such device; `Damaged`
-/// where its row can be none of sound rows.
+/// Reads whether the device takes jobs now. `None` where no device has the name; `Damaged` where
+/// its row is broken.
 pub fn find_device<S: Alter>(
     connection: &mut Connection<S>,
     name: Name,
@@ -37,6 +37,7 @@ pub fn find_device<S: Alter>(
     }
 }
 
+/// Runs the query of `find_device`.
 fn device_row<S: Alter>(connection: &mut Connection<S>, name: Name) -> Result<Option<Row>, Error>
     ensures gets { GetsRow S.Store connection.old connection.new (λ db. device_at db name)
         (λ cells. cell device_column.accepting cells ∷ []) result }
@@ -49,7 +50,8 @@ fn device_row<S: Alter>(connection: &mut Connection<S>, name: Name) -> Result<Op
     )
 }
 
-/// Whether any device takes jobs now. `Damaged` where a row can be none of sound rows.
+/// Whether any device takes jobs now, which the printer's attributes tell. `Damaged` where a row is
+/// broken.
 pub fn is_device_on<S: Alter>(connection: &mut Connection<S>) -> Result<bool, TableFault>
     ensures found { IfOurTables S.Store connection.old connection.new (λ db. IfOk result
         (λ on. IsTrue on ↔ ((name : List ℕ) × (device_at db name ≡ Some (on_cells name true))))) }
@@ -65,7 +67,7 @@ pub fn is_device_on<S: Alter>(connection: &mut Connection<S>) -> Result<bool, Ta
     Ok(found.is_on)
 }
 
-/// Whether one of the devices that were gathered takes jobs.
+/// Whether one of the devices that were read so far takes jobs.
 #[derive(Drop)]
 struct AnyOn {
     is_on: bool,
@@ -86,6 +88,7 @@ impl Gather for AnyOn {
     }
 }
 
+/// Reads all devices into `found`.
 fn walk_devices<S: Alter>(
     connection: &mut Connection<S>,
     found: &mut AnyOn,
@@ -101,7 +104,7 @@ fn walk_devices<S: Alter>(
     walk(connection, "SELECT accepting FROM device", &[], found)
 }
 
-/// Sets whether the device takes jobs, inside a savepoint.
+/// Inserts or replaces a device's row, which tells whether it takes jobs, inside a savepoint.
 pub fn set_device<S: Alter>(
     savepoint: &mut Savepoint<'_, S>,
     name: Name,

@@ -1,4 +1,4 @@
-//! The rows of the table `document`.
+//! Statements on the table `document`, which has the documents of unfinished jobs.
 
 ghost use Rattle.std.specs.Prelude.{◌≡◌, [], ◌∷◌, None, pos, Err, IfOk, IfErr, IsPermutation};
 ghost use Rattle.rows_statements.specs.Prelude.{Changes, HoldsRoom, IfOurTables, KeepsOpen, ReadsStore, RoomValue, SetsRow, WalksStore, WritesInSavepoint, number};
@@ -24,8 +24,7 @@ use sqlite::{Alter, Connection, Error, Row, Savepoint};
 use sqlite_value::value::ValueRef;
 use std::alloc::Global;
 
-/// The documents of a job of the account, by rising number. `Damaged` tells that a row that is
-/// there can be none of sound rows.
+/// Reads the documents of a job, by rising number. `Damaged` where a row is broken.
 pub fn find_documents<S: Alter>(
     alloc: Global,
     connection: &mut Connection<S>,
@@ -49,10 +48,10 @@ pub fn find_documents<S: Alter>(
     in_order(alloc, found.places)
 }
 
-/// A place for each document that a job may have.
+/// How many documents a job may have, as the length of an array.
 const PLACES: usize = MOST_DOCUMENTS as usize;
 
-/// The documents of a job that were gathered, that of the number 1 in the first place.
+/// The documents of a job that were read so far. Document 1 is in the first place.
 #[derive(Drop)]
 struct Found {
     job: u32,
@@ -74,7 +73,8 @@ impl Gather for Found {
     }
 }
 
-/// The document that the row tells, if it is one that a job can have.
+/// Reads a document of the job from its row. `Damaged` where the number or the length is out of
+/// range.
 fn document_from(row: &Row, job: u32) -> Result<Document, TableFault>
     ensures read { IfOk result (ShowsDocument row.now) }
     ensures in_range { IfOk result (IsDocumentOf job) }
@@ -95,6 +95,7 @@ fn document_from(row: &Row, job: u32) -> Result<Document, TableFault>
     })
 }
 
+/// Reads the rows of the job's documents into `found`, in any order.
 fn walk_documents<S: Alter>(
     connection: &mut Connection<S>,
     account: Name,
@@ -114,7 +115,7 @@ fn walk_documents<S: Alter>(
     )
 }
 
-/// Those that are there, in the order of their places.
+/// The documents that were found, by rising number.
 fn in_order(alloc: Global, places: [Option<Document>; PLACES]) -> Result<List<Document>, TableFault>
     ensures listed { IfOk result (λ documents. documents ≡ flat_map option_to_list places) }
     ensures fault { IfErr result (λ fault. fault ≡ TableFault.Memory) }
@@ -128,8 +129,8 @@ fn in_order(alloc: Global, places: [Option<Document>; PLACES]) -> Result<List<Do
     Ok(List { items })
 }
 
-/// Puts a new document of a job of the account in, inside a savepoint. The row takes the one copy
-/// of the bytes. `Damaged` tells that the job has a document of this number already.
+/// Inserts a document of a job, inside a savepoint. The row takes the one copy of the bytes.
+/// `Damaged` where the job has a document of this number already.
 pub fn add_document<S: Alter>(
     savepoint: &mut Savepoint<'_, S>,
     account: Name,
@@ -159,7 +160,7 @@ pub fn add_document<S: Alter>(
     )
 }
 
-/// Removes the documents of a job of the account, inside a savepoint. It may have none.
+/// Deletes the documents of a job, inside a savepoint. The job may have none.
 pub fn remove_documents<S: Alter>(
     savepoint: &mut Savepoint<'_, S>,
     account: Name,

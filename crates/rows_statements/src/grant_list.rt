@@ -1,4 +1,4 @@
-//! The grants of an account as a list.
+//! Reading all grants of an account, as an operator and a backup list them.
 
 ghost use Rattle.std.specs.Prelude.{◌≡◌, ℕ, map, Err, IfOk, OnOk};
 ghost use Rattle.std.specs.List.{AllByRecursion};
@@ -20,8 +20,7 @@ use sqlite::{Alter, Connection, Row};
 use sqlite_value::value::ValueRef;
 use std::alloc::Global;
 
-/// The grants of the account, by month. `Damaged` tells that a row that is there can be none of
-/// sound rows.
+/// Reads the grants of the account, by month. `Damaged` where a row is broken.
 pub fn list_grants<S: Alter>(
     alloc: Global,
     connection: &mut Connection<S>,
@@ -44,6 +43,7 @@ pub fn list_grants<S: Alter>(
     Ok(grants)
 }
 
+/// Gathers the grants in the order of their months.
 fn walk_by_month<S: Alter>(
     connection: &mut Connection<S>,
     account: Name,
@@ -63,6 +63,7 @@ fn walk_by_month<S: Alter>(
     )
 }
 
+/// Gathers grants: adds that of each row to the list.
 impl Gather for List<Grant> {
     ghost use Rattle.rows_statements.specs.GrantLists.{tells_no_grant, ListsGrant};
 
@@ -77,7 +78,7 @@ impl Gather for List<Grant> {
     }
 }
 
-/// The grant that the row tells.
+/// Reads a grant from its row. `Damaged` where a value is out of range.
 fn grant_from(row: &Row) -> Result<Grant, TableFault>
     ensures read { IfOk result (λ grant. TellsGrant row.now grant.month grant.pages) }
     ensures in_range { IfOk result IsInRange }

@@ -1,4 +1,5 @@
-//! Pages are granted.
+//! The change that an operator's grant makes: one row of the table `grants`. Whether the grant may
+//! be made is decided above, in `store_events`.
 
 ghost use Rattle.rows_statements.specs.Prelude.{ChangesWhole, SetsRow};
 ghost use Rattle.rows_tables.specs.Cells.{grant_cells};
@@ -9,7 +10,8 @@ use crate::set_grant;
 use account_rules::Name;
 use sqlite::{Alter, Connection, Error};
 
-/// Grants the account the pages once, for good, to be used in the month or later.
+/// Adds the grant of a month to the account: pages to be used in that month or later. A grant of
+/// the month that is there is replaced; callers ask first.
 pub fn add_grant<S: Alter>(
     connection: &mut Connection<S>,
     account: Name,
@@ -22,6 +24,7 @@ pub fn add_grant<S: Alter>(
     put_grant(connection, account, month, pages)
 }
 
+/// The work of `add_grant`, in one savepoint.
 fn put_grant<S: Alter>(
     connection: &mut Connection<S>,
     account: Name,

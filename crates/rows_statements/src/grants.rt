@@ -1,4 +1,4 @@
-//! The rows of the table `grants`.
+//! Statements on the table `grants`: the pages that an account was granted, one row for each month.
 
 ghost use Rattle.std.specs.Prelude.{◌≡◌, ◌≢◌, ℕ, ◌≤◌, pos, [], ◌∷◌, map, Err, option_map, IfOk, IfSome, OnOk, IsPermutation};
 ghost use Rattle.rows_statements.specs.Prelude.{Changes, GetsRow, HasGathered, HoldsRoom, IfOurTables, IsRowOf, KeepsOpen, ReadsStore, RoomValue, SetsRow, WalksStore, WritesInSavepoint, column, number};
@@ -19,8 +19,8 @@ use rows_tables::{TableFault, find_row, write};
 use sqlite::{Alter, Connection, Error, Row, Savepoint};
 use sqlite_value::value::ValueRef;
 
-/// The pages that the account was granted in the month, if there is such a grant. `Damaged` tells
-/// that the row that is there can be none of sound rows.
+/// Reads the pages that the account was granted in the month. `None` where that has no grant;
+/// `Damaged` where the row is broken.
 pub fn find_grant<S: Alter>(
     connection: &mut Connection<S>,
     account: Name,
@@ -41,6 +41,7 @@ pub fn find_grant<S: Alter>(
     }
 }
 
+/// Runs the query of `find_grant`.
 fn grant_row<S: Alter>(
     connection: &mut Connection<S>,
     account: Name,
@@ -58,6 +59,7 @@ fn grant_row<S: Alter>(
     )
 }
 
+/// Reads the pages from the row of that query. `Damaged` where they are out of range.
 fn pages_from(row: &Row) -> Result<u32, TableFault>
     ensures read { IfOk result (λ pages. column row.now 0 ≡ number pages) }
     ensures in_range { IfOk result (λ pages. pages ≤ most_pages) }
@@ -71,8 +73,8 @@ fn pages_from(row: &Row) -> Result<u32, TableFault>
     Ok(pages as u32)
 }
 
-/// The pages that the account was granted for the months up to the given one. `Damaged` tells that
-/// the rows that are there, one of them or all together, can be none of sound rows.
+/// Adds up the pages that the account was granted for all months up to and with the given one.
+/// `Damaged` where a row is broken, or the sum is more than an account can have.
 pub fn granted_to<S: Alter>(
     connection: &mut Connection<S>,
     account: Name,
@@ -91,7 +93,7 @@ pub fn granted_to<S: Alter>(
     Ok(granted.pages)
 }
 
-/// What the grants that were gathered come to in a month.
+/// A sum of grants under way: the last month that counts, and the pages so far.
 #[derive(Drop)]
 struct Granted {
     month: u32,
@@ -118,6 +120,7 @@ impl Gather for Granted {
     }
 }
 
+/// Adds the account's grants up in `granted`.
 fn walk_grants<S: Alter>(
     connection: &mut Connection<S>,
     account: Name,
@@ -139,7 +142,7 @@ fn walk_grants<S: Alter>(
     )
 }
 
-/// Sets the grant of a month, in the place of one that is there, inside a savepoint.
+/// Inserts or replaces the grant of a month, inside a savepoint.
 pub fn set_grant<S: Alter>(
     savepoint: &mut Savepoint<'_, S>,
     account: Name,

@@ -1,4 +1,4 @@
-//! The rows of the table `job`.
+//! Statements on the table `job`, which has one row for each job of an account.
 
 ghost use Rattle.std.specs.Prelude.{◌≡◌, None, Some, Err, pos, IfOk, IfSome, option_map, OnOk, OnErr, IfErr};
 ghost use Rattle.rows_statements.specs.Prelude.{Changes, GetsRow, IfOurTables, IsRowOf, KeepsOpen, ReadsStore, SetsRow, WritesInSavepoint};
@@ -21,8 +21,8 @@ use rows_tables::{TableFault, find_row, put, write};
 use sqlite::{Alter, Connection, Error, Row, Savepoint};
 use sqlite_value::value::ValueRef;
 
-/// The job of the account with the number. `Damaged` tells that the row that is there can be none
-/// of sound rows.
+/// Reads the account's job of this number. `None` where there is none; `Damaged` where its row is
+/// broken.
 pub fn find_job<S: Alter>(
     connection: &mut Connection<S>,
     account: Name,
@@ -44,6 +44,7 @@ pub fn find_job<S: Alter>(
     }
 }
 
+/// Runs the query of `find_job`. `job_from` knows the order of its columns.
 fn job_row<S: Alter>(
     connection: &mut Connection<S>,
     account: Name,
@@ -60,7 +61,8 @@ fn job_row<S: Alter>(
     )
 }
 
-/// The job with the number that the row tells, from its name on.
+/// Reads a job from a row whose columns are those of the table from `name` on. `Damaged` where a
+/// value is out of range. Get-Jobs reads its rows by it too.
 pub(crate) fn job_from(row: &Row, number: u32) -> Result<Job, TableFault>
     ensures numbered { IfOk result (λ job. job.job ≡ number) }
     ensures read { IfOk result (ShowsJob row.now) }
@@ -82,8 +84,8 @@ pub(crate) fn job_from(row: &Row, number: u32) -> Result<Job, TableFault>
     })
 }
 
-/// The standing that the row tells behind the job's name and password. `Damaged` where no job can
-/// stand so.
+/// Reads the job's standing from the row, whose first two columns are its name and its password.
+/// `Damaged` where no job can have it.
 fn standing_from(row: &Row) -> Result<Standing, TableFault>
     ensures read { IfOk result (ShowsStanding row.now) }
     ensures in_range { IfOk result IsStanding }
@@ -95,7 +97,7 @@ fn standing_from(row: &Row) -> Result<Standing, TableFault>
     Ok(standing)
 }
 
-/// `Damaged` where no job can stand so.
+/// Checks that a job can have the standing. `Damaged` where none can.
 fn check_range(standing: &Standing) -> Result<(), TableFault>
     ensures in_range { OnOk result (IsStanding standing.now) }
     ensures damaged { OnErr result (IsStanding standing.now → ⊥) }
@@ -108,7 +110,8 @@ fn check_range(standing: &Standing) -> Result<(), TableFault>
     }
 }
 
-/// The standing as its columns tell it, whether a job can stand so or not.
+/// Reads the fields of the standing, whether they go together or not. `Damaged` where a column has
+/// a value of another kind.
 fn columns_from(row: &Row) -> Result<Standing, TableFault>
     ensures read { IfOk result (ShowsStanding row.now) }
     ensures named { IfOk result (λ s. IsNameOrNone s.device) }
@@ -132,8 +135,8 @@ fn columns_from(row: &Row) -> Result<Standing, TableFault>
     })
 }
 
-/// Puts a new job of the account in, under its number, inside a savepoint. `Damaged` tells that a
-/// job of this number is there already.
+/// Inserts a job of the account, inside a savepoint. `Damaged` where the account has a job of this
+/// number already.
 pub fn add_job<S: Alter>(
     savepoint: &mut Savepoint<'_, S>,
     account: Name,
@@ -174,8 +177,8 @@ pub fn add_job<S: Alter>(
     )
 }
 
-/// Sets the standing of a job of the account that is there, inside a savepoint. Its number, its
-/// name and its password stay.
+/// Replaces the standing of a job that is there, inside a savepoint. Its number, name and password
+/// stay.
 pub fn set_standing<S: Alter>(
     savepoint: &mut Savepoint<'_, S>,
     account: Name,

@@ -1,15 +1,15 @@
-//! What the statements promise together.
+//! Laws of this crate: facts about its definitions that the check proves. Nothing calls them.
 
 ghost use Rattle.rows_statements.specs.NamesStay.{NamesStay};
 ghost use Rattle.rows_statements.specs.SoundRows.{SoundRowsAreRead};
 
-/// Sound rows are such as each read can read, so that `Damaged` is told of none of them.
+/// Every read finds sound rows readable: it never tells `Damaged` of them.
 pub fn sound_rows_are_read()
     ensures { SoundRowsAreRead }
 {}
 
-/// Each account stays one of a name, which `next_accounts` asks for. Sound rows are those of one
-/// account, and do not say it.
+/// Every change keeps this: the account of each row of `account` has a valid name. `next_accounts`
+/// needs it. It is no part of sound rows, since those are said of one account whose name is given.
 pub fn names_stay()
     ensures { NamesStay }
 {}

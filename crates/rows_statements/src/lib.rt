@@ -1,6 +1,10 @@
-//! One function for each statement on the rows of the shared tables, and the changes that events
-//! make, each in a savepoint of its own: whole or not at all. Outside a round that is a transaction;
-//! the changes of a round share its commit. An `Error` is the library's: storage or memory failed.
+//! The SQL of the store: one function for each statement on the rows of the tables, and the changes
+//! that events make of them, each in one savepoint: whole or not at all. Outside a round that is a
+//! transaction; the changes of a round share its commit.
+//!
+//! An `Error` is the SQLite library's: storage or memory failed. `TableFault::Damaged` of a
+//! function that reads tells that rows are broken, in that they have values that no account or
+//! device can have; of one that inserts a row, that the row's key is taken.
 #![tactic(auto)]
 
 mod account_names;

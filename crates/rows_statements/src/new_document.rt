@@ -1,8 +1,8 @@
-//! A document that is to be kept.
+//! `NewDocument`: a document on its way into the table, as Print-Job and Send-Document bring one.
 
 use account_rules::Format;
 
-/// A document that is not kept yet. Its bytes are lent: the row takes the one copy of them.
+/// A document that is to be inserted. Its bytes are borrowed: the row takes the one copy of them.
 #[derive(Clone, Copy)]
 pub struct NewDocument<'a> {
     /// 1 to 8, among the documents of its job.

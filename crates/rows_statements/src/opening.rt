@@ -1,4 +1,5 @@
-//! An account is opened.
+//! The change that opens an account: its own row is inserted. Whether the account is open already
+//! is asked above, in `store_events`.
 
 ghost use Rattle.rows_statements.specs.Prelude.{ChangesWhole, SetsRow};
 ghost use Rattle.rows_tables.specs.Accounts.{IsAccount};
@@ -10,7 +11,7 @@ use crate::set_account;
 use account_rules::{Account, Moment, Name};
 use sqlite::{Alter, Connection, Error};
 
-/// Opens the account at the moment `now`.
+/// Opens the account at the moment `now`: inserts its row, with 1 as the number of its next job.
 pub fn open_account<S: Alter>(
     connection: &mut Connection<S>,
     account: Name,
@@ -26,6 +27,7 @@ pub fn open_account<S: Alter>(
     put_account(connection, account, row)
 }
 
+/// Sets the account's own row, in one savepoint.
 fn put_account<S: Alter>(
     connection: &mut Connection<S>,
     account: Name,

@@ -1,4 +1,4 @@
-//! The jobs of an account in the orders of Get-Jobs.
+//! Reading the jobs of an account in the two orders of Get-Jobs: unfinished jobs, and ended ones.
 
 ghost use Rattle.std.specs.Prelude.{◌≡◌, Err, IfOk, OnOk};
 ghost use Rattle.rows_statements.specs.Prelude.{HasGathered, HoldsRoom, IfOurTables, KeepsOpen, ReadsStore, RoomValue, WalksStore};
@@ -21,8 +21,8 @@ use sqlite::{Alter, Connection, Row};
 use sqlite_value::value::ValueRef;
 use std::alloc::Global;
 
-/// The jobs of the account that have not ended, by rising number, and of those the first so many.
-/// `Damaged` tells that one of these rows can be none of sound rows.
+/// Reads the jobs of the account that have not ended, by rising number: the first `limit` of them,
+/// or all. `Damaged` where one of their rows is broken.
 pub fn unfinished_jobs<S: Alter>(
     alloc: Global,
     connection: &mut Connection<S>,
@@ -46,6 +46,7 @@ pub fn unfinished_jobs<S: Alter>(
     Ok(jobs)
 }
 
+/// Gathers the unfinished jobs. An `ended` of -1 says that a job has not ended.
 fn walk_unfinished<S: Alter>(
     connection: &mut Connection<S>,
     account: Name,
@@ -68,9 +69,9 @@ fn walk_unfinished<S: Alter>(
     )
 }
 
-/// The jobs of the account that have ended, by falling moment of ending, and where that is the same
-/// by falling number, and of those the first so many. `Damaged` tells that one of these
-/// rows can be none of sound rows.
+/// Reads the jobs of the account that have ended, the last to end first; of those that ended at one
+/// moment the highest number is first. It reads the first `limit` of them, or all. `Damaged` where
+/// one of their rows is broken.
 pub fn ended_jobs<S: Alter>(
     alloc: Global,
     connection: &mut Connection<S>,
@@ -94,6 +95,7 @@ pub fn ended_jobs<S: Alter>(
     Ok(jobs)
 }
 
+/// Gathers the ended jobs.
 fn walk_ended<S: Alter>(
     connection: &mut Connection<S>,
     account: Name,
@@ -116,6 +118,7 @@ fn walk_ended<S: Alter>(
     )
 }
 
+/// Gathers jobs: adds that of each row to the list.
 impl Gather for List<Job> {
     ghost use Rattle.rows_statements.specs.Queues.{ListsJob, refuses_numbered};
 
@@ -130,7 +133,7 @@ impl Gather for List<Job> {
     }
 }
 
-/// The job that the row tells, its number after its other columns.
+/// Reads a job from a row whose last column is its number. `Damaged` where a value is out of range.
 fn numbered_job(row: &Row) -> Result<Job, TableFault>
     ensures read { IfOk result (ShowsNumbered row.now) }
     ensures numbered { IfOk result IsNumbered }
@@ -143,7 +146,7 @@ fn numbered_job(row: &Row) -> Result<Job, TableFault>
     job_from(row, number)
 }
 
-/// A limit, or that there is none, as a parameter.
+/// A limit as a parameter of LIMIT. -1 is none.
 fn limit_of<'a>(limit: Option<u32>) -> ValueRef<'a>
     ensures { owned result ≡ Int (limit_number limit) }
 {

@@ -1,4 +1,4 @@
-//! The rows of the table `rates`.
+//! Statements on the table `rates`: how many units of quota a device counts for an impression.
 
 ghost use Rattle.std.specs.Prelude.{◌≡◌, ◌≢◌, ◌≤◌, ℕ, [], ◌∷◌, Err, option_map, IfOk, IfSome, IsTrue};
 ghost use Rattle.rows_statements.specs.Prelude.{Changes, GetsRow, IfOurTables, IsRowOf, KeepsOpen, ReadsStore, SetsRow, WritesInSavepoint, column, number};
@@ -15,8 +15,8 @@ use rows_tables::{TableFault, find_row, write};
 use sqlite::{Alter, Connection, Error, Row, Savepoint};
 use sqlite_value::value::ValueRef;
 
-/// The units that an impression counts on the device, 1 to 100, if it has a rate. `Damaged` tells
-/// that the row that is there can be none of sound rows.
+/// Reads the units, 1 to 100, that an impression counts on the device. `None` where it has no rate;
+/// `Damaged` where the row is broken.
 pub fn find_rate<S: Alter>(
     connection: &mut Connection<S>,
     name: Name,
@@ -37,6 +37,7 @@ pub fn find_rate<S: Alter>(
     }
 }
 
+/// Runs the query of `find_rate`.
 fn rate_row<S: Alter>(connection: &mut Connection<S>, name: Name) -> Result<Option<Row>, Error>
     ensures gets { GetsRow S.Store connection.old connection.new (λ db. rate_at db name)
         (λ cells. cell rate_column.units cells ∷ []) result }
@@ -49,6 +50,7 @@ fn rate_row<S: Alter>(connection: &mut Connection<S>, name: Name) -> Result<Opti
     )
 }
 
+/// Reads the units from the row of that query. `Damaged` where they are out of range.
 fn units_from(row: &Row) -> Result<u32, TableFault>
     ensures read { IfOk result (λ units. column row.now 0 ≡ number units) }
     ensures in_range { IfOk result IsRate }
@@ -62,7 +64,7 @@ fn units_from(row: &Row) -> Result<u32, TableFault>
     Ok(units as u32)
 }
 
-/// Sets the units that an impression counts on the device, inside a savepoint.
+/// Inserts or replaces the units that an impression counts on the device, inside a savepoint.
 pub fn set_rate<S: Alter>(
     savepoint: &mut Savepoint<'_, S>,
     name: Name,

@@ -1,4 +1,4 @@
-//! Rounds: changes that share a commit.
+//! BEGIN and COMMIT of a round, whose events share one commit.
 
 ghost use Rattle.std.specs.Prelude.{◌≡◌, IsTrue, OnErr, OnOk};
 ghost use Rattle.rows_statements.specs.Rounds.{BeginsRound, EndsRound};
@@ -8,8 +8,8 @@ ghost use Rattle.sqlite.specs.State.{HasCleanDisk, Survives};
 
 use sqlite::{Alter, Connection, Error, ErrorCode};
 
-/// Begins a round: what is changed from now on is on the disk once the round is committed. It is
-/// refused where a transaction is under way.
+/// Begins a round: what is changed from now on is on the disk once the round is committed. It fails
+/// where a transaction is under way.
 pub fn begin_round<S: Alter>(connection: &mut Connection<S>) -> Result<(), Error>
     ensures begins { HasCleanDisk (state S.Store connection.new) → OnOk result
         (BeginsRound (state S.Store connection.old) (state S.Store connection.new)) }
@@ -30,7 +30,8 @@ pub fn begin_round<S: Alter>(connection: &mut Connection<S>) -> Result<(), Error
     }
 }
 
-/// Commits the round. It is refused where none is under way, and where it fails the round is undone.
+/// Commits the round: all that it changed is on the disk then. It fails where no round is under
+/// way. Where a commit fails, the round is undone.
 pub fn commit_round<S: Alter>(connection: &mut Connection<S>) -> Result<(), Error>
     ensures ends { HasCleanDisk (state S.Store connection.new) → OnOk result
         (EndsRound (state S.Store connection.old) (state S.Store connection.new)) }

@@ -1,4 +1,4 @@
-//! What the rows of an account's jobs come to for a statement.
+//! Adding up the jobs of an account for an operator's statement of a month.
 
 ghost use Rattle.std.specs.Prelude.{◌≡◌, ◌≤◌, ℕ, map, Err, IfOk, IfSome, None, OnOk, Option, IsPermutation};
 ghost use Rattle.std.specs.FinMap.{values};
@@ -18,9 +18,10 @@ use rows_tables::values::{moment_at, number_at, state_at};
 use sqlite::{Alter, Connection, Row};
 use sqlite_value::value::ValueRef;
 
-/// What the jobs of the account come to, and what of it in the month. All its jobs are read once.
-/// `Damaged` tells that the rows that are there, one of them or all together, can be none of sound
-/// rows.
+/// Adds up the jobs of the account for a statement of the month, in one walk over all of them: the
+/// units that they reserve and were charged and how many jobs are in each state, and apart what was
+/// charged and how many ended in the month. `Damaged` where a row is broken, or a sum is more than
+/// an account can have.
 pub fn summarize<S: Alter>(
     connection: &mut Connection<S>,
     account: Name,
@@ -52,7 +53,7 @@ pub fn summarize<S: Alter>(
     Ok(summed.summary)
 }
 
-/// What the jobs that were gathered come to for a month.
+/// A summary under way: its month, and what the jobs that were read so far come to.
 #[derive(Drop)]
 struct Summed {
     month: u32,
@@ -76,6 +77,7 @@ impl Gather for Summed {
     }
 }
 
+/// Adds all jobs of the account up in `summed`.
 fn walk_jobs<S: Alter>(
     connection: &mut Connection<S>,
     account: Name,
@@ -96,8 +98,8 @@ fn walk_jobs<S: Alter>(
     )
 }
 
-/// What two summaries come to together. None exactly where a number of it would pass 10^18, which
-/// neither the units nor the jobs of an account reach.
+/// Adds two summaries, number by number. `None` exactly where a sum would pass 10^18, which neither
+/// the units nor the jobs of an account reach.
 fn sum_of(summary: Summary, more: Summary) -> Option<Summary>
     ensures sum { IfSome result (λ sum. sum ≡ sum_of summary more) }
     ensures bounds { IfSome result IsInBounds }
@@ -115,7 +117,7 @@ fn sum_of(summary: Summary, more: Summary) -> Option<Summary>
     })
 }
 
-/// What the job that the row tells comes to.
+/// Reads what the job of a row adds to the summary of the month.
 fn summary_on(row: &Row, month: u32) -> Result<Summary, TableFault>
     ensures told { IfOk result (TellsSummary month row.now) }
     ensures damaged { result ≡ Err TableFault.Damaged → (job : SummaryValue)
@@ -129,7 +131,7 @@ fn summary_on(row: &Row, month: u32) -> Result<Summary, TableFault>
     Ok(summary_of_job(month, state, reserved, charged, further, ended))
 }
 
-/// The units beyond what its release let it cost that the job was charged which the row tells.
+/// Reads from a job's row how many units it was charged beyond what its release let it cost.
 fn beyond_on(row: &Row, charged: u64) -> Result<u64, TableFault>
     ensures told { IfOk result (TellsBeyond row.now charged) }
     ensures damaged { result ≡ Err TableFault.Damaged → (charges further : ℕ)
@@ -143,15 +145,16 @@ fn beyond_on(row: &Row, charged: u64) -> Result<u64, TableFault>
     ))
 }
 
-/// The units of a charge beyond what the release of such a job let it cost. A product of more than a
-/// number can hold is more than any charge.
+/// The units of a charge beyond impressions x copies x rate, which is what the release let the job
+/// cost. A product of more than a `u64` can hold is more than any charge.
 fn beyond(charged: u64, impressions: u64, copies: u64, rate: u64) -> u64
     ensures { result ≡ beyond charged impressions copies rate }
 {
     charged.saturating_sub(impressions.saturating_mul(copies).saturating_mul(rate))
 }
 
-/// The moment of an end in a column, or that there is none. Anything else there is `Damaged`.
+/// Reads the moment at which a job ended from a column; `None` for a job that has not. `Damaged`
+/// where the column has anything else.
 fn end_at(row: &Row, at: usize) -> Result<Option<Moment>, TableFault>
     ensures read { IfOk result (λ found. column row.now at ≡ moment found) }
     ensures in_range { IfOk result (λ found. IfSome found IsMoment) }
@@ -167,7 +170,8 @@ fn end_at(row: &Row, at: usize) -> Result<Option<Moment>, TableFault>
     }
 }
 
-/// What one job comes to.
+/// What one job adds to the summary of the month. `further` is what it was charged beyond its
+/// release.
 fn summary_of_job(
     month: u32,
     state: JobState,
@@ -191,7 +195,7 @@ fn summary_of_job(
     }
 }
 
-/// Whether there was an end, and it was in the month.
+/// Whether the job has ended, and in the month.
 fn is_in_month(month: u32, ended: Option<Moment>) -> bool
     ensures { result ≡ is_in_month month ended }
 {

@@ -1,4 +1,4 @@
-//! What is counted of the rows of an account's jobs.
+//! Adding up all jobs of an account, which its quota needs.
 
 ghost use Rattle.std.specs.Prelude.{◌≡◌, ◌≤◌, map, Err, IfOk, OnOk, IsPermutation};
 ghost use Rattle.rows_statements.specs.Prelude.{HasGathered, HoldsRoom, IfOurTables, KeepsOpen, ReadsStore, RoomValue, WalksStore};
@@ -17,8 +17,8 @@ use rows_tables::values::{number_at, state_at};
 use sqlite::{Alter, Connection, Row};
 use sqlite_value::value::ValueRef;
 
-/// What is counted of all jobs of the account. `Damaged` tells that the rows that are there, one
-/// of them or all together, can be none of sound rows.
+/// Adds up what all jobs of the account reserve and were charged, and counts the unfinished ones.
+/// `Damaged` where a row is broken, or a sum is more than an account can have.
 pub fn tally_jobs<S: Alter>(
     connection: &mut Connection<S>,
     account: Name,
@@ -41,6 +41,8 @@ pub fn tally_jobs<S: Alter>(
     Ok(tally)
 }
 
+/// Gathers a tally: counts the job of each row in. `Damaged` where a sum is more than an account
+/// can have.
 impl Gather for Tally {
     ghost use Rattle.rows_statements.specs.Totals.{CountsJob, refuses_job};
 
@@ -58,6 +60,7 @@ impl Gather for Tally {
     }
 }
 
+/// Adds all jobs of the account up in `tally`.
 fn walk_jobs<S: Alter>(
     connection: &mut Connection<S>,
     account: Name,

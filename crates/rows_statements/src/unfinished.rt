@@ -1,4 +1,5 @@
-//! What is counted of the rows of an account's jobs that have not ended.
+//! Counting the jobs of an account that have not ended: whether its queue takes one more, and what
+//! its printer is doing.
 
 ghost use Rattle.std.specs.Prelude.{◌≡◌, ◌<◌, ◌≤◌, length, map, Err, IfOk, OnOk, IsPermutation};
 ghost use Rattle.rows_statements.specs.Prelude.{HasGathered, HoldsRoom, IfOurTables, KeepsOpen, ReadsStore, RoomValue, WalksStore};
@@ -18,9 +19,9 @@ use rows_tables::TableFault;
 use sqlite::{Alter, Connection, Row};
 use sqlite_value::value::ValueRef;
 
-/// What is counted of the jobs of the account that have not ended: all that says whether its queue
-/// takes a job and what its printer is doing. `Damaged` tells that the rows that are there, one
-/// of them or all together, can be none of sound rows.
+/// Tallies the unfinished jobs of the account, for Get-Printer-Attributes: how many there are, and
+/// whether one is processing. `Damaged` where a row is broken, or there are more than an account
+/// may have.
 pub fn tally_unfinished<S: Alter>(
     connection: &mut Connection<S>,
     account: Name,
@@ -44,6 +45,7 @@ pub fn tally_unfinished<S: Alter>(
     Ok(tally)
 }
 
+/// Adds the unfinished jobs up in `tally`. An `ended` of -1 says that a job has not ended.
 fn walk_queued<S: Alter>(
     connection: &mut Connection<S>,
     account: Name,
@@ -63,8 +65,8 @@ fn walk_queued<S: Alter>(
     )
 }
 
-/// How many jobs of the account have not ended, which is all that says whether its queue takes a job.
-/// Only the index is read. `Damaged` tells that there are more than an account may have.
+/// Counts the unfinished jobs of the account, of which a queue takes only so many. Only the index
+/// is read. `Damaged` where there are more than an account may have.
 pub fn count_unfinished<S: Alter>(
     connection: &mut Connection<S>,
     account: Name,
@@ -84,7 +86,7 @@ pub fn count_unfinished<S: Alter>(
     Ok(unfinished.count)
 }
 
-/// How many rows were gathered.
+/// How many unfinished jobs were read so far.
 #[derive(Drop)]
 struct Unfinished {
     count: u32,
@@ -106,6 +108,7 @@ impl Gather for Unfinished {
     }
 }
 
+/// Counts the unfinished jobs by the index alone.
 fn walk_index<S: Alter>(
     connection: &mut Connection<S>,
     account: Name,

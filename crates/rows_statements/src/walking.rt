@@ -1,4 +1,4 @@
-//! A walk over the rows that a query shows, one at a time.
+//! `walk`: how every query that shows many rows is read, row by row, into a `Gather`.
 
 ghost use Rattle.std.specs.Prelude.{◌≡◌, Err, OnOk};
 ghost use Rattle.rows_tables.specs.Calls.{KeepsOpen};
@@ -11,7 +11,7 @@ use rows_tables::TableFault;
 use sqlite::{Alter, Connection, Row};
 use sqlite_value::value::ValueRef;
 
-/// What is gathered on a walk.
+/// What gathers rows on a walk: a list, a sum or a count.
 pub trait Gather: Sized {
     ghost use Rattle.sqlite_value.specs.Order.{Row as Values};
 
@@ -21,13 +21,15 @@ pub trait Gather: Sized {
     // The rows that cannot be gathered.
     ghost refuses: { Self → Values → Type 0 };
 
-    /// Gathers one more row. `Damaged` tells that it is one that cannot be gathered.
+    /// Takes in one more row. `Damaged` where the row is broken, or is too much for what was
+    /// gathered.
     fn gather(&mut self, row: &Row) -> Result<(), TableFault>
         ensures gathered { OnOk result (step self.old row.now self.new) }
         ensures refused { result ≡ Err TableFault.Damaged → refuses self.old row.now };
 }
 
-/// Gathers each row that a query shows. It keeps no list of them.
+/// Runs a query and hands each row that it shows to `gathered`, one at a time. No list of rows is
+/// kept.
 pub fn walk<S: Alter, G: Gather>(
     connection: &mut Connection<S>,
     text: &str,

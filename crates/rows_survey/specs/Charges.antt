@@ -1,5 +1,5 @@
--- What the jobs of an account were charged on each day of a month, one job after another (all this
--- project's own).
+-- How what an account's jobs were charged on each day of a month is added up, one job after another
+-- (all this project's own).
 use Rattle.std.specs.Prelude.{◌≡◌, ℕ, ◌+◌, ◌<◌, if◌then◌else◌, [], ◌∷◌, Option, slice_index}
 use Rattle.sqlite_value.specs.Order.{Row, column}
 use Rattle.page_overview.specs.Surveys.{is_on, told}

@@ -1,4 +1,4 @@
--- What a survey reads of an account (all this project's own).
+-- What a survey for the overview page reads of an account (all this project's own).
 use Rattle.std.specs.Prelude.{ℕ, List, None}
 use Rattle.sqlite.specs.Effect.{Database}
 use Rattle.rows_statements.specs.Queues.{by_rising_number, IsNumbered}

@@ -1,4 +1,4 @@
-//! What the rows of an account's jobs were charged on each day of a month.
+//! Adding up what an account was charged on each day of a month, for the chart of the overview.
 
 ghost use Rattle.std.specs.Prelude.{◌≡◌, ◌<◌, ℕ, map, Err, IfOk, IsPermutation, slice_index};
 ghost use Rattle.std.specs.FinMap.{values};
@@ -16,8 +16,8 @@ use rows_tables::values::{moment_at, number_at};
 use sqlite::{Alter, Connection, Row};
 use sqlite_value::value::ValueRef;
 
-/// The units that the account's jobs were charged that ended on each day of the month. All its jobs
-/// are read once. `Damaged` tells that one of these rows can be none of sound rows.
+/// Adds up the units that jobs of the account were charged, by the day of the month on which they
+/// ended, in one walk over all its jobs. `Damaged` where a row is broken.
 pub(crate) fn charges_of<S: Alter>(
     connection: &mut Connection<S>,
     account: Name,
@@ -40,7 +40,8 @@ pub(crate) fn charges_of<S: Alter>(
     Ok(charges.days)
 }
 
-/// What the jobs that were gathered were charged on each day of a month.
+/// Charges under way: the month, and the units of each of its days so far. The first day is in
+/// place 0.
 #[derive(Drop)]
 struct Charges {
     month: u32,
@@ -65,7 +66,8 @@ impl Gather for Charges {
 impl Charges {
     ghost use Rattle.rows_survey.specs.Charges.{AddsUnits};
 
-    /// Adds the units that a job was charged, on the day on which it ended.
+    /// Adds what a job was charged to the day on which it ended. A job that has not ended, or ended
+    /// in another month, adds nothing.
     fn add(&mut self, charged: u64, ended: Option<u64>)
         ensures { AddsUnits charged ended self.old self.new }
     {
@@ -80,6 +82,7 @@ impl Charges {
     }
 }
 
+/// Adds all jobs of the account up in `charges`.
 fn walk_jobs<S: Alter>(
     connection: &mut Connection<S>,
     account: Name,

@@ -1,8 +1,8 @@
-//! What a survey reads of sound rows.
+//! A law of this crate: a fact about its definitions that the check proves. Nothing calls it.
 
 ghost use Rattle.rows_survey.specs.Reading.{SoundRowsAreSurveyed};
 
-/// Of sound rows every account can be surveyed, so that `Damaged` is told of none of them.
+/// Every account whose rows are sound can be surveyed: `Damaged` is never told of it.
 pub fn sound_rows_are_surveyed()
     ensures { SoundRowsAreSurveyed }
 {}

@@ -1,4 +1,5 @@
-//! What one account comes to for the print room's page, by its rows alone.
+//! What one account adds to the print room's overview page: its quota, its unfinished jobs and its
+//! charges by day, read from its rows alone.
 #![tactic(auto)]
 
 mod charges;

@@ -1,4 +1,4 @@
-//! The survey of one account.
+//! `survey`: what the overview reads of one account.
 
 ghost use Rattle.std.specs.Prelude.{◌≡◌, Err, IfOk};
 ghost use Rattle.page_overview.specs.Surveys.{IsInBounds, IsSurvey};
@@ -15,8 +15,9 @@ use rows_tables::TableFault;
 use sqlite::{Alter, Connection};
 use std::alloc::Global;
 
-/// What the account comes to in the month, by its rows alone. `Damaged` tells that the rows that are
-/// there, one of them or all together, can be none of sound rows.
+/// Reads for the overview of a month what the account was granted, what its jobs come to, what was
+/// charged on each day, and its unfinished jobs. `Damaged` where a row is broken, or a sum is more
+/// than an account can have.
 pub fn survey<S: Alter>(
     alloc: Global,
     connection: &mut Connection<S>,

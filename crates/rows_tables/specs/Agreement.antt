@@ -1,4 +1,5 @@
--- When two databases are the same to an account (all this project's own).
+-- When two databases are the same to an account: they have the same rows of it and of the devices
+-- (all this project's own).
 use Rattle.std.specs.Prelude.{ℕ, List}
 use Rattle.sqlite.specs.Effect.{Database}
 use Rattle.rows_tables.specs.Accounts.{AgreeOnRows}

@@ -1,4 +1,5 @@
--- What each call over a connection keeps, also where nothing is known of the tables.
+-- What each call over a connection keeps of the database and of its transaction, also where nothing
+-- is known of the tables.
 use Rattle.std.specs.Prelude.{◌≡◌, ◌⊎◌, ℕ, ◌+◌, ◌≤◌, false, IsTrue, List, [], length, take, Option, Result, Ok, Err, option_map, IfOk, OnOk, OnErr}
 use Rattle.sqlite_disk.specs.Disk.{MoreFaults}
 use Rattle.sqlite_value.specs.Order.{Row}
@@ -48,7 +49,7 @@ pub record IsUndone (old new : State) : Type 0 where
 abbrev pub UnchangedOrUndone : (old new : State) → Type 0
 UnchangedOrUndone old new = IsUnchanged old new ⊎ IsUndone old new
 
--- a transaction that was under way still is, and nothing of it is committed; where none was, none is
+-- a transaction under way goes on, and nothing of it is committed; where none was, none is
 pub record KeepsTransaction (old new : State) : Type 0 where
   pub mode : new.in_transaction ≡ old.in_transaction
   pub committed : IsTrue old.in_transaction → new.committed ≡ old.committed

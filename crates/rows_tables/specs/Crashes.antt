@@ -1,4 +1,4 @@
--- What an open after a crash finds of a connection (all this project's own).
+-- What is found of a database that is opened after a crash (all this project's own).
 use Rattle.std.specs.Prelude.{◌≡◌, ◌↔◌, false, IsTrue}
 use Rattle.sqlite_trees.specs.Tree.{Trees}
 use Rattle.sqlite_trees.specs.declared.store.Store.{Ghosts}

@@ -1,4 +1,5 @@
--- The devices that the rows of both their tables are (all this project's own).
+-- The devices, as a map from names, that the rows of `device` and `rates` stand for (all this
+-- project's own).
 use Rattle.std.specs.Prelude.{◌≡◌, ℕ, ◌≤◌, List, [], ◌∷◌, Option, option_map, IfSome, IsTrue}
 use Rattle.std.specs.FinMap.{get}
 use Rattle.sqlite_value.specs.declared.value.Value.TheVariants.{Text}

@@ -1,4 +1,4 @@
--- What an error of the storage counts as.
+-- Which fault of a statement, or of an opening, an error of the SQLite library becomes.
 use Rattle.sqlite.specs.declared.error.Error.{Error}
 use Rattle.sqlite.specs.declared.error.Error.TheVariants.{SqliteFailure}
 use Rattle.sqlite.specs.declared.error.ErrorCode.TheVariants.{ConstraintViolation, OutOfMemory}

@@ -1,4 +1,4 @@
--- What a text that reads one table shows of its rows, in words that name no query.
+-- Which rows a query of one table shows, said without its text of SQL.
 use Rattle.std.specs.Prelude.{◌≡◌, ◌⊎◌, ℕ, ◌-◌, Bool, nat_le, length, false, true, negsuc, pos, List, [], ◌∷◌, map, filter, Option, None, Some, IsSome, Result, Ok, Err, IsPermutation, IfOk, OnOk, IfErr}
 use Rattle.std.specs.List.{list_all}
 use Rattle.sqlite_value.specs.declared.value.Value.TheVariants.{Int}

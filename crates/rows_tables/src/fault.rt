@@ -1,4 +1,4 @@
-//! Why a statement on the tables is not answered.
+//! The faults of statements on the tables, and of opening a database.
 
 ghost use Rattle.std.specs.Prelude.{◌≡◌};
 ghost use Rattle.rows_tables.specs.declared.fault.TableFault.TheVariants as of_table;
@@ -8,7 +8,7 @@ use sqlite::{Constraint, Error, ErrorCode};
 use std::alloc::{AllocError, AllocFailed};
 use thiserror::Error as ErrorTrait;
 
-/// Why a statement on the tables could not be answered. Nothing is changed then.
+/// Why a statement on the tables failed. Nothing is changed then.
 #[derive(Clone, Copy, Debug, PartialEq, Eq, ErrorTrait)]
 pub enum TableFault {
     /// It was refused, or the disk failed.
@@ -16,7 +16,8 @@ pub enum TableFault {
     Storage,
     #[error("memory ran out")]
     Memory,
-    /// What was read cannot stand in sound rows.
+    /// Rows that were read are broken: no account or device can have them (they are not sound). Of
+    /// a call that inserts a row it tells that the key is taken.
     #[error("the rows are damaged")]
     Damaged,
 }
@@ -77,7 +78,7 @@ impl From<Error> for OpenFault {
 }
 
 impl TableFault {
-    /// Of a statement that puts a row in, which the engine refuses as a second one of its key.
+    /// The fault of an INSERT that failed: `Damaged` where a row of its key is there already.
     pub fn of_put(error: Error) -> TableFault
         ensures { result ≡ put_fault error }
     {
@@ -90,7 +91,8 @@ impl TableFault {
         }
     }
 
-    /// Of a value that could not be read from its row.
+    /// The fault of a column that could not be read: `Damaged` where it holds a value of another
+    /// kind.
     pub fn of_value(error: Error) -> TableFault
         ensures { result ≡ value_fault error }
     {

@@ -1,4 +1,4 @@
-//! What the definitions of rows promise.
+//! Laws of this crate: facts about its definitions that the check proves. Nothing calls them.
 
 ghost use Rattle.rows_tables.specs.Crashes.{CrashesFindLastCommit};
 ghost use Rattle.rows_tables.specs.Devices.{AreOfOneMap};
@@ -7,7 +7,7 @@ ghost use Rattle.rows_tables.specs.SameRows.{SameByKeyIsSameByTable};
 
 use sqlite::Alter;
 
-/// A row that was written is read back as the value that it was written for.
+/// A row that was written for a value is read back as that value.
 pub fn rows_are_read_back()
     ensures { RowsAreReadBack }
 {}
@@ -19,7 +19,7 @@ pub fn same_by_key_is_same_by_table()
     ensures { SameByKeyIsSameByTable }
 {}
 
-/// Sound rows of devices are those of one map.
+/// Rows of devices that are sound are those of one map from names to devices.
 pub fn device_rows_are_of_one_map()
     ensures { AreOfOneMap }
 {}

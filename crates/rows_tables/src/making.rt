@@ -1,4 +1,4 @@
-//! The tables, as they are made.
+//! CREATE TABLE: the tables of a new database, and what a migration adds to those of version 1.
 
 ghost use Rattle.std.specs.Prelude.{◌≡◌, false};
 ghost use Rattle.rows_tables.specs.Tables.{no_schema, first_schema, unindexed_schema, room_schema};
@@ -9,7 +9,7 @@ ghost use Rattle.rows_tables.specs.Migrating.{AddsRates};
 use crate::writing::write;
 use sqlite::{Alter, Connection, Error, Savepoint};
 
-/// The tables of version 1, in the order in which they are made.
+/// The tables that version 1 has already, in the order in which they are made.
 #[derive(Clone, Copy)]
 enum FirstTable {
     Meta,
@@ -20,7 +20,8 @@ enum FirstTable {
     Device,
 }
 
-/// Makes the tables of version 2, with no row but that of the version, in one transaction.
+/// Makes the tables of version 2 in an empty database, in one transaction. Their only row is the
+/// one that tells the version.
 pub fn make_tables<S: Alter>(connection: &mut Connection<S>) -> Result<(), Error>
     ensures made { MakesIfHonest S.Store connection.old connection.new result
         (λ before after. before.schema ≡ no_schema → IsNew after) }
@@ -31,6 +32,7 @@ pub fn make_tables<S: Alter>(connection: &mut Connection<S>) -> Result<(), Error
     savepoint.commit()
 }
 
+/// Makes the tables of version 2 and their version row, inside a savepoint.
 fn make_all<S: Alter>(savepoint: &mut Savepoint<'_, S>) -> Result<(), Error>
     ensures made { MakesIfHonest S.Store savepoint.old.conn.now savepoint.new.conn.now result
         (λ before after. IsBlank no_schema before → IsNew after) }
@@ -41,7 +43,7 @@ fn make_all<S: Alter>(savepoint: &mut Savepoint<'_, S>) -> Result<(), Error>
     note_version(savepoint)
 }
 
-/// The tables of version 1.
+/// Makes the tables that version 1 has already.
 fn make_first_tables<S: Alter>(savepoint: &mut Savepoint<'_, S>) -> Result<(), Error>
     ensures made { MakesIfHonest S.Store savepoint.old.conn.now savepoint.new.conn.now result
         (λ before after. IsBlank no_schema before → IsBlank first_schema after) }
@@ -55,7 +57,7 @@ fn make_first_tables<S: Alter>(savepoint: &mut Savepoint<'_, S>) -> Result<(), E
     make(savepoint, FirstTable::Device)
 }
 
-/// Makes a table of version 1, where those before it have been made.
+/// Makes one table of version 1. Those before it in `FirstTable` are there.
 fn make<S: Alter>(savepoint: &mut Savepoint<'_, S>, table: FirstTable) -> Result<(), Error>
     ensures made { MakesIfHonest S.Store savepoint.old.conn.now savepoint.new.conn.now result
         (λ before after. IsBlank (schema_before table) before → IsBlank (schema_with table) after) }
@@ -95,8 +97,8 @@ fn make<S: Alter>(savepoint: &mut Savepoint<'_, S>, table: FirstTable) -> Result
     }
 }
 
-/// What version 2 has beside the tables of version 1: the rates, and the index by which an
-/// account's jobs are found by their ends.
+/// Adds to the tables of version 1 what version 2 has more: the table of rates, and the index by
+/// which an account's jobs are found by their ends.
 pub(crate) fn extend_tables<S: Alter>(savepoint: &mut Savepoint<'_, S>) -> Result<(), Error>
     ensures made { MakesIfHonest S.Store savepoint.old.conn.now savepoint.new.conn.now result
         (λ before after. IsBlank first_schema before → IsBlank room_schema after) }
@@ -108,6 +110,7 @@ pub(crate) fn extend_tables<S: Alter>(savepoint: &mut Savepoint<'_, S>) -> Resul
     make_job_ended(savepoint)
 }
 
+/// Makes the table `rates`: how many units a device counts for an impression.
 fn make_rates<S: Alter>(savepoint: &mut Savepoint<'_, S>) -> Result<(), Error>
     ensures made { MakesIfHonest S.Store savepoint.old.conn.now savepoint.new.conn.now result
         (λ before after. IsBlank first_schema before → IsBlank unindexed_schema after) }
@@ -122,6 +125,7 @@ fn make_rates<S: Alter>(savepoint: &mut Savepoint<'_, S>) -> Result<(), Error>
     )
 }
 
+/// Makes the index on jobs by account, end and number, with which Get-Jobs reads them in order.
 pub(crate) fn make_job_ended<S: Alter>(savepoint: &mut Savepoint<'_, S>) -> Result<(), Error>
     ensures adds { MakesIfHonest S.Store savepoint.old.conn.now savepoint.new.conn.now result
         (λ before after. before.schema ≡ unindexed_schema → AddsIndex before after) }
@@ -134,7 +138,7 @@ pub(crate) fn make_job_ended<S: Alter>(savepoint: &mut Savepoint<'_, S>) -> Resu
     )
 }
 
-/// Puts in the row of `meta` that tells version 2, of new tables.
+/// Inserts version 2 into the new table `meta`.
 fn note_version<S: Alter>(savepoint: &mut Savepoint<'_, S>) -> Result<(), Error>
     ensures made { MakesIfHonest S.Store savepoint.old.conn.now savepoint.new.conn.now result
         (λ before after. IsBlank room_schema before → IsNew after) }

@@ -1,4 +1,4 @@
-//! A database of version 1 becomes one of version 2.
+//! Migrating a database of version 1 to version 2.
 
 ghost use Rattle.std.specs.Prelude.{◌≡◌, ◌⊎◌, [], false, OnOk, IfErr};
 ghost use Rattle.sqlite.specs.State.{HasCleanDisk};
@@ -15,7 +15,7 @@ use crate::version::{Lack, lack_of};
 use crate::writing::write;
 use sqlite::{Alter, Connection, Error, Savepoint};
 
-/// Makes version 2 of version 1, and opens version 2.
+/// Makes a database of version 1 one of version 2. One of version 2 is opened, as by `open_tables`.
 pub fn migrate_tables<S: Alter>(connection: &mut Connection<S>) -> Result<(), OpenFault>
     ensures migrated { HasCleanDisk (state S.Store connection.new)
         → OnOk result (OpensTables (state S.Store connection.old) (state S.Store connection.new)
@@ -32,8 +32,8 @@ pub fn migrate_tables<S: Alter>(connection: &mut Connection<S>) -> Result<(), Op
     Ok(())
 }
 
-/// Gives a database of version 1 what version 2 has beside it, a rate of 1 for each device, and
-/// version 2, in one transaction.
+/// Migrates version 1 to version 2, in one transaction: it gets the table of rates, the index on
+/// jobs, rate 1 for each device, and the new version number.
 fn add_rates<S: Alter>(connection: &mut Connection<S>) -> Result<(), Error>
     ensures migrated { MakesIfHonest S.Store connection.old connection.new result
         (λ before after. IsFirstVersion before → IsMigrated before after) }
@@ -44,6 +44,7 @@ fn add_rates<S: Alter>(connection: &mut Connection<S>) -> Result<(), Error>
     savepoint.commit()
 }
 
+/// Migrates version 1 to version 2, inside a savepoint.
 fn become_version_two<S: Alter>(savepoint: &mut Savepoint<'_, S>) -> Result<(), Error>
     ensures migrated { MakesIfHonest S.Store savepoint.old.conn.now savepoint.new.conn.now
         result (λ before after. IsFirstVersion before → IsMigrated before after) }
@@ -54,6 +55,7 @@ fn become_version_two<S: Alter>(savepoint: &mut Savepoint<'_, S>) -> Result<(), 
     note_version_two(savepoint)
 }
 
+/// Gives each device rate 1.
 fn rate_devices<S: Alter>(savepoint: &mut Savepoint<'_, S>) -> Result<(), Error>
     ensures rates { MakesIfHonest S.Store savepoint.old.conn.now savepoint.new.conn.now result
         (λ before after. before.schema ≡ room_schema → before.trees rates.tree ≡ []
@@ -67,6 +69,7 @@ fn rate_devices<S: Alter>(savepoint: &mut Savepoint<'_, S>) -> Result<(), Error>
     )
 }
 
+/// Sets the version number in `meta` to 2.
 fn note_version_two<S: Alter>(savepoint: &mut Savepoint<'_, S>) -> Result<(), Error>
     ensures notes { MakesIfHonest S.Store savepoint.old.conn.now savepoint.new.conn.now result
         (λ before after. before.schema ≡ room_schema → HasVersion before first_version

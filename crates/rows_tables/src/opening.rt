@@ -1,4 +1,5 @@
-//! A database of version 2 is taken as it is, but for the index on jobs, which it may lack.
+//! Opening a database of version 2. Only the index on jobs is added to it, where the file is older
+//! than that index.
 
 ghost use Rattle.std.specs.Prelude.{◌≡◌, false, IfErr, OnOk};
 ghost use Rattle.sqlite.specs.State.{HasCleanDisk};
@@ -11,7 +12,8 @@ use crate::making::make_job_ended;
 use crate::version::lacks_index;
 use sqlite::{Alter, Connection, Error};
 
-/// Leaves version 2 as it is, and gives it its index on jobs where it has none.
+/// Checks that the database is of version 2, and adds its index on jobs where that is missing. Any
+/// other database is refused and left as it is.
 pub fn open_tables<S: Alter>(connection: &mut Connection<S>) -> Result<(), OpenFault>
     ensures opened { HasCleanDisk (state S.Store connection.new) → OnOk result
         (OpensTables (state S.Store connection.old) (state S.Store connection.new)) }
@@ -25,7 +27,7 @@ pub fn open_tables<S: Alter>(connection: &mut Connection<S>) -> Result<(), OpenF
     Ok(())
 }
 
-/// Gives a database of version 2 the index on jobs, in one transaction.
+/// Adds the index on jobs to a database of version 2, in one transaction.
 pub(crate) fn add_index<S: Alter>(connection: &mut Connection<S>) -> Result<(), Error>
     ensures adds { MakesIfHonest S.Store connection.old connection.new result (λ before after.
         LacksIndex before → IsOpened after × AddsIndex before after) }

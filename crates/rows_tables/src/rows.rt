@@ -1,4 +1,4 @@
-//! Reading the one row that a query shows.
+//! `find_row`: a query that shows one row at most.
 
 ghost use Rattle.sqlite.specs.State.{HasCleanDisk};
 ghost use Rattle.sqlite.specs.Held.{state};
@@ -9,7 +9,7 @@ ghost use Rattle.rows_tables.specs.Queries.{Finds};
 use sqlite::{Alter, Connection, Error, Row};
 use sqlite_value::value::ValueRef;
 
-/// The first row that a query shows, if it shows one.
+/// Runs a query with its parameters and reads its first row. `None` where it shows no row.
 pub fn find_row<S: Alter>(
     connection: &mut Connection<S>,
     text: &str,

@@ -1,4 +1,5 @@
-//! Whether the schema of a database is one of ours.
+//! Recognizing a schema: whether the tables, columns and indexes of a file are exactly those of
+//! version 1, of version 2 or of none. Long lists are tested part by part: first, later, last.
 
 ghost use Rattle.std.specs.Prelude.{◌≡◌, ◌↔◌, ◌+◌, ◌<◌, ◌^◌, [], ◌∷◌, map, drop, true, false, IsTrue};
 ghost use Rattle.sqlite_value.specs.Keys.{plain};
@@ -19,7 +20,7 @@ use sqlite_schema::schema::{Column, Index, Kind, Schema, Table};
 use sqlite_value::keys::{Collation, Order};
 use sqlite_value::value::{Bytes, Value};
 
-/// A column as the tables are made with it: its name and its kind.
+/// The name and the kind that a column of ours has to have.
 #[derive(Clone, Copy)]
 struct ColumnForm {
     name: &'static str,
@@ -56,7 +57,7 @@ fn blob(name: &'static str) -> ColumnForm
     }
 }
 
-/// How the tables of a database are laid out.
+/// Which tables and indexes a database has.
 #[derive(Clone, Copy, PartialEq, Eq)]
 pub(crate) enum Layout {
     /// As those of version 2.
@@ -69,6 +70,7 @@ pub(crate) enum Layout {
     Other,
 }
 
+/// Compares a schema with those that the program knows.
 pub(crate) fn layout_of(schema: &Schema) -> Layout
     ensures { IsLaidOut schema.now result }
 {
@@ -83,7 +85,7 @@ pub(crate) fn layout_of(schema: &Schema) -> Layout
     }
 }
 
-/// Whether the first table is that of the version.
+/// Whether the first table is `meta`, which tells the version.
 pub(crate) fn keeps_version(schema: &Schema) -> bool
     ensures { IsTrue result ↔ KeepsVersion schema.now }
 {
@@ -93,7 +95,7 @@ pub(crate) fn keeps_version(schema: &Schema) -> bool
     }
 }
 
-/// Whether a schema is that of version 2.
+/// Whether a schema is exactly that of version 2.
 fn is_room_schema(schema: &Schema) -> bool
     ensures { IsTrue result ↔ schema.now ≡ room_schema }
 {
@@ -111,7 +113,7 @@ fn is_unindexed_schema(schema: &Schema) -> bool
         && schema.views.is_empty()
 }
 
-/// Whether a schema is that of version 1.
+/// Whether a schema is exactly that of version 1.
 fn is_first_schema(schema: &Schema) -> bool
     ensures { IsTrue result ↔ schema.now ≡ first_schema }
 {
@@ -120,13 +122,14 @@ fn is_first_schema(schema: &Schema) -> bool
         && schema.views.is_empty()
 }
 
-/// Whether a schema has nothing.
+/// Whether a database is empty: it has no table, index or view.
 pub fn is_blank(schema: &Schema) -> bool
     ensures { IsTrue result ↔ schema.now ≡ no_schema }
 {
     schema.tables.is_empty() && schema.indexes.is_empty() && schema.views.is_empty()
 }
 
+/// Whether these are the tables of version 2: those of version 1, and `rates`.
 fn are_room_tables(tables: &[Table]) -> bool
     ensures { IsTrue result ↔ tables.now ≡ room_schema.tables }
 {
@@ -136,6 +139,7 @@ fn are_room_tables(tables: &[Table]) -> bool
     }
 }
 
+/// Whether these are the tables of version 1, in order.
 fn are_first_tables(tables: &[Table]) -> bool
     ensures { IsTrue result ↔ tables.now ≡ first_schema.tables }
 {
@@ -148,6 +152,7 @@ fn are_first_tables(tables: &[Table]) -> bool
     }
 }
 
+/// Whether these are the last three tables of version 1: `document`, `grants` and `device`.
 fn are_later_tables(tables: &[Table]) -> bool
     ensures { IsTrue result ↔ tables.now ≡ drop 3 first_schema.tables }
 {
@@ -157,7 +162,8 @@ fn are_later_tables(tables: &[Table]) -> bool
     }
 }
 
-/// Whether it is `meta`, whose row tells the version: the one table whose key is its row number.
+/// Whether it is the table `meta`, whose row tells the version. Its key is its row number, as no
+/// other table's is.
 fn is_meta_table(table: &Table) -> bool
     ensures { IsTrue result ↔ table.now ≡ meta }
 {
@@ -267,6 +273,8 @@ fn is_rates_table(table: &Table) -> bool
     )
 }
 
+/// Whether a table is exactly the one of this name, tree, key and columns, and keeps its key in an
+/// index.
 fn is_keyed(table: &Table, name: &str, tree: u32, key: &[usize], columns: &[ColumnForm]) -> bool
     ensures { IsTrue result
         ↔ table.now ≡ keyed name.now tree key.now (map column_formed columns.now) }
@@ -278,8 +286,8 @@ fn is_keyed(table: &Table, name: &str, tree: u32, key: &[usize], columns: &[Colu
         && are_columns(table.columns.as_slice(), columns)
 }
 
-/// Whether all but the columns and how the key is kept is as asked for. `tree` is the number of the
-/// table's tree in the file.
+/// Whether a table has this name, tree number and primary key, and none of the features that ours
+/// don't use. Its columns are not looked at.
 fn is_laid_out(table: &Table, name: &str, tree: u32, key: &[usize]) -> bool
     ensures { IsTrue result ↔ table.now ≡ record (keyed name.now tree key.now table.now.columns) {
       key = table.now.key;
@@ -293,7 +301,8 @@ fn is_laid_out(table: &Table, name: &str, tree: u32, key: &[usize]) -> bool
         && has_no_more(table)
 }
 
-/// Whether a table has no check, reference, computed column, stamp or counter.
+/// Whether a table has none of the features that ours don't use: checks, references, computed
+/// columns, stamps, a counter.
 fn has_no_more(table: &Table) -> bool
     ensures { IsTrue result ↔ table.now ≡ record table.now {
       checks = [];
@@ -312,6 +321,7 @@ fn has_no_more(table: &Table) -> bool
         && !table.is_counted
 }
 
+/// Whether the columns are these, in order.
 fn are_columns(columns: &[Column], forms: &[ColumnForm]) -> bool
     ensures { IsTrue result ↔ columns.now ≡ map column_formed forms.now }
 {
@@ -324,6 +334,8 @@ fn are_columns(columns: &[Column], forms: &[ColumnForm]) -> bool
     }
 }
 
+/// Whether a column has this name and kind, is strict and NOT NULL, has no default, and is compared
+/// byte by byte.
 fn is_column(column: &Column, form: &ColumnForm) -> bool
     ensures { IsTrue result ↔ column.now ≡ column_formed form.now }
 {
@@ -335,6 +347,7 @@ fn is_column(column: &Column, form: &ColumnForm) -> bool
         && column.collation == Collation::Binary
 }
 
+/// Whether these are the indexes of version 2: those of its keys, and the one on jobs.
 fn are_room_indexes(indexes: &[Index]) -> bool
     ensures { IsTrue result ↔ indexes.now ≡ room_schema.indexes }
 {
@@ -344,6 +357,7 @@ fn are_room_indexes(indexes: &[Index]) -> bool
     }
 }
 
+/// Whether it is the index on jobs by account, end and number.
 fn is_job_ended_index(index: &Index) -> bool
     ensures { IsTrue result ↔ index.now ≡ job_ended }
 {
@@ -355,6 +369,7 @@ fn is_job_ended_index(index: &Index) -> bool
         && !index.is_unique
 }
 
+/// Whether these are the indexes of the keys of version 2: those of version 1, and that of `rates`.
 fn are_key_indexes(indexes: &[Index]) -> bool
     ensures { IsTrue result ↔ indexes.now ≡ unindexed_schema.indexes }
 {
@@ -367,6 +382,7 @@ fn are_key_indexes(indexes: &[Index]) -> bool
     }
 }
 
+/// Whether these are the indexes of the keys of version 1, in the order of their tables.
 fn are_first_indexes(indexes: &[Index]) -> bool
     ensures { IsTrue result ↔ indexes.now ≡ first_schema.indexes }
 {
@@ -388,6 +404,7 @@ fn are_first_indexes(indexes: &[Index]) -> bool
     }
 }
 
+/// Whether these are the indexes of version 1 from that of `document` on.
 fn are_later_indexes(indexes: &[Index]) -> bool
     ensures { IsTrue result ↔ indexes.now ≡ drop 2 first_schema.indexes }
 {
@@ -404,6 +421,7 @@ fn are_later_indexes(indexes: &[Index]) -> bool
     }
 }
 
+/// Whether these are the last two indexes of version 1: those of `grants` and `device`.
 fn are_last_indexes(indexes: &[Index]) -> bool
     ensures { IsTrue result ↔ indexes.now ≡ drop 3 first_schema.indexes }
 {
@@ -420,7 +438,8 @@ fn are_last_indexes(indexes: &[Index]) -> bool
     }
 }
 
-/// Whether it is the index of a table's key, in the tree after the table's.
+/// Whether it is the unique index of this name over the key of the table in the tree `table`. It is
+/// in the tree after the table's.
 fn is_index(index: &Index, name: &str, table: u32, key: &[usize]) -> bool
     requires { table < 2 ^ 31 }
     ensures { IsTrue result ↔ index.now ≡ record {
@@ -452,12 +471,14 @@ fn is_null(value: &Value) -> bool
     matches!(value, Value::Null)
 }
 
+/// Whether the columns in these places are those of the key, in order.
 fn are_places(places: &Items<usize>, key: &[usize]) -> bool
     ensures { IsTrue result ↔ places.now ≡ key.now }
 {
     places.as_slice() == key
 }
 
+/// Whether the one unique constraint of a table is its key.
 fn is_only(uniques: &Items<Items<usize>>, key: &[usize]) -> bool
     ensures { IsTrue result ↔ uniques.now ≡ key.now ∷ [] }
 {
@@ -467,6 +488,7 @@ fn is_only(uniques: &Items<Items<usize>>, key: &[usize]) -> bool
     }
 }
 
+/// Whether there is one key, with all columns in rising order.
 fn is_plain(orders: &Items<Order>) -> bool
     ensures { IsTrue result ↔ orders.now ≡ plain ∷ [] }
 {
@@ -476,6 +498,7 @@ fn is_plain(orders: &Items<Order>) -> bool
     }
 }
 
+/// Whether there are no expressions.
 fn are_no_terms(terms: &Terms) -> bool
     ensures { IsTrue result ↔ terms.now ≡ [] }
 {

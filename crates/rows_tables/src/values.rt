@@ -1,4 +1,6 @@
-//! Values of rows: the parameters of a statement, and what is read back.
+//! Conversions between the values of the program and those of columns. A function named after a
+//! value makes the parameter of a statement; `.._at` reads the column at a place, counted from 0 in
+//! the row of a query.
 
 ghost use Rattle.std.specs.Prelude.{Bool, ◌≡◌, ◌≢◌, ℕ, ◌<◌, ◌^◌, pos, List, Option, Err, IfOk, IfErr, IfSome, IsTrue};
 ghost use Rattle.sqlite_value.specs.Value.{owned};
@@ -18,7 +20,7 @@ use ipp_coding::List as Bytes;
 use sqlite::Row;
 use sqlite_value::value::ValueRef;
 
-/// A number as a parameter.
+/// A number as a parameter of a statement.
 pub fn number<'a>(n: u64) -> ValueRef<'a>
     requires { n < 2 ^ 63 }
     ensures { owned result ≡ Int (pos n) }
@@ -26,7 +28,7 @@ pub fn number<'a>(n: u64) -> ValueRef<'a>
     ValueRef::Int(n as i64)
 }
 
-/// The number in a column. Anything else there is `Damaged`.
+/// Reads a number from a column. `Damaged` where the column has anything else.
 pub fn number_at(row: &Row, at: usize) -> Result<u64, TableFault>
     ensures read { IfOk result (λ n. column row.now at ≡ Int (pos n)) }
     ensures damaged { result ≡ Err TableFault.Damaged → (n : ℕ) → column row.now at ≢ Int (pos n) }
@@ -37,14 +39,15 @@ pub fn number_at(row: &Row, at: usize) -> Result<u64, TableFault>
     }
 }
 
-/// A format as a parameter: its media type.
+/// A format as a parameter of a statement: its media type.
 pub fn format_text(format: Format) -> ValueRef<'static>
     ensures { owned result ≡ Text (media_type format) }
 {
     ValueRef::Text(format.media_type().as_bytes())
 }
 
-/// The format whose media type is in a column. Anything else there is `Damaged`.
+/// Reads a format from a column that has its media type. `Damaged` where the column has anything
+/// else.
 pub fn format_at(row: &Row, at: usize) -> Result<Format, TableFault>
     ensures read { IfOk result (λ format. column row.now at ≡ Text (media_type format)) }
     ensures damaged { result ≡ Err TableFault.Damaged
@@ -56,6 +59,7 @@ pub fn format_at(row: &Row, at: usize) -> Result<Format, TableFault>
     }
 }
 
+/// The format of a media type. `Damaged` where it is none that jobs can have.
 fn format_of(bytes: &[u8]) -> Result<Format, TableFault>
     ensures read { IfOk result (λ format. bytes.now ≡ media_type format) }
     ensures damaged { IfErr result
@@ -64,14 +68,14 @@ fn format_of(bytes: &[u8]) -> Result<Format, TableFault>
     Format::of_media_type(bytes).ok_or(TableFault::Damaged)
 }
 
-/// A flag as a parameter.
+/// A flag as a parameter of a statement: 1 for true, 0 for false.
 pub fn flag<'a>(on: bool) -> ValueRef<'a>
     ensures { owned result ≡ flag on }
 {
     ValueRef::Int(if on { 1 } else { 0 })
 }
 
-/// The flag in a column. Anything else there is `Damaged`.
+/// Reads a flag from a column. `Damaged` where the column has anything but 0 and 1.
 pub fn flag_at(row: &Row, at: usize) -> Result<bool, TableFault>
     ensures read { IfOk result (λ on. column row.now at ≡ flag on) }
     ensures damaged { result ≡ Err TableFault.Damaged → (on : Bool) → column row.now at ≢ flag on }
@@ -83,14 +87,14 @@ pub fn flag_at(row: &Row, at: usize) -> Result<bool, TableFault>
     }
 }
 
-/// The number of a state as a parameter.
+/// A job's state as a parameter of a statement: its number in RFC 8011.
 pub fn number_of_state<'a>(state: JobState) -> ValueRef<'a>
     ensures { owned result ≡ number (state_number state) }
 {
     ValueRef::Int(state.number() as i64)
 }
 
-/// A moment, or that there is none, as a parameter.
+/// A moment in seconds as a parameter of a statement, or -1 for none.
 pub fn moment<'a>(at: Option<u64>) -> ValueRef<'a>
     requires { IfSome at IsMoment }
     ensures { owned result ≡ moment at }
@@ -101,7 +105,7 @@ pub fn moment<'a>(at: Option<u64>) -> ValueRef<'a>
     }
 }
 
-/// The name of a device, or that there is none, as a parameter.
+/// The name of a device as a parameter of a statement, or the empty text for none.
 pub fn device_text(device: &Option<Name>) -> ValueRef<'_>
     ensures { owned result ≡ device_text device.now }
 {
@@ -111,7 +115,7 @@ pub fn device_text(device: &Option<Name>) -> ValueRef<'_>
     }
 }
 
-/// A number of 32 bits in a column. Anything else there is `Damaged`.
+/// Reads a number below 2^32 from a column. `Damaged` where the column has anything else.
 pub fn short_at(row: &Row, at: usize) -> Result<u32, TableFault>
     ensures read { IfOk result (λ n. column row.now at ≡ number n) }
     ensures damaged { result ≡ Err TableFault.Damaged → (n : ℕ) → n < 2 ^ 32
@@ -124,7 +128,8 @@ pub fn short_at(row: &Row, at: usize) -> Result<u32, TableFault>
     Ok(n as u32)
 }
 
-/// The state whose number is in a column. Anything else there is `Damaged`.
+/// Reads a job's state from a column that has its number. `Damaged` where the column has anything
+/// else.
 pub fn state_at(row: &Row, at: usize) -> Result<JobState, TableFault>
     ensures read { IfOk result (λ found. column row.now at ≡ number (state_number found)) }
     ensures damaged { result ≡ Err TableFault.Damaged
@@ -133,7 +138,8 @@ pub fn state_at(row: &Row, at: usize) -> Result<JobState, TableFault>
     JobState::of_number(number_at(row, at)?).ok_or(TableFault::Damaged)
 }
 
-/// The moment in a column, or that there is none. Anything else there is `Damaged`.
+/// Reads a moment in seconds from a column; -1 is `None`. `Damaged` where the column has anything
+/// else.
 pub fn moment_at(row: &Row, at: usize) -> Result<Option<u64>, TableFault>
     ensures read { IfOk result (λ found. column row.now at ≡ moment found) }
     ensures damaged { result ≡ Err TableFault.Damaged
@@ -145,6 +151,7 @@ pub fn moment_at(row: &Row, at: usize) -> Result<Option<u64>, TableFault>
     }
 }
 
+/// The moment that a column's integer stands for: -1 is `None`. `Damaged` where it is below -1.
 fn moment_of(n: i64) -> Result<Option<u64>, TableFault>
     ensures read { IfOk result (λ found. n ≡ moment_number found) }
     ensures damaged { IfErr result (λ fault. (found : Option ℕ) → n ≢ moment_number found) }
@@ -155,7 +162,8 @@ fn moment_of(n: i64) -> Result<Option<u64>, TableFault>
     if n < 0 { Ok(None) } else { Ok(Some(n as u64)) }
 }
 
-/// The name of a device in a column, or that there is none. Anything else there is `Damaged`.
+/// Reads the name of a device from a column; the empty text is `None`. `Damaged` where the column
+/// has anything else.
 pub fn device_at(row: &Row, at: usize) -> Result<Option<Name>, TableFault>
     ensures read { IfOk result (λ found. column row.now at ≡ device_text found) }
     ensures named { IfOk result IsNameOrNone }
@@ -168,6 +176,7 @@ pub fn device_at(row: &Row, at: usize) -> Result<Option<Name>, TableFault>
     }
 }
 
+/// The device that a column's text names; the empty text is `None`. `Damaged` where it is no name.
 fn device_of(bytes: &[u8]) -> Result<Option<Name>, TableFault>
     ensures read { IfOk result (λ found. bytes.now ≡ device_name found) }
     ensures named { IfOk result IsNameOrNone }
@@ -183,7 +192,7 @@ fn device_of(bytes: &[u8]) -> Result<Option<Name>, TableFault>
     }
 }
 
-/// The name in a column. Anything else there is `Damaged`.
+/// Reads a name from a column. `Damaged` where the column has anything else.
 pub fn name_at(row: &Row, at: usize) -> Result<Name, TableFault>
     ensures read { IfOk result (λ name. column row.now at ≡ Text name) }
     ensures damaged { result ≡ Err TableFault.Damaged
@@ -195,6 +204,7 @@ pub fn name_at(row: &Row, at: usize) -> Result<Name, TableFault>
     }
 }
 
+/// The name that a column's text is. `Damaged` where it is no name.
 fn name_of(bytes: &[u8]) -> Result<Name, TableFault>
     ensures read { IfOk result (λ name. bytes.now ≡ name) }
     ensures damaged { IfErr result
@@ -203,7 +213,7 @@ fn name_of(bytes: &[u8]) -> Result<Name, TableFault>
     Name::read(bytes).ok_or(TableFault::Damaged)
 }
 
-/// The bytes in a column, in a copy. Anything else there is `Damaged`.
+/// Copies the blob from a column. `Damaged` where the column has anything else.
 pub fn bytes_at(row: &Row, at: usize) -> Result<Bytes<u8>, TableFault>
     ensures read { IfOk result (λ bytes. column row.now at ≡ Blob bytes) }
     ensures damaged { result ≡ Err TableFault.Damaged

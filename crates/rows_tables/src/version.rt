@@ -1,4 +1,5 @@
-//! Whether a database is one of ours, and of which version.
+//! Recognizing a database when it is opened: whether it is one of ours, of which version, and what
+//! it lacks of version 2.
 
 ghost use Rattle.std.specs.Prelude.{◌≡◌, ◌≢◌, ◌⊎◌, ⊤, ℤ, false, [], ◌∷◌, pos, IfOk, IfErr, OnOk, IsTrue, MatchOption};
 ghost use Rattle.rows_tables.specs.Places.{meta_tree, meta_column};
@@ -18,20 +19,20 @@ use crate::rows::find_row;
 use crate::schema::{Layout, keeps_version, layout_of};
 use sqlite::{Alter, Connection, Error, ErrorCode, Row};
 
-/// The version that the store keeps.
+/// The version that the store opens.
 const VERSION: i64 = 2;
 
-/// The version that can be migrated.
+/// The version that can be migrated to `VERSION`.
 const OLDER_VERSION: i64 = 1;
 
-/// A database that has a version: how its tables are laid out, and the version.
+/// What a database was found to be: how its tables are laid out, and the version that `meta` tells.
 #[derive(Clone, Copy)]
 struct Edition {
     layout: Layout,
     version: i64,
 }
 
-/// What a database lacks of version 2 as the store keeps it.
+/// What a database lacks of version 2, and so what a migration has to add.
 #[derive(Clone, Copy, PartialEq, Eq)]
 pub(crate) enum Lack {
     Nothing,
@@ -41,7 +42,7 @@ pub(crate) enum Lack {
     Version,
 }
 
-/// Whether the database lacks its index on jobs, and nothing else.
+/// Whether a database of version 2 lacks its index on jobs. Any other database is refused.
 pub(crate) fn lacks_index<S: Alter>(connection: &mut Connection<S>) -> Result<bool, OpenFault>
     ensures found { IfDiskHonest S.Store connection.old connection.new (λ db.
         IfOk result (λ lacks. (IsTrue lacks → LacksIndex db) × (lacks ≡ false → IsOpened db))) }
@@ -53,7 +54,7 @@ pub(crate) fn lacks_index<S: Alter>(connection: &mut Connection<S>) -> Result<bo
     is_unindexed(edition)
 }
 
-/// What the database lacks, if it is of version 1 or 2.
+/// What a database of version 1 or 2 lacks of version 2. Any other database is refused.
 pub(crate) fn lack_of<S: Alter>(connection: &mut Connection<S>) -> Result<Lack, OpenFault>
     ensures found { IfDiskHonest S.Store connection.old connection.new
         (λ db. IfOk result (Lacks db)) }
@@ -65,8 +66,8 @@ pub(crate) fn lack_of<S: Alter>(connection: &mut Connection<S>) -> Result<Lack, 
     lack_in(edition)
 }
 
-/// Whether an edition of version 2 lacks its index on jobs, and nothing else. `WrongVersion` where
-/// it is of another version, which is looked at first; `NotOurs` where it has other tables.
+/// Whether an edition of version 2 lacks its index on jobs. `WrongVersion` for any other version,
+/// whatever its tables are; `NotOurs` where the tables are not those of version 2.
 fn is_unindexed(edition: Edition) -> Result<bool, OpenFault>
     ensures accepted { IfOk result (λ lacks. (edition.version ≡ room_version)
         × (IsTrue lacks → edition.layout ≡ Layout.Unindexed)
@@ -86,8 +87,9 @@ fn is_unindexed(edition: Edition) -> Result<bool, OpenFault>
     }
 }
 
-/// What the edition lacks of version 2. What is refused of an edition that is not of version 1,
-/// `is_unindexed` refuses.
+/// What an edition of version 1 or 2 lacks of version 2. `WrongVersion` for any other version;
+/// `NotOurs` where the tables are not those of its version; `Storage` where version 1 has those of
+/// version 2.
 fn lack_in(edition: Edition) -> Result<Lack, OpenFault>
     ensures accepted { IfOk result (LacksIn edition) }
     ensures refused { IfErr result (λ fault.
@@ -116,8 +118,8 @@ fn lack_in(edition: Edition) -> Result<Lack, OpenFault>
     }
 }
 
-/// The layout and the version of a database, whatever they are. `NotOurs` where it keeps no
-/// version.
+/// Reads the layout and the version of a database, whatever they are. `NotOurs` where its first
+/// table is not `meta`, or has no version.
 fn find_edition<S: Alter>(connection: &mut Connection<S>) -> Result<Edition, OpenFault>
     ensures found { IfDiskHonest S.Store connection.old connection.new
         (λ db. IfOk result (IsEdition db)) }
@@ -135,8 +137,8 @@ fn find_edition<S: Alter>(connection: &mut Connection<S>) -> Result<Edition, Ope
     }
 }
 
-/// The version in the row of id 1 of `meta`, a table that the database has. `None` where there is
-/// no such row, or no integer in it.
+/// Reads the version from row 1 of `meta`, which the database has. `None` where that row is missing
+/// or has no integer.
 fn find_version<S: Alter>(connection: &mut Connection<S>) -> Result<Option<i64>, OpenFault>
     ensures found { IfDiskHonest S.Store connection.old connection.new (λ db. KeepsVersion db.schema
         → IfOk result (λ found. MatchOption found (LacksVersion db) (HasVersion db))) }
@@ -151,6 +153,7 @@ fn find_version<S: Alter>(connection: &mut Connection<S>) -> Result<Option<i64>,
     }
 }
 
+/// Reads row 1 of `meta`.
 fn version_row<S: Alter>(connection: &mut Connection<S>) -> Result<Option<Row>, Error>
     ensures finds { HasCleanDisk (state S.Store connection.new)
         → KeepsVersion (state S.Store connection.old).now.schema
@@ -161,7 +164,7 @@ fn version_row<S: Alter>(connection: &mut Connection<S>) -> Result<Option<Row>, 
     find_row(connection, "SELECT version FROM meta WHERE id = 1", &[])
 }
 
-/// The version that the row tells, where it is a number.
+/// The version in the row of `meta`. `None` where it is no integer.
 fn version_from(row: &Row) -> Result<Option<i64>, OpenFault>
     ensures read { IfOk result (λ found. MatchOption found
         ((version : ℤ) → column row.now 0 ≢ Int version)

@@ -1,4 +1,4 @@
-//! Statements that write, inside a savepoint.
+//! `write` and `put`: how every statement that changes rows is run, inside a savepoint.
 
 ghost use Rattle.std.specs.Prelude.{◌≡◌, Err, OnOk};
 ghost use Rattle.sqlite.specs.State.{HasCleanDisk};
@@ -10,8 +10,7 @@ use crate::fault::TableFault;
 use sqlite::{Alter, Error, Savepoint};
 use sqlite_value::value::ValueRef;
 
-/// Runs the statement. How many rows it changed is not told: each that writes here says by its text
-/// which rows it leaves.
+/// Runs a statement that changes rows. How many rows it changed is not told: its text says which.
 pub fn write<S: Alter>(
     savepoint: &mut Savepoint<'_, S>,
     text: &str,
@@ -26,8 +25,8 @@ pub fn write<S: Alter>(
     Ok(())
 }
 
-/// Runs a statement that puts one row in. `Damaged` tells that the engine refused a second row of
-/// its key.
+/// Runs an INSERT of one row. `Damaged` where the table has a row of the same key already; nothing
+/// is changed then.
 pub fn put<S: Alter>(
     savepoint: &mut Savepoint<'_, S>,
     text: &str,

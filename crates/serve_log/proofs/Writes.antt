@@ -1,4 +1,4 @@
--- What was written, and what waits.
+-- Lemmas on what was written of the log's lines, and what still waits.
 use Rattle.std.proofs.Common.{◌≡◌, ℕ, false, not, ◌==◌, length, List, [], ◌∷◌, ◌++◌, drop, take, ap, append_assoc, append-nil, inl, inr, refl, arith, ◌∙◌}
 use Rattle.std.proofs.lemmas.Bool.Decides.{nat_tests}
 use Rattle.std.proofs.lemmas.List.{take-append-drop}

@@ -1,7 +1,7 @@
--- Rule: When a line is taken (all this project's own).
+-- Rule: When the log takes a line, and when it is left out (all this project's own).
 use Rattle.std.specs.Prelude.{◌≡◌, ◌⊎◌, ℕ, ◌+◌, ◌-◌, ◌^◌, Bool, List, length, ◌++◌, nat_le, min, if◌then◌else◌}
 
--- 1 MiB
+-- the most bytes that wait: 1 MiB
 abbrev pub most_waiting : ℕ
 most_waiting = 1048576
 

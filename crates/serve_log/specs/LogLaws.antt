@@ -1,4 +1,4 @@
--- What the lines of the log do not tell.
+-- Law: the line of a release in the log shows nothing of its password.
 use Rattle.std.specs.Prelude.{◌≡◌, ℕ, List, Result}
 use Rattle.account_machine.specs.declared.verdict.Answered.{Answered}
 use Rattle.account_machine.specs.Events.{OfAccount, Release}

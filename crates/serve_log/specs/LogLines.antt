@@ -32,7 +32,7 @@ word_of on one other = if on then one else other
 abbrev pub two_digits : ℕ → List ℕ
 two_digits number = (48 + number / 10 % 10) ∷ (48 + number % 10) ∷ []
 
--- the last four
+-- the last four digits of a number
 abbrev pub four_digits : ℕ → List ℕ
 four_digits number = two_digits (number / 100) ++ two_digits number
 
@@ -129,7 +129,7 @@ beyond_text moment device account job units =
 
 -- ---- what a door refused
 
--- what the line is told too
+-- why a door refused a line, which that line is answered too
 abbrev pub line_refusal_word : LineRefusal → List ℕ
 line_refusal_word BadLine = codes "bad-line"
 line_refusal_word NotYourDevice = codes "not-your-device"

@@ -1,4 +1,4 @@
--- Rule: The job in the line of a request.
+-- Rule: The job that the line of a request names.
 use Rattle.std.specs.Prelude.{ℕ, nat_lt, if◌then◌else◌, List, length, Option, None, Result, Ok, Err}
 use Rattle.ipp_coding.specs.Limits.{header_length}
 use Rattle.account_asks.specs.Asks.{PlainAsk, PlainRefusal, ask_of}

@@ -4,11 +4,11 @@ use Rattle.std.specs.List.{flat_map}
 use Rattle.serve_log.specs.Books.{counted}
 use Rattle.serve_log.specs.declared.waiting.Waiting.{Waiting}
 
--- what may go
+-- the lines that may go to the file
 abbrev pub waiting_of : Waiting → List ℕ
 waiting_of waiting = take waiting.settled waiting.lines.items
 
--- something may go
+-- lines wait that may go: the file is behind
 abbrev pub is_behind : Waiting → Bool
 is_behind waiting = not (length (waiting_of waiting) == 0)
 
@@ -20,7 +20,7 @@ drafts_of waiting = drop waiting.settled waiting.lines.items
 abbrev pub written_of : Waiting → List ℕ
 written_of waiting = flat_map (λ write. take write.1 write.0.items) waiting.writes.items
 
--- that, and what may go
+-- what the writers have taken, and what may go
 abbrev pub logged_of : Waiting → List ℕ
 logged_of waiting = written_of waiting ++ waiting_of waiting
 

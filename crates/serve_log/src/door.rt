@@ -1,8 +1,8 @@
-//! Doors, by which an event comes.
+//! The doors by which events come in, as the log names them.
 ghost use Rattle.std.specs.Prelude.{◌≡◌};
 ghost use Rattle.serve_log.specs.LogLines.{door_word};
 
-/// Where an event came in.
+/// The door by which an event came in.
 #[derive(Clone, Copy, PartialEq, Eq)]
 pub enum Door {
     /// IPP over HTTP.
@@ -14,7 +14,7 @@ pub enum Door {
 }
 
 impl Door {
-    /// Its word in a line.
+    /// Gives its word in a line of the log.
     pub(crate) fn word(self) -> &'static [u8]
         ensures { result.now ≡ door_word self }
     {

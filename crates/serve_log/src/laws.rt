@@ -1,9 +1,9 @@
-//! What the lines of the log promise.
+//! Law: the line of a release in the log shows nothing of its password.
 
 ghost use Rattle.serve_log.specs.LogLaws.{PasswordsDoNotShow};
 
-/// Of a release, whatever password was given, and whether or not it was the right one, the line
-/// shows what the release came to, and nothing else of the password.
+/// No password shows: the line of a release tells what it came to, and is the same for each
+/// password with which it comes to that.
 pub fn passwords_do_not_show<F>()
     ensures { PasswordsDoNotShow F }
 {}

@@ -1,4 +1,4 @@
-//! The job in the line of a request.
+//! Finds the job that the line of a request names.
 ghost use Rattle.std.specs.Prelude.{◌≡◌, IfOk};
 ghost use Rattle.account_machine.specs.Verdicts.{job_numbered};
 ghost use Rattle.serve_log.specs.RequestJobs.{job_answered, job_asked, job_in, job_of};
@@ -9,7 +9,8 @@ use account_rules::Name;
 use ipp_coding::HEADER_LENGTH;
 use std::alloc::{AllocError, Global};
 
-/// The job that a request made, or else the one for which it asks. An error where memory was refused.
+/// Finds the job that a request made, or else the one that it asks for. An error where memory was
+/// refused.
 pub(crate) fn job_of<F>(
     alloc: Global,
     account: Name,
@@ -24,6 +25,7 @@ pub(crate) fn job_of<F>(
     }
 }
 
+/// Finds the job by the answer, or by the request where the account is not open.
 fn job_answered(
     alloc: Global,
     account: Name,
@@ -39,6 +41,7 @@ fn job_answered(
     }
 }
 
+/// Gives the job of a verdict, if it has one.
 fn job_in(verdict: Verdict) -> Option<u32>
     ensures { result ≡ job_in verdict }
 {
@@ -48,6 +51,7 @@ fn job_in(verdict: Verdict) -> Option<u32>
     }
 }
 
+/// Reads the job that a request asks for, if it asks for one and can be read.
 fn job_asked(alloc: Global, account: Name, body: &[u8]) -> Result<Option<u32>, AllocError>
     ensures { IfOk result (λ job. job ≡ job_asked account body.now) }
 {
@@ -61,7 +65,7 @@ fn job_asked(alloc: Global, account: Name, body: &[u8]) -> Result<Option<u32>, A
     }
 }
 
-/// No job has the number 0.
+/// Gives the job of a number. 0 is none.
 fn job_numbered(number: u32) -> Option<u32>
     ensures { result ≡ job_numbered number }
 {

@@ -1,4 +1,4 @@
-//! Lines that wait for the file, those of a round that is under way behind the others.
+//! The lines that wait for the file: those that may go first, those of the round under way behind.
 ghost use Rattle.std.specs.Prelude.{◌≡◌, ◌≤◌, [], if◌then◌else◌, ◌==◌, ◌++◌, not, drop, length, take, IfOk, OnErr, OnOk};
 ghost use Rattle.std.specs.Io.KnownBytes.{Appends, Keeps};
 ghost use Rattle.serve_log.specs.Books.{Takes, counted, may_wait, joined};
@@ -8,13 +8,13 @@ use std::alloc::{AllocError, Global};
 use std::io;
 use std::io::Write;
 
-/// The most bytes that wait.
+/// The most bytes of lines that wait for the file.
 pub const MOST_WAITING: usize = 1_048_576;
 
-/// What no file has taken yet.
+/// The lines that no file has taken yet.
 pub struct Waiting {
     pub(crate) lines: Vec<u8>,
-    /// How many bytes of these may go: those behind them are of a round that is under way.
+    /// How many bytes of `lines` may go. Those behind them are of the round that is under way.
     pub(crate) settled: usize,
     /// How many lines were left out, for want of memory or of room.
     pub(crate) missed: u64,
@@ -39,7 +39,7 @@ impl Drop for Waiting {
 impl Waiting {
     ghost use Rattle.serve_log.specs.Waits.{IsLeftOut, drafts_of, is_behind, logged_of, missed_of, waiting_of, written_of};
 
-    /// Nothing waits. It takes no memory.
+    /// Makes a queue in which nothing waits. It takes no memory.
     pub fn new(alloc: Global) -> Waiting
         ensures logged { logged_of result ≡ [] }
         ensures drafts { drafts_of result ≡ [] }
@@ -60,7 +60,7 @@ impl Waiting {
         self.missed
     }
 
-    /// Whether lines wait that may go.
+    /// Whether lines wait that may go: the file is behind.
     pub fn is_behind(&self) -> bool
         ensures { result ≡ is_behind self.now }
     {
@@ -154,7 +154,7 @@ impl Waiting {
         Ok(taken)
     }
 
-    /// So many bytes were written of what may go.
+    /// Drops the first bytes, so many, which were written.
     fn drop_written(&mut self, count: usize)
         requires { count ≤ length (waiting_of self.old) }
         ensures written { written_of self.new
@@ -169,6 +169,7 @@ impl Waiting {
     }
 }
 
+/// Whether there is room for the bytes among those that wait.
 fn may_wait(waiting: &[u8], bytes: &[u8]) -> bool
     ensures { result ≡ may_wait waiting.now bytes.now }
 {

@@ -53,7 +53,7 @@ IsTold header closes (Ok other) = IsResponse 200 (answer_fields closes) (interna
 IsTold header closes (Err fault) =
     IsResponse 200 (answer_fields closes) (internal_error_text header)
 
--- there was no memory for what there was to tell
+-- the answer is lost, not what was asked: there was no memory for its text
 abbrev pub IsLost : Response → Type 0
 IsLost = IsResponse 500 [] []
 

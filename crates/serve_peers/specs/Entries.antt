@@ -1,4 +1,4 @@
--- The event that something that came asks for (all this project's own).
+-- The event that an entry asks for, and its moment (all this project's own).
 use Rattle.std.specs.Prelude.{ℕ}
 use Rattle.account_machine.specs.Events.{PlainEvent, Timed, OfAccount, Ipp}
 use Rattle.input_lines.specs.Actions.{event_of_action}

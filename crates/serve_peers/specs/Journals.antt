@@ -1,4 +1,5 @@
--- What was asked of what is served, one round after another (all this project's own).
+-- What a clause reads of what is served: its rounds, its tables, its moment, whether a round is
+-- under way, and whether the last one's commit failed (all this project's own).
 use Rattle.std.specs.Prelude.{◌≡◌, ℕ, Bool, true, false, List, [], ◌∷◌, ◌++◌, map, nat_lt, Option, None, Some}
 use Rattle.std.specs.List.{flat_map}
 use Rattle.sqlite.specs.Held.{Held}

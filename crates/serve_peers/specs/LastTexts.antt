@@ -1,5 +1,5 @@
--- Rule: What is sent last on a connection whose round was lost: what was asked in it was applied
--- again, by itself (all this project's own).
+-- Rule: What is sent last on a connection whose round was lost, since its commit failed: what was
+-- asked in it was applied again, by itself (all this project's own).
 use Rattle.std.specs.Prelude.{ℕ, List, true, if◌then◌else◌, length, nat_lt, Result, Ok, Err}
 use Rattle.ipp_coding.specs.Limits.{header_length}
 use Rattle.ipp_coding.specs.Reading.{header_in}

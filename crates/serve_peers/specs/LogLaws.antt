@@ -1,4 +1,4 @@
--- The log and what is served (all this project's own).
+-- That the log always tells what the journal has (all this project's own).
 use Rattle.std.specs.Option.{ForSome}
 use Rattle.sqlite_trees.specs.declared.store.Store.{Ghosts}
 use Rattle.serve_log.specs.declared.waiting.Waiting.{Waiting}

@@ -1,4 +1,5 @@
--- What was asked, and in which rounds (all this project's own).
+-- The words of a journal: one thing that was asked with what it came to, and a round of these, with
+-- whether its commit succeeded (all this project's own).
 use Rattle.std.specs.Prelude.{Bool, List, [], if◌then◌else◌, Result}
 use Rattle.std.specs.List.{flat_map}
 use Rattle.http_server.specs.declared.log.Log.{Log as History}

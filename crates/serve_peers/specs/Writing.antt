@@ -1,4 +1,5 @@
--- What a journal holds (all this project's own).
+-- The two lists of a journal: the rounds that are over, and what was asked in the one that is under
+-- way (all this project's own).
 use Rattle.std.specs.Prelude.{List, map}
 use Rattle.serve_peers.specs.Tolds.{Round, Told, round_in}
 use Rattle.serve_peers.specs.declared.journal.Journal.{Journal}

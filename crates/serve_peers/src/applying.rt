@@ -1,4 +1,5 @@
-//! What came is applied to the tables, by itself or in the round that is under way.
+//! The two calls that apply an entry to the tables: in a transaction of its own, or in the round
+//! that is under way.
 ghost use Rattle.std.specs.Prelude.{◌≡◌, true};
 ghost use Rattle.serve_peers.specs.Applying.{AppliesAlone, AppliesEntry};
 
@@ -8,6 +9,7 @@ use sqlite::Alter;
 use std::alloc::Global;
 use store_rounds::{Rounds, StoreFault};
 
+/// Applies an entry in a transaction of its own, which is committed before this answers.
 pub(crate) fn apply_in_own_transaction<S: Alter>(
     alloc: Global,
     rounds: &mut Rounds<S>,
@@ -18,7 +20,8 @@ pub(crate) fn apply_in_own_transaction<S: Alter>(
     store_events::apply_in_own_transaction(alloc, rounds, entry.moment(), &entry.event())
 }
 
-/// Once the round is lost nothing is applied in it.
+/// Applies an entry in the round that is under way. Where the storage has undone the round already,
+/// nothing is applied, and the answer is `Storage`.
 pub(crate) fn apply_unless_lost<S: Alter>(
     alloc: Global,
     rounds: &mut Rounds<S>,

@@ -1,6 +1,6 @@
-//! What goes on beside what is applied: between the turns of peers a backup is made, slice by slice,
-//! and accounts are gathered for the print room's page. It also knows whether serving is to end, and
-//! what the pages want of a file.
+//! The work between the turns of peers: a backup is made slice by slice, and accounts are gathered
+//! for the print room's page. Two settings stand here too: whether serving is to end, and whether
+//! pages want a password.
 ghost use Rattle.std.specs.Prelude.{◌≡◌, false, IfOk, IsTrue, None, OnErr, Some};
 ghost use Rattle.serve_peers.specs.Backups.{AsksBackup};
 ghost use Rattle.serve_peers.specs.Copies.{copy_in};
@@ -73,8 +73,8 @@ impl Background {
         }
     }
 
-    /// Does what the lines of a backup ask for: makes the copy's file, or does one slice. No round is
-    /// under way.
+    /// Does what the lines of a backup ask for: makes the copy's file, or does one slice. No round
+    /// is under way.
     pub(crate) fn keep_backup<S: Alter, T: Alter, K: CopyMaker<Rows = Connection<T>>>(
         &mut self,
         alloc: Global,
@@ -93,6 +93,7 @@ impl Background {
         }
     }
 
+    /// The stage of the backup, if one was asked for.
     fn backup_stage(&self) -> Option<Stage>
         ensures { result ≡ stage_in self.now.backup }
     {
@@ -102,6 +103,8 @@ impl Background {
         }
     }
 
+    /// Makes the file of the backup that was begun. The backup is then ready for its first slice,
+    /// or has failed.
     fn make_copy<T: Alter, K: CopyMaker<Rows = Connection<T>>>(&mut self, copies: &mut Copies<T, K>)
         requires { IsTrue (is_begun (stage_in self.old.backup)) }
         ensures { MakesCopy T.Store self.old self.new (copy_in copies.new) }
@@ -115,6 +118,8 @@ impl Background {
         }
     }
 
+    /// Copies one slice, and keeps the backup's new stage. The journal watches the account that the
+    /// slice leaves half copied.
     fn do_slice<S: Alter, T: Alter, K: CopyMaker<Rows = Connection<T>>>(
         &mut self,
         alloc: Global,
@@ -136,8 +141,8 @@ impl Background {
         }
     }
 
-    /// Goes on with what is gathered for the print room's page: one account is read at most. No round
-    /// is under way.
+    /// Goes on with what is gathered for the print room's page: one account is read at most. No
+    /// round is under way.
     pub(crate) fn gather<S: Alter>(
         &mut self,
         alloc: Global,
@@ -152,6 +157,7 @@ impl Background {
         }
     }
 
+    /// Does one step of what is gathered, and keeps what that came to.
     fn go_on<S: Alter>(
         &mut self,
         gathering: Gathering,
@@ -168,12 +174,14 @@ impl Background {
     }
 }
 
+/// Whether the file of the backup is still to be made.
 fn is_begun(stage: Option<Stage>) -> bool
     ensures { result ≡ is_begun stage }
 {
     matches!(stage, Some(Stage::Begun))
 }
 
+/// Whether a line has asked for a slice that was not done yet.
 fn is_wanted(stage: Option<Stage>) -> bool
     ensures { result ≡ is_wanted stage }
 {

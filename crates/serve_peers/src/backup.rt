@@ -1,4 +1,5 @@
-//! A backup of what is served, as lines of an operator ask for it.
+//! The state of a backup that operators ask for by lines, and the answer to each such line.
+//! `background.rt` does what they ask for, and `copies.rt` has the rows.
 ghost use Rattle.std.specs.Prelude.{◌≡◌, IfOk, OnErr};
 ghost use Rattle.serve_peers.specs.Backups.{AsksSlice, BeginsBackup, backup_text, is_busy, slice_told};
 
@@ -83,6 +84,7 @@ pub(crate) fn begin_backup(
     Ok(BackupTold::Ok)
 }
 
+/// Whether a backup was asked for within the last `KEPT` seconds, so that no other can begin.
 fn is_busy(backup: &Option<Backup>, moment: u64) -> bool
     ensures { result ≡ is_busy backup.now moment }
 {
@@ -108,6 +110,7 @@ pub(crate) fn ask_slice(backup: &mut Option<Backup>, file: &[u8], moment: u64) -
     told
 }
 
+/// The answer to a line that asks for a slice, by the backup's stage.
 fn slice_told(stage: Stage) -> BackupTold
     ensures { result ≡ slice_told stage }
 {
@@ -121,7 +124,8 @@ fn slice_told(stage: Stage) -> BackupTold
 impl Backup {
     ghost use Rattle.serve_peers.specs.Backups.{backup_then};
 
-    /// What becomes of it as its next slice is asked for.
+    /// The backup once its next slice is asked for. One that is whole or has failed is told once,
+    /// and then forgotten.
     fn next(self, moment: u64) -> Option<Backup>
         ensures { result ≡ backup_then self moment }
     {

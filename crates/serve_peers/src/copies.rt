@@ -1,4 +1,4 @@
-//! Between the turns of peers what a backup's lines ask for is done.
+//! The copy that a backup fills, slice by slice, between the turns of peers.
 ghost use Rattle.std.specs.Prelude.{◌≡◌, ◌⊎◌, IsFalse, IsTrue, None, Some};
 ghost use Rattle.serve_peers.specs.Copies.{CopiesOn, IsNewCopy, SlicesOn};
 ghost use Rattle.serve_peers.specs.Copies.{anew_left, begun_anew, most_at, under_way};
@@ -37,6 +37,7 @@ impl<T: Alter + Drop> Drop for Copied<T> {
 }
 
 impl<T: Alter> Copied<T> {
+    /// The connection to the copy alone.
     fn into_rows(self) -> Connection<T>
         ensures { result ≡ self.rows }
     {
@@ -48,6 +49,7 @@ impl<T: Alter> Copied<T> {
         rows
     }
 
+    /// The connection, how far the copy is, and how often its account has begun anew.
     fn into_parts(self) -> (Connection<T>, Progress, u32)
         ensures { result ≡ (self.rows, self.progress, self.anew) }
     {
@@ -74,7 +76,7 @@ impl<T: Alter + Drop, K: Drop> Drop for Copies<T, K> {
 
 /// What a slice has come to.
 pub(crate) enum Done {
-    /// More slices are to come. This account is under way.
+    /// More slices are to come. This account is half copied, if one is.
     Part(Option<Name>),
     Whole,
     Failed,
@@ -90,8 +92,8 @@ impl<T: Alter, K: CopyMaker<Rows = Connection<T>>> Copies<T, K> {
         Copies { maker, copy: None }
     }
 
-    /// Makes the file of a copy, with tables that have no row, and answers whether it could. The copy
-    /// that was under way is given up.
+    /// Makes the file of a copy, with tables that have no row, and answers whether it could. The
+    /// copy that was under way is given up.
     pub(crate) fn make(&mut self, file: &[u8]) -> bool
         ensures made { IsTrue result → IsNewCopy T.Store (copy_in self.new) }
         ensures none { IsFalse result → copy_in self.new ≡ None }
@@ -105,6 +107,7 @@ impl<T: Alter, K: CopyMaker<Rows = Connection<T>>> Copies<T, K> {
         }
     }
 
+    /// Makes the tables in the new file, and keeps it as the copy that is under way.
     fn begin(&mut self, rows: Connection<T>) -> bool
         requires { copy_in self.old ≡ None }
         ensures made { IsTrue result → IsNewCopy T.Store (copy_in self.new) }
@@ -126,6 +129,7 @@ impl<T: Alter, K: CopyMaker<Rows = Connection<T>>> Copies<T, K> {
         }
     }
 
+    /// Keeps this copy as the one that is under way. One that was there is given up.
     fn put(&mut self, copied: Copied<T>)
         ensures { copy_in self.new ≡ Some copied }
     {
@@ -134,8 +138,8 @@ impl<T: Alter, K: CopyMaker<Rows = Connection<T>>> Copies<T, K> {
         }
     }
 
-    /// Does the next slice of the copy. Where the account under way was `touched` since the last one
-    /// it begins anew. No round is under way.
+    /// Does the next slice of the copy. Where the account under way was `touched` since the last
+    /// one it begins anew. No round is under way.
     pub(crate) fn slice<S: Alter>(
         &mut self,
         alloc: Global,
@@ -169,7 +173,7 @@ impl<T: Alter, K: CopyMaker<Rows = Connection<T>>> Copies<T, K> {
         }
     }
 
-    /// Closes a copy that is whole.
+    /// Closes the file of a copy that is whole. It has failed where the file can't be closed.
     fn close(&mut self, rows: Connection<T>) -> Done
         ensures done { (result ≡ Done.Whole) ⊎ (result ≡ Done.Failed) }
         ensures same { copy_in self.new ≡ copy_in self.old }
@@ -182,7 +186,8 @@ impl<T: Alter, K: CopyMaker<Rows = Connection<T>>> Copies<T, K> {
     }
 }
 
-/// How often the account under way has begun anew: once more, where it was touched.
+/// How often the account under way has begun anew: once more, where it was touched since the last
+/// slice.
 fn begun_anew(touched: bool, anew: u32) -> u32
     ensures { result ≡ begun_anew touched anew }
 {
@@ -192,7 +197,7 @@ fn begun_anew(touched: bool, anew: u32) -> u32
     anew
 }
 
-/// How often the account that is under way now has begun anew.
+/// How often the account that a slice leaves half copied has begun anew, or 0 where it leaves none.
 fn anew_left(progress: &Progress, anew: u32) -> u32
     ensures { result ≡ anew_left progress.now anew }
 {
@@ -212,7 +217,7 @@ fn most_at(anew: u32) -> Option<u32>
     None
 }
 
-/// The account of which a part is copied.
+/// The account that is half copied, if there is one.
 fn under_way(progress: &Progress) -> Option<Name>
     ensures { result ≡ under_way progress.now }
 {
@@ -222,7 +227,9 @@ fn under_way(progress: &Progress) -> Option<Name>
     }
 }
 
-/// Does the next slice, and answers how far the copy has come then, or `None` where it is whole.
+/// Does the next slice, and answers how far the copy has come then, or `None` where it is whole. An
+/// account that was touched is first taken out of the copy, and begins anew. While a round is under
+/// way nothing is copied, and the answer is `Storage`.
 fn slice_on<S: Alter, T: Alter>(
     alloc: Global,
     source: &mut Rounds<S>,

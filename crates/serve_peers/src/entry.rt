@@ -1,4 +1,4 @@
-//! What came, and the moment at which it counts as done.
+//! One thing that a connection asks to be applied, a message of IPP or a line, with its moment.
 ghost use Rattle.std.specs.Prelude.{◌≡◌, IsTrue};
 ghost use Rattle.account_machine.specs.Events.{plain_event};
 ghost use Rattle.account_machine.specs.Fits.{fits};
@@ -40,6 +40,7 @@ impl Drop for Entry {
 }
 
 impl Entry {
+    /// The moment at which it counts as done.
     pub(crate) fn moment(&self) -> u64
         ensures { result ≡ moment_at self.now }
     {
@@ -49,7 +50,7 @@ impl Entry {
         }
     }
 
-    /// The door by which it came in.
+    /// The door that the log names for it: that of clients, of stations or of operators.
     pub(crate) fn door(&self) -> Door
         ensures { result ≡ door_of self.now }
     {
@@ -79,7 +80,8 @@ impl Entry {
         }
     }
 
-    /// Whether a job ends where it goes through, or is to.
+    /// Whether a job ends if this is done: it cancels or settles one. The documents then leave
+    /// space.
     pub(crate) fn ends_job(&self) -> bool {
         match self.event() {
             Event::Ipp { body, .. } => cancels(body),
@@ -88,7 +90,7 @@ impl Entry {
         }
     }
 
-    /// Whether it is of the account.
+    /// Whether the event is the account's own, and no device's.
     pub(crate) fn is_of(&self, name: Name) -> bool
         ensures { result ≡ is_of name (event_of_entry self.now) }
     {
@@ -103,6 +105,7 @@ impl Entry {
         }
     }
 
+    /// The event that it asks for. Its bytes are borrowed, not copied.
     pub(crate) fn event(&self) -> Event<'_>
         ensures fit { IsTrue (fits (plain_event result)) }
         ensures same { plain_event result ≡ event_of_entry self.now }
@@ -117,7 +120,7 @@ impl Entry {
     }
 }
 
-/// The door of those who may ask for the action.
+/// The door whose lines may ask for the action. The log names it.
 fn door_of(action: &Action) -> Door
     ensures { result ≡ door_for action.now }
 {

@@ -1,4 +1,5 @@
-//! Between the turns of peers all accounts are gathered for the print room's page, one after another.
+//! The sums over all accounts for the print room's page, gathered between the turns of peers, one
+//! account at a step.
 ghost use Rattle.std.specs.Prelude.{◌≡◌, [], Err, IfOk, None};
 ghost use Rattle.page_overview.specs.Overviews.{Shows};
 ghost use Rattle.page_overview.specs.Surveys.{IsInBounds};
@@ -13,12 +14,13 @@ use sqlite::Alter;
 use std::alloc::Global;
 use store_rounds::{Rounds, list_devices, next_accounts, survey};
 
-/// Once what was gathered is older than so many seconds, who asks for the page has it gathered anew.
+/// Once what was gathered is older than so many seconds, who asks for the page has it gathered
+/// anew.
 const FRESH: u64 = 10;
 
 /// What the print room's page shows, and what is gathered for it.
 pub struct Gathered {
-    /// What was gathered last, if something was.
+    /// What the page shows: what was gathered last, or nothing yet.
     pub(crate) shown: Overview,
     pub(crate) under_way: Option<Gathering>,
 }
@@ -81,7 +83,8 @@ impl Gathered {
         }
     }
 
-    /// Somebody asks for the page: if what is shown is not of the last seconds, it is gathered anew.
+    /// Begins to gather anew where what is shown is older than `FRESH` seconds. A request for the
+    /// page calls this.
     pub(crate) fn ask(&mut self, moment: u64)
         ensures { self.new ≡ asked_at moment self.old }
     {
@@ -93,7 +96,7 @@ impl Gathered {
         }
     }
 
-    /// What a step has come to is kept.
+    /// Keeps what a step came to: goes on with it, or shows what is whole, or gives it up.
     pub(crate) fn keep(&mut self, stepped: Stepped)
         ensures { self.new ≡ gathered_then stepped self.old }
     {
@@ -108,6 +111,7 @@ impl Gathered {
     }
 }
 
+/// The month of a moment, and of one past 2099 the last month.
 fn month_then(moment: u64) -> u32
     ensures { result ≡ month_then moment }
 {
@@ -117,7 +121,8 @@ fn month_then(moment: u64) -> u32
     }
 }
 
-/// Where a clock went back, what was gathered before is not.
+/// Whether what was gathered at `as_of` is of the last `FRESH` seconds. Where the clock went back
+/// since, it is not.
 fn is_fresh(as_of: Option<u64>, moment: u64) -> bool
     ensures { result ≡ is_fresh as_of moment }
 {
@@ -139,7 +144,7 @@ impl Gathering {
     }
 }
 
-/// Begins an overview, with the devices.
+/// Begins an overview with all devices, and no account yet.
 fn begin<S: Alter>(alloc: Global, rounds: &mut Rounds<S>, at: Moment) -> Stepped
     ensures { Begins S.Store at rounds.old rounds.new result }
 {
@@ -158,6 +163,8 @@ fn begin<S: Alter>(alloc: Global, rounds: &mut Rounds<S>, at: Moment) -> Stepped
 impl Adding {
     ghost use Rattle.serve_peers.specs.Gathering.{AddsAccount, AddsOn, AddsSurvey, FindsNames, FindsTo, LeavesOut};
 
+    /// Adds the next account, or finds the names of further ones where all that were found are
+    /// taken.
     fn step<S: Alter>(self, alloc: Global, rounds: &mut Rounds<S>) -> Stepped
         ensures { AddsOn S.Store self rounds.old rounds.new result }
     {
@@ -179,6 +186,8 @@ impl Adding {
         }
     }
 
+    /// Goes on with the names that were found. If there are none, the overview is whole; if it is
+    /// full, it tells that accounts are left out.
     fn go_on(self, found: List<Name>) -> Stepped
         ensures { FindsTo self found result }
     {
@@ -208,6 +217,7 @@ impl Adding {
         }
     }
 
+    /// The overview with this account's figures added.
     fn with_survey(self, account: Name, survey: &Survey) -> Stepped
         requires { IsInBounds survey.now }
         ensures { AddsSurvey account survey.now self result }
@@ -227,6 +237,7 @@ impl Adding {
         }
     }
 
+    /// The overview without this account, which it counts as one that was left out.
     fn without(self) -> Stepped
         ensures { LeavesOut self result }
     {
@@ -244,8 +255,9 @@ impl Adding {
     }
 }
 
-// ---- what a step reads, where no round is under way
+// ---- what a step reads; `Storage` while a round is under way, since that may still be lost
 
+/// All devices.
 fn read_devices<S: Alter>(alloc: Global, rounds: &mut Rounds<S>) -> Result<List<Device>, TableFault>
     ensures looks { OnlyLooks S.Store rounds.old rounds.new }
     ensures told { IfOk result (λ devices. AreDevices S.Store devices rounds.old rounds.new) }
@@ -256,6 +268,7 @@ fn read_devices<S: Alter>(alloc: Global, rounds: &mut Rounds<S>) -> Result<List<
     list_devices(alloc, rounds)
 }
 
+/// The next names of accounts behind one, by name, or the first ones.
 fn read_names<S: Alter>(
     alloc: Global,
     rounds: &mut Rounds<S>,
@@ -270,6 +283,7 @@ fn read_names<S: Alter>(
     next_accounts(alloc, rounds, behind)
 }
 
+/// The figures of one account, with what it was charged in the month.
 fn read_account<S: Alter>(
     alloc: Global,
     rounds: &mut Rounds<S>,

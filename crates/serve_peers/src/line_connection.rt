@@ -1,4 +1,5 @@
-//! A connection of lines: what came and is no whole line yet, and answers that wait to go.
+//! The buffers of a connection of lines, and how its next line is answered: by an event, a
+//! question, a step of a backup, or a refusal. `LinePeer` drives it.
 ghost use Rattle.std.specs.Prelude.{◌≡◌, ◌≢◌, ◌<◌, ◌≤◌, ◌+◌, ◌++◌, [], false, length, nat_lt, take, true, IfOk, IfSome, OnErr, OnOk, Ok, Some};
 ghost use Rattle.std.specs.Io.KnownBytes.{Keeps};
 ghost use Rattle.input_lines.specs.Asking.{IsQuestionOf};
@@ -29,19 +30,21 @@ pub const MOST_LINE: usize = 65_536;
 /// How many bytes are asked for at once.
 const ROOM: usize = 4_096;
 
-/// Whose lines a connection carries.
+/// Whose lines a connection carries: those of stations, of the stations at a bound door, or of
+/// operators.
 #[derive(Clone, Copy, PartialEq, Eq)]
 pub enum Side {
     /// `release`, `start` and `settle`, and a station's questions.
     Station,
     /// The same, for the devices alone whose names these are, parted by commas.
     Bound(&'static [u8]),
-    /// `open`, `device`, `rate`, `grant`, `cancel` and `hold`, an operator's questions, and the lines
-    /// of a backup.
+    /// `open`, `device`, `rate`, `grant`, `cancel` and `hold`, an operator's questions, and the
+    /// lines of a backup.
     Operator,
 }
 
 impl Side {
+    /// The door that the log names for such lines.
     pub(crate) fn door(self) -> Door {
         match self {
             Side::Station | Side::Bound(_) => Door::Stations,
@@ -49,6 +52,7 @@ impl Side {
         }
     }
 
+    /// The grammar by which such lines are read as events of the moment.
     pub(crate) fn grammar(self, moment: u64) -> Grammar
         ensures { result ≡ grammar_of self moment }
     {
@@ -58,7 +62,8 @@ impl Side {
         }
     }
 
-    /// Whether a line may come for the device that it names.
+    /// Whether the side takes the line: a bound door takes it only for the devices that are its
+    /// own.
     fn is_own(self, line: &[u8]) -> bool
         ensures { result ≡ is_own self line.now }
     {
@@ -69,7 +74,7 @@ impl Side {
     }
 }
 
-/// What became of the line at the front of what came.
+/// What became of the first line of what came.
 #[derive(Clone, Copy, PartialEq, Eq)]
 pub enum Front {
     /// It was answered.
@@ -140,11 +145,11 @@ impl LineConnection {
         Ok(count)
     }
 
-    /// Answers the line at the front of what came, at the moment of what is served: what it asks
-    /// for is applied, once, or it is a question, or it is refused, which change nothing. A question
-    /// is put off while a round is under way. By a bound door nothing is applied or asked but for
-    /// its devices. Where memory was refused, the connection has to be closed; the line is left, or
-    /// it was taken and its answer is lost.
+    /// Answers the first line of what came, at the moment of what is served: what it asks for is
+    /// applied, once, or it is a question, or it is refused, which change nothing. A question is
+    /// put off while a round is under way. By a bound door nothing is applied or asked but for its
+    /// devices. Where there is no memory, the connection has to be closed: then the line is left,
+    /// or it was taken and its answer is lost.
     pub fn answer<S: Alter>(&mut self, served: &mut Served<S>) -> Result<Front, AllocError>
         ensures taken { result ≡ Ok Front.Answered
             → AnswersLine S.Store self.old self.new served.old served.new }
@@ -176,7 +181,7 @@ impl LineConnection {
         }
     }
 
-    /// Refuses a line, which ends there, that names no device of the bound door by which it came.
+    /// Refuses the first line, which ends at `end`, since it names no device of its bound door.
     fn refuse_other<S: Alter>(
         &mut self,
         served: &mut Served<S>,
@@ -200,7 +205,7 @@ impl LineConnection {
         Ok(Front::Answered)
     }
 
-    /// Answers a line, which ends there, that asks for nothing to be applied.
+    /// Answers the first line, which ends at `end` and asks for no event: a question, or another.
     fn answer_other<S: Alter>(
         &mut self,
         served: &mut Served<S>,
@@ -232,7 +237,7 @@ impl LineConnection {
         Ok(Front::Answered)
     }
 
-    /// Answers a line of a backup, or a bad one, which ends there.
+    /// Answers the first line, which ends at `end`, as a line of a backup, or as a bad one.
     fn answer_last<S: Alter>(
         &mut self,
         served: &mut Served<S>,
@@ -260,14 +265,14 @@ impl LineConnection {
         Ok(Front::Answered)
     }
 
-    /// Whether what came is more than a line may have, and no line yet.
+    /// Whether more came than a line may have. It is asked where no line has ended yet.
     pub fn is_too_long(&self) -> bool
         ensures { result ≡ nat_lt longest_line (length (input_of self.now)) }
     {
         self.input.len() > MOST_LINE
     }
 
-    /// Answers what came and is no line as a bad one.
+    /// Drops what came and is no whole line, and answers it as a bad line.
     pub fn refuse_rest(&mut self) -> Result<(), AllocError>
         ensures input { input_of self.new ≡ [] }
         ensures output { OnOk result
@@ -279,6 +284,7 @@ impl LineConnection {
         put_bad(&mut self.output)
     }
 
+    /// Whose lines the connection carries.
     pub(crate) fn side(&self) -> Side
         ensures { result ≡ side_of self.now }
     {
@@ -314,7 +320,7 @@ impl LineConnection {
         !self.output.is_empty()
     }
 
-    /// Writes once.
+    /// Writes once of the answers that wait, and drops what has gone.
     pub fn write_to<W: Write>(&mut self, writer: &mut W) -> io::Result<usize>
         ensures went { IfOk result
             (Leaves (W.contents writer.old) (W.contents writer.new) self.old self.new) }
@@ -331,7 +337,7 @@ impl LineConnection {
     }
 }
 
-/// Where the first line ends.
+/// The place of the line feed that ends the first line, if it has ended.
 fn line_end(input: &[u8]) -> Option<usize>
     ensures place { result ≡ line_end input.now }
     ensures within { IfSome result (λ place. place < length input.now) }
@@ -339,7 +345,8 @@ fn line_end(input: &[u8]) -> Option<usize>
     input.iter().position(|byte| *byte == b'\n')
 }
 
-/// Why a line that names no device of its door is refused: one that is no station's is bad there too.
+/// Why a line that names no device of its door is refused: one that is no station's is bad there
+/// too.
 fn refusal_of(alloc: Global, line: &[u8]) -> Result<LineRefusal, AllocError> {
     if read_station_question(line).is_ok() {
         return Ok(LineRefusal::NotYourDevice);
@@ -350,7 +357,7 @@ fn refusal_of(alloc: Global, line: &[u8]) -> Result<LineRefusal, AllocError> {
     }
 }
 
-/// What a line asks to be applied, or `None` where it asks for nothing of that kind.
+/// The entry that a line asks to be applied, or `None` where it asks for no event.
 fn entry_of(alloc: Global, grammar: Grammar, line: &[u8]) -> Result<Option<Entry>, AllocError>
     ensures { IfOk result (λ entry. IfSome entry (IsEntryOf grammar line.now)) }
 {

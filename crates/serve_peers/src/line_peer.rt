@@ -1,4 +1,5 @@
-//! A connection of lines: where it stands, and how long it may take.
+//! A peer that speaks lines: what each of its turns does with its connection, and how long it may
+//! take.
 
 ghost use Rattle.std.specs.Prelude.{◌≡◌, ◌≢◌, ◌≤◌, ◌+◌, length, nat_lt, IsFalse, Some};
 ghost use Rattle.serve_peers.specs.Turns.{Continues};
@@ -14,7 +15,7 @@ use sqlite::Alter;
 use std::alloc::Global;
 use std::io::{Read, Write};
 
-/// A peer that speaks lines.
+/// A peer that speaks lines: a station or an operator.
 pub struct LinePeer {
     connection: LineConnection,
     progress: Progress,
@@ -112,6 +113,7 @@ impl LinePeer {
         }
     }
 
+    /// Writes once. With the last byte of the answers the peer's time begins anew.
     fn send<W: Write>(&mut self, writer: &mut W, ticks: u64) -> Option<Next>
         ensures sends { SendsBytes (W.contents writer.old) (W.contents writer.new)
             (lines_of self.old) (lines_of self.new) }
@@ -131,6 +133,7 @@ impl LinePeer {
         }
     }
 
+    /// Reads once, and keeps whether the peer has ended.
     fn receive<R: Read>(&mut self, reader: &mut R, turn: Turn) -> Option<Next>
         ensures receives { ReceivesBytes (R.remaining reader.old) (R.remaining reader.new)
             (lines_of self.old) (lines_of self.new) }
@@ -151,7 +154,7 @@ impl LinePeer {
         }
     }
 
-    /// No more is read: what is left and is no line is answered as a bad one.
+    /// Ends the reading. What is left and is no line is answered as a bad one; then the peer parts.
     fn end<S: Alter>(&mut self, served: &mut Served<S>, ticks: u64) -> Option<Next>
         ensures ended { IsEnded result (lines_of self.old) (lines_of self.new) }
         ensures same { served.new ≡ served.old }
@@ -169,7 +172,7 @@ impl LinePeer {
         Some(self.progress.part(ticks))
     }
 
-    /// How long it may take still.
+    /// What the peer is at, and since when: the hall asks whether that takes too long.
     pub fn patience(&self) -> Patience
         ensures { result ≡ patience_of self.now }
     {

@@ -1,4 +1,4 @@
-//! What becomes of the log, where one is kept.
+//! The calls of the journal on the log of events. Where no log is kept, each does nothing.
 ghost use Rattle.std.specs.Prelude.{◌≡◌};
 ghost use Rattle.serve_peers.specs.Logging.{Becomes, DraftsOne, KeepsLines, LogsOne, SettlesDrafts};
 
@@ -8,7 +8,7 @@ use serve_log::{Door, EventLog, LineRefusal};
 use std::fs::{File, Files};
 use store_rounds::StoreFault;
 
-/// What came was applied by itself.
+/// Writes the line of an entry that was applied by itself.
 pub(crate) fn note(log: &mut Option<EventLog>, entry: &Entry, told: &Result<Answered, StoreFault>)
     ensures { Becomes (LogsOne (entry.now, told.now)) log.old log.new }
 {
@@ -17,7 +17,8 @@ pub(crate) fn note(log: &mut Option<EventLog>, entry: &Entry, told: &Result<Answ
     }
 }
 
-/// What came was applied in the round that is under way.
+/// Keeps the line of an entry that was applied in the round that is under way, until that is
+/// settled.
 pub(crate) fn draft(log: &mut Option<EventLog>, entry: &Entry, told: &Result<Answered, StoreFault>)
     ensures { Becomes (DraftsOne (entry.now, told.now)) log.old log.new }
 {
@@ -26,7 +27,7 @@ pub(crate) fn draft(log: &mut Option<EventLog>, entry: &Entry, told: &Result<Ans
     }
 }
 
-/// The job that came was settled with a charge beyond what it had reserved.
+/// Writes that a settlement charged so many units beyond what its job had reserved.
 pub(crate) fn tell_beyond(log: &mut Option<EventLog>, entry: &Entry, units: u64)
     ensures { log.new ≡ log.old }
 {
@@ -35,7 +36,7 @@ pub(crate) fn tell_beyond(log: &mut Option<EventLog>, entry: &Entry, units: u64)
     }
 }
 
-/// The round is over.
+/// Ends the round: its lines are written if its commit succeeded (`kept`), and dropped if not.
 pub(crate) fn settle(log: &mut Option<EventLog>, kept: bool)
     ensures { Becomes (SettlesDrafts kept) log.old log.new }
 {
@@ -44,7 +45,7 @@ pub(crate) fn settle(log: &mut Option<EventLog>, kept: bool)
     }
 }
 
-/// Gives the log's file once more what waits for it.
+/// Tries once more to write the lines that the log's file has not taken.
 pub(crate) fn push_out(log: &mut Option<EventLog>)
     ensures { Becomes KeepsLines log.old log.new }
 {
@@ -53,7 +54,7 @@ pub(crate) fn push_out(log: &mut Option<EventLog>)
     }
 }
 
-/// A door refused a line.
+/// Writes that a door refused a line, and why.
 pub(crate) fn refuse_line(log: &mut Option<EventLog>, moment: u64, door: Door, why: LineRefusal)
     ensures { log.new ≡ log.old }
 {
@@ -62,7 +63,7 @@ pub(crate) fn refuse_line(log: &mut Option<EventLog>, moment: u64, door: Door, w
     }
 }
 
-/// A request was refused with a status.
+/// Writes that a request for this path was refused with this status of HTTP.
 pub(crate) fn refuse_request(log: &mut Option<EventLog>, moment: u64, status: u16, path: &[u8])
     ensures { log.new ≡ log.old }
 {
@@ -71,7 +72,8 @@ pub(crate) fn refuse_request(log: &mut Option<EventLog>, moment: u64, status: u1
     }
 }
 
-/// Has the log look, at a moment, whether its file was moved away.
+/// Has the log open its file anew where that was moved away. `moment`: it looks once a moment at
+/// most.
 pub(crate) fn look<R: Files<File = File>>(
     log: &mut Option<EventLog>,
     files: &R,

@@ -1,8 +1,9 @@
-//! The devices for which a door takes the lines of stations.
+//! Which devices a bound door takes lines for: the device that a line names, looked up in the
+//! door's list of names.
 ghost use Rattle.std.specs.Prelude.{◌≡◌, option_map};
 ghost use Rattle.serve_peers.specs.OwnDevices.{device_of, is_named, lists};
 
-/// The second field of a line, which names the device of a station's.
+/// The second field of a line. In a station's line it names the device.
 pub(crate) fn device_of(line: &[u8]) -> Option<&[u8]>
     ensures { option_map (λ field. field.now) result ≡ device_of line.now }
 {

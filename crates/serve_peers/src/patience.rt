@@ -1,4 +1,4 @@
-//! How long a connection may take.
+//! How long a connection may take for what it is at, in milliseconds, before it is closed.
 ghost use Rattle.std.specs.Prelude.{◌≡◌, ◌↔◌, IsTrue};
 ghost use Rattle.serve_peers.specs.Patience.{after_holding, after_letting_on, after_moving, doing_of, is_over, is_slow, moving, since_of};
 ghost use Rattle.serve_peers.specs.declared.patience.Doing.TheVariants.{Holds, Parts, Rests};
@@ -9,7 +9,7 @@ const MOST_REST: u64 = 60_000;
 /// How many milliseconds what was begun may take, or a piece of it.
 const MOST_MOVE: u64 = 10_000;
 
-/// So many bytes in that time, 16 KiB a second, give it that time anew.
+/// Each time that so many bytes have moved, 16 KiB a second, that time begins anew.
 const PIECE: u64 = 163_840;
 
 /// How many milliseconds a request that was begun waits for room.
@@ -55,7 +55,8 @@ impl Patience {
         }
     }
 
-    /// So many bytes came or went.
+    /// Counts bytes that came or went. The first ones begin a move, and each whole piece gives it
+    /// its time anew.
     pub fn moved(&mut self, count: usize, ticks: u64)
         ensures { self.new ≡ after_moving self.old count ticks }
     {
@@ -68,7 +69,7 @@ impl Patience {
         }
     }
 
-    /// All that was asked was answered, and its answer went.
+    /// Begins a rest: all that was asked was answered, and the answer went.
     pub fn rested(&mut self, ticks: u64)
         ensures doing { doing_of self.new ≡ Rests }
         ensures since { since_of self.new ≡ ticks }
@@ -76,7 +77,7 @@ impl Patience {
         *self = Patience::new(ticks);
     }
 
-    /// What was begun has to wait for room.
+    /// Begins the wait of a large request for room. One that waits already goes on waiting.
     pub fn held_back(&mut self, ticks: u64)
         ensures { self.new ≡ after_holding self.old ticks }
     {
@@ -88,7 +89,7 @@ impl Patience {
         }
     }
 
-    /// What had to wait for room goes on, and has its time anew.
+    /// Ends that wait, and gives the request its time anew. If it did not wait nothing changes.
     pub fn let_on(&mut self, ticks: u64)
         ensures { self.new ≡ after_letting_on self.old ticks }
     {
@@ -97,7 +98,7 @@ impl Patience {
         }
     }
 
-    /// All was said: from now on the peer has `MOST_PARTING` to end the connection too.
+    /// Begins the parting: the peer has `MOST_PARTING` to end the connection too.
     pub fn parted(&mut self, ticks: u64)
         ensures doing { doing_of self.new ≡ Parts }
         ensures since { since_of self.new ≡ ticks }
@@ -122,7 +123,7 @@ impl Patience {
         matches!(self.doing, Doing::Holds)
     }
 
-    /// Whether it took too long.
+    /// Whether the connection took too long for what it is at, and is to be closed.
     pub fn is_over(&self, ticks: u64) -> bool
         ensures { result ≡ is_over self.now ticks }
     {
@@ -144,7 +145,8 @@ impl Patience {
     }
 }
 
-/// So many bytes of a piece have moved. A whole piece begins the next one, at `ticks`.
+/// The patience of a connection that has moved so many bytes of a piece since `since`. A whole
+/// piece begins the next one, at `ticks`.
 fn moving(since: u64, moved: u64, ticks: u64) -> Patience
     ensures { result ≡ moving since moved ticks }
 {

@@ -1,4 +1,5 @@
-//! What connections of both kinds keep from turn to turn.
+//! How far a connection is from turn to turn, over HTTP or of lines: its patience, whether all that
+//! came is read, whether it is parting.
 
 ghost use Rattle.std.specs.Prelude.{◌≡◌};
 
@@ -25,21 +26,21 @@ impl Progress {
         }
     }
 
-    /// A turn begins. Where it may read, more may have come since the last.
+    /// Begins a turn. If it may read, more may have come since the last.
     pub(crate) fn begin_turn(&mut self, turn: Turn) {
         if turn.reads {
             self.has_all = false;
         }
     }
 
-    /// A read brought so many bytes.
+    /// Counts the bytes of a read, and keeps whether they were all that was there.
     pub(crate) fn received(&mut self, count: usize, turn: Turn) {
         self.patience.moved(count, turn.ticks);
         self.has_all = was_all(count, turn);
     }
 
-    /// All that waited has gone. What was begun after it, if there is something, has a time of its
-    /// own.
+    /// Ends an answer, all of which has gone. The peer rests from now on, or, if its next request
+    /// has begun, has a time of its own for that.
     pub(crate) fn sent_all(&mut self, has_begun: bool, ticks: u64) {
         self.patience.rested(ticks);
         if has_begun {
@@ -47,7 +48,7 @@ impl Progress {
         }
     }
 
-    /// What was begun has to wait for room.
+    /// Holds back the request that was begun, until there is room for it.
     pub(crate) fn hold_back(&mut self, ticks: u64) -> Next
         ensures { result ≡ Next.HeldBack }
     {
@@ -55,7 +56,7 @@ impl Progress {
         Next::HeldBack
     }
 
-    /// All was said.
+    /// Begins the parting: nothing more is sent, and what still comes is dropped.
     pub(crate) fn part(&mut self, ticks: u64) -> Next
         ensures { result ≡ Next.Part }
     {

@@ -1,4 +1,5 @@
-//! What a request over HTTP asks for.
+//! What a request over HTTP asks for: whose queue it is for, or why it is refused; and whether it
+//! brings a job or a document.
 ghost use Rattle.std.specs.Prelude.{◌≡◌, option_copied};
 ghost use Rattle.serve_peers.specs.Requests.{asked, has_ipp, has_long_body, is_ipp_value};
 ghost use Rattle.serve_peers.specs.Space.{brings_job, needs_space};
@@ -33,12 +34,14 @@ pub(crate) fn asked(request: &Request<Bytes>) -> Result<Name, Refusal>
     Ok(account)
 }
 
+/// Whether the request says that its body is a message of IPP.
 fn has_ipp(request: &Request<Bytes>) -> bool
     ensures { result ≡ has_ipp request.now }
 {
     is_ipp_value(request.headers().get(header::CONTENT_TYPE))
 }
 
+/// Whether this is the type of content of IPP; where the request has none, it is not.
 fn is_ipp_value(value: Option<&HeaderValue>) -> bool
     ensures { result ≡ is_ipp_value (option_copied value.entry) }
 {

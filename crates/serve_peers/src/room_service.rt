@@ -1,4 +1,5 @@
-//! What answers requests of HTTP over the rooms.
+//! The trait of what answers requests of HTTP over the rooms: the queues' service, and that of
+//! pages.
 ghost use Rattle.std.specs.Prelude.{◌≡◌, ℕ, List};
 ghost use Rattle.http.specs.declared.request.Request.{Request};
 ghost use Rattle.http_server.specs.declared.response.Response.{Response};

@@ -1,4 +1,5 @@
-//! What a turn of a connection is told, and its outcome.
+//! What a turn of a connection is told (`Turn`) and comes to (`Next`), and what both kinds of peer
+//! share of a turn's steps.
 ghost use Rattle.std.specs.Prelude.{ℕ, ◌≢◌, List, Some};
 ghost use Rattle.std.specs.Io.KnownBytes.{Consumes};
 
@@ -8,14 +9,14 @@ use std::io::{ErrorKind, Read};
 /// So many reads and writes of a connection make a turn, so that no peer holds up the others.
 pub(crate) const STEPS: u32 = 4;
 
-/// A read has a buffer of so many bytes at least, so that one that brings fewer has brought all that
-/// was there.
+/// A read has a buffer of so many bytes at least, so that one that brings fewer has brought all
+/// that was there.
 const LEAST_BUFFER: usize = 4_096;
 
 /// How many bytes are read at once of what a peer sends that was told of the end.
 const DROPPED: usize = 16_384;
 
-/// A turn of a connection.
+/// What a connection is told as its turn begins.
 #[derive(Clone, Copy)]
 pub struct Turn {
     /// In milliseconds since any start that all turns share.
@@ -24,8 +25,8 @@ pub struct Turn {
     pub has_memory: bool,
     /// Whether the system has told that the peer sends no more.
     pub is_last: bool,
-    /// Whether it may read. A peer that hears what it asked in a round leaves what comes next to the
-    /// next round.
+    /// Whether it may read. A peer that hears what it asked in a round leaves what comes next to
+    /// the next round.
     pub reads: bool,
 }
 
@@ -53,7 +54,7 @@ pub(crate) fn was_all(count: usize, turn: Turn) -> bool {
     count < LEAST_BUFFER && !turn.is_last
 }
 
-/// What follows an error of a read or a write.
+/// What the connection waits for after an error of a read or a write. `None`: it tries again.
 pub(crate) fn after(error: &io::Error) -> Option<Next>
     ensures { result ≢ Some Next.HeldBack }
 {

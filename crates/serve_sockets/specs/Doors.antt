@@ -1,4 +1,4 @@
--- The doors of a hall (this project's own).
+-- What a clause reads of a door: its kind, and how many it lets in (this project's own).
 use Rattle.std.specs.Prelude.{ℕ}
 use Rattle.serve_sockets.specs.declared.doors.Entrance.{Entrance}
 use Rattle.serve_sockets.specs.declared.doors.Kind.{Kind}

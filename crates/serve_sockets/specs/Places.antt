@@ -1,4 +1,4 @@
--- Places in a journal (this project's own).
+-- Places in a journal, by which answers stand in the order of what was asked (this project's own).
 use Rattle.std.specs.Prelude.{◌≡◌, ◌≤◌, ⊤, ℕ, suc, slice_get, List, [], ◌∷◌, Some}
 use Rattle.std.specs.List.{Contains}
 

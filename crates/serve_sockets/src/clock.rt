@@ -1,4 +1,5 @@
-//! The machine's clocks.
+//! The two clocks that the hall reads: the moment of events, in seconds, and ticks for deadlines,
+//! in milliseconds.
 
 use std::io;
 use std::time::{Clock, SystemTime, UNIX_EPOCH};

@@ -1,4 +1,5 @@
-//! Whom a hall drops since it took too long.
+//! The deadlines: which peers a hall drops since they took too long, or rest on memory that others
+//! need.
 ghost use Rattle.serve_sockets.specs.Halls.{OnlyLeave};
 
 use crate::hall::Peers;
@@ -21,6 +22,7 @@ impl Peers {
         }
     }
 
+    /// Drops the guest of the key, if it has to go.
     fn drop_if_late(&mut self, key: usize, ticks: u64)
         ensures { OnlyLeave self.old.guests self.new.guests }
     {
@@ -29,6 +31,8 @@ impl Peers {
         }
     }
 
+    /// Whether the guest took too long, or rests on memory while others wait for some, or hardly
+    /// reads a large answer while too much is held.
     fn has_to_go(&self, key: usize, ticks: u64) -> bool {
         self.guests.get(key).is_some_and(|guest| {
             guest.is_late(ticks)

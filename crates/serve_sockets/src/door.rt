@@ -1,4 +1,5 @@
-//! Where peers come in: a port of this machine, or a socket in the file system.
+//! A socket that listens, on a port of this machine or at a path, and how it is opened. What comes
+//! in by it, and how many, is in `doors.rt`.
 
 use crate::stream::Stream;
 use mio::event::Source;
@@ -14,10 +15,11 @@ use std::{fs, io};
 /// Its owner and its group read and write.
 const OWNER_AND_GROUP: u32 = 0o660;
 
-/// How many peers at most are sent away that came before the file of a socket had its mode.
+/// How many peers at most are sent away that connected before the socket's file had its mode.
 const MOST_EARLY: u32 = 100_000;
 
-/// A socket that listens.
+/// A socket that listens. It does not know what is spoken there: `Entrance` does. (The `Door` of
+/// `serve_log` is a word of the log: clients, stations or operators.)
 #[derive(Drop)]
 pub enum Door {
     Tcp(TcpListener),
@@ -31,9 +33,9 @@ impl Door {
         Ok(Door::Tcp(TcpListener::bind(net, addr)?))
     }
 
-    /// Listens on a socket at the path, which nobody but its owner and its group can reach. A socket
-    /// that a run left which was killed is replaced, but no other file, and none on which somebody
-    /// listens: `AddrInUse`.
+    /// Listens on a socket at the path, which nobody but its owner and its group can reach. A
+    /// socket that a run left which was killed is replaced, but no other file, and none on which
+    /// somebody listens: `AddrInUse`.
     pub fn at_path<R: Files + Net>(rt: &R, path: &str) -> io::Result<Door> {
         let listener = match UnixListener::bind(rt, path) {
             Err(error) if error.kind() == ErrorKind::AddrInUse => {
@@ -55,7 +57,7 @@ impl Door {
         }
     }
 
-    /// The next peer, or `WouldBlock` where none waits.
+    /// Takes the socket of the next peer that waits, or answers `WouldBlock` where none does.
     pub(crate) fn accept(&self) -> io::Result<Stream> {
         match self {
             Door::Tcp(listener) => {
@@ -71,7 +73,8 @@ impl Door {
     }
 }
 
-/// Removes a socket on which nobody listens.
+/// Removes the socket's file at the path, if nobody listens there any more. `AddrInUse` where
+/// somebody does, or the file is no socket.
 fn remove_left<R: Files + Net>(rt: &R, path: &str) -> io::Result<()> {
     let is_socket = fs::symlink_metadata(rt, path)?.file_type().is_socket();
     match UnixStream::connect(rt, path) {
@@ -82,7 +85,7 @@ fn remove_left<R: Files + Net>(rt: &R, path: &str) -> io::Result<()> {
     }
 }
 
-/// Sends away who came before the file had its mode.
+/// Drops the peers that connected before the socket's file had its mode, when anybody could.
 fn send_away(listener: &UnixListener) {
     for _ in 0..MOST_EARLY {
         if listener.accept().is_err() {

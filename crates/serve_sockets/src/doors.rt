@@ -1,4 +1,5 @@
-//! The doors of a hall, and who comes in by them.
+//! What a hall knows of each door: what is spoken there, how many peers may be in, how many are;
+//! and how peers are let in.
 
 ghost use Rattle.std.specs.Prelude.{◌≡◌, ◌≤◌, IfSome, map, sum};
 ghost use Rattle.serve_sockets.specs.Doors.{kind_of, most_of};
@@ -30,7 +31,7 @@ pub enum Speech {
 impl Speech {
     ghost use Rattle.serve_sockets.specs.Guests.{CameBy};
 
-    /// Who came in just now.
+    /// Makes the peer that speaks this, for a socket that came in just now.
     fn peer(self, alloc: Global, keys: RandomState, ticks: u64) -> Peer
         ensures { CameBy self result }
     {
@@ -42,7 +43,7 @@ impl Speech {
     }
 }
 
-/// What a door is for.
+/// What a door is for: what is spoken there, and how many may come in.
 #[derive(Clone, Copy, PartialEq, Eq)]
 pub struct Kind {
     pub speech: Speech,
@@ -52,30 +53,32 @@ pub struct Kind {
 }
 
 impl Kind {
-    /// Clients, at the queues.
+    /// For clients, at the queues.
     pub const CLIENTS: Kind = Kind {
         speech: Speech::Http,
         most: 768,
     };
 
-    /// Browsers, at the pages.
+    /// For browsers, at the pages.
     pub const PAGES: Kind = Kind {
         speech: Speech::Pages,
         most: 256,
     };
 
+    /// For stations, which may name any device.
     pub const STATIONS: Kind = Kind {
         speech: Speech::Lines(Side::Station),
         most: 192,
     };
 
+    /// For operators.
     pub const OPERATORS: Kind = Kind {
         speech: Speech::Lines(Side::Operator),
         most: 64,
     };
 
-    /// Stations, for the devices alone whose names these are, parted by commas. It lets in few, so
-    /// that a hall has room for many such doors.
+    /// For stations of these devices alone, whose names commas part: a bound door. It lets in few,
+    /// so that a hall has room for many such doors.
     pub fn station(devices: &'static [u8]) -> Kind
         ensures { result.speech ≡ Speech.Lines (Side.Bound devices.entry) }
     {
@@ -86,7 +89,8 @@ impl Kind {
     }
 }
 
-/// A door of a kind, and how many peers that came in by it are there.
+/// A door as a hall has it: the socket that listens, its kind, and how many peers that came by it
+/// are in.
 #[derive(Drop)]
 pub struct Entrance {
     pub(crate) door: Door,
@@ -114,12 +118,13 @@ impl Entrance {
         self.door.port()
     }
 
+    /// Whether as many are in as its kind lets in.
     fn is_full(&self) -> bool {
         self.guests >= self.kind.most
     }
 }
 
-/// How many peers the doors let in together, where that is no more than `MOST_GUESTS`.
+/// How many peers the doors let in together, or `None` where that is more than `MOST_GUESTS`.
 pub(crate) fn most_guests(doors: &[Entrance]) -> Option<usize>
     ensures { IfSome result (λ most. (most ≡ sum (map most_of doors.now)) × (most ≤ MOST_GUESTS)) }
 {
@@ -134,7 +139,7 @@ pub(crate) fn most_guests(doors: &[Entrance]) -> Option<usize>
 }
 
 impl Peers {
-    /// Somebody may wait at the door.
+    /// Notes that somebody may wait at the door in this place, as the system told.
     pub(crate) fn note_waiting(&mut self, place: usize)
         ensures { self.new.guests ≡ self.old.guests }
     {

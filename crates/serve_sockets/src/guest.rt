@@ -1,4 +1,5 @@
-//! A peer that came in: its socket, and what it speaks.
+//! A guest: a peer that came in by a door, with its socket; what a turn of it does in a round and
+//! outside one, and how much it holds.
 
 ghost use Rattle.std.specs.Prelude.{◌≡◌, [], false, IsFalse, IsTrue};
 ghost use Rattle.serve_peers.specs.Journals.{is_lost_of, shares_of};
@@ -25,7 +26,8 @@ pub(crate) enum Peer {
     /// A browser at the pages.
     Pages(HttpPeer),
     Lines(LinePeer),
-    /// Its round was lost. It is told what became of what it asked in that, and nothing more.
+    /// It is told one last thing: what it asked in a round whose commit failed came to this, or its
+    /// request is too long for the space that is left.
     Last(LastPeer),
 }
 
@@ -92,6 +94,7 @@ impl Drop for Guest {
 }
 
 impl Guest {
+    /// A guest that came in by the door in this place, and has had no turn.
     pub(crate) fn new(stream: Stream, peer: Peer, door: usize) -> Guest
         ensures peer { peer_of result ≡ peer }
         ensures turns { turns_of result ≡ [] }
@@ -106,12 +109,14 @@ impl Guest {
         }
     }
 
+    /// The place among the doors of that by which it came in.
     pub(crate) fn door(&self) -> usize {
         self.door
     }
 
-    /// Takes what came by the socket. Outside a round it also writes what the peer is told. Where a
-    /// round was lost, it first asks again what the peer asked in that.
+    /// Gives the peer its turn: reads what came by the socket, and applies what it asks. Outside a
+    /// round it also writes the answers. Where the commit of the peer's round failed, it first asks
+    /// again what the peer asked there.
     pub(crate) fn take_turn<S: Alter>(
         &mut self,
         alloc: Global,
@@ -128,7 +133,8 @@ impl Guest {
         }
     }
 
-    /// A turn in a round. What it asks is kept for its turn once the round is settled.
+    /// Gives the peer a turn in a round, in which nothing is written. What it asks is kept until
+    /// the turn that it has once the round is settled.
     fn ask<S: Alter>(&mut self, served: &mut Served<S>, turn: Turn) -> Next
         ensures { AsksTurn S.Store turn result self.old self.new served.old served.new }
     {
@@ -140,7 +146,8 @@ impl Guest {
         next
     }
 
-    /// A turn outside a round. A peer that hears now of what it asked in one reads nothing more.
+    /// Gives the peer a turn outside a round. One that is now answered what it asked in a round
+    /// reads nothing more in this turn.
     fn go_on<S: Alter>(&mut self, alloc: Global, served: &mut Served<S>, turn: Turn) -> Next
         requires { shares_of served.old ≡ false }
         ensures { HasTurn S.Store turn result self.old self.new served.old served.new }
@@ -157,9 +164,9 @@ impl Guest {
         next
     }
 
-    /// Where the round was lost, asks again, by itself, what the peer asked in it. From then on the
-    /// peer only hears what that came to, whatever it spoke. A client that has sent more of a request
-    /// than there is space for is turned away.
+    /// Asks again, by itself, what the peer asked in a round, where the commit of that failed. From
+    /// then on the peer only hears what that came to, whatever it spoke. A peer that asked nothing
+    /// in a round, and has sent more of a request than there is space for, is turned away.
     fn ask_again<S: Alter>(&mut self, alloc: Global, served: &mut Served<S>, ticks: u64)
         requires { shares_of served.old ≡ false }
         ensures again { AsksAgain S.Store (is_lost_of served.old) (asked_in self.old)
@@ -208,11 +215,12 @@ impl Guest {
         matches!(self.peer, Peer::Pages(_))
     }
 
-    /// Tells the peer that nothing more comes.
+    /// Shuts the socket's writing side, so that the peer sees that nothing more comes.
     pub(crate) fn end(&self) -> io::Result<()> {
         self.stream.end()
     }
 
+    /// Has the system tell from now on, under the token, when the socket can be read or written.
     pub(crate) fn register(&mut self, registry: &Registry, token: Token) -> io::Result<()>
         ensures { self.new ≡ self.old }
     {
@@ -231,6 +239,7 @@ impl Guest {
         self.patience().is_held_back()
     }
 
+    /// What the peer is at, and since when.
     fn patience(&self) -> Patience {
         match &self.peer {
             Peer::Http(peer) => peer.patience(),
@@ -275,8 +284,9 @@ impl Guest {
         self.patience().is_over(ticks)
     }
 
-    /// Whether a large answer waits to go that can be asked for again. None is on a connection of
-    /// lines: a start's documents are sent once. Nor does one go last.
+    /// Whether a large answer waits to go that can be asked for again, so that the peer may be
+    /// dropped. Never on a connection of lines, where a start's documents are sent once, and never
+    /// for the last text of a peer.
     pub(crate) fn has_large_answer(&self) -> bool {
         match &self.peer {
             Peer::Http(peer) => peer.has_large_answer(),
@@ -297,6 +307,7 @@ impl Guest {
     }
 }
 
+/// The interest in reading and in writing.
 fn both() -> Interest {
     Interest::READABLE | Interest::WRITABLE
 }

@@ -1,4 +1,5 @@
-//! The peers of all doors, and the loop that waits for them.
+//! The hall: the peers of all doors, and the loop that waits for their sockets and gives each its
+//! turn.
 
 ghost use Rattle.std.specs.Prelude.{◌≡◌, ◌≢◌, ◌≤◌, [], ◌∷◌, false, IfOk, OnOk, None, Some, IsFalse, IsTrue, map, sum, vec_len};
 ghost use Rattle.std.specs.IoError.{error_kind};
@@ -183,7 +184,8 @@ impl Hall {
         self.finish(rt, served, copies)
     }
 
-    /// Sends what was told, as far as peers take it in time.
+    /// Sends the answers that wait, as far as peers take them within `LAST_TICKS`. Nothing more is
+    /// read, and nobody is let in.
     fn finish<
         S: Alter,
         T: Alter,
@@ -206,14 +208,14 @@ impl Hall {
         Ok(())
     }
 
-    /// Waits until something comes, or a tick is over. Does what the lines of a backup have asked for,
-    /// at most a slice of it. Where it gathers accounts for the print room's page, it waits for
-    /// nothing, and reads one of them. Then it serves each of whom the system told; where the system
-    /// told of several, what they ask shares a commit, and nobody is answered before that. It lets in
-    /// who waits at a door, has those go on who were held back where there is room, and drops who took
-    /// too long. Where the log's file was moved away, the log goes on in a new one. That the log can't
-    /// be written is told once, on standard error. It fails where the system can't wait, or has no
-    /// clock.
+    /// Waits until something comes, or a tick is over. Does what the lines of a backup have asked
+    /// for, at most a slice of it. Where it gathers accounts for the print room's page, it waits
+    /// for nothing, and reads one of them. Then it serves each of whom the system told; where the
+    /// system told of several, what they ask shares a commit, and nobody is answered before that.
+    /// It lets in who waits at a door, has those go on who were held back where there is room, and
+    /// drops who took too long. Where the log's file was moved away, the log goes on in a new one.
+    /// That the log can't be written is told once, on standard error. It fails where the system
+    /// can't wait, or has no clock.
     pub fn pass<
         S: Alter,
         T: Alter,
@@ -237,8 +239,8 @@ impl Hall {
         ended
     }
 
-    /// Serves those of whom the system told. Then it lets in who waits, has those go on who were held
-    /// back, and drops who is late.
+    /// Has those that the system told of ask in a round, and then gives each its turn. Then it lets
+    /// in who waits, has those go on who were held back, and drops who is late.
     fn serve_told<S: Alter>(&mut self, clock: &impl Clock, served: &mut Served<S>) -> io::Result<()>
         ensures goes_on { GoesOn S.Store (guests_of self.old) (guests_of self.new)
             served.old served.new }
@@ -267,6 +269,7 @@ fn tell_failure<R: Eprint>(rt: &R, failed: bool, fails: bool) -> bool {
     fails
 }
 
+/// The error `InvalidInput`, with a text.
 fn too_many(words: &str) -> io::Error
     ensures { error_kind result ≡ ErrorKind.InvalidInput }
 {
@@ -276,15 +279,15 @@ fn too_many(words: &str) -> io::Error
 impl Peers {
     ghost use Rattle.serve_sockets.specs.Halls.{AreOthersKept, MayLeave, Serves, ServesEach, StaysAfter, key_of, keys_told};
 
-    /// The ticks that deadlines go by.
+    /// The ticks that deadlines go by, after a look at the clock.
     pub(crate) fn ticks(&mut self, clock: &impl Clock) -> io::Result<u64>
         ensures { self.new.guests ≡ self.old.guests }
     {
         Ok(self.pace.look(ticks(clock)?))
     }
 
-    /// How long a pass waits for what comes: no time where there is something to go on with, and else
-    /// a tick. Where nobody is there, it waits until somebody comes.
+    /// How long a pass waits for what comes: no time where there is something to go on with, and
+    /// else a tick. Where nobody is there, it waits until somebody comes.
     fn timeout(&self, goes_on: bool) -> Option<Duration> {
         if goes_on {
             return Some(Duration::ZERO);
@@ -296,8 +299,9 @@ impl Peers {
         Some(Duration::from_millis(TICK))
     }
 
-    /// Chooses the browser whose turn it is in the pass: of those of whom the system told, the one that
-    /// was chosen longest ago. In the system's order one that asks again at once would always be first.
+    /// Chooses the browser whose turn it is in the pass: of those of whom the system told, the one
+    /// that was chosen longest ago. In the system's order one that asks again at once would always
+    /// be first.
     fn choose_browser(&mut self, events: &Events)
         ensures { self.new.guests ≡ self.old.guests }
     {
@@ -310,6 +314,7 @@ impl Peers {
         }
     }
 
+    /// Of the browsers of whom the system told, the one that was chosen longest ago.
     fn longest_waiting(&self, events: &Events) -> Option<usize> {
         let mut longest = None;
         let mut since = u64::MAX;
@@ -326,7 +331,8 @@ impl Peers {
         longest
     }
 
-    /// Serves each of whom the system told.
+    /// Gives a turn to each guest that the system told of, one after another, and notes the doors
+    /// at which somebody waits. No round is under way: who asked in one is now answered.
     fn serve_all<S: Alter>(&mut self, events: &Events, clock: &impl Clock, served: &mut Served<S>)
         ensures { ServesEach S.Store (keys_told (items events.now))
             self.old.guests self.new.guests served.old served.new }
@@ -336,6 +342,7 @@ impl Peers {
         }
     }
 
+    /// Gives a turn to the guest that this event tells of, or notes that somebody waits at a door.
     fn serve_event<S: Alter>(&mut self, clock: &impl Clock, event: &Event, served: &mut Served<S>)
         ensures { ServesEach S.Store (keys_told (event.now ∷ []))
             self.old.guests self.new.guests served.old served.new }
@@ -350,9 +357,10 @@ impl Peers {
         }
     }
 
-    /// Lets a peer go on, at the clock's moment, and drops it where it is over. All other peers
-    /// stay as they are. A piece of the space that is kept is taken where it is not whole.
-    /// `is_last`: the system may have told that the peer sends no more.
+    /// Gives the guest of the key a turn, at the clock's moment, and drops it where its connection
+    /// is over. All others stay as they are. Before that it takes a piece of the disk for the kept
+    /// space, where that is not whole. `is_last`: the system may have told that the peer sends no
+    /// more.
     pub(crate) fn serve<S: Alter>(
         &mut self,
         clock: &impl Clock,
@@ -389,7 +397,7 @@ impl Peers {
         self.after_turn(key, next, shares, rests);
     }
 
-    /// Whether it is a browser, and another has its turn in the pass.
+    /// Whether the guest has to wait in this pass: it is a browser, and another one was chosen.
     fn has_to_rest(&self, key: usize) -> bool {
         self.chosen != Some(key) && self.asks_alone(key)
     }
@@ -399,12 +407,13 @@ impl Peers {
         self.receives && !rests
     }
 
-    /// Whether something that was told is still to go.
+    /// Whether an answer to any guest is still to go.
     fn has_output(&self) -> bool {
         self.guests.iter().any(|(_, guest)| guest.has_output())
     }
 
-    /// What a turn came to: the peer stays, or is let go.
+    /// Keeps the guest after its turn, or drops it, as that came to. `shares`: the turn was in a
+    /// round. `rests`: it had to wait in this pass.
     fn after_turn(&mut self, key: usize, next: Next, shares: bool, rests: bool)
         ensures stays { StaysAfter next
             (get self.old.guests key) (get self.new.guests key) }
@@ -452,6 +461,7 @@ impl Peers {
         }
     }
 
+    /// Shuts the writing side of the guest's socket, and answers whether that could be done.
     fn end(&self, key: usize) -> bool {
         match self.guests.get(key) {
             Some(guest) => guest.end().is_ok(),
@@ -459,6 +469,7 @@ impl Peers {
         }
     }
 
+    /// Drops the guest of the key with its socket, and makes room at its door.
     pub(crate) fn close(&mut self, key: usize)
         ensures gone { get self.new.guests key ≡ None }
         ensures others { AreOthersKept key self.old.guests self.new.guests }

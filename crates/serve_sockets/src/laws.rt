@@ -1,19 +1,20 @@
-//! What holds of all that goes on in a hall.
+//! Two laws of a hall, proved over any storage: who is told how a round ended has asked in it; and
+//! what goes out on a socket answers, in order, what came on it.
 ghost use Rattle.serve_sockets.specs.EndToEnd.{FromEndToEnd};
 ghost use Rattle.serve_sockets.specs.Hearing.{AlwaysHear};
 
 use sqlite::Alter;
 
-/// Whoever is told how a round ended has asked in it. What waits for that was asked in the round that
-/// is under way, or in the one that was settled last.
+/// Whoever is told how a round ended has asked in it. What waits for that was asked in the round
+/// that is under way, or in the one that was settled last.
 pub fn always_hear<S: Alter>()
     ensures { AlwaysHear S.Store }
 {}
 
-/// Whatever goes on in a hall that began with nobody in it, over rooms where nothing was asked: what
-/// goes out on each connection answers, in order, what came on it. Each answer stands in the journal,
-/// and is what the account's own machine gives. The tables are what the journal leaves, and a crash
-/// finds that.
+/// Whatever goes on in a hall that began with nobody in it, over rooms where nothing was asked:
+/// what goes out on each connection answers, in order, what came on it. Each answer stands in the
+/// journal, and is what the account's own machine gives. The tables are what the journal leaves,
+/// and a crash finds that.
 pub fn from_end_to_end<S: Alter>()
     ensures { FromEndToEnd S.Store }
 {}

@@ -1,5 +1,5 @@
-//! What a hall does where its peers hold much: it frees some, and has those go on whom it
-//! held back.
+//! What a hall does where its peers hold much memory: it drops who hardly reads, and lets those go
+//! on whom it held back.
 
 ghost use Rattle.std.specs.Prelude.{[]};
 ghost use Rattle.slab.specs.Slab.{get};
@@ -51,6 +51,7 @@ impl Peers {
         }
     }
 
+    /// Lets all who are held back go on.
     fn resume_all_held_back(&mut self)
         ensures { OnlyLeave self.old.guests self.new.guests }
     {
@@ -59,6 +60,7 @@ impl Peers {
         }
     }
 
+    /// Lets the guest of the key go on, if it is held back.
     fn resume_if_held_back(&mut self, key: usize)
         ensures { OnlyLeave self.old.guests self.new.guests }
     {
@@ -67,6 +69,8 @@ impl Peers {
         }
     }
 
+    /// Lets the guest of the key go on: the system tells of it again. Where that fails it is
+    /// dropped.
     fn resume(&mut self, key: usize)
         ensures { OnlyLeave self.old.guests self.new.guests }
     {
@@ -81,6 +85,7 @@ impl Peers {
             .is_some_and(|guest| guest.is_held_back())
     }
 
+    /// The key of the guest that holds least, of those who are held back.
     fn least_held_back(&self) -> Option<usize> {
         (0..self.most_guests)
             .filter(|key| self.is_held_back(*key))
@@ -93,6 +98,7 @@ impl Peers {
             .is_some_and(|guest| guest.has_large_answer())
     }
 
+    /// Drops the guest of the key, if it hardly reads its large answer.
     fn drop_slow(&mut self, clock: &impl Clock, key: usize)
         ensures may_go { MayGo (get self.old.guests key) (get self.new.guests key) }
         ensures others { AreOthersKept key self.old.guests self.new.guests }

@@ -1,4 +1,4 @@
-//! The time that deadlines go by.
+//! The time that deadlines go by, in milliseconds: it leaves out a stop of the process.
 
 ghost use Rattle.std.specs.Prelude.{◌≡◌, ◌<◌, ◌^◌};
 ghost use Rattle.serve_sockets.specs.Paces.{after_look, counted_of};
@@ -23,7 +23,8 @@ impl Pace {
         Pace { counted: 0, seen }
     }
 
-    /// A look at a clock that tells this. Answers what has counted so far.
+    /// Counts the time since the last look, by a clock that now tells `seen`. Answers how many
+    /// milliseconds have counted so far.
     pub(crate) fn look(&mut self, seen: u64) -> u64
         ensures pace { counted_of (after_look self.old seen) < 2 ^ 64
             → self.new ≡ after_look self.old seen }

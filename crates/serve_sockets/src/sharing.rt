@@ -1,4 +1,5 @@
-//! Who shares a commit.
+//! The round of a pass: the peers that the system told of ask one after another, and what they ask
+//! shares one commit.
 
 ghost use Rattle.std.specs.Prelude.{◌∷◌, []};
 ghost use Rattle.mio.specs.Events.{items};
@@ -12,8 +13,8 @@ use sqlite::Alter;
 use std::time::Clock;
 
 impl Peers {
-    /// Has those of whom the system told ask in one round, where they are several. Each has another
-    /// turn once it is settled. No round is under way afterwards.
+    /// Has the peers that the system told of ask in one round, where they are several. Each has
+    /// another turn once it is settled. No round is under way afterwards.
     pub(crate) fn share<S: Alter>(
         &mut self,
         events: &Events,
@@ -32,6 +33,7 @@ impl Peers {
         served.settle();
     }
 
+    /// Gives each peer that the system told of its turn in the round.
     fn ask_all<S: Alter>(&mut self, events: &Events, clock: &impl Clock, served: &mut Served<S>)
         ensures { OnlyAsk S.Store (keys_told (items events.now))
             self.old.guests self.new.guests served.old served.new }
@@ -41,9 +43,9 @@ impl Peers {
         }
     }
 
-    /// The peer's turn in the round. It has none where no round could begin, the round is full, much
-    /// is held and the peer is not the favoured one, or it is one that asks alone: then it asks by
-    /// itself, in `serve_all`.
+    /// Gives one peer its turn in the round. It has none where no round could begin, the round is
+    /// full, much is held and the peer is not the favoured one, or it is one that asks alone: then
+    /// it asks by itself, in `serve_all`.
     fn ask<S: Alter>(&mut self, clock: &impl Clock, event: &Event, served: &mut Served<S>)
         ensures { OnlyAsk S.Store (keys_told (event.now ∷ []))
             self.old.guests self.new.guests served.old served.new }
@@ -56,10 +58,13 @@ impl Peers {
         }
     }
 
+    /// Whether the guest may ask in a round: there is memory for its request, and it does not ask
+    /// alone.
     fn may_share(&self, key: usize) -> bool {
         self.stock.has_memory(key) && !self.asks_alone(key)
     }
 
+    /// Whether the guest of the key never asks in a round: a browser.
     pub(crate) fn asks_alone(&self, key: usize) -> bool {
         match self.guests.get(key) {
             Some(guest) => guest.asks_alone(),

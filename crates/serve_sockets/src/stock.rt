@@ -1,4 +1,4 @@
-//! How much all connections may hold together.
+//! How many bytes all connections hold together, and who may go on where that nears its bound.
 
 ghost use Rattle.std.specs.Prelude.{◌≡◌, ◌≢◌, ◌⊎◌, ◌↔◌, ◌+◌, ◌-◌, ◌<◌, ◌^◌, true, false, IsFalse, IsSome, IsTrue, None, Some};
 ghost use Rattle.serve_sockets.specs.Stocks.{favoured_of, has_memory_for_all, held_of, holds_back_of, most_held};
@@ -19,6 +19,7 @@ pub(crate) struct Stock {
 }
 
 impl Stock {
+    /// Nothing is held yet, and nobody is favoured or held back.
     pub(crate) fn new() -> Stock
         ensures held { held_of result ≡ 0 }
         ensures favoured { favoured_of result ≡ None }
@@ -31,8 +32,8 @@ impl Stock {
         }
     }
 
-    /// Whether a large request of any peer may go on coming: there is memory for two of the longest,
-    /// one that a turn of this peer may bring, and one for the favoured peer.
+    /// Whether a large request of any peer may go on coming: there is memory for two of the
+    /// longest, one that a turn of this peer may bring, and one for the favoured peer.
     fn has_memory_for_all(&self) -> bool
         ensures { result ≡ has_memory_for_all self.now }
     {
@@ -54,7 +55,7 @@ impl Stock {
         self.has_memory_for_all() || self.favoured == Some(key)
     }
 
-    /// A peer was held back.
+    /// Notes that a peer was held back.
     pub(crate) fn hold_back(&mut self)
         ensures holds_back { holds_back_of self.new ≡ true }
         ensures held { held_of self.new ≡ held_of self.old }
@@ -63,7 +64,8 @@ impl Stock {
         self.holds_back = true;
     }
 
-    /// A peer that held so much holds another sum now, and a large request of it is coming or not.
+    /// Counts anew what a peer holds after its turn: `after` bytes in the place of `before`. One
+    /// that has nothing large under way is the favoured one no more.
     pub(crate) fn changed(&mut self, key: usize, before: usize, after: usize, is_large: bool)
         ensures held { (held_of self.old - before) + after < 2 ^ 64
             → held_of self.new ≡ (held_of self.old - before) + after }
@@ -79,7 +81,7 @@ impl Stock {
         }
     }
 
-    /// A peer has gone.
+    /// Counts off what a peer held that has gone.
     pub(crate) fn left(&mut self, key: usize, held: usize)
         ensures held { held_of self.new ≡ held_of self.old - held }
         ensures ends { favoured_of self.new ≢ Some key }
@@ -91,7 +93,7 @@ impl Stock {
         self.unfavour(key);
     }
 
-    /// The peer is the favoured one no more.
+    /// Ends the favour of this peer, if it is the favoured one.
     fn unfavour(&mut self, key: usize)
         ensures ends { favoured_of self.new ≢ Some key }
         ensures others { favoured_of self.old ≢ Some key
@@ -111,7 +113,7 @@ impl Stock {
         self.holds_back
     }
 
-    /// Whether all who are held back can go on. They are then no longer held back.
+    /// Lets all who are held back go on, if there is memory, and answers whether it did.
     pub(crate) fn lets_all_on(&mut self) -> bool
         ensures lets_on { IsTrue result
             ↔ (IsTrue (holds_back_of self.old) × IsTrue (has_memory_for_all self.old)) }
@@ -135,7 +137,7 @@ impl Stock {
         self.holds_back && self.favoured.is_none()
     }
 
-    /// The peer can go on, if there is one, and else nobody is held back.
+    /// Makes this peer the favoured one: it alone can go on. `None`: nobody is held back.
     pub(crate) fn favour(&mut self, key: Option<usize>)
         ensures favoured { favoured_of self.new ≡ key }
         ensures holds_back { IsTrue (holds_back_of self.new) ↔ IsSome key }

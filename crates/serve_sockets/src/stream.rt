@@ -1,4 +1,4 @@
-//! A peer's socket, of TCP or in the file system.
+//! The socket of one peer, of TCP or of Unix, and the one way to write to it: outside a round.
 ghost use Rattle.std.specs.Prelude.{◌≡◌, false};
 ghost use Rattle.std.specs.Io.{ReadsAtMost, WritesAtMost};
 ghost use Rattle.serve_peers.specs.Journals.{shares_of};
@@ -29,12 +29,14 @@ enum Socket {
 }
 
 impl Stream {
+    /// The stream of a socket of TCP.
     pub(crate) fn of_tcp(stream: TcpStream) -> Stream {
         Stream {
             socket: Socket::Tcp(stream),
         }
     }
 
+    /// The stream of a socket of Unix.
     pub(crate) fn of_unix(stream: UnixStream) -> Stream {
         Stream {
             socket: Socket::Unix(stream),
@@ -48,7 +50,7 @@ impl Stream {
         Sink { stream: self }
     }
 
-    /// Tells the peer that nothing more comes.
+    /// Shuts the writing side, so that the peer sees that nothing more comes.
     pub(crate) fn end(&self) -> io::Result<()> {
         match &self.socket {
             Socket::Tcp(stream) => stream.shutdown(Shutdown::Write),
@@ -56,6 +58,7 @@ impl Stream {
         }
     }
 
+    /// Reads once, at most `MOST_READ` bytes.
     fn read_once(&self, buffer: &mut [u8]) -> io::Result<usize>
         ensures { ReadsAtMost result buffer.new }
     {
@@ -67,6 +70,7 @@ impl Stream {
         }
     }
 
+    /// Writes once.
     fn write_once(&self, piece: &[u8]) -> io::Result<usize>
         ensures { WritesAtMost result piece.now }
     {
@@ -83,7 +87,7 @@ impl Read for &Stream {
     }
 }
 
-/// What is written to a socket.
+/// The writer to a socket. `Stream::sink` gives one, outside a round alone.
 #[derive(Drop)]
 pub(crate) struct Sink<'a> {
     stream: &'a Stream,
@@ -99,7 +103,8 @@ impl Write for Sink<'_> {
     }
 }
 
-/// What takes nothing yet.
+/// The writer of a turn in a round: it takes nothing, as a socket that would wait, so that no
+/// answer goes out before the commit.
 #[derive(Drop)]
 pub(crate) struct Unsent;
 
@@ -117,12 +122,14 @@ impl Write for Unsent {
     }
 }
 
+/// Reads once of any reader.
 fn read_of<R: Read + Drop>(mut reader: R, buffer: &mut [u8]) -> io::Result<usize>
     ensures { ReadsAtMost result buffer.new }
 {
     reader.read(buffer)
 }
 
+/// Writes once to any writer.
 fn write_to<W: Write + Drop>(mut writer: W, piece: &[u8]) -> io::Result<usize>
     ensures { WritesAtMost result piece.now }
 {

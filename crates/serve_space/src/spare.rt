@@ -1,4 +1,5 @@
-//! A file of zeros that is given up where the disk is full.
+//! The spare file: zeros beside the database, which are given up where the disk is full, and taken
+//! back later.
 ghost use Rattle.std.specs.Prelude.{◌≡◌, ◌+◌, ◌-◌, ◌<◌, ◌≤◌, max, IfOk, IsFalse, IsTrue};
 ghost use Rattle.serve_space.specs.Spares.{any_length, gone_of, held_of, kept_back, kept_beside, piece, taken_where, takes_of, whole};
 
@@ -60,7 +61,7 @@ impl Spare {
         Ok(spare)
     }
 
-    /// The spare file with what stands in it.
+    /// Opens the spare file, or makes it, and counts what stands in it. Nothing is added.
     fn found<R: Files<File = File>>(files: &R, path: &str) -> io::Result<Spare>
         ensures { IfOk result (λ spare. held_of spare ≤ whole) }
     {
@@ -93,8 +94,8 @@ impl Spare {
     }
 
     /// The longest request, in bytes, for which there is space. While a job has ended for which no
-    /// other came, that is what is held without 1.25 MiB, for the small changes behind it; else half
-    /// of what is held without 3 MiB, since the log takes a document before the tables do.
+    /// other came, that is what is held without 1.25 MiB, for the small changes behind it; else
+    /// half of what is held without 3 MiB, since the log takes a document before the tables do.
     pub fn takes(&self) -> usize
         ensures { result ≡ takes_of self.now }
     {
@@ -135,7 +136,8 @@ impl Spare {
         }
     }
 
-    /// A job has ended, whose documents have gone.
+    /// Notes that a job has ended, whose documents have left space in the tables: a longer request
+    /// may come.
     pub fn ended(&mut self)
         ensures held { held_of self.new ≡ held_of self.old }
         ensures takes { takes_of self.old ≤ takes_of self.new }
@@ -145,7 +147,7 @@ impl Spare {
         }
     }
 
-    /// A job or a document has come.
+    /// Notes that a job or a document has come, which took the space of one that had ended.
     pub fn took(&mut self)
         ensures held { held_of self.new ≡ held_of self.old }
         ensures gone { gone_of self.new ≡ gone_of self.old - 1 }
@@ -172,6 +174,7 @@ impl Spare {
 }
 
 impl Kept {
+    /// The longest request, in bytes, for which there is space, as `Spare::takes` has it.
     fn takes(&self) -> usize
         ensures { result ≡ taken_where self.now.gone self.now.held }
     {
@@ -202,6 +205,8 @@ impl Kept {
         true
     }
 
+    /// Writes up to 64 KiB of the zeros that are missing, and answers whether some could be
+    /// written.
     fn mend(&mut self) -> bool
         ensures grew { IsTrue result → self.old.held < self.new.held }
         ensures same { IsFalse result → self.new.held ≡ self.old.held }

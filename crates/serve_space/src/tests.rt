@@ -1,3 +1,5 @@
+//! Tests of the spare file on a real file: filled, given up, lent, found again.
+
 use crate::Spare;
 use std::fs::{self, File, Files};
 use std::os::unix::fs::MetadataExt;

@@ -57,7 +57,7 @@ IsRefusedOrStays (Ok asked) closes = Stays asked closes
 
 -- ---- the print room's page
 
--- of what is gathered
+-- the page of an overview: of what was gathered
 pub record IsRoomPage (shown : Overview) (gathers : Bool) (front behind : Option (List ℕ))
     (closes : Bool) (response : Response) : Type 0 where
   pub page : List ℕ
@@ -92,7 +92,7 @@ IsMessage _ request account act job message = ⊥
 
 -- ---- what happens to the rooms
 
--- what is served
+-- what the service of pages borrows
 abbrev pub rooms_of : {S : Type 0} → Pages S → Served S
 rooms_of pages = pages.served.now
 

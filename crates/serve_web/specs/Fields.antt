@@ -1,4 +1,4 @@
--- Rule: The fields of answers, in the order in which they are sent.
+-- Rule: The header fields of the answers to browsers, in the order in which they are sent.
 use Rattle.std.specs.Prelude.{ℕ, Bool, List, [], ◌∷◌, codes, if◌then◌else◌}
 use Rattle.http1.specs.Fields.{Header as Field}
 use Rattle.page_pages.specs.declared.style.TheConstants.{PAGE_POLICY}

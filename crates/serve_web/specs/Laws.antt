@@ -1,4 +1,4 @@
--- A form that another site may have sent does nothing (all this project's own).
+-- Laws: a form that another site may have sent does nothing (all this project's own).
 use Rattle.std.specs.Prelude.{◌≡◌, IsTrue, ℕ, List, None, bytes_eq, codes}
 use Rattle.http.specs.Request.{head_of}
 use Rattle.http.specs.declared.request.Request.{Request}

@@ -4,7 +4,7 @@ use Rattle.std.specs.Char.{is_ascii_digit}
 use Rattle.std.specs.List.{list_all}
 use Rattle.std.specs.Str.Parse.{digits_value}
 
--- digits, and so many at most
+-- it has digits alone: at least one, and so many at most
 abbrev pub is_number : (most : ℕ) (digits : List ℕ) → Bool
 is_number most digits =
     nat_lt 0 (length digits) && (nat_le (length digits) most && list_all is_ascii_digit digits)
@@ -12,11 +12,11 @@ is_number most digits =
 abbrev pub said_in : (most : ℕ) (digits : List ℕ) → Option ℕ
 said_in most digits = if is_number most digits then Some (digits_value 10 digits) else None
 
--- of jobs, copies and pages
+-- a number of jobs, copies or pages: 1 to 8 digits
 abbrev pub number_said : List ℕ → Option ℕ
 number_said = said_in 8
 
--- of units
+-- a number of units: 1 to 18 digits
 abbrev pub large_said : List ℕ → Option ℕ
 large_said = said_in 18
 

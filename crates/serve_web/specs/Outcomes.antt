@@ -21,7 +21,7 @@ abbrev pub outcome_of : (act : Act) (job : ℕ) → Verdict → Outcome
 outcome_of act job (verdict_is.Done status number) = Done act (unwrap_or number job)
 outcome_of act job (verdict_is.Refused refusal wanted) = Refused act job refusal.word
 
--- or the store failed
+-- what came of the act, or that the store failed
 abbrev pub outcome_told : (act : Act) (job : ℕ) → Result Answered StoreFault → Outcome
 outcome_told act job (Ok it) = outcome_of act job it.verdict
 outcome_told act job (Err fault) = Failed

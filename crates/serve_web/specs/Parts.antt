@@ -1,4 +1,4 @@
--- Rule: Texts in which one byte stands for another (all this project's own).
+-- Rule: A byte in the place of another: `+` stands for a space in a query (all this project's own).
 use Rattle.std.specs.Prelude.{ℕ, ◌==◌, if◌then◌else◌}
 
 abbrev pub replaced : (from to byte : ℕ) → ℕ

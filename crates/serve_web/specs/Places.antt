@@ -1,4 +1,4 @@
--- Rule: What the path of a request is of (all this project's own).
+-- Rule: Which page, account or job the path of a request leads to (all this project's own).
 use Rattle.std.specs.Prelude.{ℕ, List, length, drop, Option, Some, None, codes, bytes_eq, if◌then◌else◌, option_and_then, option_map}
 use Rattle.input_http.specs.Words.{before}
 use Rattle.account_rules.specs.Names.{is_name}

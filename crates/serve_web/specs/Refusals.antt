@@ -1,4 +1,4 @@
--- Rule: The statuses of refusals (RFC 9110 section 15).
+-- Rule: The HTTP statuses of refusals (RFC 9110 section 15).
 use Rattle.std.specs.Prelude.{ℕ}
 use Rattle.page_pages.specs.declared.refusal.Refusal.{Refusal}
 use Rattle.page_pages.specs.declared.refusal.Refusal.TheVariants.{BadRequest, Forbidden, NotFound, OnlyRead, OnlyPost, TooLarge, WrongType, NoPassword, NoSpace, Busy, Failed}

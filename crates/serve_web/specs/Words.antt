@@ -8,7 +8,7 @@ use Rattle.account_rules.specs.declared.refusal.Word.TheVariants.{Quota}
 use Rattle.serve_web.specs.Numbers.{large_said, signed_said}
 use Rattle.serve_web.specs.declared.word.TheConstants.{WORDS}
 
--- one that has no numbers
+-- the text is that of a word that has no numbers
 abbrev pub names_word : (text : List ℕ) (word : Word) → Bool
 names_word text word = bytes_eq text (word_name word)
 

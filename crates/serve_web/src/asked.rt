@@ -1,4 +1,4 @@
-//! What a request of a browser asks for.
+//! Reads what a request of a browser asks for, by its path, method, query and body.
 ghost use Rattle.std.specs.Prelude.{◌≡◌, option_copied};
 ghost use Rattle.serve_web.specs.Requests.{asked, asked_at, body_refusal, file_refusal, foreign_or, form_refusal, has_type, is_type, is_type_value, judged, other_method, query_of, takes, wish};
 
@@ -18,24 +18,25 @@ pub(crate) enum Asked {
     Style,
     /// The script of the form to print.
     Script,
-    /// The print room's page, with accounts whose names begin so, behind a name.
+    /// The print room's page. It lists accounts whose names begin with `front` and come behind the
+    /// name `behind`, if these are given.
     Room {
         front: Option<Name>,
         behind: Option<Name>,
     },
-    /// The page of an account's owner, with what came of an act, which stays as it is or loads
+    /// The page of an account's owner, with what came of the last act. `stays`: it is not to load
     /// itself anew.
     Owner {
         account: Name,
         came: Option<Outcome>,
         stays: bool,
     },
-    /// A statement of a month, or of the one that it is.
+    /// A statement of a month, or with `None` of the month that it is.
     Statement {
         account: Name,
         month: Option<u32>,
     },
-    /// To do something with a job.
+    /// To release, hold or cancel a job.
     Act {
         account: Name,
         act: JobAct,
@@ -50,8 +51,8 @@ pub(crate) enum Asked {
     },
 }
 
-/// What the request asks for, or the first refusal that applies: `BadRequest`, `Forbidden`,
-/// `NotFound`, `OnlyRead` or `OnlyPost`, `TooLarge`, `WrongType`.
+/// Reads what the request asks for, or gives the first refusal that applies: `BadRequest`,
+/// `Forbidden`, `NotFound`, `OnlyRead` or `OnlyPost`, `TooLarge`, `WrongType`.
 pub(crate) fn asked_by(request: &Request<Bytes>) -> Result<Asked, Refusal>
     ensures { result ≡ asked request.now }
 {
@@ -61,6 +62,7 @@ pub(crate) fn asked_by(request: &Request<Bytes>) -> Result<Asked, Refusal>
     }
 }
 
+/// Reads what the request asks for at its place, or gives the first refusal that applies.
 fn asked_at(request: &Request<Bytes>, place: &Place) -> Result<Asked, Refusal>
     ensures { result ≡ asked_at request.now place.now }
 {
@@ -73,6 +75,8 @@ fn asked_at(request: &Request<Bytes>, place: &Place) -> Result<Asked, Refusal>
     }
 }
 
+/// Gives what is asked for, or refuses it: where another site may have sent it, or its body is not
+/// of its kind.
 fn judged(request: &Request<Bytes>, asked: Asked) -> Result<Asked, Refusal>
     ensures { result ≡ judged request.now asked }
 {
@@ -85,6 +89,7 @@ fn judged(request: &Request<Bytes>, asked: Asked) -> Result<Asked, Refusal>
     }
 }
 
+/// Gives `Forbidden` where another site may have sent the request, else this refusal.
 fn foreign_or(request: &Request<Bytes>, refusal: Refusal) -> Refusal
     ensures { result ≡ foreign_or request.now refusal }
 {
@@ -105,6 +110,7 @@ fn takes(place: &Place, method: &[u8]) -> bool
     }
 }
 
+/// Gives the refusal of a method that the place does not take.
 fn other_method(place: &Place) -> Refusal
     ensures { result ≡ other_method place.now }
 {
@@ -114,7 +120,8 @@ fn other_method(place: &Place) -> Refusal
     }
 }
 
-/// What is asked for there, or `None` where the query or the form is none of the place.
+/// Reads what is asked for at the place. `None` where the query or the form is not one of that
+/// place.
 fn wish(request: &Request<Bytes>, place: &Place) -> Option<Asked>
     ensures { result ≡ wish request.now place.now }
 {
@@ -129,6 +136,7 @@ fn wish(request: &Request<Bytes>, place: &Place) -> Option<Asked>
     }
 }
 
+/// Gives the query of a request, which is empty where it has none.
 pub(crate) fn query_of(request: &Request<Bytes>) -> &[u8]
     ensures { result.now ≡ query_of request.now }
 {
@@ -149,6 +157,7 @@ fn body_refusal(request: &Request<Bytes>, asked: &Asked) -> Option<Refusal>
     }
 }
 
+/// Gives the refusal of an act's body, if it is not sent as a form.
 fn form_refusal(request: &Request<Bytes>) -> Option<Refusal>
     ensures { result ≡ form_refusal request.now }
 {
@@ -159,7 +168,8 @@ fn form_refusal(request: &Request<Bytes>) -> Option<Refusal>
     }
 }
 
-/// A file may be of any type but those of forms, which would send it with more around it.
+/// Gives the refusal of a file that is too large, or is sent as a form, which would have more
+/// around it. It may be of any other type.
 fn file_refusal(request: &Request<Bytes>) -> Option<Refusal>
     ensures { result ≡ file_refusal request.now }
 {
@@ -174,12 +184,14 @@ fn file_refusal(request: &Request<Bytes>) -> Option<Refusal>
     None
 }
 
+/// Whether the request's field Content-Type says the type `name`. Without the field it does not.
 fn has_type(request: &Request<Bytes>, name: &[u8]) -> bool
     ensures { result ≡ has_type request.now name.now }
 {
     is_type_value(request.headers().get("content-type"), name)
 }
 
+/// Whether the field Content-Type, if there is one, says the type `name`.
 fn is_type_value(value: Option<&HeaderValue>, name: &[u8]) -> bool
     ensures { result ≡ is_type_value (option_copied value.entry) name.now }
 {
@@ -189,8 +201,8 @@ fn is_type_value(value: Option<&HeaderValue>, name: &[u8]) -> bool
     }
 }
 
-/// Whether a value of Content-Type is this type, whatever stands after a `;` (RFC 9110 section
-/// 8.3.1).
+/// Whether the bytes of a Content-Type say the type `name`, in any case, whatever stands behind a
+/// `;` (RFC 9110 section 8.3.1).
 fn is_type(value: &[u8], name: &[u8]) -> bool
     ensures { result ≡ is_type value.now name.now }
 {

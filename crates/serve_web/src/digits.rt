@@ -1,10 +1,10 @@
-//! Numbers in digits.
+//! Reads the numbers of a path or a query.
 ghost use Rattle.std.specs.Prelude.{◌≡◌, ◌<◌, IfSome};
 ghost use Rattle.serve_web.specs.Numbers.{is_number, large_said, number_said};
 
 use input_http::{are_digits, number_of};
 
-/// The number that 1 to 8 digits write, and `None` of anything else.
+/// Reads a number of 1 to 8 digits. `None` where the text is anything else.
 pub(crate) fn number(digits: &[u8]) -> Option<u32>
     ensures { result ≡ number_said digits.now }
 {
@@ -15,7 +15,7 @@ pub(crate) fn number(digits: &[u8]) -> Option<u32>
     }
 }
 
-/// The number that 1 to 18 digits write.
+/// Reads a number of 1 to 18 digits. `None` where the text is anything else.
 pub(crate) fn large_number(digits: &[u8]) -> Option<u64>
     ensures said { result ≡ large_said digits.now }
     ensures within { IfSome result (λ number. number < 1000000000000000000) }
@@ -27,6 +27,7 @@ pub(crate) fn large_number(digits: &[u8]) -> Option<u64>
     }
 }
 
+/// Whether the text has digits alone: at least one, and at most so many.
 fn is_number(most: usize, digits: &[u8]) -> bool
     ensures { result ≡ is_number most digits.now }
 {

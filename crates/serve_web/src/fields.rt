@@ -1,4 +1,4 @@
-//! The fields of answers.
+//! Adds the header fields of the answers to browsers.
 ghost use Rattle.std.specs.Prelude.{◌≡◌, ◌++◌, ◌∷◌, [], IsTrue, OnOk};
 ghost use Rattle.http_header.specs.FieldValue.{is_visible_text};
 ghost use Rattle.http_server.specs.Response.{fields_of};
@@ -9,7 +9,8 @@ use http_server::Response;
 use page_pages::{PAGE_POLICY, Refusal};
 use std::alloc::AllocError;
 
-/// Puts the fields of a page, which is not to be kept.
+/// Adds the fields of a page, which a browser is not to keep. `closes`: the connection ends with
+/// the answer.
 #[tactic(auto, using(std::proofs::Common::append_assoc))]
 pub(crate) fn put_page_fields(response: &mut Response, closes: bool) -> Result<(), AllocError>
     ensures status { response.new.status ≡ response.old.status }
@@ -23,7 +24,8 @@ pub(crate) fn put_page_fields(response: &mut Response, closes: bool) -> Result<(
     Ok(())
 }
 
-/// Puts the fields of the style sheet or the script, which may be kept for ten minutes.
+/// Adds the fields of the style sheet or the script, which a browser may keep for ten minutes.
+/// `kind` is the Content-Type.
 #[tactic(auto, using(std::proofs::Common::append_assoc))]
 pub(crate) fn put_sheet_fields(
     response: &mut Response,
@@ -43,7 +45,7 @@ pub(crate) fn put_sheet_fields(
     Ok(())
 }
 
-/// Puts the fields of any answer that is not to be kept.
+/// Adds the fields of any answer that a browser is not to keep.
 #[tactic(auto, using(std::proofs::Common::append_assoc))]
 pub(crate) fn put_common_fields(response: &mut Response, closes: bool) -> Result<(), AllocError>
     ensures status { response.new.status ≡ response.old.status }
@@ -57,7 +59,7 @@ pub(crate) fn put_common_fields(response: &mut Response, closes: bool) -> Result
     Ok(())
 }
 
-/// Puts what a browser may do with the answer, and whether the connection ends with it.
+/// Adds what a browser may do with the answer, and whether the connection ends with it.
 #[tactic(auto, using(std::proofs::Common::append_assoc))]
 fn put_safe_fields(response: &mut Response, closes: bool) -> Result<(), AllocError>
     ensures status { response.new.status ≡ response.old.status }
@@ -74,6 +76,7 @@ fn put_safe_fields(response: &mut Response, closes: bool) -> Result<(), AllocErr
     Ok(())
 }
 
+/// Adds what a browser may load for a page (Content-Security-Policy).
 fn put_policy(response: &mut Response) -> Result<(), AllocError>
     ensures status { response.new.status ≡ response.old.status }
     ensures body { response.new.body ≡ response.old.body }
@@ -84,6 +87,7 @@ fn put_policy(response: &mut Response) -> Result<(), AllocError>
     response.add_header(header::CONTENT_SECURITY_POLICY, policy)
 }
 
+/// Adds `Connection: close`, if the connection ends with the answer.
 fn put_close(response: &mut Response, closes: bool) -> Result<(), AllocError>
     ensures status { response.new.status ≡ response.old.status }
     ensures body { response.new.body ≡ response.old.body }
@@ -97,8 +101,8 @@ fn put_close(response: &mut Response, closes: bool) -> Result<(), AllocError>
     Ok(())
 }
 
-/// Puts what a refusal tells beside its status: which methods there are, or after how many seconds to
-/// ask again.
+/// Adds what a refusal tells beside its status: which methods there are, or after how many seconds
+/// to ask again.
 pub(crate) fn put_more_fields(response: &mut Response, refusal: Refusal) -> Result<(), AllocError>
     ensures status { response.new.status ≡ response.old.status }
     ensures body { response.new.body ≡ response.old.body }

@@ -1,4 +1,4 @@
-//! What came of an act, by what its message came to.
+//! What came of an act, read from the answer to the IPP message that did it.
 ghost use Rattle.std.specs.Prelude.{◌≡◌};
 ghost use Rattle.serve_web.specs.Outcomes.{outcome_of, outcome_told, page_act};
 
@@ -7,7 +7,7 @@ use client_owner::JobAct;
 use page_pages::{Act, Outcome};
 use store_rounds::StoreFault;
 
-/// The act of a page.
+/// Gives the act as pages name it.
 pub(crate) fn page_act(act: JobAct) -> Act
     ensures { result ≡ page_act act }
 {
@@ -18,7 +18,7 @@ pub(crate) fn page_act(act: JobAct) -> Act
     }
 }
 
-/// What came of an act with a job, or of one that makes a job.
+/// Tells what came of an act, with a job or making one, by what its message was answered.
 pub(crate) fn outcome_told(act: Act, job: u32, told: &Result<Answered, StoreFault>) -> Outcome
     ensures { result ≡ outcome_told act job told.now }
 {
@@ -28,6 +28,8 @@ pub(crate) fn outcome_told(act: Act, job: u32, told: &Result<Answered, StoreFaul
     }
 }
 
+/// Tells what came of an act by the verdict. The job is the one that was made, or else the one that
+/// was asked for.
 fn outcome_of(act: Act, job: u32, verdict: Verdict) -> Outcome
     ensures { result ≡ outcome_of act job verdict }
 {

@@ -1,4 +1,4 @@
-//! The pages as a service of HTTP over what is served.
+//! The HTTP service of pages: answers each request of a browser.
 ghost use Rattle.std.specs.Prelude.{◌≡◌, false, OnErr, OnOk};
 ghost use Rattle.http_server.specs.Response.{IsBlank};
 ghost use Rattle.serve_peers.specs.Journals.{moment_of, needs_password_of, shares_of};
@@ -55,7 +55,7 @@ impl<S: Alter> RoomService for Pages<'_, S> {
     ghost continues = { pages_continue _ };
 }
 
-/// Answers a request of a browser. In a round nothing is asked.
+/// Answers a request of a browser. While requests share a commit it is refused, to be asked again.
 fn answer<S: Alter>(
     served: &mut Served<S>,
     request: &Request<Bytes>,
@@ -90,6 +90,7 @@ fn refuse_and_log<S: Alter>(
     refuse(response, refusal, has_long_body(request))
 }
 
+/// Answers what a request asks for.
 fn answer_asked<S: Alter>(
     served: &mut Served<S>,
     asked: &Asked,
@@ -131,8 +132,8 @@ fn answer_asked<S: Alter>(
     }
 }
 
-/// Answers with the print room's page, of what is gathered, and has a newer overview gathered where
-/// that is due.
+/// Answers with the print room's page, of the overview that was gathered last, and has a newer one
+/// gathered where that is due.
 fn show_room<S: Alter>(
     served: &mut Served<S>,
     front: Option<Name>,
@@ -166,7 +167,7 @@ fn show_page<S: Alter>(served: &mut Served<S>, asked: &Asked, closes: bool, resp
     show(response, told, closes);
 }
 
-/// Does something with a job, as one message of IPP.
+/// Does an act on a job, as one IPP message.
 fn act_on<S: Alter>(
     served: &mut Served<S>,
     account: Name,
@@ -216,7 +217,7 @@ fn print<S: Alter>(
     print_file(served, account, copies, pages, request, response)
 }
 
-/// Prints the file of a request, as one message of IPP, where the disk has space for it.
+/// Prints the file of a request, as one IPP message, if the disk has space for it.
 fn print_file<S: Alter>(
     served: &mut Served<S>,
     account: Name,
@@ -242,7 +243,7 @@ fn print_file<S: Alter>(
     Ok(())
 }
 
-/// Applies a message, once, and tells what came of it.
+/// Applies a message once, and answers with what came of it.
 fn apply<S: Alter>(
     served: &mut Served<S>,
     account: Name,

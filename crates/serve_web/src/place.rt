@@ -1,4 +1,4 @@
-//! What the path of a request is of.
+//! Reads the path of a request: which page, account or job it leads to.
 ghost use Rattle.std.specs.Prelude.{◌≡◌};
 ghost use Rattle.serve_web.specs.Places.{job_in, place_behind, place_in, place_of};
 
@@ -6,7 +6,7 @@ use crate::digits::number;
 use account_rules::Name;
 use input_http::before;
 
-/// What the path of a request is of.
+/// What a path leads to.
 #[derive(Clone, Copy)]
 pub(crate) enum Place {
     /// The print room's page.
@@ -21,11 +21,11 @@ pub(crate) enum Place {
     Statement(Name),
     /// Where a file is handed in.
     Print(Name),
-    /// A job, with which something is to be done.
+    /// A job, on which an act is to be done.
     Job { account: Name, job: u32 },
 }
 
-/// What the path is of, if it is of anything here. Nothing is percent-decoded.
+/// Reads what the path leads to. `None` where it leads to nothing here. Nothing is percent-decoded.
 pub(crate) fn place_of(path: &[u8]) -> Option<Place>
     ensures { result ≡ place_of path.now }
 {
@@ -41,7 +41,7 @@ pub(crate) fn place_of(path: &[u8]) -> Option<Place>
     place_behind(path.strip_prefix(b"/".as_slice())?)
 }
 
-/// What is of the account at the front.
+/// Reads a path of an account, behind its first `/`.
 fn place_behind(rest: &[u8]) -> Option<Place>
     ensures { result ≡ place_behind rest.now }
 {
@@ -49,6 +49,7 @@ fn place_behind(rest: &[u8]) -> Option<Place>
     place_in(Name::read(name)?, &rest[name.len()..])
 }
 
+/// Reads what follows the account in a path: nothing, `/statement`, `/print` or a job.
 fn place_in(account: Name, part: &[u8]) -> Option<Place>
     ensures { result ≡ place_in account part.now }
 {
@@ -64,6 +65,7 @@ fn place_in(account: Name, part: &[u8]) -> Option<Place>
     job_in(account, part.strip_prefix(b"/".as_slice())?)
 }
 
+/// Reads the job's number at the end of a path.
 fn job_in(account: Name, digits: &[u8]) -> Option<Place>
     ensures { result ≡ job_in account digits.now }
 {

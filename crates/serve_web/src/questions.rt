@@ -1,4 +1,4 @@
-//! The question that a page of an account answers.
+//! Makes the question that the store answers with an owner's page or a statement.
 ghost use Rattle.std.specs.Prelude.{◌≡◌};
 ghost use Rattle.serve_web.specs.Questions.{month_then, question_of};
 
@@ -6,7 +6,8 @@ use crate::asked::Asked;
 use account_questions::{About, Question};
 use account_rules::{LAST_MONTH, Moment, month_of};
 
-/// The question that the page answers, at a moment. What is no page of an account asks nothing.
+/// Makes the question whose answer is the page, at a moment (seconds since 1970-01-01T00:00:00Z).
+/// What is no page of an account asks nothing (`Ping`).
 pub(crate) fn question_of(needs_password: bool, moment: u64, asked: &Asked) -> Question
     ensures { result ≡ question_of needs_password moment asked.now }
 {
@@ -35,7 +36,7 @@ pub(crate) fn question_of(needs_password: bool, moment: u64, asked: &Asked) -> Q
     }
 }
 
-/// The month of the moment, and the last that there is where it comes behind that.
+/// Gives the month of the moment, or the last that there is where it lies past that.
 fn month_then(moment: u64) -> u32
     ensures { result ≡ month_then moment }
 {

@@ -1,11 +1,11 @@
-//! The statuses of refusals.
+//! The HTTP statuses of refusals.
 ghost use Rattle.std.specs.Prelude.{◌≡◌};
 ghost use Rattle.serve_web.specs.Refusals.{status_of};
 
 use http::StatusCode;
 use page_pages::Refusal;
 
-/// The status of the answer to what is refused (RFC 9110 section 15).
+/// Gives the HTTP status of a refusal (RFC 9110 section 15).
 pub(crate) fn status_of(refusal: Refusal) -> StatusCode
     ensures { result ≡ status_of refusal }
 {

@@ -1,10 +1,10 @@
-//! A byte in the place of another.
+//! Replaces a byte of a text by another: `+` stands for a space in a query.
 ghost use Rattle.std.specs.Prelude.{◌≡◌, ◌==◌, ◌++◌, OnOk, map};
 ghost use Rattle.serve_web.specs.Parts.{replaced};
 
 use std::alloc::AllocError;
 
-/// Appends a text, with one byte in the place of another.
+/// Appends a text, with the byte `to` wherever it has the byte `from`.
 pub(crate) fn put_replaced(
     output: &mut Vec<u8>,
     text: &[u8],
@@ -19,6 +19,7 @@ pub(crate) fn put_replaced(
     Ok(())
 }
 
+/// Gives `to` in the place of `from`, and any other byte as it is.
 fn replaced(from: u8, to: u8, byte: u8) -> u8
     ensures { result ≡ replaced from to byte }
 {

@@ -1,4 +1,4 @@
-//! A turn of a browser's connection.
+//! One turn of a browser's connection.
 ghost use Rattle.std.specs.Prelude.{◌≡◌, IsFalse};
 ghost use Rattle.serve_peers.specs.HttpPeers.{CallsService, IsAtRest, IsLater};
 ghost use Rattle.serve_peers.specs.Turns.{Continues};
@@ -9,7 +9,8 @@ use serve_peers::{HttpPeer, Next, Served, Turn};
 use sqlite::Alter;
 use std::io::{Read, Write};
 
-/// One turn of a browser, whose requests are answered by the service of pages.
+/// Goes on with a browser's connection for one turn: reads, answers by the service of pages, and
+/// writes.
 pub fn drive_browser<S: Alter, R: Read, W: Write>(
     peer: &mut HttpPeer,
     reader: &mut R,
@@ -28,6 +29,7 @@ pub fn drive_browser<S: Alter, R: Read, W: Write>(
     drive_with_pages(peer, reader, writer, &mut pages, turn)
 }
 
+/// Goes on with the connection for one turn, by this service.
 fn drive_with_pages<S: Alter, R: Read, W: Write>(
     peer: &mut HttpPeer,
     reader: &mut R,

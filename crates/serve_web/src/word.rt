@@ -1,4 +1,4 @@
-//! The word that tells why something was refused, as the query of a page has it.
+//! Reads from a query the word that tells why something was refused.
 ghost use Rattle.std.specs.Prelude.{◌≡◌, find, option_copied};
 ghost use Rattle.serve_web.specs.Words.{names_word, quota_in, word_in, word_named};
 ghost use Rattle.serve_web.specs.Numbers.{signed_said};
@@ -9,7 +9,7 @@ use account_replies::word_name;
 use account_rules::Word;
 use input_http::before;
 
-/// The words that have no numbers.
+/// The words of refusals that have no numbers.
 const WORDS: [Word; 38] = [
     Word::Version,
     Word::Operation,
@@ -51,7 +51,7 @@ const WORDS: [Word; 38] = [
     Word::Same,
 ];
 
-/// The word of a text. A quota's numbers stand behind it, each behind a `+`.
+/// Reads the word of a text. The numbers of a quota stand behind its word, each behind a `+`.
 pub(crate) fn word_in(text: &[u8]) -> Option<Word>
     ensures { result ≡ word_in text.now }
 {
@@ -61,25 +61,28 @@ pub(crate) fn word_in(text: &[u8]) -> Option<Word>
     }
 }
 
+/// Finds the word that has this text.
 fn word_named(text: &[u8]) -> Option<Word>
     ensures { result ≡ word_named text.now }
 {
     first_named(text).copied()
 }
 
+/// Finds the first of `WORDS` that has this text.
 fn first_named(text: &[u8]) -> Option<&'static Word>
     ensures { option_copied result ≡ find (names_word text.now) WORDS }
 {
     WORDS.iter().find(|word| names_word(text, word))
 }
 
+/// Whether the text is that of the word.
 fn names_word(text: &[u8], word: &Word) -> bool
     ensures { result ≡ names_word text.now word.now }
 {
     text == word_name(*word)
 }
 
-/// The units that were needed, and those that were left.
+/// Reads the numbers of a quota: the units that were needed, a `+`, and the units that were left.
 fn quota_in(numbers: &[u8]) -> Option<Word>
     ensures { result ≡ quota_in numbers.now }
 {
@@ -89,6 +92,7 @@ fn quota_in(numbers: &[u8]) -> Option<Word>
     Some(Word::Quota { need, left })
 }
 
+/// Reads a number of 1 to 18 digits, with a `-` before them where it is negative.
 fn signed(text: &[u8]) -> Option<i64>
     ensures { result ≡ signed_said text.now }
 {

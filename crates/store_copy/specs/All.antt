@@ -1,4 +1,5 @@
--- A copy of all accounts and the devices, as the source holds them (all this project's own).
+-- That a copy which is made at once has all accounts and the devices, as the source has them (all
+-- this project's own).
 use Rattle.std.specs.Prelude.{ℕ, List}
 use Rattle.sqlite.specs.Effect.{Database}
 use Rattle.rows_tables.specs.Accounts.{HoldsNothing, IsSound}

@@ -1,5 +1,5 @@
--- What stands in the copy's rows of a room that is being copied, row by row: a part of it that
--- grows (all this project's own).
+-- For the proof of the code alone: which part of an account's rows the copy has so far (all this
+-- project's own).
 use Rattle.std.specs.Prelude.{◌≡◌, ◌⊎◌, ℕ, ◌<◌, ◌≤◌, List, None}
 use Rattle.std.specs.List.{AllByRecursion}
 use Rattle.std.specs.declared.cmp.Ordering.{Ordering}

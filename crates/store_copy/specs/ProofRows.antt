@@ -1,4 +1,5 @@
--- Rows that are written to the copy one after another, first to last (all this project's own).
+-- For the proof of the code alone: rows that are written to the copy one after another (all this
+-- project's own).
 use Rattle.std.specs.Prelude.{◌≡◌, ℕ, List, [], ◌∷◌}
 use Rattle.sqlite.specs.Effect.{Database}
 use Rattle.account_rules.specs.declared.account.Grant.{Grant}

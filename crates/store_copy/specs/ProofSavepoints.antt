@@ -1,4 +1,4 @@
--- What a call that may write nothing keeps of the savepoint that it writes inside.
+-- For the proof of the code alone: what a call that may write nothing leaves of its savepoint.
 use Rattle.std.specs.Prelude.{◌≡◌, ◌⊎◌, ◌+◌, IsTrue, Result, OnErr, OnOk}
 use Rattle.sqlite_trees.specs.declared.store.Store.{Ghosts}
 use Rattle.sqlite.specs.declared.savepoint.Savepoint.{Savepoint}

@@ -1,4 +1,4 @@
--- What a copy leaves of its source (all this project's own).
+-- That a copy leaves its source as it was (all this project's own).
 use Rattle.std.specs.Prelude.{Result, OnOk}
 use Rattle.sqlite_trees.specs.declared.store.Store.{Ghosts}
 use Rattle.sqlite.specs.Held.{Held, state}

@@ -1,4 +1,4 @@
-//! The account that is under way.
+//! Copying one account: its own row, its jobs with their documents, and last its grants.
 
 ghost use Rattle.std.specs.Prelude.{◌≡◌, Err, IfOk, None, Some};
 ghost use Rattle.store_copy.specs.ProofSavepoints.{KeepsSavepoint};
@@ -17,8 +17,8 @@ use sqlite::{Alter, Savepoint};
 use std::alloc::Global;
 use store_rounds::{Rounds, find_account};
 
-/// Copies the account's own row and its first jobs, and if these are all of them, its grants, inside
-/// a savepoint. An account that is not in the source is not in the copy either, and is done.
+/// Begins an account: copies its own row and its first jobs, and its grants if these were all its
+/// jobs. An account that is not in the source is passed over. It answers how far the copy has come.
 pub(crate) fn begin_account<S: Alter, T: Alter>(
     alloc: Global,
     source: &mut Rounds<S>,
@@ -45,8 +45,9 @@ pub(crate) fn begin_account<S: Alter, T: Alter>(
     go_on(alloc, source, savepoint, account, row.next_job, 1, most)
 }
 
-/// Copies the account's jobs from the number `job` on, so many at most, and if none is left, its
-/// grants, inside a savepoint.
+/// Goes on with an account from the number `job` on, `most` jobs at most; where none is left it
+/// copies the grants. `next` is the number that the account's next job gets. It answers how far the
+/// copy has come.
 pub(crate) fn go_on<S: Alter, T: Alter>(
     alloc: Global,
     source: &mut Rounds<S>,

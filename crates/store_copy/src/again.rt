@@ -1,4 +1,4 @@
-//! An account that was changed while it was under way begins anew.
+//! Beginning an account of the copy anew, after the source has changed it while it was half copied.
 
 ghost use Rattle.std.specs.Prelude.{IfOk};
 ghost use Rattle.store_copy.specs.Slices.{ForgetsAccount, StartsAgain};
@@ -10,8 +10,8 @@ use crate::slices::Progress;
 use account_rules::Name;
 use sqlite::{Alter, Connection, Error, Savepoint};
 
-/// Takes the rows of the account that is under way from the copy, so that it begins anew, and answers
-/// how far the copy has come then. Where none is under way it does nothing.
+/// Deletes from the copy the account that is half copied, so that it begins anew, and answers how
+/// far the copy has come then. Where no account is half copied it does nothing.
 pub fn start_again<T: Alter>(
     copy: &mut Connection<T>,
     progress: &Progress,
@@ -29,7 +29,7 @@ pub fn start_again<T: Alter>(
     }
 }
 
-/// Removes all rows of the account, in one savepoint.
+/// Deletes all rows of the account from the copy, in one savepoint.
 fn forget_account<T: Alter>(copy: &mut Connection<T>, account: Name) -> Result<(), Error>
     ensures forgets { ChangesWhole T.Store copy.old copy.new result (ForgetsAccount account) }
 {
@@ -38,7 +38,7 @@ fn forget_account<T: Alter>(copy: &mut Connection<T>, account: Name) -> Result<(
     savepoint.commit()
 }
 
-/// Removes all rows of the account, inside a savepoint.
+/// Deletes all rows of the account from the copy, inside a savepoint.
 fn forget_rows<T: Alter>(savepoint: &mut Savepoint<'_, T>, account: Name) -> Result<(), Error>
     ensures forgets { Changes T.Store savepoint.old.conn.now savepoint.new.conn.now result
         (ForgetsAccount account) }

@@ -1,4 +1,4 @@
-//! The devices are copied.
+//! Copying the devices, which is the last slice of a copy.
 
 ghost use Rattle.std.specs.Prelude.{◌≡◌, Err};
 ghost use Rattle.store_copy.specs.Copies.{CopiesDevices};
@@ -14,7 +14,7 @@ use sqlite::{Alter, Error, Savepoint};
 use std::alloc::Global;
 use store_rounds::{Rounds, list_devices};
 
-/// Copies the devices with their rates as they are in the source now, inside a savepoint.
+/// Copies all devices with their rates, as they are in the source now.
 pub(crate) fn copy_devices<S: Alter, T: Alter>(
     alloc: Global,
     source: &mut Rounds<S>,
@@ -32,7 +32,7 @@ pub(crate) fn copy_devices<S: Alter, T: Alter>(
     Ok(add_devices(savepoint, devices.as_slice())?)
 }
 
-/// Puts the devices in, inside a savepoint.
+/// Writes the devices into the copy.
 fn add_devices<T: Alter>(savepoint: &mut Savepoint<'_, T>, devices: &[Device]) -> Result<(), Error>
     ensures adds { Changes T.Store savepoint.old.conn.now savepoint.new.conn.now result
         (AddsDevices devices.now) }
@@ -44,7 +44,7 @@ fn add_devices<T: Alter>(savepoint: &mut Savepoint<'_, T>, devices: &[Device]) -
     Ok(())
 }
 
-/// Puts both rows of a device in, inside a savepoint.
+/// Writes both rows of a device into the copy.
 fn add_device<T: Alter>(savepoint: &mut Savepoint<'_, T>, device: &Device) -> Result<(), Error>
     ensures adds { Changes T.Store savepoint.old.conn.now savepoint.new.conn.now result
         (AddsDevice device.now) }

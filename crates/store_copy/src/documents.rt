@@ -1,4 +1,4 @@
-//! The documents of a job are copied.
+//! Copying the documents of one job.
 
 ghost use Rattle.std.specs.Prelude.{◌≡◌, Err};
 ghost use Rattle.store_copy.specs.ProofParts.{CopiesMore, HasDocuments};
@@ -17,7 +17,7 @@ use sqlite::{Alter, Savepoint};
 use std::alloc::Global;
 use store_rounds::{Rounds, find_documents};
 
-/// Copies the documents of a job of the account, inside a savepoint. It answers whether it has any.
+/// Copies the documents of a job, and answers whether it has any.
 pub(crate) fn copy_documents<S: Alter, T: Alter>(
     alloc: Global,
     source: &mut Rounds<S>,
@@ -37,7 +37,7 @@ pub(crate) fn copy_documents<S: Alter, T: Alter>(
     add_documents(savepoint, account, job, documents.as_slice())
 }
 
-/// Puts the documents of a job in, inside a savepoint. It answers whether there are any.
+/// Inserts the documents of a job into the copy, and answers whether there are any.
 fn add_documents<T: Alter>(
     savepoint: &mut Savepoint<'_, T>,
     account: Name,
@@ -55,8 +55,8 @@ fn add_documents<T: Alter>(
     Ok(!documents.is_empty())
 }
 
-/// Puts a document of a job in, inside a savepoint. A document of its number that is there already is
-/// `Storage`: `Damaged` is told of the source alone.
+/// Inserts a document into the copy. `Storage` where the copy has one of its number already, since
+/// `Damaged` is said of the source alone.
 fn put_document<T: Alter>(
     savepoint: &mut Savepoint<'_, T>,
     account: Name,

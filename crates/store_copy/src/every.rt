@@ -1,4 +1,4 @@
-//! All accounts and the devices are copied.
+//! `copy_all`: the whole copy at once, as `copy` makes it of a file that no program has open.
 
 ghost use Rattle.std.specs.Prelude.{◌≡◌, Err, OnOk};
 ghost use Rattle.sqlite.specs.Held.{state};
@@ -13,9 +13,9 @@ use std::alloc::Global;
 use store_rounds::Rounds;
 
 /// Copies all accounts and the devices into a database whose tables are new. Nobody else has the
-/// source open. Each account has a commit of its own, and the devices have one: where it fails,
-/// what was copied before stands in the copy, which is then of no use. `Damaged` tells that rows of
-/// the source are not sound; `Storage`, that a disk failed, or that the copy's tables are not new.
+/// source open. Each account has a commit of its own, and the devices have one. Where it fails,
+/// what was copied before stands in the copy, which is then of no use. `Damaged` where rows of the
+/// source are not sound; `Storage` where a disk failed, or the copy's tables were not new.
 pub fn copy_all<S: Alter, T: Alter>(
     alloc: Global,
     source: &mut Rounds<S>,

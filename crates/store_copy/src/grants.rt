@@ -1,4 +1,4 @@
-//! The grants of an account are copied.
+//! Copying the grants of one account.
 
 ghost use Rattle.std.specs.Prelude.{◌≡◌, Err};
 ghost use Rattle.store_copy.specs.ProofParts.{CopiesMore, HasGrants};
@@ -14,7 +14,7 @@ use sqlite::{Alter, Error, Savepoint};
 use std::alloc::Global;
 use store_rounds::{Rounds, list_grants};
 
-/// Copies the grants of the account, inside a savepoint.
+/// Copies all grants of the account.
 pub(crate) fn copy_grants<S: Alter, T: Alter>(
     alloc: Global,
     source: &mut Rounds<S>,
@@ -33,7 +33,7 @@ pub(crate) fn copy_grants<S: Alter, T: Alter>(
     Ok(set_grants(savepoint, account, grants.as_slice())?)
 }
 
-/// Sets the grants of the account, inside a savepoint.
+/// Writes the grants of the account into the copy.
 fn set_grants<T: Alter>(
     savepoint: &mut Savepoint<'_, T>,
     account: Name,

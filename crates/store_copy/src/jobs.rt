@@ -1,4 +1,4 @@
-//! Jobs of an account are copied.
+//! Copying jobs of one account, as many as a slice takes.
 
 ghost use Rattle.std.specs.Prelude.{◌≡◌, ◌<◌, Err, IfOk, IfSome, None, false};
 ghost use Rattle.store_copy.specs.Parts.{AddsJobs};
@@ -21,8 +21,9 @@ use sqlite::{Alter, Savepoint};
 use std::alloc::Global;
 use store_rounds::{Rounds, find_job};
 
-/// Copies the jobs of the account from the number `first` on that come before `next`, so many at most
-/// and none behind one with documents, inside a savepoint. It answers the number that comes next.
+/// Copies jobs of the account from the number `first` up to below `next`, `most` of them at most,
+/// and ends behind the first that has documents. It answers the number that is to be copied next.
+/// With no `most` it copies all.
 pub(crate) fn copy_jobs<S: Alter, T: Alter>(
     alloc: Global,
     source: &mut Rounds<S>,
@@ -52,7 +53,7 @@ pub(crate) fn copy_jobs<S: Alter, T: Alter>(
     Ok(next)
 }
 
-/// Whether a slice ends behind so many jobs, the last of which has documents or has none.
+/// Whether a slice ends here: after `most` numbers, or behind a job with documents.
 fn is_enough(most: Option<u32>, jobs: u32, has_documents: bool) -> bool
     ensures whole { most ≡ None → result ≡ false }
     ensures enough { result ≡ false → IfSome most (λ most. jobs < most) }
@@ -63,8 +64,8 @@ fn is_enough(most: Option<u32>, jobs: u32, has_documents: bool) -> bool
     }
 }
 
-/// Copies the job of the account with the number, if there is one, with its documents, inside a
-/// savepoint. It answers whether it has documents.
+/// Copies the job of this number with its documents, if the account has one, and answers whether it
+/// has documents.
 fn copy_job<S: Alter, T: Alter>(
     alloc: Global,
     source: &mut Rounds<S>,
@@ -87,8 +88,8 @@ fn copy_job<S: Alter, T: Alter>(
     copy_documents(alloc, source, savepoint, account, number)
 }
 
-/// Puts a job in, inside a savepoint. A job of its number that is there already is `Storage`:
-/// `Damaged` is told of the source alone.
+/// Inserts a job into the copy. `Storage` where the copy has one of its number already, since
+/// `Damaged` is said of the source alone.
 fn put_job<T: Alter>(
     savepoint: &mut Savepoint<'_, T>,
     account: Name,

@@ -1,4 +1,4 @@
-//! What a copy is good for.
+//! Laws of this crate: facts about its definitions that the check proves. Nothing calls them.
 
 ghost use Rattle.store_copy.specs.Copies.{CopiesAgree};
 ghost use Rattle.store_copy.specs.Slices.{SlicesCopy};
@@ -9,8 +9,8 @@ pub fn copies_agree()
     ensures { CopiesAgree }
 {}
 
-/// Where the copy was new, and was made whole by slices and by nothing else, it holds of each account
-/// what the source held when one of them was done, and the devices that it held at the last.
+/// Where the copy was new, and was made whole by slices and by nothing else, it has of each account
+/// what the source had when one of them was done, and the devices that it had at the last.
 pub fn slices_copy()
     ensures { SlicesCopy }
 {}

@@ -1,5 +1,6 @@
-//! A backup of the store, row by row: the rows of one account after another go from the store's
-//! connection, which reads alone, to the connection of a second database, which is new. All at once:
+//! A backup of the store, row by row. The rows of one account after another, and last those of the
+//! devices, go from the store's connection, which is only read, to the connection of a second, new
+//! database. All at once:
 //!
 //! ```text
 //! copy_all(alloc, &mut source, &mut copy)?;

@@ -1,13 +1,13 @@
-//! Who makes and closes the file of a copy.
+//! `CopyMaker`: how `serve` makes and closes the file of a copy, without knowing of files itself.
 
-/// Makes and closes files of copies. A copy stands in FILE.part until whoever asked for it puts it in
-/// the place of FILE.
+/// Makes and closes files of copies. A copy is in FILE.part until whoever asked for it renames that
+/// to FILE.
 pub trait CopyMaker {
     /// A connection to a copy.
     type Rows;
 
-    /// A connection to a new FILE.part, in the place of what an earlier copy left there. It has no
-    /// table yet. `None` where none can be made.
+    /// Makes a new FILE.part, in the place of what an earlier copy left there, and connects to it.
+    /// It has no tables yet. `None` where it can't be made.
     fn make(&mut self, file: &[u8]) -> Option<Self::Rows>;
 
     /// Closes a copy that is whole, and answers whether all of it is in its file.

@@ -1,4 +1,4 @@
-//! Statements that remove the rows of an account, each those of one table.
+//! DELETE statements that remove all rows of an account from the copy, one for each table.
 
 ghost use Rattle.std.specs.Prelude.{[], ◌∷◌};
 ghost use Rattle.sqlite_value.specs.declared.value.Value.TheVariants.{Text};
@@ -13,7 +13,7 @@ use rows_tables::write;
 use sqlite::{Alter, Error, Savepoint};
 use sqlite_value::value::ValueRef;
 
-/// All documents of the account, inside a savepoint.
+/// Deletes all documents of the account, inside a savepoint.
 pub(crate) fn remove_documents<T: Alter>(
     savepoint: &mut Savepoint<'_, T>,
     account: Name,
@@ -29,7 +29,7 @@ pub(crate) fn remove_documents<T: Alter>(
     )
 }
 
-/// All jobs of the account, inside a savepoint.
+/// Deletes all jobs of the account, inside a savepoint.
 pub(crate) fn remove_jobs<T: Alter>(
     savepoint: &mut Savepoint<'_, T>,
     account: Name,
@@ -45,7 +45,7 @@ pub(crate) fn remove_jobs<T: Alter>(
     )
 }
 
-/// All grants of the account, inside a savepoint.
+/// Deletes all grants of the account, inside a savepoint.
 pub(crate) fn remove_grants<T: Alter>(
     savepoint: &mut Savepoint<'_, T>,
     account: Name,
@@ -61,7 +61,7 @@ pub(crate) fn remove_grants<T: Alter>(
     )
 }
 
-/// The account's own row, inside a savepoint.
+/// Deletes the account's own row, inside a savepoint.
 pub(crate) fn remove_account<T: Alter>(
     savepoint: &mut Savepoint<'_, T>,
     account: Name,

@@ -1,4 +1,5 @@
-//! A copy is made in slices, between which the source may change.
+//! `copy_slice`: a copy that is made in slices, between which the source may change, as `serve`
+//! makes a backup.
 
 ghost use Rattle.std.specs.Prelude.{◌≡◌, Err, IfOk, IfSome, None};
 ghost use Rattle.store_copy.specs.All.{AreAllSound};
@@ -17,7 +18,8 @@ use sqlite::{Alter, Connection, Savepoint};
 use std::alloc::Global;
 use store_rounds::{Rounds, next_accounts};
 
-/// How far a copy has come. The accounts are copied in the order of their names' bytes.
+/// How far a copy has come. Accounts are copied in the order of their names' bytes, and the devices
+/// last.
 #[derive(Clone, Copy)]
 pub enum Progress {
     /// The accounts up to this one are done, or none is.
@@ -29,16 +31,17 @@ pub enum Progress {
     Within { account: Name, next: u32, job: u32 },
 }
 
-/// Does the next slice of a copy, in one savepoint of the copy: so many jobs of one account at most,
-/// and none behind a job that has documents, or the devices, where no account is left. With no `most`
-/// it is a whole account. It answers how far the copy has come, or `None` where it is whole.
+/// Copies the next slice, in one savepoint of the copy, and answers how far the copy has come, or
+/// `None` where it is whole. A slice is `most` jobs of one account at most, and ends behind a job
+/// that has documents; where no account is left it is the devices. With no `most` it is a whole
+/// account.
 ///
-/// Between two slices the source may change. Where that changed the account that is under way, the
-/// copy goes on from `start_again`.
+/// Between two slices the source may change. Where that changed the account that is half copied,
+/// the copy has to go on from `start_again`.
 ///
-/// `Damaged` tells that rows of the source are not sound. `Storage` tells that a disk failed, or that
-/// the copy had a row of the account that was none of this copy's. All documents of one job are in
-/// memory at a time.
+/// `Damaged` where rows of the source are not sound. `Storage` where a disk failed, or the copy had
+/// a row of the account that was none of this copy's. All documents of one job are in memory at a
+/// time.
 pub fn copy_slice<S: Alter, T: Alter>(
     alloc: Global,
     source: &mut Rounds<S>,
@@ -63,7 +66,7 @@ pub fn copy_slice<S: Alter, T: Alter>(
     Ok(further)
 }
 
-/// Does the next slice, inside a savepoint.
+/// The work of `copy_slice`, inside the savepoint.
 fn copy_part<S: Alter, T: Alter>(
     alloc: Global,
     source: &mut Rounds<S>,
@@ -96,8 +99,8 @@ fn copy_part<S: Alter, T: Alter>(
     }
 }
 
-/// Begins the account that comes behind the last one, or copies the devices, where none does, inside
-/// a savepoint.
+/// Begins the account behind the `last` one; where there is none, it copies the devices, which
+/// makes the copy whole.
 fn copy_next<S: Alter, T: Alter>(
     alloc: Global,
     source: &mut Rounds<S>,
@@ -125,7 +128,7 @@ fn copy_next<S: Alter, T: Alter>(
     Ok(Some(further))
 }
 
-/// The account that comes behind the last one, if one does.
+/// The name of the account that comes behind the `last` one, if one does.
 fn next_account<S: Alter>(
     alloc: Global,
     source: &mut Rounds<S>,

@@ -1,4 +1,4 @@
--- What is answered to an event: its reply, and what it came to.
+-- The answers to events: a reply with its verdict, as the code builds them.
 use Rattle.std.specs.Prelude.{ℕ, List}
 use Rattle.ipp_coding.specs.Plain.{PlainGroup}
 use Rattle.account_asks.specs.Asks.{PlainAsk}

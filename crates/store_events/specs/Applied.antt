@@ -1,4 +1,5 @@
--- What one event does to the tables of all accounts (all this project's own).
+-- What one event that is applied does to the tables of all accounts and of the devices (all this
+-- project's own).
 use Rattle.std.specs.Prelude.{◌≡◌, ◌⊎◌, ◌↔◌, ◌<◌, ℕ, false, List, IsTrue, IfOk, IsErrOf, MatchResult, OnErr, OnOk, Option, Result, Err}
 use Rattle.sqlite_trees.specs.Tree.{Trees}
 use Rattle.sqlite.specs.Effect.{Database}

@@ -1,4 +1,4 @@
--- For the proof of the code alone: what earlier reads have shown of an account.
+-- For the proof of the code alone: what the reads before have shown of an account.
 use Rattle.std.specs.Prelude.{◌≡◌, ℕ, ◌+◌, Bool, true, if◌then◌else◌, List, Option, Result, Ok}
 use Rattle.sqlite.specs.Effect.{Database}
 use Rattle.account_rules.specs.JobStates.{is_unfinished}

@@ -1,5 +1,5 @@
--- What an event does to the tables: what is answered, with what it came to, and what it does to the
--- rows (all this project's own).
+-- What a function that answers an event promises: the answer that the machine gives, and the rows
+-- that it changes (all this project's own).
 use Rattle.std.specs.Prelude.{◌≡◌, ℕ, List, Option, Result, Err, IfOk, OnOk, OnErr}
 use Rattle.sqlite_trees.specs.declared.store.Store.{Ghosts}
 use Rattle.sqlite.specs.Effect.{Database}

@@ -1,4 +1,5 @@
-//! An event is applied, in a round or in a transaction of its own.
+//! The two ways in: `apply` for an event that may be in a round, and `apply_in_own_transaction` for
+//! one that may not.
 
 ghost use Rattle.std.specs.Prelude.{◌≡◌, not, IsTrue, OnErr};
 ghost use Rattle.store_events.specs.Prelude.{IfOurTables};
@@ -18,9 +19,9 @@ use sqlite::Alter;
 use std::alloc::Global;
 use store_rounds::{Rounds, StoreFault};
 
-/// Answers the event at the moment `now`, in seconds from 1970, as `Store::apply` does, and says
-/// what it came to. In a round it has changed nothing where it fails, or a failure of the storage
-/// has undone the round.
+/// Answers the event at the moment `now`, in seconds from 1970, with its verdict, as `Store::apply`
+/// does. It may be in a round: an event that fails has then changed nothing, or a failure of the
+/// storage has undone the round.
 pub fn apply<S: Alter>(
     alloc: Global,
     connection: &mut Rounds<S>,
@@ -49,8 +50,9 @@ pub fn apply<S: Alter>(
     Ok(answer_on_disk(alloc, connection, now, e)?)
 }
 
-/// Answers the event at the moment `now`, in seconds from 1970. `Moment` is looked at first;
-/// `Storage` tells also that a transaction is under way.
+/// Answers the event at the moment `now`, in seconds from 1970, and commits it by itself. `Moment`
+/// where `now` is past the year 2099, which is looked at first; `Storage` also where a transaction
+/// is under way.
 pub fn apply_in_own_transaction<S: Alter>(
     alloc: Global,
     connection: &mut Rounds<S>,
@@ -72,7 +74,7 @@ pub fn apply_in_own_transaction<S: Alter>(
 }
 
 /// Whether no transaction is under way. Then, while the connection is open, what is seen is what
-/// was committed, and what a crash leaves. `Store::is_on_disk` says the same of a store.
+/// was committed, and what a crash leaves.
 fn is_alone<S: Alter>(connection: &Rounds<S>) -> bool
     ensures mode { result ≡ not (state S.Store connection.now).in_transaction }
     ensures settled { IsTrue result → IsTrue (state S.Store connection.now).is_open

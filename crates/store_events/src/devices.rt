@@ -1,4 +1,4 @@
-//! The events of devices.
+//! The events of devices: turning one on or off, and setting its rate.
 
 ghost use Rattle.store_events.specs.Prelude.{WasOpen};
 ghost use Rattle.account_machine.specs.DeviceEvents.{rated_answer, turned_answer};
@@ -13,7 +13,7 @@ use sqlite::Alter;
 use std::alloc::Global;
 use store_rounds::{Rounds, find_device, rate_device, turn_device};
 
-/// Turns the device on or off. A device that is new gets rate 1.
+/// Turns the device on or off, and answers `ok`. A device that is new is added, with rate 1.
 pub fn switch<S: Alter>(
     alloc: Global,
     connection: &mut Rounds<S>,
@@ -30,7 +30,8 @@ pub fn switch<S: Alter>(
     Ok(answered)
 }
 
-/// Sets the units that an impression counts on the device from now on, if it is known.
+/// Sets the units that an impression counts on the device from now on, and answers `ok`; a device
+/// that is not known is refused.
 pub fn rate<S: Alter>(
     alloc: Global,
     connection: &mut Rounds<S>,

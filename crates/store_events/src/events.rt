@@ -1,4 +1,4 @@
-//! Any event, over the shared tables.
+//! The dispatch of events: which function answers which event.
 
 ghost use Rattle.std.specs.Prelude.{◌≡◌, ◌↔◌, false, Ok, IsTrue};
 ghost use Rattle.sqlite.specs.Held.{state};
@@ -26,8 +26,8 @@ use sqlite::Alter;
 use std::alloc::Global;
 use store_rounds::{Rounds, find_account, ready};
 
-/// Answers the event at the moment `now`. Of the tables it changes the rows of its account, or of its
-/// device, and no others.
+/// Answers the event at the moment `now`, by the function for its kind. It changes the rows of the
+/// event's account, or of its device, and no others.
 pub(crate) fn answer_event<S: Alter>(
     alloc: Global,
     connection: &mut Rounds<S>,
@@ -54,8 +54,8 @@ pub(crate) fn answer_event<S: Alter>(
     }
 }
 
-/// Answers the event as `answer_if_open` does, and asks whether a transaction is under way, for what
-/// that says where none is: what is seen is what was committed.
+/// Answers the event as `answer_if_open` does. For the proof it asks whether a transaction is under
+/// way, whose clause says of no transaction: what is seen is what was committed.
 pub(crate) fn answer_on_disk<S: Alter>(
     alloc: Global,
     connection: &mut Rounds<S>,
@@ -77,8 +77,8 @@ pub(crate) fn answer_on_disk<S: Alter>(
     told
 }
 
-/// Answers the event as `answer_event` does. Of a connection that is shut nothing is asked, so that
-/// what a crash would find there stays.
+/// Answers the event as `answer_event` does, once the connection is found usable. A connection that
+/// is shut is asked nothing more, so that what a crash would find there stays.
 fn answer_if_open<S: Alter>(
     alloc: Global,
     connection: &mut Rounds<S>,
@@ -100,8 +100,8 @@ fn answer_if_open<S: Alter>(
     answer_event(alloc, connection, now, e)
 }
 
-/// Whether the event is a message that ends within its header: it is answered before anything is
-/// looked up.
+/// Whether the event is an IPP message of less than 8 bytes, which is its header. Such a message is
+/// answered without looking anything up.
 pub(crate) fn is_short(e: &Event<'_>) -> bool
     ensures { IsTrue result ↔ IsShort (plain_event e.now) }
 {
@@ -111,7 +111,7 @@ pub(crate) fn is_short(e: &Event<'_>) -> bool
     }
 }
 
-/// Answers an event of a station, or a grant, to the account, which may not be open.
+/// Answers an event of a station, or a grant; the account may not be open.
 fn answer_line<S: Alter>(
     alloc: Global,
     connection: &mut Rounds<S>,
@@ -132,7 +132,7 @@ fn answer_line<S: Alter>(
     }
 }
 
-/// Answers an event of a station, or a grant, to an account that is open.
+/// Answers an event of a station, or a grant, of an account that is open.
 fn answer_open<S: Alter>(
     alloc: Global,
     connection: &mut Rounds<S>,

@@ -1,4 +1,4 @@
-//! Pages are granted.
+//! The event of an operator's grant: decides whether the grant may be made, makes it and answers.
 
 ghost use Rattle.store_events.specs.Prelude.{DoesStep};
 ghost use Rattle.account_machine.specs.Grants.{granted};
@@ -12,8 +12,9 @@ use sqlite::Alter;
 use std::alloc::Global;
 use store_rounds::{Rounds, add_grant, find_grant};
 
-/// Grants the account, which is open, the pages once, to be used in the month or later, and answers
-/// `ok`. Where the month has a grant already it answers `same` or `conflict`, and changes nothing.
+/// Grants the account, which is open, pages to be used in the month or later, and answers `ok`.
+/// Where the month has a grant already, it answers `same` (of the same pages) or `conflict`, and
+/// changes nothing.
 pub fn grant<S: Alter>(
     alloc: Global,
     connection: &mut Rounds<S>,

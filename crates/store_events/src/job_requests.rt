@@ -1,4 +1,4 @@
-//! The requests about one job.
+//! The operations on one job: Get-Job-Attributes, Cancel-Job, Hold-Job and Release-Job.
 
 ghost use Rattle.std.specs.Prelude.{◌≡◌, ⊤, IfOk};
 ghost use Rattle.store_events.specs.Answers.{of_response};
@@ -17,7 +17,7 @@ use sqlite::Alter;
 use std::alloc::Global;
 use store_rounds::{Rounds, look_up};
 
-/// Get-Job-Attributes, of an account that is open.
+/// Get-Job-Attributes: answers the job's attributes that were asked for.
 pub fn describe<S: Alter>(
     alloc: Global,
     connection: &mut Rounds<S>,
@@ -38,7 +38,7 @@ pub fn describe<S: Alter>(
     job_shown(alloc, ask, &request.place(), &job, wanted_names(ask))
 }
 
-/// Cancel-Job, of an account that is open.
+/// Cancel-Job: cancels the job, or tells its device to stop.
 pub fn cancel<S: Alter>(
     alloc: Global,
     connection: &mut Rounds<S>,
@@ -58,7 +58,7 @@ pub fn cancel<S: Alter>(
     act(alloc, connection, request, &job, decided)
 }
 
-/// Hold-Job, of an account that is open.
+/// Hold-Job: takes the job's release back.
 pub fn hold<S: Alter>(
     alloc: Global,
     connection: &mut Rounds<S>,
@@ -78,7 +78,7 @@ pub fn hold<S: Alter>(
     act(alloc, connection, request, &job, decided)
 }
 
-/// Release-Job, of an account that is open.
+/// Release-Job: releases the job to any device of rate 1, as far as the quota allows it.
 pub fn release<S: Alter>(
     alloc: Global,
     connection: &mut Rounds<S>,
@@ -106,7 +106,8 @@ pub fn release<S: Alter>(
     act(alloc, connection, request, &job, decided)
 }
 
-/// Gives the job the standing that an act makes of it.
+/// Gives the job the standing that was decided and answers the request. A refusal is answered, and
+/// changes nothing.
 fn act<S: Alter>(
     alloc: Global,
     connection: &mut Rounds<S>,

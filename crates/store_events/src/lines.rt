@@ -1,4 +1,4 @@
-//! Lines, as what is answered to an event, and as replies to questions.
+//! Answers that are lines of text, to events of stations and operators and to questions.
 
 ghost use Rattle.std.specs.Prelude.{◌≡◌, IfOk, IfErr};
 ghost use Rattle.account_machine.specs.Verdicts.{line_done, line_refused};
@@ -11,7 +11,7 @@ use account_machine::{Answered, Refusal, Reply, Success, Verdict, Word, line, su
 use rows_tables::TableFault;
 use std::alloc::Global;
 
-/// The event is refused, by a line that tells why. `Memory` is its only fault.
+/// The answer that refuses an event, by a line with the word. `Memory` is its only fault.
 pub(crate) fn refused_by(alloc: Global, word: Word) -> Result<Answered, TableFault>
     ensures answered { IfOk result (λ answered. answered ≡ refused_by word) }
     ensures memory { IfErr result (λ fault. fault ≡ TableFault.Memory) }
@@ -23,7 +23,7 @@ pub(crate) fn refused_by(alloc: Global, word: Word) -> Result<Answered, TableFau
     })
 }
 
-/// The event is done, by a line that tells so. `Memory` is its only fault.
+/// The answer that an event was carried out, by a line. `Memory` is its only fault.
 pub(crate) fn done_by(alloc: Global, told: Success) -> Result<Answered, TableFault>
     ensures answered { IfOk result (λ answered. answered ≡ done_by told) }
     ensures memory { IfErr result (λ fault. fault ≡ TableFault.Memory) }
@@ -35,7 +35,7 @@ pub(crate) fn done_by(alloc: Global, told: Success) -> Result<Answered, TableFau
     })
 }
 
-/// The line that tells a refusal. `Memory` is its only fault.
+/// A line that tells a refusal's word. `Memory` is its only fault.
 pub fn refusal_line(alloc: Global, word: Word) -> Result<Reply, TableFault>
     ensures line { IfOk result (λ told_line. told_line ≡ reply.Line (word_text word)) }
     ensures memory { IfErr result (λ fault. fault ≡ TableFault.Memory) }
@@ -43,7 +43,7 @@ pub fn refusal_line(alloc: Global, word: Word) -> Result<Reply, TableFault>
     Ok(Reply::Line(line(alloc, word)?))
 }
 
-/// The line that tells a success. `Memory` is its only fault.
+/// A line that tells that something was carried out. `Memory` is its only fault.
 pub fn success_line(alloc: Global, told: Success) -> Result<Reply, TableFault>
     ensures line { IfOk result (λ told_line. told_line ≡ reply.Line (success_text told)) }
     ensures memory { IfErr result (λ fault. fault ≡ TableFault.Memory) }
@@ -51,7 +51,7 @@ pub fn success_line(alloc: Global, told: Success) -> Result<Reply, TableFault>
     Ok(Reply::Line(success(alloc, told)?))
 }
 
-/// What an event came to that is refused by a line: client-error-not-possible.
+/// The verdict of an event that is refused by a line: client-error-not-possible.
 pub(crate) fn line_refused(word: Word) -> Verdict
     ensures { result ≡ line_refused word }
 {
@@ -62,7 +62,8 @@ pub(crate) fn line_refused(word: Word) -> Verdict
     Verdict::Refused { refusal, job: None }
 }
 
-/// What an event came to that is done, and answered by a line or by documents: successful-ok.
+/// The verdict of an event that is carried out, and answered by a line or by documents:
+/// successful-ok.
 pub(crate) fn line_done() -> Verdict
     ensures { result ≡ line_done }
 {

@@ -1,4 +1,4 @@
-//! Get-Jobs.
+//! Get-Jobs: lists the jobs of an account.
 
 ghost use Rattle.std.specs.Prelude.{◌≡◌, Err, IfOk};
 ghost use Rattle.store_events.specs.Answers.{of_response};
@@ -18,7 +18,7 @@ use sqlite::Alter;
 use std::alloc::Global;
 use store_rounds::{Rounds, ended_jobs, unfinished_jobs};
 
-/// Lists the jobs that the request asks for, of an account that is open.
+/// Get-Jobs: answers with the jobs that the request asks for.
 pub fn list<S: Alter>(
     alloc: Global,
     connection: &mut Rounds<S>,
@@ -37,7 +37,7 @@ pub fn list<S: Alter>(
     jobs_shown(alloc, ask, &request.place(), jobs.as_slice())
 }
 
-/// The jobs that the request asks for, in the order of the answer.
+/// Reads the jobs that a Get-Jobs asks for, unfinished or ended ones, in the order of the answer.
 fn asked_jobs<S: Alter>(
     alloc: Global,
     connection: &mut Rounds<S>,

@@ -1,4 +1,4 @@
-//! Print-Job and Create-Job.
+//! Print-Job and Create-Job: make a new job.
 
 ghost use Rattle.std.specs.Prelude.{◌≡◌, ℕ};
 ghost use Rattle.store_events.specs.Prelude.{DoesResponse, HasAccountRow, IfOurTables, StaysOpen, plain_ask};
@@ -15,7 +15,8 @@ use sqlite::Alter;
 use std::alloc::Global;
 use store_rounds::{Rounds, count_unfinished, make_job};
 
-/// Makes the job that the request asks for, where the account, which is open, takes one.
+/// Makes the job that the request asks for, and answers with it. It is refused where the queue
+/// takes no job.
 pub fn make<S: Alter>(
     alloc: Global,
     connection: &mut Rounds<S>,
@@ -40,7 +41,7 @@ pub fn make<S: Alter>(
     Ok(answered)
 }
 
-/// The document that a Print-Job brings; another request brings none.
+/// The document that a Print-Job brings. A Create-Job brings none.
 fn first_document<'a>(ask: &Ask<'a>) -> Option<NewDocument<'a>>
     ensures { (number : ℕ) →
         first_of number result ≡ new_document number (plain_ask ask.entry.now) }

@@ -1,4 +1,4 @@
-//! An account is opened.
+//! The event that opens an account: refuses it where the account is open, opens it and answers.
 
 ghost use Rattle.store_events.specs.Prelude.{DoesAnswer, WasOpen, answered};
 ghost use Rattle.account_machine.specs.Events.{OfAccount, Open};
@@ -11,7 +11,7 @@ use sqlite::Alter;
 use std::alloc::Global;
 use store_rounds::{Rounds, find_account, open_account};
 
-/// Opens the account, unless it is open.
+/// Opens the account at the moment `now` and answers `ok`, or `exists` where it is open already.
 pub fn open<S: Alter>(
     alloc: Global,
     connection: &mut Rounds<S>,

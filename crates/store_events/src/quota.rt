@@ -1,4 +1,5 @@
-//! What is left of the quota of an account.
+//! The quota at a release: what an account has left, and whether a release may reserve what it asks
+//! for.
 
 ghost use Rattle.std.specs.Prelude.{◌≡◌, ◌≤◌, pos, ◌≤ℤ◌, false, Err, IfOk, Ok, OnOk};
 ghost use Rattle.store_events.specs.Prelude.{HoldsRoom, IfOurTables, LooksUp, RoomValue};
@@ -18,7 +19,8 @@ use rows_tables::TableFault;
 use sqlite::Alter;
 use store_rounds::{Rounds, Sums, granted_to, sum_up};
 
-/// What is left at the moment `now`, by what the account's jobs come to and its grants.
+/// How many units the account has left at the moment `now`: what was granted, less what its jobs
+/// reserve and were charged. It may be below 0.
 pub(crate) fn left_now<S: Alter>(
     connection: &mut Rounds<S>,
     account: Name,
@@ -38,7 +40,7 @@ pub(crate) fn left_now<S: Alter>(
     Ok(left_of(granted, sums))
 }
 
-/// What was granted up to the month of the moment `now`, in units.
+/// What the account was granted for all months up to that of the moment `now`, in units.
 fn granted_now<S: Alter>(
     connection: &mut Rounds<S>,
     account: Name,
@@ -56,7 +58,7 @@ fn granted_now<S: Alter>(
     granted_to(connection, account, month_of(now))
 }
 
-/// What is left of what was granted, with what the jobs come to.
+/// What is left of `granted` units, less the sums of the jobs.
 fn left_of(granted: u64, sums: Sums) -> i64
     requires granted { granted ≤ most_units }
     requires reserved { sums.reserved ≤ most_units }
@@ -68,9 +70,9 @@ fn left_of(granted: u64, sums: Sums) -> i64
     left(granted as i64, sums.reserved as i64, sums.charged as i64)
 }
 
-/// Refuses a release that reserves more than is left at the moment `now`. `asked` is what it comes
-/// to by all but the quota: a refusal stays, and so does what comes of a job that was released
-/// before, for which enough is reserved. Else the sums are read.
+/// Refuses a release of which more would be reserved than is left at the moment `now`. `asked` is
+/// what the rules made of the release without the quota. A refusal stays; so does the standing of a
+/// job that was released `before`, for which enough is reserved. Only else what is left is read.
 pub(crate) fn keep_to_quota<S: Alter>(
     connection: &mut Rounds<S>,
     account: Name,

@@ -1,4 +1,4 @@
-//! What a request has found.
+//! `Request`: an IPP request with what was read for every operation before it is carried out.
 
 ghost use Rattle.std.proofs.Props.{props};
 ghost use Rattle.std.specs.Prelude.{◌≡◌};
@@ -11,8 +11,7 @@ ghost use Rattle.rows_tables.specs.Accounts.{IsAccount};
 
 use account_machine::{Account, Ask, Moment, Name, Place, asked_at};
 
-/// A request to an account that is open: the account and its own row, the moment, and what is
-/// asked.
+/// An IPP request to an account that is open.
 #[derive(Drop)]
 pub(crate) struct Request<'a> {
     pub account: Name,
@@ -24,7 +23,7 @@ pub(crate) struct Request<'a> {
 }
 
 impl<'a> Request<'a> {
-    /// Where and when it is answered.
+    /// Where and when the request is answered, for the attributes that tell addresses and times.
     pub(crate) fn place(&self) -> Place<'a>
         ensures place { let it = self.entry.now in
             plain_place result ≡ asked_at it.row.opened it.account it.now (plain_ask it.ask) }

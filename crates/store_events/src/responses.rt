@@ -1,4 +1,4 @@
-//! What is answered to a request, and what the request came to.
+//! The responses to IPP requests, each with its verdict.
 
 ghost use Rattle.std.specs.Prelude.{◌≡◌, [], ◌∷◌, map, IfOk, IfErr};
 ghost use Rattle.std.specs.List.{AllByRecursion};
@@ -22,7 +22,8 @@ use ipp_coding::List;
 use rows_tables::TableFault;
 use std::alloc::Global;
 
-/// The answer to a body that ends within its header: client-error-bad-request.
+/// The answer to a body of less than 8 bytes, which has no response, with its verdict:
+/// client-error-bad-request.
 pub(crate) fn short_answered() -> Answered
     ensures { result ≡ short_answered }
 {
@@ -36,7 +37,7 @@ pub(crate) fn short_answered() -> Answered
     }
 }
 
-/// The request is refused. `Memory` is its only fault.
+/// The response that refuses the request. `Memory` is its only fault.
 pub(crate) fn request_refused(
     alloc: Global,
     ask: &Ask<'_>,
@@ -57,7 +58,7 @@ pub(crate) fn request_refused(
     })
 }
 
-/// The request is done, with the job for which it asked. `Memory` is its only fault.
+/// The response that a request was carried out, which shows nothing. `Memory` is its only fault.
 pub(crate) fn request_done(alloc: Global, ask: &Ask<'_>) -> Result<Answered, TableFault>
     requires { IsAsk (plain_ask ask.now) }
     ensures answered { let it = plain_ask ask.entry.now in
@@ -71,7 +72,7 @@ pub(crate) fn request_done(alloc: Global, ask: &Ask<'_>) -> Result<Answered, Tab
     })
 }
 
-/// The request is done with the job, and shows those of its attributes that are wanted. `Memory` is
+/// The response that a request was carried out, with the wanted attributes of a job. `Memory` is
 /// its only fault.
 pub(crate) fn job_shown(
     alloc: Global,
@@ -102,7 +103,7 @@ pub(crate) fn job_shown(
     })
 }
 
-/// The request is done, and shows the jobs. `Memory` is its only fault.
+/// The response to Get-Jobs, with the wanted attributes of each job. `Memory` is its only fault.
 pub(crate) fn jobs_shown(
     alloc: Global,
     ask: &Ask<'_>,
@@ -124,8 +125,8 @@ pub(crate) fn jobs_shown(
     })
 }
 
-/// The request is done, and shows those attributes of the printer that are wanted. `Memory` is its
-/// only fault.
+/// The response to Get-Printer-Attributes, with the wanted attributes of the printer. `Memory` is
+/// its only fault.
 pub(crate) fn printer_shown(
     alloc: Global,
     ask: &Ask<'_>,
@@ -154,8 +155,8 @@ pub(crate) fn printer_shown(
     })
 }
 
-/// What a request came to that is done with the job of this number: successful-ok, or
-/// successful-ok-ignored-or-substituted-attributes.
+/// The verdict of a request that was carried out on the job of this number: successful-ok, or
+/// successful-ok-ignored-or-substituted-attributes where some of its attributes are unsupported.
 fn done_with(ask: &Ask<'_>, number: u32) -> Verdict
     ensures { result ≡ verdict.Done (success_status (plain_ask ask.entry.now).unsupported)
         (job_numbered number) }
@@ -171,7 +172,7 @@ fn done_with(ask: &Ask<'_>, number: u32) -> Verdict
     }
 }
 
-/// No job has the number 0.
+/// The number of a verdict's job. 0 stands for no job.
 fn job_numbered(number: u32) -> Option<u32>
     ensures { result ≡ job_numbered number }
 {

@@ -1,4 +1,4 @@
-//! Send-Document.
+//! Send-Document: adds a document to an open job, or only closes it.
 
 ghost use Rattle.std.specs.Prelude.{◌≡◌, ◌≤◌, IfOk, OnOk};
 ghost use Rattle.store_events.specs.Prelude.{DoesResponse, HasAccountRow, HasJobRow, IfOurTables, IsNumbered, IsStanding, StaysOpen, plain_ask};
@@ -24,7 +24,7 @@ use sqlite::Alter;
 use std::alloc::Global;
 use store_rounds::{Rounds, look_up, restand_job};
 
-/// Adds the data of the request to the job as its next document, of an account that is open.
+/// Send-Document: adds the request's data, if there is any, to the job as its next document.
 pub fn send<S: Alter>(
     alloc: Global,
     connection: &mut Rounds<S>,
@@ -46,8 +46,8 @@ pub fn send<S: Alter>(
     take(alloc, connection, request, job, decided)
 }
 
-/// What Send-Document makes of a job's standing: `add_document`. An unfinished job stays unfinished,
-/// with one document more where there is data.
+/// Decides Send-Document, by `add_document`: the job's next standing, or the refusal. An unfinished
+/// job stays unfinished, with one document more where there is data.
 fn added(standing: Standing, ask: &Ask<'_>) -> Result<Standing, Refusal>
     requires { IsStanding standing }
     ensures moved { let it = plain_ask ask.entry.now in
@@ -58,9 +58,9 @@ fn added(standing: Standing, ask: &Ask<'_>) -> Result<Standing, Refusal>
     add_document(standing, ask.last, has_data(ask))
 }
 
-/// Answers a refusal as it was decided, and changes nothing. Otherwise gives the job its next
-/// standing, with the request's data as its next document if there is any, and answers with the
-/// job. `Damaged` tells that the document's place is taken.
+/// Gives the job the standing that was decided, adds the request's data as its next document if
+/// there is any, and answers with the job. A refusal is answered, and changes nothing. `Damaged`
+/// where a document of the next number is in the table already.
 fn take<S: Alter>(
     alloc: Global,
     connection: &mut Rounds<S>,
@@ -95,8 +95,8 @@ fn take<S: Alter>(
     Ok(answered)
 }
 
-/// The data of the request as the next document of a job with so many, and none where there is no
-/// data.
+/// The request's data as the document behind the `documents` that the job has. `None` where it has
+/// no data.
 fn next_document<'a>(ask: &Ask<'a>, documents: u32) -> Option<NewDocument<'a>>
     requires { documents ≤ most_documents }
     ensures { (job : JobValue) → job.standing.documents ≡ documents →

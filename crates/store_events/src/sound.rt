@@ -1,8 +1,8 @@
-//! What events read of sound rows.
+//! A law of this crate: a fact about its definitions that the check proves. Nothing calls it.
 
 ghost use Rattle.store_events.specs.Reading.{SoundRowsAreReadable};
 
-/// Of sound rows every event can read what it reads, so that `Damaged` is told of none of them.
+/// Every event finds sound rows readable: it never tells `Damaged` of them.
 pub fn sound_rows_are_readable()
     ensures { SoundRowsAreReadable }
 {}

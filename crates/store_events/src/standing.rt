@@ -1,4 +1,4 @@
-//! A job's standing changes.
+//! Writing what an event made of a job's standing.
 
 ghost use Rattle.std.specs.Prelude.{◌≡◌, Err};
 ghost use Rattle.store_events.specs.Prelude.{IfOurTables, IsStanding, Keeps};
@@ -10,7 +10,7 @@ use rows_tables::TableFault;
 use sqlite::Alter;
 use store_rounds::{Rounds, end_job, restand_job};
 
-/// Gives the job, which is there, its next standing; one that ends loses its documents.
+/// Gives a job that is there its next standing. A job that ends loses its documents.
 pub(crate) fn stand<S: Alter>(
     connection: &mut Rounds<S>,
     account: Name,

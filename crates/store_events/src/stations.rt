@@ -1,4 +1,4 @@
-//! What a station is answered.
+//! The events of a station: releasing a job there, starting it and settling it.
 
 ghost use Rattle.std.specs.Prelude.{◌≡◌, ◌≤◌, ⊤, map, IfErr, IfOk, OnOk, Err};
 ghost use Rattle.store_events.specs.Prelude.{DoesStep, HasJobRow, IfOurTables, IsStanding, Keeps, LooksUp, StaysOpen};
@@ -27,15 +27,15 @@ use sqlite::Alter;
 use std::alloc::Global;
 use store_rounds::{Rounds, find_device, find_documents, find_rate, look_up};
 
-/// A station: the name of its device, at a moment.
+/// Where and when something happens: the device at a station, and the moment.
 #[derive(Clone, Copy)]
 pub(crate) struct Station {
     pub device: Name,
     pub now: Moment,
 }
 
-/// Releases the job at the station, with the password and the impressions that are handed in there,
-/// of an account that is open.
+/// Releases the job at the station, with the password and the impressions that the owner enters
+/// there, as far as the quota allows it.
 pub fn release_at<S: Alter>(
     alloc: Global,
     connection: &mut Rounds<S>,
@@ -64,7 +64,7 @@ pub fn release_at<S: Alter>(
     reserve(alloc, connection, account, at.now, &job, asked)
 }
 
-/// The device of the station takes the job of an account that is open: hands its documents over.
+/// Starts the released job on the station's device, and answers with the job's documents.
 pub fn start<S: Alter>(
     alloc: Global,
     connection: &mut Rounds<S>,
@@ -89,8 +89,8 @@ pub fn start<S: Alter>(
     hand_over(alloc, connection, account, &job, decided)
 }
 
-/// The device of the station is done with the job of an account that is open, of which it completed
-/// so many impressions, all copies included.
+/// Ends the job, which the station's device has printed or given up (`failed`), and charges it for
+/// the impressions that the device has counted, all copies included.
 pub fn settle<S: Alter>(
     alloc: Global,
     connection: &mut Rounds<S>,
@@ -120,8 +120,8 @@ pub fn settle<S: Alter>(
     charge(alloc, connection, account, at.now, &job, decided)
 }
 
-/// The units that an impression counts on the device, where it takes jobs. Of a device that takes
-/// none no rate is looked up.
+/// The units that an impression counts on the device, or the word of a refusal where the device is
+/// unknown or turned off. `Damaged` where the device is on but has no rate.
 fn ready_rate<S: Alter>(
     connection: &mut Rounds<S>,
     device: Name,
@@ -149,7 +149,8 @@ fn ready_rate<S: Alter>(
     }
 }
 
-/// Tells what the job reserves, where so much is left, and gives it its standing.
+/// Carries out a release at a station that the rules allow, if enough is left of the quota, and
+/// answers what the job reserves and what is left then. A refusal is answered, and changes nothing.
 fn reserve<S: Alter>(
     alloc: Global,
     connection: &mut Rounds<S>,
@@ -183,7 +184,8 @@ fn reserve<S: Alter>(
     tell(alloc, connection, account, job, &released, told)
 }
 
-/// The job as it was released, where so much is left, or where it was released before.
+/// The job as released, unless it reserves more than is `left`. For a job that was released before,
+/// enough is reserved.
 fn kept_to(left: i64, before: Standing, released: Standing) -> Result<Standing, Refusal>
     ensures { result ≡ kept_to_quota before.state left (Ok released) }
 {
@@ -193,7 +195,8 @@ fn kept_to(left: i64, before: Standing, released: Standing) -> Result<Standing, 
     within_quota(released, left)
 }
 
-/// Tells what the job was charged, and gives it its standing.
+/// Carries out a settling that was decided, and answers what the job was charged and what is left
+/// then. A refusal is answered, and changes nothing.
 fn charge<S: Alter>(
     alloc: Global,
     connection: &mut Rounds<S>,
@@ -223,7 +226,8 @@ fn charge<S: Alter>(
     tell(alloc, connection, account, job, &settled, told)
 }
 
-/// Hands the job's documents to the device, and gives it its standing.
+/// Carries out a start that was decided, and answers with the job's documents. A refusal is
+/// answered, and changes nothing.
 fn hand_over<S: Alter>(
     alloc: Global,
     connection: &mut Rounds<S>,
@@ -253,7 +257,8 @@ fn hand_over<S: Alter>(
     })
 }
 
-/// The documents, as they are handed to a device. `Memory` is its only fault.
+/// The documents as the parts of an answer to a station, each with its line. `Memory` is its only
+/// fault.
 pub fn parts(
     alloc: Global,
     copies: u32,
@@ -269,7 +274,7 @@ pub fn parts(
     Ok(List { items })
 }
 
-/// Tells what was done, and gives the job its standing.
+/// Gives the job its standing, and answers with the line that tells what was done.
 fn tell<S: Alter>(
     alloc: Global,
     connection: &mut Rounds<S>,

@@ -1,4 +1,4 @@
--- What a fault of a statement counts as, to who calls the store.
+-- Which fault of the store a fault of a statement becomes.
 use Rattle.rows_tables.specs.declared.fault.TableFault.{TableFault}
 use Rattle.rows_tables.specs.declared.fault.TableFault.TheVariants as table
 use Rattle.store_rounds.specs.declared.fault.StoreFault.{StoreFault}

@@ -1,4 +1,5 @@
--- What is kept in memory of the tables, beside the connection (all this project's own).
+-- What is kept in memory of the tables, when it is right, and how changes move it (all this
+-- project's own).
 use Rattle.std.specs.Prelude.{◌≡◌, ◌≢◌, ℕ, ◌+◌, Bool, List, [], Option, None, Some, IfSome, IsTrue, Result, Ok, Err, bytes_eq, unwrap_or}
 use Rattle.std.specs.Map.{lookup}
 use Rattle.lru.specs.LruCache.{LruCache}
@@ -55,7 +56,7 @@ HasSums kept name sums =
 abbrev pub HasCount : (kept : Kept) (name : List ℕ) (count : ℕ) → Type 0
 HasCount kept name count = (known_of (kept_in kept.accounts) name).unfinished ≡ Some count
 
--- what a job of this standing adds to what is kept of its account, and what one that is not there does
+-- what a job of this standing adds to what is kept of its account, and what no job adds
 abbrev pub added_by : Standing → Added
 added_by standing = record {
   reserved = standing.reserved;
@@ -83,8 +84,8 @@ pub record MovesTo (was is : Added) (before after : Known) : Type 0 where
 abbrev pub HaveSums : (db : Database) (name : List ℕ) (sums : Sums) → Type 0
 HaveSums db name sums = IsSum reserves db name sums.reserved × IsSum charges db name sums.charged
 
--- its row is this, its jobs reserve so much and were charged so much, and so many of their rows tell no
--- moment of an end
+-- its row is this, its jobs reserve so much and were charged so much, and so many of their rows
+-- tell no moment of an end
 pub record IsRight (db : Database) (name : List ℕ) (it : Known) : Type 0 where
   pub row : IfSome it.row (λ row. HasAccountRow name row db)
   pub reserved : IfSome it.reserved (IsSum reserves db name)

@@ -1,4 +1,4 @@
--- What a look-up does to its connection (all this project's own).
+-- What a read of the tables leaves of its connection (all this project's own).
 use Rattle.std.specs.Prelude.{Result, OnOk, OnErr, IsTrue}
 use Rattle.sqlite_trees.specs.declared.store.Store.{Ghosts}
 use Rattle.sqlite.specs.State.{HasCleanDisk}

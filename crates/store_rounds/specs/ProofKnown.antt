@@ -1,4 +1,4 @@
--- For the proof of the code alone: what is known of a row.
+-- For the proof of the code alone: that an account or a job stands in its row of the tables.
 use Rattle.std.specs.Prelude.{◌≡◌, ℕ, pos, List, Some}
 use Rattle.sqlite.specs.Effect.{Database}
 use Rattle.account_rules.specs.declared.account.Account.{Account}

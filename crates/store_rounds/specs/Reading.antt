@@ -1,4 +1,4 @@
--- What the look-up of a job reads (all this project's own).
+-- What the look-up of a job by any number reads (all this project's own).
 use Rattle.std.specs.Prelude.{◌≡◌, ℕ, pos, List, IsTrue}
 use Rattle.sqlite.specs.Effect.{Database}
 use Rattle.account_rules.specs.Limits.{may_be_job}

@@ -1,4 +1,4 @@
-//! What is kept of some accounts.
+//! The cache of accounts: what is known in memory of 4096 accounts at most.
 
 ghost use Rattle.std.specs.Prelude.{◌≡◌, [], IfSome};
 ghost use Rattle.store_rounds.specs.Kept.{kept_of, SetsKnown};
@@ -9,10 +9,10 @@ use std::alloc::Global;
 use std::hash::{Hash, Hasher};
 use std::num::NonZeroUsize;
 
-/// So many accounts are kept at most.
+/// How many accounts the cache has at most.
 const MOST_KEPT: usize = 4096;
 
-/// What is known of an account.
+/// What the cache has of an account. `None` is not known.
 #[derive(Clone, Copy)]
 pub(crate) struct Known {
     /// Its row.
@@ -25,7 +25,7 @@ pub(crate) struct Known {
     pub unfinished: Option<u64>,
 }
 
-/// An account's name, by which it is found again.
+/// An account's name, as the key of the cache.
 #[derive(Clone, Copy)]
 pub(crate) struct Key {
     pub name: Name,
@@ -66,10 +66,11 @@ impl Hash for Key {
     }
 }
 
-/// The accounts of which something is kept. The one that was kept longest ago is forgotten first.
+/// The cache: what is known of each account, by name. Where it is full, the account that was put in
+/// longest ago goes out.
 pub(crate) type Accounts = LruCache<Key, Known>;
 
-/// None yet. `None` where there is no memory for any.
+/// An empty cache. `None` where there is no memory for one.
 pub(crate) fn no_accounts(alloc: Global) -> Option<Accounts>
     ensures { IfSome result (λ accounts. accounts.entries ≡ []) }
 {
@@ -77,14 +78,15 @@ pub(crate) fn no_accounts(alloc: Global) -> Option<Accounts>
     LruCache::sparse(alloc, most).ok()
 }
 
-/// What is kept of the account.
+/// What the cache has of the account.
 pub(crate) fn find(accounts: &Accounts, account: Name) -> Option<Known>
     ensures { result ≡ kept_of accounts.now.entries account }
 {
     accounts.peek(&Key { name: account }).copied()
 }
 
-/// Keeps this of the account. Where there is no memory nothing is kept of it.
+/// Puts in what is known of the account, in the place of what was known before. Where there is no
+/// memory nothing is put in.
 pub(crate) fn set(accounts: &mut Accounts, account: Name, known: Known)
     ensures { SetsKnown account known accounts.old.entries accounts.new.entries }
 {

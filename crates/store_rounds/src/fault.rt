@@ -1,4 +1,4 @@
-//! Why a call on the store is not answered.
+//! `StoreFault`: why a call on the store failed.
 
 ghost use Rattle.std.specs.Prelude.{◌≡◌};
 ghost use Rattle.store_rounds.specs.Faults.{store_fault};
@@ -6,7 +6,7 @@ ghost use Rattle.store_rounds.specs.Faults.{store_fault};
 use rows_tables::TableFault;
 use thiserror::Error as ErrorTrait;
 
-/// Why a call on the store could not be answered. Nothing is changed then.
+/// Why a call on the store failed. Nothing is changed then.
 #[derive(Clone, Copy, Debug, PartialEq, Eq, ErrorTrait)]
 pub enum StoreFault {
     /// A statement was refused, or the disk failed.
@@ -17,7 +17,8 @@ pub enum StoreFault {
     /// The moment is past the year 2099.
     #[error("the moment is past the year 2099")]
     Moment,
-    /// What was read cannot stand in sound rows.
+    /// Rows that were read are broken: no account or device can have them (they are not sound). Or
+    /// a row that was to be inserted is there already.
     #[error("the rows are damaged")]
     Damaged,
 }

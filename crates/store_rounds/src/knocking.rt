@@ -1,4 +1,4 @@
-//! Whether a connection is open.
+//! `knock`: the test whether a connection can still be used.
 
 ghost use Rattle.std.specs.Prelude.{◌≡◌, Ok, Err, IsTrue, OnErr, OnOk};
 ghost use Rattle.sqlite.specs.Held.{state};
@@ -9,8 +9,8 @@ ghost use Rattle.rows_tables.specs.Calls.{IsUnchanged, IsUndone};
 use rows_tables::TableFault;
 use sqlite::{Alter, Connection};
 
-/// Whether the connection is open: it is asked to read a text that says nothing. Where that fails a
-/// transaction is undone.
+/// Tests whether the connection can still be used, by preparing an empty statement. A fault of the
+/// disk may have shut it. A failure here undoes a transaction that is under way.
 pub(crate) fn knock<S: Alter>(connection: &mut Connection<S>) -> Result<(), TableFault>
     ensures looks { LooksUp S.Store connection.old connection.new result }
     ensures opened { HasCleanDisk (state S.Store connection.new)

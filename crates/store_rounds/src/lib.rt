@@ -1,5 +1,7 @@
-//! The shared tables of all accounts over one connection, where the events of a round share a
-//! commit, with what is kept of the tables in memory beside it.
+//! `Rounds`: the connection to the database, as all crates above use it. It wraps the connection of
+//! the SQLite library, lets many events share one commit (a round), and keeps sums and counts in
+//! memory, so that they are not read again. Its functions have the names of those of
+//! `rows_statements` that they call.
 #![tactic(auto)]
 
 mod cache;

@@ -1,4 +1,4 @@
-//! The look-up of a job.
+//! The look-up of a job by a number that a client sent, which may be any.
 
 ghost use Rattle.std.specs.Prelude.{◌≡◌, Err, IfOk, IfSome};
 ghost use Rattle.store_rounds.specs.Prelude.{HasJobRow, HoldsRoom, IfOurTables, IsNumbered, LooksUp, RoomValue};
@@ -10,8 +10,8 @@ use rows_statements::find_job;
 use rows_tables::TableFault;
 use sqlite::{Alter, Connection};
 
-/// The account's job of this number. `None` where it has none, and without a look at the tables
-/// where no job may have the number. `Damaged` where its row can be none of sound rows.
+/// Reads the account's job of this number. `None` where there is none; of a number that no job can
+/// have the tables are not asked. `Damaged` where its row is broken.
 pub(crate) fn look_up<S: Alter>(
     connection: &mut Connection<S>,
     account: Name,

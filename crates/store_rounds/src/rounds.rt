@@ -1,4 +1,4 @@
-//! Rounds: many events under one commit.
+//! `Rounds`: the connection, with begin and commit of a round.
 
 ghost use Rattle.std.specs.Prelude.{◌≡◌, false, not, IsFalse, IsTrue, OnErr, OnOk};
 ghost use Rattle.sqlite.specs.Held.{state};
@@ -21,19 +21,23 @@ use rows_tables::TableFault;
 use sqlite::{Alter, Connection};
 use std::marker::Model;
 
-/// The shared tables of all accounts, over one connection, where the events of a round share a
-/// commit: it begins by `begin` and ends by `commit`, and before that nothing of it is on the disk.
-/// A failure of the storage may undo a round, and an event outside a round is committed by itself.
-/// Contracts see it as its connection. Beside that it keeps in memory what accounts were charged and
-/// how many of their jobs have not ended, so that this is added up once; the invariant says that it
-/// is what adding up anew would give.
+/// The store's connection to its database, as all crates above use it; their parameters call it
+/// `connection`. It owns the SQLite library's connection, as which contracts see it, and adds
+/// rounds and memory.
+///
+/// Rounds: events between `begin` and `commit` share one commit, and before that nothing of them is
+/// on the disk. An event outside a round is committed by itself. A failure of the storage may undo
+/// a round.
+///
+/// Memory: it keeps rows, sums and counts of accounts, so that they are not read again. The
+/// invariant says that they are what reading anew would give.
 pub struct Rounds<S: Alter> {
     pub(crate) connection: Connection<S>,
     /// Whether the tables are known to be the store's. Else nothing that is kept is used.
     pub(crate) is_ours: bool,
     pub(crate) kept: Kept,
-    /// Units that the job which ended last was charged beyond what it had reserved, as far as nobody
-    /// has taken them.
+    /// The units that the last job to end was charged beyond what it had reserved, until somebody
+    /// takes them.
     pub(crate) beyond: u64,
 }
 
@@ -66,8 +70,8 @@ impl<S: Alter> Model for Rounds<S> {
 }
 
 impl<S: Alter> Rounds<S> {
-    /// Makes rounds over a connection. Whether its tables are the store's is not known, so that nothing
-    /// that is kept of them is used. It takes no memory.
+    /// Takes a connection whose tables are not known to be the store's: nothing that is kept in
+    /// memory is used then. It takes no memory.
     pub fn over(connection: Connection<S>) -> Rounds<S>
         ensures { result ≡ connection }
     {
@@ -79,8 +83,8 @@ impl<S: Alter> Rounds<S> {
         }
     }
 
-    /// Makes rounds over a connection that is in no transaction, and whose tables are the store's. It
-    /// takes no memory.
+    /// Takes a connection that is in no transaction, and whose tables are known to be the store's:
+    /// what is kept in memory is used. It takes no memory.
     pub fn over_own(connection: Connection<S>) -> Rounds<S>
         requires schema { HasCleanDisk (state S.Store connection)
             → IsTrue (state S.Store connection).is_open
@@ -97,7 +101,7 @@ impl<S: Alter> Rounds<S> {
         }
     }
 
-    /// Whether no transaction is under way.
+    /// Whether no transaction, and so no round, is under way.
     pub fn is_autocommit(&self) -> bool
         ensures value { result ≡ not (state S.Store self.now).in_transaction }
         ensures settled { IsTrue result → IsTrue (state S.Store self.now).is_open
@@ -116,7 +120,7 @@ impl<S: Alter> Rounds<S> {
         !self.connection.is_autocommit()
     }
 
-    /// Begins a round. `Storage` tells also that one is under way.
+    /// Begins a round. `Storage` also where one is under way already.
     pub fn begin(&mut self) -> Result<(), StoreFault>
         ensures begun { HasCleanDisk (state S.Store self.new) → OnOk result
             (BeginsRound (state S.Store self.old) (state S.Store self.new)) }
@@ -133,9 +137,9 @@ impl<S: Alter> Rounds<S> {
         }
     }
 
-    /// Ends the round: all that its events made is on the disk. Where that fails the round is
-    /// undone. `Storage` tells also that none is under way. Of a connection that is shut nothing is
-    /// asked, so that what a crash would find there stays.
+    /// Ends the round: all that its events changed is on the disk then. Where that fails the round
+    /// is undone. `Storage` also where none is under way. A connection that is shut is not asked,
+    /// so that what a crash would find stays.
     pub fn commit(&mut self) -> Result<(), StoreFault>
         ensures committed { HasCleanDisk (state S.Store self.new) → OnOk result
             (EndsRound (state S.Store self.old) (state S.Store self.new)) }
@@ -156,8 +160,8 @@ impl<S: Alter> Rounds<S> {
         }
     }
 
-    /// Units that the last job to end was charged beyond what it had reserved: its device counted
-    /// more than was released. They are told once, and 0 from then on.
+    /// The units that the last job to end was charged beyond what it had reserved, since its device
+    /// counted more than was released. The next call answers 0. `serve` logs them.
     pub fn take_beyond(&mut self) -> u64
         ensures { self.new ≡ self.old }
     {
@@ -166,8 +170,8 @@ impl<S: Alter> Rounds<S> {
         units
     }
 
-    /// The connection, with its tables as they are. What a round that is under way has changed is
-    /// on the disk only once it is committed. It takes no memory.
+    /// The SQLite library's connection, with the tables as they are. What a round under way has
+    /// changed is not on the disk yet. It takes no memory.
     pub fn close(self) -> Connection<S>
         ensures { result ≡ self }
     {
@@ -181,9 +185,10 @@ impl<S: Alter> Rounds<S> {
     }
 }
 
-/// Changes nothing and tells nothing: it is for the proof alone. While no transaction is under way
-/// an open connection shows what was committed, and only the library's clause of `is_autocommit`
-/// says so. What a failure leaves of a round, and so what may be kept, follows from that.
+/// Does nothing at run time: its contract is a step of the proof. While no transaction is under
+/// way, what an open connection shows is what was committed, and only the library's clause of
+/// `is_autocommit` says so. What a failure leaves of a round, and so what may be kept, follows from
+/// that.
 fn note_settled<S: Alter>(connection: &Connection<S>)
     ensures { IsTrue (state S.Store connection.now).is_open
         → (state S.Store connection.now).in_transaction ≡ false

@@ -1,5 +1,6 @@
-//! What is changed in the tables, and in what is kept of them. After a fault nothing is kept: what
-//! was changed before may be undone.
+//! The changes that events make, over `Rounds` (the parameter `connection`). Each calls the
+//! function of its name in `rows_statements`, and then brings what is kept in memory up to date.
+//! After a fault nothing is kept, since what was changed before may be undone.
 
 ghost use Rattle.std.specs.Prelude.{◌≡◌, ◌<◌, pos, None, Err, IsTrue, OnErr, OnOk};
 ghost use Rattle.sqlite.specs.Held.{state};
@@ -21,7 +22,7 @@ use rows_statements::NewDocument;
 use rows_tables::TableFault;
 use sqlite::{Alter, Error};
 
-/// Opens the account at the moment `now`.
+/// Opens the account at the moment `now`: inserts its row.
 pub fn open_account<S: Alter>(
     connection: &mut Rounds<S>,
     account: Name,
@@ -36,7 +37,7 @@ pub fn open_account<S: Alter>(
     made
 }
 
-/// Grants the account the pages once, for good, to be used in the month or later.
+/// Adds the grant of a month to the account: pages to be used in that month or later.
 pub fn add_grant<S: Alter>(
     connection: &mut Rounds<S>,
     account: Name,
@@ -52,8 +53,9 @@ pub fn add_grant<S: Alter>(
     made
 }
 
-/// Makes the job, at most 999999, with its first document or with none. The account's next number
-/// is the one after it. `Damaged` tells that the job or the document is there already.
+/// Inserts the job, whose number is at most 999999, with its first document or with none. The
+/// account's next job gets the number after it. `Damaged` where the job or the document is there
+/// already.
 pub fn make_job<S: Alter>(
     connection: &mut Rounds<S>,
     account: Name,
@@ -75,8 +77,8 @@ pub fn make_job<S: Alter>(
     made
 }
 
-/// Gives a job that is there another standing, with its next document or with none. `Damaged` tells
-/// that the document is there already.
+/// Gives a job that is there another standing, and adds its next document, if one is given.
+/// `Damaged` where a document of its number is there already.
 pub fn restand_job<S: Alter>(
     connection: &mut Rounds<S>,
     account: Name,
@@ -104,7 +106,7 @@ pub fn restand_job<S: Alter>(
     made
 }
 
-/// Gives a job that is there a standing in which it has ended, and removes its documents.
+/// Gives a job that is there a standing in which it has ended, and deletes its documents.
 pub fn end_job<S: Alter>(
     connection: &mut Rounds<S>,
     account: Name,
@@ -123,7 +125,7 @@ pub fn end_job<S: Alter>(
     made
 }
 
-/// The units of a job's charge beyond what it reserved before, as far as that is known.
+/// The units that a job was charged beyond what it reserved before; 0 where that is not known.
 fn beyond(was: Option<Added>, is: &Standing) -> u64 {
     match was {
         Some(added) => is.charged.saturating_sub(added.reserved),
@@ -131,7 +133,7 @@ fn beyond(was: Option<Added>, is: &Standing) -> u64 {
     }
 }
 
-/// Turns the device on or off. A device that is new gets rate 1.
+/// Turns the device on or off. Where it is new (`is_new`) it is added, and gets rate 1.
 pub fn turn_device<S: Alter>(
     connection: &mut Rounds<S>,
     name: Name,
@@ -163,8 +165,8 @@ pub fn rate_device<S: Alter>(
     made
 }
 
-/// Begins a round: what is changed from now on is on the disk once the round is committed. It is
-/// refused where a transaction is under way.
+/// Begins a round: what is changed from now on is on the disk once the round is committed. It fails
+/// where a transaction is under way.
 pub(crate) fn begin_round<S: Alter>(connection: &mut Rounds<S>) -> Result<(), Error>
     ensures begins { HasCleanDisk (state S.Store connection.new) → OnOk result
         (BeginsRound (state S.Store connection.old) (state S.Store connection.new)) }
@@ -182,7 +184,8 @@ pub(crate) fn begin_round<S: Alter>(connection: &mut Rounds<S>) -> Result<(), Er
     made
 }
 
-/// Commits the round. It is refused where none is under way, and where it fails the round is undone.
+/// Commits the round: all that it changed is on the disk then. It fails where no round is under
+/// way. Where a commit fails, the round is undone.
 pub(crate) fn commit_round<S: Alter>(connection: &mut Rounds<S>) -> Result<(), Error>
     ensures ends { HasCleanDisk (state S.Store connection.new) → OnOk result
         (EndsRound (state S.Store connection.old) (state S.Store connection.new)) }

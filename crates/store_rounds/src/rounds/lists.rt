@@ -1,4 +1,7 @@
-//! What a backup, questions and the print room's page read, beside `reads`.
+//! The reads of backups, operators' questions and web pages, over `Rounds` (the parameter
+//! `connection`). Each calls the function of its name below (`rows_statements`, `rows_checks` or
+//! `rows_survey`), and forgets what is kept in memory where that fails. Those of events are in
+//! `reads`.
 
 ghost use Rattle.std.specs.Prelude.{◌≡◌, ◌≤◌, ℕ, List, map, option_map, pos, Err, IfOk, IfSome, IsSome};
 ghost use Rattle.std.specs.FinMap.{entries, values};
@@ -29,8 +32,8 @@ use rows_tables::TableFault;
 use sqlite::Alter;
 use std::alloc::Global;
 
-/// The job of the account with the number. `Damaged` tells that the row that is there can be none
-/// of sound rows.
+/// Reads the account's job of this number. `None` where there is none; `Damaged` where its row is
+/// broken.
 pub fn find_job<S: Alter>(
     connection: &mut Rounds<S>,
     account: Name,
@@ -52,8 +55,7 @@ pub fn find_job<S: Alter>(
     found
 }
 
-/// The grants of the account, by month. `Damaged` tells that a row that is there can be none of
-/// sound rows.
+/// Reads the grants of the account, by month. `Damaged` where a row is broken.
 pub fn list_grants<S: Alter>(
     alloc: Global,
     connection: &mut Rounds<S>,
@@ -75,9 +77,8 @@ pub fn list_grants<S: Alter>(
     found
 }
 
-/// What the jobs of the account come to, and what of it in the month. All its jobs are read once.
-/// `Damaged` tells that the rows that are there, one of them or all together, can be none of sound
-/// rows.
+/// Adds up the jobs of the account for a statement of the month, in one walk over all of them.
+/// `Damaged` where a row is broken, or a sum is more than an account can have.
 pub fn summarize<S: Alter>(
     connection: &mut Rounds<S>,
     account: Name,
@@ -98,8 +99,8 @@ pub fn summarize<S: Alter>(
     found
 }
 
-/// Whether the account is open, where its rows are sound. All of them are read. `Damaged` tells that
-/// they are not sound.
+/// Checks all rows of the account, and answers whether it is open. `Damaged` where they are not
+/// sound.
 pub fn check_account<S: Alter>(
     alloc: Global,
     connection: &mut Rounds<S>,
@@ -117,7 +118,8 @@ pub fn check_account<S: Alter>(
     found
 }
 
-/// The devices, by name. `Damaged` tells that a row that is there can be none of sound rows.
+/// Reads all devices with their rates, by name. `Damaged` where a row is broken, or a device has no
+/// rate.
 pub fn list_devices<S: Alter>(
     alloc: Global,
     connection: &mut Rounds<S>,
@@ -135,8 +137,8 @@ pub fn list_devices<S: Alter>(
     found
 }
 
-/// The names of accounts that come next behind a name, or first, in the order of their bytes, at most
-/// 100. `Damaged` tells that a row that is there has no name of an account.
+/// Reads the next page of names of accounts: at most 100 that come after `behind`, or the first, in
+/// the order of their bytes. `Damaged` where a row has no valid name.
 pub fn next_accounts<S: Alter>(
     alloc: Global,
     connection: &mut Rounds<S>,
@@ -155,8 +157,8 @@ pub fn next_accounts<S: Alter>(
     found
 }
 
-/// What the account comes to in the month, by its rows alone. `Damaged` tells that the rows that are
-/// there, one of them or all together, can be none of sound rows.
+/// Reads what the overview shows of the account in the month. `Damaged` where a row is broken, or a
+/// sum is more than an account can have.
 pub fn survey<S: Alter>(
     alloc: Global,
     connection: &mut Rounds<S>,

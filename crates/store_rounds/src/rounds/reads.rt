@@ -1,4 +1,6 @@
-//! What is read of the tables. After a fault nothing is kept: what was changed may be undone.
+//! The reads of events and questions, over `Rounds` (the parameter `connection`). Each calls the
+//! function of its name in `rows_statements`, or answers from memory what is kept there. After a
+//! fault nothing is kept, since what was changed before may be undone.
 
 ghost use Rattle.std.specs.Prelude.{◌≡◌, ◌≤◌, ◌<◌, ◌↔◌, ⊤, ℕ, Bool, List, Option, length, option_map, pos, true, Some, Err, IfOk, IfSome, IsTrue, OnErr, OnOk};
 ghost use Rattle.std.specs.FinMap.{get, values};
@@ -36,7 +38,8 @@ use rows_tables::TableFault;
 use sqlite::{Alter, Connection};
 use std::alloc::Global;
 
-/// The account's own row. `Damaged` tells that the row that is there can be none of sound rows.
+/// The account's own row, from memory or from its table. `None` where the account is not open;
+/// `Damaged` where its row is broken.
 pub fn find_account<S: Alter>(
     connection: &mut Rounds<S>,
     account: Name,
@@ -57,8 +60,8 @@ pub fn find_account<S: Alter>(
     found
 }
 
-/// The account's own row. Where that is known it is not read, and the connection is asked whether it
-/// is open alone.
+/// The account's own row. Where it is `known` it is not read: then it is only tested whether the
+/// connection can still be used.
 fn find_knowing<S: Alter>(
     connection: &mut Connection<S>,
     account: Name,
@@ -83,8 +86,8 @@ fn find_knowing<S: Alter>(
     }
 }
 
-/// The account's job of this number. `None` where it has none, and without a look at the tables
-/// where no job may have the number. `Damaged` where its row can be none of sound rows.
+/// Reads the account's job of this number. `None` where there is none; of a number that no job can
+/// have the tables are not asked. `Damaged` where its row is broken.
 pub fn look_up<S: Alter>(
     connection: &mut Rounds<S>,
     account: Name,
@@ -107,8 +110,8 @@ pub fn look_up<S: Alter>(
     found
 }
 
-/// Whether the device of this name takes jobs now. `None` where there is no such device; `Damaged`
-/// where its row can be none of sound rows.
+/// Reads whether the device takes jobs now. `None` where no device has the name; `Damaged` where
+/// its row is broken.
 pub fn find_device<S: Alter>(
     connection: &mut Rounds<S>,
     name: Name,
@@ -126,7 +129,7 @@ pub fn find_device<S: Alter>(
     found
 }
 
-/// Whether any device takes jobs now. `Damaged` where a row can be none of sound rows.
+/// Whether any device takes jobs now. `Damaged` where a row is broken.
 pub fn is_device_on<S: Alter>(connection: &mut Rounds<S>) -> Result<bool, TableFault>
     ensures found { IfOurTables S.Store connection.old connection.new (λ db. IfOk result
         (λ on. IsTrue on ↔ ((name : List ℕ) × (device_at db name ≡ Some (on_cells name true))))) }
@@ -143,8 +146,8 @@ pub fn is_device_on<S: Alter>(connection: &mut Rounds<S>) -> Result<bool, TableF
     found
 }
 
-/// The units that an impression counts on the device, 1 to 100, if it has a rate. `Damaged` tells
-/// that the row that is there can be none of sound rows.
+/// Reads the units, 1 to 100, that an impression counts on the device. `None` where it has no rate;
+/// `Damaged` where the row is broken.
 pub fn find_rate<S: Alter>(
     connection: &mut Rounds<S>,
     name: Name,
@@ -165,8 +168,7 @@ pub fn find_rate<S: Alter>(
     found
 }
 
-/// The documents of a job of the account, by rising number. `Damaged` tells that a row that is
-/// there can be none of sound rows.
+/// Reads the documents of a job, by rising number. `Damaged` where a row is broken.
 pub fn find_documents<S: Alter>(
     alloc: Global,
     connection: &mut Rounds<S>,
@@ -188,8 +190,8 @@ pub fn find_documents<S: Alter>(
     found
 }
 
-/// The pages that the account was granted in the month, if there is such a grant. `Damaged` tells
-/// that the row that is there can be none of sound rows.
+/// Reads the pages that the account was granted in the month. `None` where that has no grant;
+/// `Damaged` where the row is broken.
 pub fn find_grant<S: Alter>(
     connection: &mut Rounds<S>,
     account: Name,
@@ -210,8 +212,8 @@ pub fn find_grant<S: Alter>(
     found
 }
 
-/// The pages that the account was granted for the months up to the given one. `Damaged` tells that
-/// the rows that are there, one of them or all together, can be none of sound rows.
+/// Adds up the pages that the account was granted for all months up to and with the given one.
+/// `Damaged` where a row is broken, or the sum is more than an account can have.
 pub fn granted_to<S: Alter>(
     connection: &mut Rounds<S>,
     account: Name,
@@ -231,9 +233,9 @@ pub fn granted_to<S: Alter>(
     found
 }
 
-/// What is counted of the jobs of the account that have not ended: all that says whether its queue
-/// takes a job and what its printer is doing. `Damaged` tells that the rows that are there, one
-/// of them or all together, can be none of sound rows.
+/// Tallies the unfinished jobs of the account, for Get-Printer-Attributes: how many there are, and
+/// whether one is processing. `Damaged` where a row is broken, or there are more than an account
+/// may have.
 pub fn tally_unfinished<S: Alter>(
     connection: &mut Rounds<S>,
     account: Name,
@@ -258,9 +260,8 @@ pub fn tally_unfinished<S: Alter>(
     found
 }
 
-/// How many jobs of the account have not ended, which is all that says whether its queue takes a job.
-/// They are counted where that is not kept. `Damaged` tells that there are more than an account may
-/// have.
+/// How many jobs of the account have not ended, from memory or counted. `Damaged` where there are
+/// more than an account may have.
 pub fn count_unfinished<S: Alter>(
     connection: &mut Rounds<S>,
     account: Name,
@@ -282,8 +283,8 @@ pub fn count_unfinished<S: Alter>(
     found
 }
 
-/// How many jobs of the account have not ended. Where that is known they are not counted, and the
-/// connection is asked whether it is open alone.
+/// How many jobs of the account have not ended. Where that is `known` they are not counted: then it
+/// is only tested whether the connection can still be used.
 fn count_knowing<S: Alter>(
     connection: &mut Connection<S>,
     account: Name,
@@ -307,8 +308,8 @@ fn count_knowing<S: Alter>(
     }
 }
 
-/// The jobs of the account that have not ended, by rising number, and of those the first so many.
-/// `Damaged` tells that one of these rows can be none of sound rows.
+/// Reads the jobs of the account that have not ended, by rising number: the first `limit` of them,
+/// or all. `Damaged` where one of their rows is broken.
 pub fn unfinished_jobs<S: Alter>(
     alloc: Global,
     connection: &mut Rounds<S>,
@@ -331,9 +332,9 @@ pub fn unfinished_jobs<S: Alter>(
     found
 }
 
-/// The jobs of the account that have ended, by falling moment of ending, and where that is the same
-/// by falling number, and of those the first so many. `Damaged` tells that one of these
-/// rows can be none of sound rows.
+/// Reads the jobs of the account that have ended, the last to end first; of those that ended at one
+/// moment the highest number is first. It reads the first `limit` of them, or all. `Damaged` where
+/// one of their rows is broken.
 pub fn ended_jobs<S: Alter>(
     alloc: Global,
     connection: &mut Rounds<S>,
@@ -356,8 +357,8 @@ pub fn ended_jobs<S: Alter>(
     found
 }
 
-/// What the jobs of the account reserve and were charged, which is added up where it is not kept.
-/// `Damaged` tells that the rows that are read can be none of sound rows.
+/// What all jobs of the account reserve and were charged, from memory or added up. `Damaged` where
+/// a row is broken, or a sum is more than an account can have.
 pub fn sum_up<S: Alter>(connection: &mut Rounds<S>, account: Name) -> Result<Sums, TableFault>
     ensures reserved { IfOurTables S.Store connection.old connection.new (λ db. (room : RoomValue)
         → HoldsRoom db account room → IfOk result (λ sums. sums.reserved ≡ reserved_in room)) }
@@ -376,8 +377,8 @@ pub fn sum_up<S: Alter>(connection: &mut Rounds<S>, account: Name) -> Result<Sum
     found
 }
 
-/// What the jobs of the account reserve and were charged. Where that is known they are not added up,
-/// and the connection is asked whether it is open alone.
+/// What all jobs of the account reserve and were charged. Where that is `known` they are not added
+/// up: then it is only tested whether the connection can still be used.
 fn sums_knowing<S: Alter>(
     connection: &mut Connection<S>,
     account: Name,
@@ -402,7 +403,7 @@ fn sums_knowing<S: Alter>(
     }
 }
 
-/// What the jobs of the account reserve and were charged, by their rows.
+/// Adds up what all jobs of the account reserve and were charged.
 fn added_up<S: Alter>(connection: &mut Connection<S>, account: Name) -> Result<Sums, TableFault>
     ensures sums { IfOurTables S.Store connection.old connection.new
         (λ db. IfOk result (HaveSums db account)) }
@@ -421,7 +422,8 @@ fn added_up<S: Alter>(connection: &mut Connection<S>, account: Name) -> Result<S
     }
 }
 
-/// The account's own row, where the tables are known to be the store's and it is kept.
+/// The account's own row, if it is kept. Where the tables may not be the store's (`is_ours` is
+/// false) nothing that is kept is used.
 fn row(is_ours: bool, kept: &Kept, account: Name) -> Option<Account>
     ensures kept { IfSome result (λ row. IsTrue is_ours × HasRow kept.now account row) }
     ensures in_range { IfSome result IsAccount }
@@ -429,8 +431,8 @@ fn row(is_ours: bool, kept: &Kept, account: Name) -> Option<Account>
     if is_ours { kept.row(account) } else { None }
 }
 
-/// How many jobs of the account have not ended, where the tables are known to be the store's and it is
-/// kept.
+/// How many jobs of the account have not ended, if it is kept. Where the tables may not be the
+/// store's (`is_ours` is false) nothing that is kept is used.
 fn unfinished(is_ours: bool, kept: &Kept, account: Name) -> Option<u32>
     ensures kept { IfSome result (λ count. IsTrue is_ours × HasCount kept.now account count) }
     ensures few { IfSome result (λ count. count ≤ most_unfinished) }
@@ -442,8 +444,8 @@ fn unfinished(is_ours: bool, kept: &Kept, account: Name) -> Option<u32>
     }
 }
 
-/// What the jobs of the account reserve and were charged, where the tables are known to be the store's
-/// and it is kept.
+/// What the jobs of the account reserve and were charged, if it is kept. Where the tables may not
+/// be the store's (`is_ours` is false) nothing that is kept is used.
 fn sums(is_ours: bool, kept: &Kept, account: Name) -> Option<Sums>
     ensures kept { IfSome result (λ sums. IsTrue is_ours × HasSums kept.now account sums) }
     ensures bounds { IfSome result
@@ -452,7 +454,8 @@ fn sums(is_ours: bool, kept: &Kept, account: Name) -> Option<Sums>
     if is_ours { kept.sums(account) } else { None }
 }
 
-/// Whether the connection is open, as `knocking::knock` tells it.
+/// Tests whether the connection can still be used. A failure undoes a transaction that is under
+/// way.
 pub fn knock<S: Alter>(connection: &mut Rounds<S>) -> Result<(), TableFault>
     ensures looks { LooksUp S.Store connection.old connection.new result }
     ensures opened { HasCleanDisk (state S.Store connection.new)
@@ -471,8 +474,8 @@ pub fn knock<S: Alter>(connection: &mut Rounds<S>) -> Result<(), TableFault>
     found
 }
 
-/// Whether the connection is open, as `knocking::knock` tells it. From now on accounts are kept, as far
-/// as there is memory for them.
+/// Tests whether the connection can still be used, and makes the cache of accounts for the events
+/// to come, unless there is one, or no memory for one.
 pub fn ready<S: Alter>(alloc: Global, connection: &mut Rounds<S>) -> Result<(), TableFault>
     ensures looks { LooksUp S.Store connection.old connection.new result }
     ensures opened { HasCleanDisk (state S.Store connection.new)
