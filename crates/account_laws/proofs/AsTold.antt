@@ -18,7 +18,7 @@ use Rattle.account_asks.specs.declared.operation.Operation.TheVariants.{PrintJob
 use Rattle.account_asks.specs.declared.operation.Operation.TheVariants as asks
 use Rattle.account_machine.specs.Verdicts.{line_done, line_refused}
 use Rattle.account_machine.specs.DeviceEvents.{DeviceAnswer, device_answered}
-use Rattle.account_machine.specs.Events.{AccountEvent, DeviceEvent, OfAccount, OfDevice, Open, Ipp, Release, Start, Settle, Grant, Turn, Rate}
+use Rattle.account_machine.specs.Events.{AccountEvent, DeviceEvent, OfAccount, OfDevice, Open, Ipp, Release, Start, Settle, Grant, Switch, Rate}
 use Rattle.account_machine.specs.JobRequests.{has_data, has_password, sent_document}
 use Rattle.account_machine.specs.Machine.{answered}
 use Rattle.account_machine.specs.NewJobs.{new_document, new_job}
@@ -33,7 +33,7 @@ use Rattle.account_laws.proofs.Moved.{no_document_more, one_document_more, same_
 use Rattle.account_laws.proofs.PlacedDocuments.{Follows, none_after, none_placed, others_stay, placed, placed_with, same_placed}
 use Rattle.account_laws.proofs.StageLemmas.{canceled_at, freed_at, held_at, released_at, sent_at, settled_at, started_at}
 use Rattle.account_laws.specs.AccountsTold.{AccountTold, account_told, after_deed, after_exchange, nothing_told, rate_told, with_job}
-use Rattle.account_laws.specs.Deeds.{Deed, Opened, Made, Brought, Released, Started, Settled, Granted, Turned, Rated, NoDeed, account_deed, asked_deed, deed_of_request, device_deed}
+use Rattle.account_laws.specs.Deeds.{Deed, Opened, Made, Brought, Released, Started, Settled, Granted, Switched, Rated, NoDeed, account_deed, asked_deed, deed_of_request, device_deed}
 use Rattle.account_laws.specs.JobsTold.{JobTold, Sent, brought_first, impressions_told, is_left_open, stage_released, job_brought, job_canceled, job_freed, job_held, job_made, job_released, job_settled, job_started, sent_by}
 use Rattle.account_laws.specs.Lives.{Exchange, IsLife, Life}
 use Rattle.account_laws.specs.StandsAsTold.{AccountStands, AreAsTold, IsAsTold, IsAt, LeavesAsTold, StandsAsTold, WasNotOpened, as_sent, device_told}
@@ -667,7 +667,7 @@ still_known before after devices same knows = record {
 put : {X : Type 0} (m : FinMap name_cmp X) (name : List ℕ) (x : X) (q : List ℕ) → get (insert m name x) q ≡ cond (eq_by_cmp name_cmp q name) (Some x) (get m q)
 put m name x q = get-insert nat_list_cmp_total m name x q
 
--- a device that is known keeps its rate as it is turned on or off, a new one has rate 1
+-- a device that is known keeps its rate as it is switched on or off, a new one has rate 1
 rate_kept : (told : AccountTold) (devices : Devices) (name : List ℕ) → KnowsDevices told devices → rate_of devices name ≡ rate_told told name
 rate_kept told devices name knows = ap (λ (o : Option Device). option_map_or (λ (device : Device). device.rate) o 1) (knows.known name) ∙ by (get told.on name) refl
   where
@@ -747,7 +747,7 @@ rated_by there devices name units =
 
 device_turns : (told : AccountTold) (devices : Devices) (now : ℕ) (device : List ℕ) (it : DeviceEvent) → KnowsDevices told devices
     → KnowsDevices (after_deed now told (device_deed device it (device_answered devices (OfDevice device it)).reply)) (device_answered devices (OfDevice device it)).devices
-device_turns told devices now device (Turn on) knows = turns told devices device on knows
+device_turns told devices now device (Switch on) knows = turns told devices device on knows
 device_turns told devices now device (Rate units) knows = by (contains_key devices device) refl
   where
     by : (there : Bool) → contains_key devices device ≡ there
@@ -757,9 +757,9 @@ device_turns told devices now device (Rate units) knows = by (contains_key devic
 
 -- and nothing of an account
 same_account : (told : AccountTold) (devices : Devices) (now : ℕ) (device : List ℕ) (it : DeviceEvent) (said : Reply) (room : Option RoomValue) → AccountKeeps told room → AccountKeeps (after_deed now told (device_deed device it said)) room
-same_account told devices now device (Turn on) said room keeps = by (is_ok said)
+same_account told devices now device (Switch on) said room keeps = by (is_ok said)
   where
-    by : (done : Bool) → AccountKeeps (after_deed now told (cond done (Turned device on) NoDeed)) room
+    by : (done : Bool) → AccountKeeps (after_deed now told (cond done (Switched device on) NoDeed)) room
     by true = same_by told (record told { on = insert told.on device on }) room refl refl refl refl keeps
     by false = keeps
 same_account told devices now device (Rate units) said room keeps = by (is_ok said)

@@ -13,7 +13,7 @@ use Rattle.account_asks.specs.declared.operation.Operation.{Operation}
 use Rattle.account_asks.specs.declared.operation.Operation.TheVariants.{SendDocument}
 use Rattle.account_asks.specs.declared.operation.Operation.TheVariants as asks
 use Rattle.account_machine.specs.DeviceEvents.{device_answered}
-use Rattle.account_machine.specs.Events.{AccountEvent, DeviceEvent, OfAccount, OfDevice, Ipp, Turn, Rate}
+use Rattle.account_machine.specs.Events.{AccountEvent, DeviceEvent, OfAccount, OfDevice, Ipp, Switch, Rate}
 use Rattle.account_machine.specs.JobRequests.{has_data, has_password}
 use Rattle.account_machine.specs.Machine.{answered, answered_unopened}
 use Rattle.account_machine.specs.declared.event.Reply.{Reply}
@@ -25,7 +25,7 @@ use Rattle.account_laws.proofs.DocumentsOfJobs.{AreOfJobs, has_of_jobs}
 use Rattle.account_laws.proofs.LifeLemmas.{account_exchange, device_exchange, leads_on, of_each_life, unopened_answer}
 use Rattle.account_laws.proofs.Moved.{document_taken, same_copies, was_unfinished}
 use Rattle.account_laws.specs.AccountsTold.{AccountTold, account_told, after_exchange, nothing_told, rate_told}
-use Rattle.account_laws.specs.Deeds.{Deed, Made, Brought, Canceled, HeldBack, Freed, Released, Started, Settled, Turned, Rated, NoDeed, account_deed, asked_deed, deed_of, device_deed}
+use Rattle.account_laws.specs.Deeds.{Deed, Made, Brought, Canceled, HeldBack, Freed, Released, Started, Settled, Switched, Rated, NoDeed, account_deed, asked_deed, deed_of, device_deed}
 use Rattle.account_laws.specs.HandedByLeave.{given_in}
 use Rattle.account_laws.specs.JobsTold.{JobTold, Stage, Waits, IsFree, Prints, HasEnded, is_over}
 use Rattle.account_laws.specs.Lives.{Exchange, IsLife, Life}
@@ -284,7 +284,7 @@ unopened_finds told now account (Ipp body) = short_finds told now account body (
 unopened_finds told now account _ = tt
 
 device_finds : (told : AccountTold) (x : Exchange) (device : List ℕ) (it : DeviceEvent) (said : Reply) → Finds told x (device_deed device it said)
-device_finds told x device (Turn on) said = elim (is_ok said) as (λ (b : Bool). Finds told x (cond b (Turned device on) NoDeed)) [ true ↦ tt | false ↦ tt ]
+device_finds told x device (Switch on) said = elim (is_ok said) as (λ (b : Bool). Finds told x (cond b (Switched device on) NoDeed)) [ true ↦ tt | false ↦ tt ]
 device_finds told x device (Rate units) said = elim (is_ok said) as (λ (b : Bool). Finds told x (cond b (Rated device units) NoDeed)) [ true ↦ tt | false ↦ tt ]
 
 found_by_account : (past : Life) (room : Option RoomValue) (devices : Devices) (now : ℕ) (account : List ℕ) (it : AccountEvent) → IsFound past room devices

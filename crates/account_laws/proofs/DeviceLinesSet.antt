@@ -4,14 +4,14 @@ use Rattle.std.specs.Prelude.{MatchBool}
 use Rattle.std.specs.Cmp.Lexicographic.{bytes_decides, nat_list_cmp_total}
 use Rattle.std.specs.FinMap.{FinMap, get, get-insert, insert}
 use Rattle.std.specs.Ordering.{eq_by_cmp}
-use Rattle.account_machine.specs.Events.{OfAccount, OfDevice, Turn, Rate}
+use Rattle.account_machine.specs.Events.{OfAccount, OfDevice, Switch, Rate}
 use Rattle.account_machine.specs.declared.event.Reply.{Reply}
 use Rattle.account_machine.specs.declared.event.Reply.TheVariants as reply
 use Rattle.account_laws.proofs.AsTold.{of_an_account, told_more}
 use Rattle.account_laws.proofs.DevicesStay.{same_name}
 use Rattle.account_laws.proofs.OperatorsAnswered.{rates_are_answered, turns_are_answered}
 use Rattle.account_laws.specs.AccountsTold.{AccountTold, account_told, after_deed}
-use Rattle.account_laws.specs.Deeds.{Rated, Turned, NoDeed}
+use Rattle.account_laws.specs.Deeds.{Rated, Switched, NoDeed}
 use Rattle.account_laws.specs.DeviceLines.{AccountsSetNoDevice, RatesSetOneRate, SetsFlag, SetsRate, TurnsSetOneFlag}
 use Rattle.account_laws.specs.Told.{is_ok}
 use Rattle.account_rules.proofs.DeviceMaps as maps
@@ -49,7 +49,7 @@ turns_set_one_flag life room devices is past later now device on said here =
     let told = account_told past in
     let answer = turns_are_answered life room devices is past later now device on said here in
     subst (SetsFlag device on told)
-    (sym (told_more past ((now, OfDevice device (Turn on)), said) ∙ ap (λ (done : Bool). after_deed now told (cond done (Turned device on) NoDeed)) (ap is_ok answer)))
+    (sym (told_more past ((now, OfDevice device (Switch on)), said) ∙ ap (λ (done : Bool). after_deed now told (cond done (Switched device on) NoDeed)) (ap is_ok answer)))
     (sets_flag told device on)
 
 pub rates_set_one_rate : RatesSetOneRate

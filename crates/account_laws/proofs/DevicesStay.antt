@@ -6,7 +6,7 @@ use Rattle.std.specs.Option.{option_map_or}
 use Rattle.std.specs.Ordering.{eq_by_cmp}
 use Rattle.std.proofs.lemmas.Bool.Decides.{nat_tests}
 use Rattle.account_machine.specs.DeviceEvents.{DeviceAnswer, device_answered}
-use Rattle.account_machine.specs.Events.{DeviceEvent, OfDevice, Rate, Turn}
+use Rattle.account_machine.specs.Events.{DeviceEvent, OfDevice, Rate, Switch}
 use Rattle.account_machine.specs.Fits.{fits}
 use Rattle.account_machine.specs.Rates.{AreRated}
 use Rattle.account_laws.specs.RoomsStay.{AreNamed}
@@ -57,7 +57,7 @@ either false done none changed same = same
 
 -- an event of a device
 pub devices_stay : (devices : Devices) (name : List ℕ) (event : DeviceEvent) → IsTrue (is_name name) → IsTrue (fits (OfDevice name event)) → AreDevices devices → AreDevices (device_answered devices (OfDevice name event)).devices
-devices_stay devices name (Turn on) is fit all =
+devices_stay devices name (Switch on) is fit all =
     changed_stay devices name (record { name = name; on = on; rate = rate_of devices name }) is (rate_within devices name (get devices name) refl all.rated) all
 devices_stay devices name (Rate units) is fit all =
     either (contains_key devices name) _ _ (changed_stay devices name (record { name = name; on = is_on_in devices name; rate = units }) is (units_within name units fit) all) all

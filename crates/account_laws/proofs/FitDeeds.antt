@@ -6,7 +6,7 @@ use Rattle.ipp_coding.specs.Limits.{header_length}
 use Rattle.account_asks.specs.Asks.{PlainAsk}
 use Rattle.account_asks.specs.declared.operation.Operation.{Operation}
 use Rattle.account_asks.specs.declared.operation.Operation.TheVariants as asks
-use Rattle.account_machine.specs.Events.{AccountEvent, DeviceEvent, OfAccount, OfDevice, Open, Ipp, Release, Start, Settle, Grant, Turn, Rate}
+use Rattle.account_machine.specs.Events.{AccountEvent, DeviceEvent, OfAccount, OfDevice, Open, Ipp, Release, Start, Settle, Grant, Switch, Rate}
 use Rattle.account_machine.specs.JobRequests.{has_password}
 use Rattle.account_machine.specs.Machine.{answered}
 use Rattle.account_machine.specs.declared.event.Reply.{Reply}
@@ -16,7 +16,7 @@ use Rattle.account_laws.proofs.Changes.{Makes, refuses, reads, makes, takes, act
 use Rattle.account_laws.proofs.DeedFinds.{IsPrinted, none_next, printed_if_settled, same_act, waits_if_released}
 use Rattle.account_laws.proofs.LifeLemmas.{front_of_life, unopened_answer}
 use Rattle.account_laws.specs.AccountsTold.{AccountTold, account_told, left_told, rate_told}
-use Rattle.account_laws.specs.Deeds.{Deed, Made, Freed, Released, Settled, Granted, Turned, Rated, NoDeed, account_deed, asked_deed, deed_of, device_deed, moment_of}
+use Rattle.account_laws.specs.Deeds.{Deed, Made, Freed, Released, Settled, Granted, Switched, Rated, NoDeed, account_deed, asked_deed, deed_of, device_deed, moment_of}
 use Rattle.account_laws.specs.JobsTold.{JobTold, Stage, Waits, need_told}
 use Rattle.account_laws.specs.Lives.{Exchange, IsLife, Life}
 use Rattle.account_laws.specs.StandsAsTold.{IsAsTold, IsAt, device_told}
@@ -125,7 +125,7 @@ account_fit told None devices known now account (Grant month pages) was = tt
 account_fit told (Some room) devices known now account it keeps = fit_if_made told room devices known keeps now account it _ _ (makes_one room devices now account it)
 
 device_fit : (told : AccountTold) (now : ℕ) (device : List ℕ) (it : DeviceEvent) (said : Reply) → IsFit told now (device_deed device it said)
-device_fit told now device (Turn on) said = elim (is_ok said) as (λ (b : Bool). IsFit told now (cond b (Turned device on) NoDeed)) [ true ↦ tt | false ↦ tt ]
+device_fit told now device (Switch on) said = elim (is_ok said) as (λ (b : Bool). IsFit told now (cond b (Switched device on) NoDeed)) [ true ↦ tt | false ↦ tt ]
 device_fit told now device (Rate units) said = elim (is_ok said) as (λ (b : Bool). IsFit told now (cond b (Rated device units) NoDeed)) [ true ↦ tt | false ↦ tt ]
 
 pub deeds_fit : (life : Life) (room : Option RoomValue) (devices : Devices) → IsLife life room devices → (past later : Life) (x : Exchange) → life ≡ past ++ x ∷ later → IsFit (account_told past) (moment_of x) (deed_of x)

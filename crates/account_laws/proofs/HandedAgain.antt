@@ -9,7 +9,7 @@ use Rattle.std.proofs.lemmas.Slice.Eq.{bytes_eq-Decides}
 use Rattle.account_asks.specs.Asks.{PlainAsk}
 use Rattle.account_asks.specs.declared.operation.Operation.{Operation}
 use Rattle.account_asks.specs.declared.operation.Operation.TheVariants as asks
-use Rattle.account_machine.specs.Events.{Open, Ipp, Release, Start, Settle, Grant, Turn, Rate, OfAccount, OfDevice}
+use Rattle.account_machine.specs.Events.{Open, Ipp, Release, Start, Settle, Grant, Switch, Rate, OfAccount, OfDevice}
 use Rattle.account_machine.specs.Steps.{and_then}
 use Rattle.account_machine.specs.declared.event.Reply.{Reply}
 use Rattle.account_machine.specs.declared.event.Reply.TheVariants as reply
@@ -18,7 +18,7 @@ use Rattle.account_laws.proofs.DeedFinds.{CanBeStarted, Finds, IsFreeFor, TakesD
 use Rattle.account_laws.proofs.DeedTurns.{next_is, others_same, turned, turned_so}
 use Rattle.account_laws.proofs.DocumentsOfJobs.{AreOfJobs, handed_as_sent, has_of_jobs}
 use Rattle.account_laws.specs.AccountsTold.{AccountTold, account_told, after_deed, rate_told}
-use Rattle.account_laws.specs.Deeds.{Deed, Opened, Made, Brought, Canceled, HeldBack, Freed, Released, Started, Settled, Granted, Turned, Rated, NoDeed, asked_deed, deed_of, deed_of_request, moment_of}
+use Rattle.account_laws.specs.Deeds.{Deed, Opened, Made, Brought, Canceled, HeldBack, Freed, Released, Started, Settled, Granted, Switched, Rated, NoDeed, asked_deed, deed_of, deed_of_request, moment_of}
 use Rattle.account_laws.specs.HandedAgain as law
 use Rattle.account_laws.specs.HandedAgain.{WasHanded, cancels}
 use Rattle.account_laws.specs.HandedOnce.{hands_out, settles}
@@ -91,7 +91,7 @@ start_of device number ((now, OfAccount account (Start at job)), told) is = by (
     by false same = none_else device number NoDeed same refl
 start_of device number ((now, OfAccount account (Settle at job impressions failed)), told) is = none_else device number _ is (if_done (is_ok told) (Settled at job impressions failed) refl)
 start_of device number ((now, OfAccount account (Grant month pages)), told) is = none_else device number _ is (if_done (is_ok told) (Granted month pages) refl)
-start_of device number ((now, OfDevice at (Turn on)), told) is = none_else device number _ is (if_done (is_ok told) (Turned at on) refl)
+start_of device number ((now, OfDevice at (Switch on)), told) is = none_else device number _ is (if_done (is_ok told) (Switched at on) refl)
 start_of device number ((now, OfDevice at (Rate units)), told) is = none_else device number _ is (if_done (is_ok told) (Rated at units) refl)
 
 -- ---- what holds of each job that a device prints

@@ -4,7 +4,7 @@ use Rattle.std.specs.FinMap.{contains_key}
 use Rattle.std.proofs.lemmas.Bool.{true≢false}
 use Rattle.ipp_coding.specs.Limits.{header_length}
 use Rattle.account_machine.specs.DeviceEvents.{device_answered}
-use Rattle.account_machine.specs.Events.{AccountEvent, DeviceEvent, OfAccount, OfDevice, Ipp, Turn, Rate}
+use Rattle.account_machine.specs.Events.{AccountEvent, DeviceEvent, OfAccount, OfDevice, Ipp, Switch, Rate}
 use Rattle.account_machine.specs.Machine.{answered, answered_unopened}
 use Rattle.account_machine.specs.declared.event.Reply.{Reply}
 use Rattle.account_laws.proofs.Changes.{Makes, refuses, starts, makes_one}
@@ -29,7 +29,7 @@ by_account None devices now account it is = absurd (true≢false (sym is ∙ non
 by_account (Some room) devices now account it is = by_open room devices now account it _ _ (makes_one room devices now account it) is
 
 none_of_devices : (devices : Devices) (device : List ℕ) (it : DeviceEvent) → is_documents (device_answered devices (OfDevice device it)).reply ≡ false
-none_of_devices devices device (Turn on) = refl
+none_of_devices devices device (Switch on) = refl
 none_of_devices devices device (Rate units) = elim (contains_key devices device) as (λ (b : Bool). is_documents (rated_by b devices device units).reply ≡ false) [ true ↦ refl | false ↦ refl ]
 
 pub handed_at_starts : HandedAtStarts

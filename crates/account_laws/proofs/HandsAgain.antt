@@ -17,7 +17,7 @@ use Rattle.account_laws.proofs.DocumentsOfJobs.{AreOfJobs, has_of_jobs}
 use Rattle.account_laws.proofs.DoneStays.{FindsOf, Goes, acts_on, changed, goes_from, goes_on, turned_on, was_there}
 use Rattle.account_laws.proofs.HandedAgain.{IsPrintedBy, parts_as_told, parts_told}
 use Rattle.account_laws.specs.AccountsTold.{AccountTold, account_told, after_deed, after_exchange, nothing_told, rate_told, with_job}
-use Rattle.account_laws.specs.Deeds.{Deed, Brought, Canceled, HeldBack, Freed, Released, Started, Settled, Turned, deed_of, moment_of}
+use Rattle.account_laws.specs.Deeds.{Deed, Brought, Canceled, HeldBack, Freed, Released, Started, Settled, Switched, deed_of, moment_of}
 use Rattle.account_laws.specs.HandedAgain as law
 use Rattle.account_laws.specs.HandedAgain.{cancels}
 use Rattle.account_laws.specs.HandedOnce.{settles}
@@ -98,7 +98,7 @@ of_job : (device : List ℕ) (told : AccountTold) (number : ℕ) (change : JobTo
 of_job device told number change known = let same = of_a_job told number change in ap (λ (on : FinMap name_cmp Bool). is_some (get on device)) same.on ∙ known
 
 known_still : (device : List ℕ) (now : ℕ) (told : AccountTold) (deed : Deed) → IsKnown device told → IsKnown device (after_deed now told deed)
-known_still device now told (Turned at on) known =
+known_still device now told (Switched at on) known =
     ap is_some (get-insert nat_list_cmp_total told.on at on device) ∙ by (eq_by_cmp name_cmp device at)
   where
     by : (b : Bool) → is_some (cond b (Some on) (get told.on device)) ≡ true

@@ -8,7 +8,7 @@ use Rattle.account_asks.specs.declared.operation.Operation.{Operation}
 use Rattle.account_asks.specs.declared.operation.Operation.TheVariants as asks
 use Rattle.ipp_coding.specs.Limits.{header_length}
 use Rattle.account_machine.specs.DeviceEvents.{device_answered}
-use Rattle.account_machine.specs.Events.{AccountEvent, DeviceEvent, OfAccount, OfDevice, Open, Ipp, Release, Start, Settle, Grant, Turn, Rate}
+use Rattle.account_machine.specs.Events.{AccountEvent, DeviceEvent, OfAccount, OfDevice, Open, Ipp, Release, Start, Settle, Grant, Switch, Rate}
 use Rattle.account_machine.specs.Machine.{answered}
 use Rattle.account_machine.specs.declared.event.Reply.{Reply}
 use Rattle.account_laws.proofs.AsTold.{deed_done, makes_one_job, no_deed, rated_by, reads_nothing, told_more}
@@ -16,8 +16,8 @@ use Rattle.account_laws.proofs.Changes.{Makes, refuses, reads, makes, takes, act
 use Rattle.account_laws.proofs.DeedTurns.{next_after, next_is, others_same}
 use Rattle.account_laws.proofs.LifeLemmas.{front_of_life, leads_on, unopened_answer}
 use Rattle.account_laws.specs.AccountsTold.{AccountTold, account_told, after_deed}
-use Rattle.account_laws.specs.Deeds.{Deed, Opened, Made, Brought, Released, Started, Settled, Granted, Turned, Rated, NoDeed, account_deed, asked_deed, deed_of, deed_of_request, device_deed, moment_of}
-use Rattle.account_laws.specs.ItsOwnJob.{ItsOwnJobAlone, OnlyAsks, ReadsAndRefusalsDoNothing, TellsNoDeed, only_asks}
+use Rattle.account_laws.specs.Deeds.{Deed, Opened, Made, Brought, Released, Started, Settled, Granted, Switched, Rated, NoDeed, account_deed, asked_deed, deed_of, deed_of_request, device_deed, moment_of}
+use Rattle.account_laws.specs.ItsOwnJob.{ItsOwnJobOnly, OnlyAsks, ReadsAndRefusalsDoNothing, TellsNoDeed, only_asks}
 use Rattle.account_laws.specs.JobsMade.{jobs_made}
 use Rattle.account_laws.specs.Lives.{Exchange, IsLife, LeadsTo, Life}
 use Rattle.account_laws.specs.Told.{is_successful, request_of}
@@ -26,8 +26,8 @@ use Rattle.account_rules.specs.Devices.{Devices}
 use Rattle.account_rules.specs.declared.job.Job.{Job}
 use Rattle.account_state.specs.Rooms.{RoomValue}
 
-pub its_own_job_alone : ItsOwnJobAlone
-its_own_job_alone life room devices is past later x here = record {
+pub its_own_job_only : ItsOwnJobOnly
+its_own_job_only life room devices is past later x here = record {
   others = λ number isnt. ap (λ (told : AccountTold). get told.jobs number) (told_more past x) ∙ others_same (moment_of x) (account_told past) (jobs_made past) number (deed_of x) (next_is past) isnt;
   next = ap (λ (told : AccountTold). told.next) (told_more past x) ∙ next_after (moment_of x) (account_told past) (deed_of x);
 }
@@ -69,7 +69,7 @@ same_account None devices now account (Grant month pages) none = refl
 same_account (Some room) devices now account it none = ap Some (same_room room devices now account it _ _ (makes_one room devices now account it) none)
 
 same_devices : (devices : Devices) (device : List ℕ) (it : DeviceEvent) → let answer = device_answered devices (OfDevice device it) in device_deed device it answer.reply ≡ NoDeed → answer.devices ≡ devices
-same_devices devices device (Turn on) none = some_deed (Turned device on) does refl refl none
+same_devices devices device (Switch on) none = some_deed (Switched device on) does refl refl none
 same_devices devices device (Rate units) none = by (contains_key devices device) none
   where
     by : (there : Bool) → device_deed device (Rate units) (rated_by there devices device units).reply ≡ NoDeed → (rated_by there devices device units).devices ≡ devices
@@ -102,7 +102,7 @@ asks_nothing ((now, OfDevice device it), said) only = absurd only
 
 tells_nothing : (x : Exchange) → TellsNoDeed x.1 → deed_of x ≡ NoDeed
 tells_nothing ((now, OfAccount account it), said) tells = no_deed account it said tells.no_success tells.not_ok tells.no_documents
-tells_nothing ((now, OfDevice device (Turn on)), said) tells = ap (λ (b : Bool). cond b (Turned device on) NoDeed) tells.not_ok
+tells_nothing ((now, OfDevice device (Switch on)), said) tells = ap (λ (b : Bool). cond b (Switched device on) NoDeed) tells.not_ok
 tells_nothing ((now, OfDevice device (Rate units)), said) tells = ap (λ (b : Bool). cond b (Rated device units) NoDeed) tells.not_ok
 
 pub reads_and_refusals_do_nothing : ReadsAndRefusalsDoNothing

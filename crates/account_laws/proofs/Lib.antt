@@ -25,7 +25,7 @@ pub mod LineChecks
 pub mod StationsAnswered
 pub mod FitDeeds
 pub mod JobSums
-pub mod PageAccounts
+pub mod QuotaAccounts
 pub mod GrantedMonths
 pub mod DeviceLinesSet
 pub mod RequestsAnswered

@@ -23,7 +23,7 @@ use Rattle.account_asks.specs.Requests.{job_group_of}
 use Rattle.account_asks.specs.Targets.{job_id, job_numbered}
 use Rattle.account_asks.specs.declared.operation.Operation.{Operation}
 use Rattle.account_asks.specs.declared.operation.Operation.TheVariants as asks
-use Rattle.account_machine.specs.Events.{OfAccount, OfDevice, Open, Ipp, Release, Start, Settle, Grant, Turn, Rate}
+use Rattle.account_machine.specs.Events.{OfAccount, OfDevice, Open, Ipp, Release, Start, Settle, Grant, Switch, Rate}
 use Rattle.account_machine.specs.NewJobs.{made_names}
 use Rattle.account_machine.specs.declared.event.Reply.{Reply}
 use Rattle.account_machine.specs.declared.event.Reply.TheVariants as reply
@@ -35,7 +35,7 @@ use Rattle.account_laws.proofs.SpelledAttributes.{number_again, number_in}
 use Rattle.account_laws.proofs.Tellings.{tells_error}
 use Rattle.account_laws.specs.AccountsTold.{AccountTold, account_told}
 use Rattle.account_laws.specs.AsksLieWithin.{AreBytes}
-use Rattle.account_laws.specs.Deeds.{Deed, Opened, Released, Started, Settled, Granted, Turned, Rated, NoDeed, asked_deed, deed_of, deed_of_request}
+use Rattle.account_laws.specs.Deeds.{Deed, Opened, Released, Started, Settled, Granted, Switched, Rated, NoDeed, asked_deed, deed_of, deed_of_request}
 use Rattle.account_laws.specs.DoneAnswers.{groups_told, job_shown, place_told}
 use Rattle.account_laws.specs.JobsTold.{job_made}
 use Rattle.account_laws.specs.Lives.{Exchange, IsLife, Life}
@@ -265,7 +265,7 @@ jobs_are_counted life room devices is past later ((now, OfAccount account (Relea
 jobs_are_counted life room devices is past later ((now, OfAccount account (Start device number)), said) here made of_bytes = absurd (line_makes_none (is_documents said) (Started device number) refl made)
 jobs_are_counted life room devices is past later ((now, OfAccount account (Settle device number impressions failed)), said) here made of_bytes = absurd (line_makes_none (is_ok said) (Settled device number impressions failed) refl made)
 jobs_are_counted life room devices is past later ((now, OfAccount account (Grant month pages)), said) here made of_bytes = absurd (line_makes_none (is_ok said) (Granted month pages) refl made)
-jobs_are_counted life room devices is past later ((now, OfDevice device (Turn on)), said) here made of_bytes = absurd (line_makes_none (is_ok said) (Turned device on) refl made)
+jobs_are_counted life room devices is past later ((now, OfDevice device (Switch on)), said) here made of_bytes = absurd (line_makes_none (is_ok said) (Switched device on) refl made)
 jobs_are_counted life room devices is past later ((now, OfDevice device (Rate units)), said) here made of_bytes = absurd (line_makes_none (is_ok said) (Rated device units) refl made)
 
 made_between : (past between : Life) (one : Exchange) → is_making (deed_of one) ≡ true → jobs_made past + 1 ≤ jobs_made (past ++ one ∷ between)

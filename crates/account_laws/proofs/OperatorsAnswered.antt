@@ -4,7 +4,7 @@ use Rattle.std.specs.FinMap.{get}
 use Rattle.std.specs.Fmt.{decimal}
 use Rattle.account_machine.specs.Verdicts.{line_done, line_refused}
 use Rattle.account_machine.specs.DeviceEvents.{DeviceAnswer, device_answered}
-use Rattle.account_machine.specs.Events.{OfAccount, OfDevice, Open, Grant, Turn, Rate}
+use Rattle.account_machine.specs.Events.{OfAccount, OfDevice, Open, Grant, Switch, Rate}
 use Rattle.account_machine.specs.Machine.{answered}
 use Rattle.account_machine.specs.Steps.{refusing_or, telling}
 use Rattle.account_machine.specs.declared.event.Reply.TheVariants as reply
@@ -57,7 +57,7 @@ grants_are_answered life room devices is past later now account month pages said
 
 pub turns_are_answered : TurnsAreAnswered
 turns_are_answered life room devices is past later now device on said here =
-    let at = front_of_life life past later ((now, OfDevice device (Turn on)), said) room devices is here in
+    let at = front_of_life life past later ((now, OfDevice device (Switch on)), said) room devices is here in
     at.rest.0
 
 rate_told_so : (told : AccountTold) (devices : Devices) (device : List ℕ) (units : ℕ) → get devices device ≡ device_told told device → (device_answered devices (OfDevice device (Rate units))).reply ≡ reply.Line (rate_answer told device)

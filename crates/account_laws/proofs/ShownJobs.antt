@@ -25,7 +25,7 @@ use Rattle.account_rules.specs.declared.job.Job.{Job}
 use Rattle.account_rules.specs.declared.job.JobState.{JobState}
 use Rattle.account_rules.specs.declared.job.JobState.TheVariants.{Held, Pending, Processing, Canceled, Aborted, Completed}
 use Rattle.account_rules.specs.declared.job.Standing.{Standing}
-use Rattle.account_state.specs.Queues.{at_most, is_later, put_by_end}
+use Rattle.account_state.specs.Queues.{first_jobs, is_later, put_by_end}
 use Rattle.account_state.specs.Rooms.{RoomValue}
 
 -- ---- what is shown of a job
@@ -206,9 +206,9 @@ chosen_shown whiches.NotCompleted jobs = filter_changed as_shown (λ (job : Job)
 chosen_shown whiches.Completed jobs =
     ap (fold put_by_end []) (filter_changed as_shown (λ (job : Job). not (is_unfinished job.standing.state)) jobs) ∙ fold_shown [] (filter (λ (job : Job). not (is_unfinished job.standing.state)) jobs)
 
-at_most_shown : (most : Option ℕ) (jobs : List Job) → at_most most (map as_shown jobs) ≡ map as_shown (at_most most jobs)
-at_most_shown None jobs = refl
-at_most_shown (Some limit) jobs = take-map as_shown limit jobs
+first_jobs_shown : (most : Option ℕ) (jobs : List Job) → first_jobs most (map as_shown jobs) ≡ map as_shown (first_jobs most jobs)
+first_jobs_shown None jobs = refl
+first_jobs_shown (Some limit) jobs = take-map as_shown limit jobs
 
 groups_shown : (at : PlainPlace) (jobs : List Job) (wanted : Option (List (List ℕ))) → job_groups at jobs wanted ≡ job_groups at (map as_shown jobs) wanted
 groups_shown at [] wanted = refl
@@ -217,7 +217,7 @@ groups_shown at (job ∷ jobs) wanted = λ i. group_shown at job wanted i ∷ gr
 pub queue_shown : (at : PlainPlace) (ask : PlainAsk) (jobs : List Job) (wanted : Option (List (List ℕ))) → job_groups at (asked_jobs ask jobs) wanted ≡ job_groups at (asked_jobs ask (map as_shown jobs)) wanted
 queue_shown at ask jobs wanted =
     groups_shown at (asked_jobs ask jobs) wanted
-    ∙ ap (λ (jobs : List Job). job_groups at jobs wanted) (sym (ap (at_most ask.limit) (chosen_shown ask.which jobs) ∙ at_most_shown ask.limit (chosen ask.which jobs)))
+    ∙ ap (λ (jobs : List Job). job_groups at jobs wanted) (sym (ap (first_jobs ask.limit) (chosen_shown ask.which jobs) ∙ first_jobs_shown ask.limit (chosen ask.which jobs)))
 
 pub listed_as_told : (at : PlainPlace) (ask : PlainAsk) (told : AccountTold) (room : RoomValue) (wanted : Option (List (List ℕ))) → StandsAsTold told room
     → job_groups at (asked_jobs ask (values room.jobs)) wanted ≡ job_groups at (asked_jobs ask (jobs_told told)) wanted

@@ -10,7 +10,7 @@ use Rattle.account_asks.specs.declared.operation.Operation.{Operation}
 use Rattle.account_asks.specs.declared.operation.Operation.TheVariants as asks
 use Rattle.account_laws.specs.VerdictsTold.{AccountsAreToldVerdicts, DevicesAreToldVerdicts, ReplyTells, ResponseTells}
 use Rattle.account_machine.specs.DeviceEvents.{DeviceAnswer}
-use Rattle.account_machine.specs.Events.{PlainEvent, OfAccount, OfDevice, Open, Ipp, Release, Start, Settle, Grant, Turn, Rate}
+use Rattle.account_machine.specs.Events.{PlainEvent, OfAccount, OfDevice, Open, Ipp, Release, Start, Settle, Grant, Switch, Rate}
 use Rattle.account_machine.specs.JobActs.{job_in}
 use Rattle.account_machine.specs.JobRequests.{cancel_of, document_taken, has_data, hold_of, release_of}
 use Rattle.account_machine.specs.Machine.{Answer, answered_open, responded, responded_to}
@@ -130,6 +130,6 @@ rate_tells devices name units true = (success.Ok, refl, refl)
 rate_tells devices name units false = (refl, refl)
 
 pub devices_are_told_verdicts : DevicesAreToldVerdicts
-devices_are_told_verdicts devices (OfDevice device (Turn on)) = (success.Ok, refl, refl)
+devices_are_told_verdicts devices (OfDevice device (Switch on)) = (success.Ok, refl, refl)
 devices_are_told_verdicts devices (OfDevice device (Rate units)) = rate_tells devices device units (contains_key devices device)
 devices_are_told_verdicts devices (OfAccount account it) = refl

@@ -4,7 +4,7 @@ use Rattle.std.specs.FinMap.{FinMap, empty, entries, get, insert, values}
 use Rattle.std.specs.List.{sum_by}
 use Rattle.std.specs.Option.{option_map_or}
 use Rattle.std.specs.Ordering.{nat_cmp}
-use Rattle.account_laws.specs.Deeds.{Deed, Opened, Made, Brought, Canceled, HeldBack, Freed, Released, Started, Settled, Granted, Turned, Rated, NoDeed, deed_of, moment_of}
+use Rattle.account_laws.specs.Deeds.{Deed, Opened, Made, Brought, Canceled, HeldBack, Freed, Released, Started, Settled, Granted, Switched, Rated, NoDeed, deed_of, moment_of}
 use Rattle.account_laws.specs.JobsTold.{JobTold, is_over, job_brought, job_canceled, job_freed, job_held, job_made, job_released, job_settled, job_started, units_charged, units_reserved}
 use Rattle.account_laws.specs.Lives.{Exchange, Life}
 use Rattle.account_rules.specs.Devices.{name_cmp}
@@ -61,7 +61,7 @@ after_deed now told (Settled device number impressions failed) =
     with_job told number (job_settled impressions failed now)
 after_deed now told (Granted month pages) =
     record told { grants = insert told.grants month pages }
-after_deed now told (Turned device on) = record told { on = insert told.on device on }
+after_deed now told (Switched device on) = record told { on = insert told.on device on }
 after_deed now told (Rated device units) = record told { rates = insert told.rates device units }
 after_deed now told NoDeed = told
 
@@ -77,7 +77,7 @@ abbrev pub unfinished_told : AccountTold → ℕ
 unfinished_told told =
     count_by (λ (job : JobTold). not (is_over job.stage)) (values told.jobs)
 
--- ---- the page account
+-- ---- the account of the quota
 
 -- what was granted for the months up to the given one
 abbrev pub pages_up_to : (month : ℕ) (grant : ℕ × ℕ) → ℕ

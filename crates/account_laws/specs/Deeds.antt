@@ -3,7 +3,7 @@ use Rattle.std.specs.Prelude.{ℕ, Bool, List, Option, Some, None, if◌then◌e
 use Rattle.account_asks.specs.Asks.{PlainAsk}
 use Rattle.account_asks.specs.declared.operation.Operation.{Operation}
 use Rattle.account_asks.specs.declared.operation.Operation.TheVariants.{PrintJob, CreateJob, SendDocument, CancelJob, HoldJob, ReleaseJob}
-use Rattle.account_machine.specs.Events.{AccountEvent, DeviceEvent, OfAccount, OfDevice, Open, Ipp, Release, Start, Settle, Grant, Turn, Rate}
+use Rattle.account_machine.specs.Events.{AccountEvent, DeviceEvent, OfAccount, OfDevice, Open, Ipp, Release, Start, Settle, Grant, Switch, Rate}
 use Rattle.account_machine.specs.declared.event.Reply.{Reply}
 use Rattle.account_laws.specs.Lives.{Exchange}
 use Rattle.account_laws.specs.Told.{is_documents, is_ok, is_successful, request_of}
@@ -22,9 +22,9 @@ pub data Deed : Type 0 where
   Released : (device : List ℕ) (number impressions : ℕ) → Deed
   Started : (device : List ℕ) (number : ℕ) → Deed
   Settled : (device : List ℕ) (number impressions : ℕ) (failed : Bool) → Deed
-  -- an operator granted pages, turned a device on or off, or set its rate
+  -- an operator granted pages, switched a device on or off, or set its rate
   Granted : (month pages : ℕ) → Deed
-  Turned : (device : List ℕ) (on : Bool) → Deed
+  Switched : (device : List ℕ) (on : Bool) → Deed
   Rated : (device : List ℕ) (units : ℕ) → Deed
   -- nothing: it was refused, or asked only what there is
   NoDeed : Deed
@@ -58,7 +58,7 @@ account_deed account (Settle device number impressions failed) told =
 account_deed account (Grant month pages) told = if is_ok told then Granted month pages else NoDeed
 
 abbrev pub device_deed : (device : List ℕ) → DeviceEvent → Reply → Deed
-device_deed device (Turn on) told = if is_ok told then Turned device on else NoDeed
+device_deed device (Switch on) told = if is_ok told then Switched device on else NoDeed
 device_deed device (Rate units) told = if is_ok told then Rated device units else NoDeed
 
 abbrev pub deed_of : Exchange → Deed

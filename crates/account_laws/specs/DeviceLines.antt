@@ -2,7 +2,7 @@
 -- this project's own).
 use Rattle.std.specs.Prelude.{◌≡◌, ◌≢◌, ℕ, Bool, List, [], ◌∷◌, ◌++◌, Some, is_none, MatchBool}
 use Rattle.std.specs.FinMap.{get}
-use Rattle.account_machine.specs.Events.{AccountEvent, OfAccount, OfDevice, Turn, Rate}
+use Rattle.account_machine.specs.Events.{AccountEvent, OfAccount, OfDevice, Switch, Rate}
 use Rattle.account_machine.specs.declared.event.Reply.{Reply}
 use Rattle.account_laws.specs.AccountsTold.{AccountTold, account_told}
 use Rattle.account_laws.specs.Lives.{Life, OfLives}
@@ -40,10 +40,10 @@ pub record KeepsDevices (before after : AccountTold) : Type 0 where
 abbrev pub TurnsSetOneFlag : Type 0
 TurnsSetOneFlag = OfLives (λ life.
     (past later : Life) (now : ℕ) (device : List ℕ) (on : Bool) (said : Reply)
-    → life ≡ past ++ ((now, OfDevice device (Turn on)), said) ∷ later
+    → life ≡ past ++ ((now, OfDevice device (Switch on)), said) ∷ later
     → SetsFlag device on
     (account_told past)
-    (account_told (past ++ ((now, OfDevice device (Turn on)), said) ∷ [])))
+    (account_told (past ++ ((now, OfDevice device (Switch on)), said) ∷ [])))
 
 -- or sets its rate, where the device is known, and else nothing
 abbrev pub RatesSetOneRate : Type 0

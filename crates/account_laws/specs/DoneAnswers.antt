@@ -82,7 +82,7 @@ its_group told number group =
 
 -- ---- the printer as it is shown
 
--- it has a job in hand while one is printed; some device takes jobs if one was turned on
+-- it has a job in hand while one is printed; some device takes jobs if one was switched on
 abbrev pub printer_told : AccountTold → PrinterNow
 printer_told told =
     printer_now (unfinished_told told) told.next

@@ -33,8 +33,8 @@ pub record ChangesItsOwn (made : ℕ) (deed : Deed) (before after : AccountTold)
       → get after.jobs number ≡ get before.jobs number
   pub next : after.next ≡ (if is_making deed then before.next + 1 else before.next)
 
-abbrev pub ItsOwnJobAlone : Type 0
-ItsOwnJobAlone = OfLives (λ life.
+abbrev pub ItsOwnJobOnly : Type 0
+ItsOwnJobOnly = OfLives (λ life.
     (past later : Life) (x : Exchange) → life ≡ past ++ x ∷ later
     → ChangesItsOwn (jobs_made past) (deed_of x) (account_told past)
     (account_told (past ++ x ∷ [])))

@@ -5,16 +5,17 @@ use Rattle.account_laws.specs.AccountsTold.{AccountTold, account_told}
 use Rattle.account_laws.specs.JobsTold.{JobTold}
 use Rattle.account_laws.specs.Lives.{Life, OfLives}
 
--- the job is there, made by the same request, so with its name, password and copies, and then
-pub record HasLasted (number : ℕ) (job : JobTold) (told : AccountTold) : Type 0 where
+-- the job is there, made by the same request at the same moment, so with the same name, password
+-- and copies
+pub record HasStayed (number : ℕ) (job : JobTold) (told : AccountTold) : Type 0 where
   pub later : JobTold
   pub is_there : get told.jobs number ≡ Some later
   pub maker : later.maker ≡ job.maker
   pub made : later.made ≡ job.made
 
 -- however a life goes on, no job disappears, and none comes to be another's
-abbrev pub JobsLast : Type 0
-JobsLast = OfLives (λ life.
+abbrev pub JobsStay : Type 0
+JobsStay = OfLives (λ life.
     (past more : Life) (number : ℕ) (job : JobTold)
     → life ≡ past ++ more → get (account_told past).jobs number ≡ Some job
-    → HasLasted number job (account_told life))
+    → HasStayed number job (account_told life))

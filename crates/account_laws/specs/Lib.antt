@@ -21,7 +21,7 @@ pub mod PasswordsStaySecret
 pub mod OtherPasswords
 pub mod RoomsStay
 pub mod AsksLieWithin
-pub mod PageAccount
+pub mod QuotaAccount
 pub mod MonthsGrantedOnce
 pub mod DeviceLines
 pub mod NewNumbers

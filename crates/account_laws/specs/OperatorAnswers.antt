@@ -2,7 +2,7 @@
 use Rattle.std.specs.Prelude.{◌≡◌, ℕ, ◌==◌, Bool, codes, List, ◌∷◌, ◌++◌, Option, Some, None, is_none, if◌then◌else◌}
 use Rattle.std.specs.FinMap.{get}
 use Rattle.std.specs.Fmt.{decimal}
-use Rattle.account_machine.specs.Events.{OfAccount, OfDevice, Open, Grant, Turn, Rate}
+use Rattle.account_machine.specs.Events.{OfAccount, OfDevice, Open, Grant, Switch, Rate}
 use Rattle.account_machine.specs.declared.event.Reply.{Reply}
 use Rattle.account_machine.specs.declared.event.Reply.TheVariants as reply
 use Rattle.account_laws.specs.AccountsTold.{AccountTold, account_told}
@@ -40,11 +40,11 @@ GrantsAreAnswered = OfLives (λ life.
     → life ≡ past ++ ((now, OfAccount account (Grant month pages)), said) ∷ later
     → said ≡ reply.Line (grant_answer (account_told past) month pages))
 
--- a device can always be turned on or off
+-- a device can always be switched on or off
 abbrev pub TurnsAreAnswered : Type 0
 TurnsAreAnswered = OfLives (λ life.
     (past later : Life) (now : ℕ) (device : List ℕ) (on : Bool) (said : Reply)
-    → life ≡ past ++ ((now, OfDevice device (Turn on)), said) ∷ later
+    → life ≡ past ++ ((now, OfDevice device (Switch on)), said) ∷ later
     → said ≡ reply.Line (codes "ok"))
 
 abbrev pub RatesAreAnswered : Type 0

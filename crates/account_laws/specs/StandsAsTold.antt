@@ -107,7 +107,7 @@ AccountStands told (Some room) = StandsAsTold told room
 
 -- ---- the devices
 
--- a device that was turned on or off is known, and no other
+-- a device that was switched on or off is known, and no other
 abbrev pub device_told : (told : AccountTold) (name : List ℕ) → Option Device
 device_told told name =
     option_map

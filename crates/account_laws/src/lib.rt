@@ -6,18 +6,18 @@
 mod answers;
 mod laws;
 mod operators;
-mod page_account;
 mod printing;
+mod quota_account;
 mod requests;
 mod verdicts;
 
 pub use answers::{operators_are_answered, stations_are_answered};
 pub use laws::{asks_lie_within, leaves_as_told, lives_go_on, rooms_stay};
 pub use operators::{devices_are_set_by_their_lines, months_are_granted_once};
-pub use page_account::{accounts_balance, releases_owe_nothing, settlements_charge};
 pub use printing::{
-    done_stays, handed_again, handed_as_sent, handed_by_leave, handed_once, its_own_job_alone,
+    done_stays, handed_again, handed_as_sent, handed_by_leave, handed_once, its_own_job_only,
     passwords_stay_secret,
 };
-pub use requests::{asks_are_spelled, jobs_are_counted, jobs_last, requests_are_answered};
+pub use quota_account::{accounts_balance, releases_owe_nothing, settlements_charge};
+pub use requests::{asks_are_spelled, jobs_are_counted, jobs_stay, requests_are_answered};
 pub use verdicts::replies_tell_verdicts;

@@ -5,7 +5,7 @@ ghost use Rattle.account_laws.specs.HandedAgain.{HandedAgain, HandsAgain};
 ghost use Rattle.account_laws.specs.HandedByLeave.{HandedByLeave};
 ghost use Rattle.account_laws.specs.HandedOnce.{HandedOnce, SettledOnceAtMost};
 ghost use Rattle.account_laws.specs.HandedAsSent.{HandedAsSent, HandedAtStarts};
-ghost use Rattle.account_laws.specs.ItsOwnJob.{ItsOwnJobAlone, ReadsAndRefusalsDoNothing};
+ghost use Rattle.account_laws.specs.ItsOwnJob.{ItsOwnJobOnly, ReadsAndRefusalsDoNothing};
 ghost use Rattle.account_laws.specs.OtherPasswords.{AlikeButForPassword};
 ghost use Rattle.account_laws.specs.PasswordsStaySecret.{PasswordsStaySecret, WrongPasswordsOpenNothing};
 ghost use Rattle.account_laws.specs.DoneStays.{CanceledIsNotHandedOut, ClosedTakesNoMore, EndedStays, HeldWaitsForRelease};
@@ -53,8 +53,8 @@ pub fn done_stays()
 /// Law: what is asked changes the one job that it is about, and no other; the next number is one
 /// more where a job is made. What only asks what there is, and what is refused, does nothing:
 /// without it all else would have been answered the same.
-pub fn its_own_job_alone()
-    ensures own { ItsOwnJobAlone }
+pub fn its_own_job_only()
+    ensures own { ItsOwnJobOnly }
     ensures none { ReadsAndRefusalsDoNothing }
 {}
 

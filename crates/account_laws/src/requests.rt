@@ -1,7 +1,7 @@
 //! Laws on your requests: what they ask, what they are answered, and the jobs that they make.
 //! Nobody calls them at run time; docs/PROMISES.md lists them.
 
-ghost use Rattle.account_laws.specs.LastingJobs.{JobsLast};
+ghost use Rattle.account_laws.specs.LastingJobs.{JobsStay};
 ghost use Rattle.account_laws.specs.NewNumbers.{JobsAreCounted, NumbersAreKept, NumbersDiffer};
 ghost use Rattle.account_laws.specs.RequestAnswers.{RequestsAreAnswered};
 ghost use Rattle.account_laws.specs.SpelledAsks.{AsksAreSpelled};
@@ -24,10 +24,11 @@ pub fn jobs_are_counted()
     ensures differ { NumbersDiffer }
 {}
 
-/// Law: a job is there for good, with what the request that made it gave it.
-#[tactic(auto, using(crate::proofs::LastingJobs::jobs_last))]
-pub fn jobs_last()
-    ensures { JobsLast }
+/// Law: a job is there for good, with the name, the password and the copies of the request that made
+/// it.
+#[tactic(auto, using(crate::proofs::LastingJobs::jobs_stay))]
+pub fn jobs_stay()
+    ensures { JobsStay }
 {}
 
 /// Law: what you ask is what your request's bytes spell. Its one message has the operation, the

@@ -1,13 +1,13 @@
 -- Rule: What an event of a device is answered, and the devices afterwards (all this project's own).
 use Rattle.std.specs.Prelude.{ℕ, Bool, List, if◌then◌else◌}
 use Rattle.std.specs.FinMap.{contains_key}
-use Rattle.account_machine.specs.Events.{PlainEvent, OfAccount, OfDevice, Turn, Rate}
+use Rattle.account_machine.specs.Events.{PlainEvent, OfAccount, OfDevice, Switch, Rate}
 use Rattle.account_machine.specs.declared.event.Reply.{Reply}
 use Rattle.account_machine.specs.declared.event.Reply.TheVariants as reply
 use Rattle.account_machine.specs.declared.verdict.Verdict.{Verdict}
 use Rattle.account_machine.specs.Verdicts.{line_done, line_refused}
 use Rattle.account_rules.specs.declared.refusal.Word.TheVariants.{NoAccount, NoDevice}
-use Rattle.account_rules.specs.Devices.{Devices, turned, rated}
+use Rattle.account_rules.specs.Devices.{Devices, switched, rated}
 use Rattle.account_replies.specs.declared.station_line.Success.TheVariants as success
 use Rattle.account_replies.specs.Lines.{success_text}
 use Rattle.account_replies.specs.Words.{word_text}
@@ -18,12 +18,12 @@ pub record DeviceAnswer : Type 0 where
   pub verdict : Verdict
   pub devices : Devices
 
--- a device that is turned on or off is known from then on
-abbrev pub turned_answer : (devices : Devices) (name : List ℕ) (on : Bool) → DeviceAnswer
-turned_answer devices name on = record {
+-- a device that is switched on or off is known from then on
+abbrev pub switched_answer : (devices : Devices) (name : List ℕ) (on : Bool) → DeviceAnswer
+switched_answer devices name on = record {
   reply = reply.Line (success_text success.Ok);
   verdict = line_done;
-  devices = turned devices name on;
+  devices = switched devices name on;
 }
 
 -- only a device that is known gets a rate
@@ -42,7 +42,7 @@ rated_answer devices name units =
 
 -- an event of an account is of no device
 abbrev pub device_answered : (devices : Devices) (e : PlainEvent) → DeviceAnswer
-device_answered devices (OfDevice device (Turn on)) = turned_answer devices device on
+device_answered devices (OfDevice device (Switch on)) = switched_answer devices device on
 device_answered devices (OfDevice device (Rate units)) = rated_answer devices device units
 device_answered devices (OfAccount account it) = record {
   reply = reply.NoAccount;

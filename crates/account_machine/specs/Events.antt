@@ -14,7 +14,7 @@ pub data AccountEvent : Type 0 where
 
 -- to a device
 pub data DeviceEvent : Type 0 where
-  Turn : (on : Bool) → DeviceEvent
+  Switch : (on : Bool) → DeviceEvent
   Rate : (units : ℕ) → DeviceEvent
 
 -- an event by what it says, wherever its bytes lie: whose it is, and what it is
@@ -31,7 +31,7 @@ plain_event (lent.Start device account job) = OfAccount account (Start device jo
 plain_event (lent.Settle device account job impressions failed) =
     OfAccount account (Settle device job impressions failed)
 plain_event (lent.Grant account month pages) = OfAccount account (Grant month pages)
-plain_event (lent.Device name on) = OfDevice name (Turn on)
+plain_event (lent.Device name on) = OfDevice name (Switch on)
 plain_event (lent.Rate name units) = OfDevice name (Rate units)
 
 -- a moment, and what happens then

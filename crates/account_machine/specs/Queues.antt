@@ -7,7 +7,7 @@ use Rattle.account_asks.specs.declared.ask.Which.{Which}
 use Rattle.account_asks.specs.declared.ask.Which.TheVariants.{NotCompleted, Completed}
 use Rattle.account_machine.specs.Requests.{Response, doing_ask, asked_at}
 use Rattle.account_rules.specs.declared.job.Job.{Job}
-use Rattle.account_state.specs.Queues.{not_completed, completed, at_most}
+use Rattle.account_state.specs.Queues.{not_completed, completed, first_jobs}
 use Rattle.account_state.specs.Rooms.{RoomValue}
 
 -- which-jobs (RFC 8011 section 4.2.6.1)
@@ -16,7 +16,7 @@ chosen NotCompleted jobs = not_completed jobs
 chosen Completed jobs = completed jobs
 
 abbrev pub asked_jobs : (ask : PlainAsk) (jobs : List Job) → List Job
-asked_jobs ask jobs = at_most ask.limit (chosen ask.which jobs)
+asked_jobs ask jobs = first_jobs ask.limit (chosen ask.which jobs)
 
 -- without names job-uri and job-id are shown
 abbrev pub listed_names : (wanted : Option (List (List ℕ))) → Option (List (List ℕ))

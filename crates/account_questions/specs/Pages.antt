@@ -8,7 +8,7 @@ use Rattle.account_state.specs.Summaries.{summary_of}
 use Rattle.account_state.specs.declared.summary.Summary.{Summary}
 use Rattle.account_rules.specs.Devices.{Devices}
 use Rattle.account_rules.specs.declared.job.Job.{Job}
-use Rattle.account_state.specs.Queues.{at_most, completed, not_completed}
+use Rattle.account_state.specs.Queues.{first_jobs, completed, not_completed}
 use Rattle.account_state.specs.Rooms.{RoomValue}
 use Rattle.account_state.specs.Sums.{charged_in, granted_to, reserved_in}
 
@@ -27,7 +27,7 @@ owner_of account month outcome stays needs_password room devices = record {
   reserved = reserved_in room;
   charged = charged_in room;
   waiting = not_completed (values room.jobs);
-  ended = at_most (Some most_shown) (completed (values room.jobs));
+  ended = first_jobs (Some most_shown) (completed (values room.jobs));
   devices = values devices;
   outcome = outcome;
   stays = stays;

@@ -19,7 +19,7 @@ use Rattle.account_state.specs.Summaries.{summary_of}
 use Rattle.account_replies.specs.Words.{word_text}
 use Rattle.account_rules.specs.Devices.{Devices as DeviceMap}
 use Rattle.account_rules.specs.declared.refusal.Word.TheVariants.{NoAccount}
-use Rattle.account_state.specs.Queues.{at_most, completed, not_completed}
+use Rattle.account_state.specs.Queues.{first_jobs, completed, not_completed}
 use Rattle.account_state.specs.Rooms.{RoomValue}
 use Rattle.account_state.specs.Sums.{charged_in, granted_to, reserved_in}
 
@@ -74,7 +74,7 @@ answer_about account (Statement month) room devices =
     reply.Line (statement_text (granted_to room month) (summary_of month (values room.jobs)))
 answer_about account Jobs room devices = reply.Line (jobs_text (not_completed (values room.jobs)))
 answer_about account (Ended most) room devices =
-    reply.Line (jobs_text (at_most (Some most) (completed (values room.jobs))))
+    reply.Line (jobs_text (first_jobs (Some most) (completed (values room.jobs))))
 answer_about account Grants room devices =
     reply.Line (grants_text (map grant_of (entries room.grants)))
 answer_about account (Waiting device) room devices = waiting_told room devices device

@@ -2,9 +2,8 @@
 
 ghost use Rattle.std.specs.Prelude.{◌≡◌, filter, IfOk};
 ghost use Rattle.account_questions.specs.Stations.{is_for, printed_by};
-ghost use Rattle.account_rules.specs.Effects.{is_bound_elsewhere};
 
-use account_rules::{Job, Name, Word};
+use account_rules::{Job, Name, Word, is_bound_elsewhere};
 use ipp_coding::List;
 use std::alloc::{AllocError, Global};
 
@@ -27,16 +26,6 @@ fn is_for(device: Name, job: &Job) -> bool
     ensures { result ≡ is_for device job.now }
 {
     !is_bound_elsewhere(job.standing.device, device)
-}
-
-/// Whether there is a device that the job is bound to, and it is another one.
-fn is_bound_elsewhere(bound: Option<Name>, device: Name) -> bool
-    ensures { result ≡ is_bound_elsewhere bound device }
-{
-    match bound {
-        None => false,
-        Some(bound) => bound != device,
-    }
 }
 
 /// Gives back the job whose documents a device asks for again: the device started it and has not

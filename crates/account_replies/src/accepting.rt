@@ -42,7 +42,8 @@ fn printer_state(is_processing: bool, is_device_on: bool) -> u32
     }
 }
 
-/// What the account's printer is doing, where the account has so many unfinished jobs, at most 100.
+/// What the account's printer shows of its state: by how many jobs are `unfinished`, at most 100,
+/// which number the next one gets, and whether a job is printed and some device is on.
 pub fn printer_now(
     unfinished: u32,
     next_job: u32,

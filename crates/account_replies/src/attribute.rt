@@ -18,9 +18,8 @@ use ipp_coding::tags::{BOOLEAN, INTEGER, NO_VALUE, URI};
 use ipp_coding::{Attribute, PutFault, Value, put_attribute, put_group, put_more};
 use std::alloc::AllocError;
 
-/// Turns a fault of a part that is known to be good into lack of memory, which alone can be its
-/// reason.
-pub(crate) fn want_of_memory(fault: PutFault) -> AllocError
+/// Makes lack of memory of a fault that can be nothing else: that of writing a part that fits.
+pub fn want_of_memory(fault: PutFault) -> AllocError
     requires { fault ≡ PutFault.Memory }
 {
     match fault {

@@ -1,5 +1,5 @@
-//! Writes whole responses to requests, as lists of bytes of their own. What takes a place and a job
-//! has the conditions of `put_job`.
+//! Writes whole responses to requests, as lists of bytes of their own. Those of jobs or of the printer
+//! require of place and job what `put_job` does.
 
 ghost use Rattle.std.specs.Prelude.{◌≡◌, ◌++◌, ◌∷◌, [], None, IfOk, OnOk, map};
 ghost use Rattle.std.specs.List.{AllByRecursion, flat_map};
@@ -50,7 +50,7 @@ pub fn refused(
 }
 
 /// Begins the response to a request that was done, up to its groups of jobs or of the printer.
-fn begun(
+fn begin_response(
     alloc: Global,
     request: Header,
     unsupported: &[Attribute<'_>],
@@ -102,7 +102,7 @@ pub fn done(
     ensures text { IfOk result
         (λ text. text ≡ done_text request (map plain_attribute unsupported.now) []) }
 {
-    let out = begun(alloc, request, unsupported)?;
+    let out = begin_response(alloc, request, unsupported)?;
     ended(out)
 }
 
@@ -122,7 +122,7 @@ pub fn with_job(
         (λ text. text ≡ done_text request (map plain_attribute unsupported.now)
         (job_group (plain_place at.entry.now) job.now (asked_names wanted.entry) ∷ [])) }
 {
-    let mut out = begun(alloc, request, unsupported)?;
+    let mut out = begin_response(alloc, request, unsupported)?;
     append_wanted(&mut out, at, job, wanted)?;
     ended(out)
 }
@@ -144,7 +144,7 @@ pub fn with_jobs<J: AsJob>(
         (job_groups (plain_place at.entry.now) (map J.job jobs.now) (asked_names wanted.entry))) }
 {
     let selection = Selection::of(wanted);
-    let mut out = begun(alloc, request, unsupported)?;
+    let mut out = begin_response(alloc, request, unsupported)?;
     put_jobs(&mut out, at, jobs, &selection)?;
     ended(out)
 }
@@ -183,7 +183,7 @@ pub fn with_printer(
         (λ text. text ≡ done_text request (map plain_attribute unsupported.now)
         (printer_group (plain_place at.entry.now) now (asked_names wanted.entry) ∷ [])) }
 {
-    let mut out = begun(alloc, request, unsupported)?;
+    let mut out = begin_response(alloc, request, unsupported)?;
     append_printer(&mut out, at, now, wanted)?;
     ended(out)
 }

@@ -12,7 +12,7 @@ use Rattle.std.specs.List.{find}
 use Rattle.std.specs.Cmp.Lexicographic.{nat_list_cmp_total}
 use Rattle.std.specs.FinMap.{insert, contains_key, get-insert, same_map}
 use Rattle.std.specs.Prelude.{is_some}
-use Rattle.account_rules.specs.Devices.{is_of_name, device_map, rate_of, is_on_in, turned, rated}
+use Rattle.account_rules.specs.Devices.{is_of_name, device_map, rate_of, is_on_in, switched, rated}
 use Rattle.account_rules.proofs.DeviceMaps.{get_device, named, names_exact}
 
 -- the first record of the name
@@ -95,9 +95,9 @@ rate_is name devices found is = ap (λ (o : Option Device). option_map_or (λ (d
 on_is : (name : List ℕ) (devices : List Device) (found : Option Device) → device_at devices name ≡ found → option_map_or (λ (d : Device). d.on) found false ≡ is_on_in (device_map devices) name
 on_is name devices found is = ap (λ (o : Option Device). option_map_or (λ (d : Device). d.on) o false) (sym (get_device devices name ∙ is))
 
--- a known device is turned on or off
+-- a known device is switched on or off
 pub device_known : (name : List ℕ) (devices : List Device) (place : ℕ) (there : Device) (on : Bool) → position (is_of_name name) devices ≡ Some place → there ≡ slice_index_or devices place there →
-    device_map (slice_set devices place (record there { on = on })) ≡ turned (device_map devices) name on
+    device_map (slice_set devices place (record there { on = on })) ≡ switched (device_map devices) name on
 device_known name devices place there on found is =
     let rate : there.rate ≡ rate_of (device_map devices) name = rate_is name devices (Some there) (device_there name devices place there found is) in
     let named : there.name ≡ name = name_there name devices place there found is in
@@ -115,7 +115,7 @@ device_rated name devices place there units found is =
 
 -- a device is added
 pub device_new : (name : List ℕ) (devices : List Device) (on : Bool) → position (is_of_name name) devices ≡ None →
-    device_map (devices ++ record { name = name; on = on; rate = 1 } ∷ []) ≡ turned (device_map devices) name on
+    device_map (devices ++ record { name = name; on = on; rate = 1 } ∷ []) ≡ switched (device_map devices) name on
 device_new name devices on none =
     let rate : 1 ≡ rate_of (device_map devices) name = rate_is name devices None (no_device_there name devices none) in
     map_set devices (devices ++ record { name = name; on = on; rate = 1 } ∷ []) (record { name = name; on = on; rate = 1 }) (device_pushed name devices (record { name = name; on = on; rate = 1 }) none refl)

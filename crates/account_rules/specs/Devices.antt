@@ -43,9 +43,9 @@ rate_of devices name = option_map_or (λ (device : Device). device.rate) (get de
 
 -- ---- as one device of it changes
 
--- the name's device is turned on or off
-abbrev pub turned : (devices : Devices) (name : List ℕ) (on : Bool) → Devices
-turned devices name on =
+-- the name's device is switched on or off
+abbrev pub switched : (devices : Devices) (name : List ℕ) (on : Bool) → Devices
+switched devices name on =
     insert devices name (record { name = name; on = on; rate = rate_of devices name })
 
 -- the name's device has another rate

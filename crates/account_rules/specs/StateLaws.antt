@@ -24,8 +24,8 @@ abbrev pub charged_after : Act → Standing → ℕ
 charged_after (StationSettle device completed failed now) s = completed * s.rate
 charged_after _ s = s.charged
 
-abbrev pub SettlingAloneCharges : Type 0
-SettlingAloneCharges =
+abbrev pub OnlySettlingCharges : Type 0
+OnlySettlingCharges =
     (act : Act) (s next : Standing) → move act s ≡ Ok next → next.charged ≡ charged_after act s
 
 -- the rate of a released job is the one that its release fixed, unless the job is held again
@@ -89,8 +89,8 @@ IsStart (StationStart device rate now) = Unit {0}
 IsStart _ = ⊥
 
 -- nothing but a start makes a job processing
-abbrev pub StartsAloneProcess : Type 0
-StartsAloneProcess = (act : Act) (s next : Standing) → move act s ≡ Ok next
+abbrev pub OnlyStartsProcess : Type 0
+OnlyStartsProcess = (act : Act) (s next : Standing) → move act s ≡ Ok next
     → next.state ≡ Processing → (s.state ≡ Processing) ⊎ IsStart act
 
 -- a job as it was released, where what that reserves is left

@@ -1,10 +1,10 @@
-//! The list of devices: finds a device by its name, turns it on or off, sets its rate. The first
+//! The list of devices: finds a device by its name, switches it on or off, sets its rate. The first
 //! record of a name counts.
 
 ghost use Rattle.std.specs.Prelude.{◌≡◌, ◌+◌, false, if◌then◌else◌, option_copied, position, vec_len, IsTrue, OnOk, OnErr, IsOkUnless};
 ghost use Rattle.std.specs.FinMap.{contains_key, get};
 ghost use Rattle.account_rules.specs.Limits.{IsRate};
-ghost use Rattle.account_rules.specs.Devices.{device_map, is_of_name, turned, rated};
+ghost use Rattle.account_rules.specs.Devices.{device_map, is_of_name, switched, rated};
 
 use crate::fault::CoreFault;
 use crate::name::Name;
@@ -23,8 +23,8 @@ pub struct Device {
 /// known keeps its rate and gets no second record. Every other device is as before. It can fail for
 /// lack of memory alone, and then changes nothing.
 pub fn set_device(devices: &mut Vec<Device>, name: Name, on: bool) -> Result<(), CoreFault>
-    ensures turned { OnOk result
-        (device_map devices.new.items ≡ turned (device_map devices.old.items) name on) }
+    ensures switched { OnOk result
+        (device_map devices.new.items ≡ switched (device_map devices.old.items) name on) }
     ensures length { OnOk result (vec_len devices.new ≡
         (if contains_key (device_map devices.old.items) name
         then vec_len devices.old else vec_len devices.old + 1)) }

@@ -216,7 +216,7 @@ pub(crate) fn settling(
 }
 
 /// Whether the job lacks what a release needs: it still takes documents, or has none.
-fn is_incomplete(s: &Standing) -> bool
+pub fn is_incomplete(s: &Standing) -> bool
     ensures { result ≡ is_incomplete s.now }
 {
     s.is_open || s.documents == 0
@@ -242,7 +242,7 @@ fn is_wrong_password(kept: &[u8], given: &[u8]) -> bool
 }
 
 /// Whether the job is bound to another device. Bound to none, it may go to any.
-fn is_bound_elsewhere(bound: Option<Name>, device: Name) -> bool
+pub fn is_bound_elsewhere(bound: Option<Name>, device: Name) -> bool
     ensures { result ≡ is_bound_elsewhere bound device }
 {
     match bound {

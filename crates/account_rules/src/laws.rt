@@ -3,7 +3,7 @@
 //! lists them.
 
 ghost use Rattle.account_rules.specs.Formats.{MediaTypesAreRead};
-ghost use Rattle.account_rules.specs.StateLaws.{EndedJobsStay, SettlingAloneCharges, ReleasesFixRates, ReleasesReserve, ReleasesGoByWhatIsLeft, ReservationsAreGivenBack, ReservationsStay, PasswordsAreAsked, StartsAloneProcess, QuotaComesLast};
+ghost use Rattle.account_rules.specs.StateLaws.{EndedJobsStay, OnlySettlingCharges, ReleasesFixRates, ReleasesReserve, ReleasesGoByWhatIsLeft, ReservationsAreGivenBack, ReservationsStay, PasswordsAreAsked, OnlyStartsProcess, QuotaComesLast};
 
 /// Law: a job that has ended never changes again.
 pub fn ended_jobs_stay()
@@ -11,8 +11,8 @@ pub fn ended_jobs_stay()
 {}
 
 /// Law: only settling charges a job, the device's count times the rate of the job.
-pub fn settling_alone_charges()
-    ensures { SettlingAloneCharges }
+pub fn only_settling_charges()
+    ensures { OnlySettlingCharges }
 {}
 
 /// Law: the rate of a released job is the one that its release fixed, until it is held again.
@@ -49,8 +49,8 @@ pub fn passwords_are_asked()
 {}
 
 /// Law: nothing but a start makes a job processing.
-pub fn starts_alone_process()
-    ensures { StartsAloneProcess }
+pub fn only_starts_process()
+    ensures { OnlyStartsProcess }
 {}
 
 /// Law: a release is refused for the quota last of all. Asked with the units that are left it

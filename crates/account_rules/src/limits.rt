@@ -49,7 +49,8 @@ pub const MOST_UNFINISHED: u32 = 100;
 /// The most pages of one grant, in units.
 pub const MOST_PAGES: u32 = 1_000_000_000;
 
-/// More units than an account's grants come to, or its jobs ever reserve or were ever charged.
+/// A bound that units stay below: what an account's grants come to, and what its jobs ever reserve or
+/// were ever charged.
 pub const MOST_UNITS: u64 = 1_000_000_000_000_000_000;
 
 /// The first month of grants, January 1970: the year times 12, and 0 for January to 11 for

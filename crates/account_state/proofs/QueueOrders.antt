@@ -8,7 +8,7 @@ use Rattle.std.proofs.lemmas.List.Sorted.{IsPermutation-refl, IsPermutation-tran
 use Rattle.account_rules.specs.JobStates.{is_unfinished}
 use Rattle.account_rules.specs.declared.job.Job.{Job}
 use Rattle.account_state.specs.RoomRules.{NumbersRise}
-use Rattle.account_state.specs.Queues.{is_later, put_by_end, not_completed, ended_jobs, completed, EndsLater, EndsFall, at_most}
+use Rattle.account_state.specs.Queues.{is_later, put_by_end, not_completed, ended_jobs, completed, EndsLater, EndsFall, first_jobs}
 use Rattle.account_state.proofs.FiniteMaps.{all_along}
 
 all_filtered : {X : Type 0} (P : X → Type 0) (test : X → Bool) (xs : List X) → AllByRecursion P xs → AllByRecursion P (filter test xs)
@@ -113,6 +113,6 @@ all_not_completed P jobs all = all_filtered P (λ (job : Job). is_unfinished job
 pub all_completed : (P : Job → Type 0) (jobs : List Job) → AllByRecursion P jobs → AllByRecursion P (completed jobs)
 all_completed P jobs all = all_folded P put_by_end (all_put P) [] (ended_jobs jobs) tt (all_filtered P (λ (job : Job). not (is_unfinished job.standing.state)) jobs all)
 
-pub all_at_most : (P : Job → Type 0) (limit : Option ℕ) (jobs : List Job) → AllByRecursion P jobs → AllByRecursion P (at_most limit jobs)
-all_at_most P None jobs all = all
-all_at_most P (Some limit) jobs all = all_taken P limit jobs all
+pub all_first_jobs : (P : Job → Type 0) (limit : Option ℕ) (jobs : List Job) → AllByRecursion P jobs → AllByRecursion P (first_jobs limit jobs)
+all_first_jobs P None jobs all = all
+all_first_jobs P (Some limit) jobs all = all_taken P limit jobs all

@@ -35,6 +35,6 @@ pub record IsCompletedQueue (jobs queue : List Job) : Type 0 where
   pub latest_first : EndsFall queue
 
 -- the first so many
-abbrev pub at_most : (most : Option ℕ) (jobs : List Job) → List Job
-at_most None jobs = jobs
-at_most (Some limit) jobs = take limit jobs
+abbrev pub first_jobs : (most : Option ℕ) (jobs : List Job) → List Job
+first_jobs None jobs = jobs
+first_jobs (Some limit) jobs = take limit jobs

@@ -1,4 +1,5 @@
-//! `ping`, `end`, `report`, `waiting`, `expire` and `refund`: what is asked of an operator's address.
+//! The commands `ping`, `end`, `report`, `waiting`, `expire` and `refund`, which ask an operator's
+//! address.
 
 use crate::connected::{BUFFER, at_path, at_port};
 use cli_words::{Address, Errand, Fault};
@@ -6,8 +7,9 @@ use client_lines::Peer;
 use client_operator::{Bar, perform};
 use std::io::{BufReader, BufWriter, IsTerminal, Read, Write};
 
-/// Asks what the command asks for, and prints what it comes to. Standard error shows how far it has
-/// come, where that is a terminal. `now` is the clock's moment, or `None` where it has none to give.
+/// Connects to the command's address, asks what the command asks for, and prints the answer.
+/// Standard error shows how far it has come, where that is a terminal. `now` is the clock's moment,
+/// or `None` where it has none to give: then the fault is `Io`.
 pub fn run_errand<O: Write>(
     rt: &HostRuntime,
     now: Option<u64>,
@@ -17,16 +19,18 @@ pub fn run_errand<O: Write>(
     match asked.address {
         Address::Port(port) => {
             let stream = at_port(rt, port)?;
-            run_over(rt, now, asked, &stream, &stream, output)
+            perform_over_stream(rt, now, asked, &stream, &stream, output)
         }
         Address::Path(path) => {
             let stream = at_path(rt, path)?;
-            run_over(rt, now, asked, &stream, &stream, output)
+            perform_over_stream(rt, now, asked, &stream, &stream, output)
         }
     }
 }
 
-fn run_over<R: Read + Drop, W: Write + Drop, O: Write>(
+/// Does the errand over a stream that is connected: asks, prints the answer, and shows how far it
+/// has come. `Refused` where not all was done.
+fn perform_over_stream<R: Read + Drop, W: Write + Drop, O: Write>(
     rt: &HostRuntime,
     now: Option<u64>,
     asked: &Errand<'_>,
@@ -49,7 +53,7 @@ fn run_over<R: Read + Drop, W: Write + Drop, O: Write>(
     judge_done(perform(alloc, &mut peer, &asked.task, now, &mut bar, output)?)
 }
 
-/// `Refused` where not all was done.
+/// Ends a command by what it answers: well where all was `done`, and else with `Refused`.
 pub(crate) fn judge_done(done: bool) -> Result<(), Fault> {
     if done {
         return Ok(());

@@ -7,7 +7,7 @@ use std::io::Write;
 use std::path::Path;
 use std::{fs, io};
 
-/// A folder, which is there. A file that has the name already is written again.
+/// A folder, which is there. A file of the same name in it is overwritten.
 #[derive(Clone, Copy)]
 pub struct Folder<'a> {
     pub rt: &'a HostRuntime,

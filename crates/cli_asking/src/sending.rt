@@ -1,4 +1,5 @@
-//! `send`: lines or grants go to what serves them on this machine.
+//! The command `send`: the lines or the grants of standard input go to a running process on this
+//! machine.
 
 use crate::connected::{BUFFER, at_path, at_port};
 use crate::folder::Folder;
@@ -8,8 +9,8 @@ use input_fields::Counted;
 use std::io::{BufRead, BufReader, BufWriter, Read, Write};
 use std::{fs, io};
 
-/// Sends standard input as is asked for, and prints what it came to. A folder for documents has to
-/// be there before anything is sent.
+/// Sends standard input to the command's address, and prints the answers. A folder for documents
+/// has to be there before anything is sent. How many lines were refused goes to standard error.
 pub fn send<O: Write>(rt: &HostRuntime, asked: &Sending<'_>, output: &mut O) -> Result<(), Fault> {
     if let Some(folder) = asked.folder {
         if !fs::metadata(rt, folder)?.is_dir() {
@@ -19,18 +20,20 @@ pub fn send<O: Write>(rt: &HostRuntime, asked: &Sending<'_>, output: &mut O) -> 
     let outcome = match asked.address {
         Address::Port(port) => {
             let stream = at_port(rt, port)?;
-            send_over(rt, asked, &stream, &stream, output)?
+            send_over_stream(rt, asked, &stream, &stream, output)?
         }
         Address::Path(path) => {
             let stream = at_path(rt, path)?;
-            send_over(rt, asked, &stream, &stream, output)?
+            send_over_stream(rt, asked, &stream, &stream, output)?
         }
     };
     tell_refused(&outcome, &mut rt.stderr())?;
     ended(outcome)
 }
 
-fn send_over<R: Read + Drop, W: Write + Drop, O: Write>(
+/// Sends standard input over a stream that is connected. Where it has no line, it sends `ping`, so
+/// that a process that does not answer is noticed.
+fn send_over_stream<R: Read + Drop, W: Write + Drop, O: Write>(
     rt: &HostRuntime,
     asked: &Sending<'_>,
     reader: R,
@@ -49,6 +52,8 @@ fn send_over<R: Read + Drop, W: Write + Drop, O: Write>(
     Ok(outcome)
 }
 
+/// Sends standard input as a file of grants or as lines, and prints the answers: documents as files
+/// of the folder, or in hexadecimal digits.
 fn send_input<R: BufRead, W: Write, O: Write>(
     rt: &HostRuntime,
     asked: &Sending<'_>,
@@ -78,6 +83,8 @@ fn tell_refused<E: Write>(outcome: &Outcome, errors: &mut E) -> io::Result<()> {
     writeln!(errors, "{refused} of {lines} refused")
 }
 
+/// Ends the command by the worst that was answered: `Store` where the process failed, the number of
+/// the first bad line, or `Refused`.
 fn ended(outcome: Outcome) -> Result<(), Fault> {
     match outcome.worst {
         Worst::Failed => Err(Fault::Store),

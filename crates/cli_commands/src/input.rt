@@ -7,13 +7,10 @@ ghost use Rattle.input_fields.specs.Streams.{MayBeLeft};
 
 use crate::fault::line_fault;
 use cli_words::Fault;
-use input_fields::{Counted, GrantLine, read_grants, read_whole};
+use input_fields::{Counted, GrantLine, MOST_BYTES, read_grants, read_whole};
 use input_lines::{Grammar, Line};
 use std::alloc::Global;
 use std::io::Read;
-
-/// The most bytes that lines may have.
-const MOST_BYTES: usize = 67_108_864;
 
 /// Reads all lines of the input. The first that is none of the grammar is the fault.
 pub fn read_lines<R: Read + Drop>(

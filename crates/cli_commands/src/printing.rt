@@ -19,7 +19,8 @@ pub fn print_text<W: Write>(output: &mut W, text: &str) -> io::Result<()>
     output.flush()
 }
 
-/// Prints the lines of a text, and explains those that have a message of IPP.
+/// Prints the lines of a text. A line with a message of IPP gets the message's parts, as people read
+/// them, in the place of its digits. It has no clause: what it prints is only tested.
 pub fn print_explained<W: Write>(alloc: Global, output: &mut W, text: &[u8]) -> io::Result<()> {
     ipp_notation::explain(alloc, text, output)?;
     output.flush()

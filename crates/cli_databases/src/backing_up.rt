@@ -1,10 +1,10 @@
-//! `backup`: a running process copies its rows into a second file, which is put in its place once it
-//! is whole.
+//! The command `backup`: a running process copies its rows into `FILE.part`, which this run checks
+//! and renames to `FILE`.
 ghost use Rattle.std.specs.Prelude.{◌≤◌};
 
 use crate::placing::{
-    Failed, Keeper, OnDisk, Place, at, open_tables, open_there, part_of, print_ok, remove_database,
-    replace,
+    DatabaseOpener, Failed, OnDisk, Place, failing_at, open_tables, open_there, part_of, print_ok,
+    remove_database, replace,
 };
 use cli_words::{BackingUp, Fault};
 use client_lines::{ClientFault, Peer};
@@ -33,31 +33,34 @@ pub fn back_up<R: BufRead, W: Write, O: Write, E: Write>(
     }
 }
 
+/// Has the process make the backup, renames it to its path, and prints `ok`. Where that fails the
+/// part is removed, if it is this run's.
 fn perform<S, K, R, W, O>(
     rt: &HostRuntime,
-    keeper: &K,
+    opener: &K,
     peer: &mut Peer<R, W>,
     file: &str,
     output: &mut O,
 ) -> Result<(), Failed>
 where
     S: Alter + Drop,
-    K: Keeper<Kept = Connection<S>>,
+    K: DatabaseOpener<Database = Connection<S>>,
     R: BufRead,
     W: Write,
     O: Write,
 {
-    let part = at(Place::Part, part_of(rt, file))?;
-    let older = at(Place::File, open_there(rt, keeper, file))?;
-    let placed = ask_and_place(rt, keeper, peer, older, part.as_str(), file);
+    let part = failing_at(Place::Part, part_of(rt, file))?;
+    let older = failing_at(Place::File, open_there(rt, opener, file))?;
+    let placed = back_up_and_replace(rt, opener, peer, older, part.as_str(), file);
     if has_failed(&placed) {
-        let _ = remove_database(rt, keeper, part.as_str());
+        let _ = remove_database(rt, opener, part.as_str());
     }
     placed?;
-    at(Place::File, print_ok(output))
+    failing_at(Place::File, print_ok(output))
 }
 
-/// Whether a part may be left. Where the backup was refused, it is another's.
+/// Whether this run may have left a part, which is to be removed. Where the backup was refused the
+/// part is another's.
 fn has_failed(placed: &Result<(), Failed>) -> bool {
     match placed {
         Ok(()) => false,
@@ -65,9 +68,11 @@ fn has_failed(placed: &Result<(), Failed>) -> bool {
     }
 }
 
-fn ask_and_place<S, K, R, W>(
+/// Has the process make the whole backup at `part`, and puts it in the place of `file` by a rename.
+/// `older` is the database that stands at `file`, if one does; it is held open until then.
+fn back_up_and_replace<S, K, R, W>(
     rt: &HostRuntime,
-    keeper: &K,
+    opener: &K,
     peer: &mut Peer<R, W>,
     older: Option<Connection<S>>,
     part: &str,
@@ -75,35 +80,36 @@ fn ask_and_place<S, K, R, W>(
 ) -> Result<(), Failed>
 where
     S: Alter + Drop,
-    K: Keeper<Kept = Connection<S>>,
+    K: DatabaseOpener<Database = Connection<S>>,
     R: BufRead,
     W: Write,
 {
-    // It stays open until it is in its place, so that no one else takes it or puts another there.
-    let _whole = ask_part(rt, keeper, peer, part, file)?;
-    at(Place::File, replace(rt, keeper, older, part, file))
+    // The backup stays open until it is in its place, so that nobody else takes the part meanwhile.
+    let _whole = ask_part(rt, opener, peer, part, file)?;
+    failing_at(Place::File, replace(rt, opener, older, part, file))
 }
 
-/// Has the process make the part, and opens it once that tells that it is whole: this reads all of
-/// it.
+/// Has the process make the part, and opens it once the process tells that it is whole. Opening
+/// reads all of it, and finds damage.
 fn ask_part<S, K, R, W>(
     rt: &HostRuntime,
-    keeper: &K,
+    opener: &K,
     peer: &mut Peer<R, W>,
     part: &str,
     file: &str,
 ) -> Result<Rounds<S>, Failed>
 where
     S: Alter + Drop,
-    K: Keeper<Kept = Connection<S>>,
+    K: DatabaseOpener<Database = Connection<S>>,
     R: BufRead,
     W: Write,
 {
     client_operator::back_up(rt.alloc(), peer, file).map_err(failed_backup)?;
-    at(Place::Part, open_tables(rt, keeper, part))
+    failing_at(Place::Part, open_tables(rt, opener, part))
 }
 
-/// Where a backup failed that a process was asked for.
+/// The fault of a backup that a process was asked for, with its place: the part where it failed
+/// there, the file where another backup is under way, and else the process's address.
 fn failed_backup(fault: ClientFault) -> Failed {
     let place = match fault {
         ClientFault::Failed => Place::Part,

@@ -1,7 +1,7 @@
 //! Where a running process puts its backups: `FILE.part` on this machine, for each that is asked
 //! for.
 
-use crate::placing::{Keeper, OnDisk, part_of, remove_database};
+use crate::placing::{DatabaseOpener, OnDisk, part_of, remove_database};
 use cli_words::Fault;
 use sqlite::{Connection, File, FileStore};
 use store_copy::CopyMaker;
@@ -23,10 +23,10 @@ impl<'a> CopyFiles<'a> {
         let Ok(file) = str::from_utf8(file) else {
             return Err(Fault::Store);
         };
-        let keeper = OnDisk { rt: self.rt };
+        let opener = OnDisk { rt: self.rt };
         let part = part_of(self.rt, file)?;
-        remove_database(self.rt, &keeper, part.as_str())?;
-        keeper.open(part.as_str())
+        remove_database(self.rt, &opener, part.as_str())?;
+        opener.open(part.as_str())
     }
 }
 

@@ -47,7 +47,7 @@ impl Opener for InFile<'_> {
     }
 
     fn close(&mut self, kept: Connection<FileStore<File>>) {
-        // The log beside the file goes into it; where that fails the next run reads the log.
+        // The write-ahead log goes into the file; where that fails the next run reads it.
         let _ = kept.close();
     }
 }

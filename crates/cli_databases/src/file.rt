@@ -23,8 +23,9 @@ const LEAST_CACHE_PAGES: usize = 2_000;
 /// How many bytes a page has in a file that the program has made.
 const PAGE_BYTES: u64 = 4_096;
 
-/// How many frames the log has before it is written over from its start. A log that is short takes
-/// less of a full disk: what changes, and the log of it, fit into the space that `serve` keeps.
+/// How many frames the write-ahead log has before it is written over from its start. A short one
+/// takes less of a full disk: what changes, and the frames of it, fit into the space that `serve`
+/// keeps.
 const CHECKPOINT_FRAMES: usize = 250;
 
 /// Its owner alone reads and writes.
@@ -54,8 +55,8 @@ pub(crate) fn connect(
     }
 }
 
-/// Makes an empty file where none is there, which is an empty database. Its log gets its mode from
-/// the library.
+/// Makes an empty file where none is there, which is an empty database. The library gives its
+/// write-ahead log its mode.
 fn make_missing(rt: &HostRuntime, path: &str) -> io::Result<()> {
     let made = OpenOptions::new()
         .write(true)

@@ -1,5 +1,5 @@
-//! What `copy` and `backup` have in common: databases that are held open, and one that is put in the
-//! place of a file once it is whole.
+//! What `copy` and `backup` have in common: databases that are held open, so that no one else takes
+//! them; and the rename that puts a whole copy in the place of a file.
 ghost use Rattle.std.specs.Prelude.{◌≡◌, ◌≤◌};
 ghost use Rattle.cli_words.specs.Statuses.{exit_status_of};
 
@@ -13,32 +13,33 @@ use std::io::{ErrorKind, Write};
 use std::{fs, io};
 use store_rounds::Rounds;
 
-/// Who opens and closes databases. `OnDisk` alone names files, so that each other function is proved
-/// over any store.
-pub(crate) trait Keeper {
-    type Kept: Drop;
+/// Who opens and closes databases. `OnDisk` alone names files, so that each other function is
+/// proved over any store.
+pub(crate) trait DatabaseOpener {
+    type Database: Drop;
 
     /// A connection to the database at the path, which is made where none is there.
-    fn open(&self, path: &str) -> Result<Self::Kept, Fault>;
+    fn open(&self, path: &str) -> Result<Self::Database, Fault>;
 
-    /// Closes a database, which puts its log into its file.
-    fn close(&self, rows: Self::Kept) -> Result<(), Fault>;
+    /// Closes a database, which puts its write-ahead log into its file.
+    fn close(&self, database: Self::Database) -> Result<(), Fault>;
 }
 
+/// The opener of databases in files of this machine.
 #[derive(Drop)]
 pub(crate) struct OnDisk<'a> {
     pub(crate) rt: &'a HostRuntime,
 }
 
-impl Keeper for OnDisk<'_> {
-    type Kept = Connection<FileStore<File>>;
+impl DatabaseOpener for OnDisk<'_> {
+    type Database = Connection<FileStore<File>>;
 
     fn open(&self, path: &str) -> Result<Connection<FileStore<File>>, Fault> {
         opened(connect(self.rt, path))
     }
 
-    fn close(&self, rows: Connection<FileStore<File>>) -> Result<(), Fault> {
-        rows.close().map_err(|_| Fault::Store)
+    fn close(&self, database: Connection<FileStore<File>>) -> Result<(), Fault> {
+        database.close().map_err(|_| Fault::Store)
     }
 }
 
@@ -53,7 +54,7 @@ pub(crate) enum Place {
     Part,
 }
 
-/// Why there is no copy.
+/// Why there is no copy: a fault, and the path or address of which it is told.
 #[derive(Drop)]
 pub(crate) struct Failed {
     pub(crate) place: Place,
@@ -61,7 +62,7 @@ pub(crate) struct Failed {
 }
 
 impl Failed {
-    /// Writes its text with a path behind it, and answers its exit status.
+    /// Writes the fault's text with the path or the address behind it, and answers the exit status.
     pub(crate) fn tell<D: Display, E: Write>(&self, source: &D, file: &str, errors: &mut E) -> u8
         ensures status { result ≡ exit_status_of self.now.fault }
         ensures most { result ≤ 5 }
@@ -77,91 +78,101 @@ impl Failed {
     }
 }
 
-/// What was done for a path, or why it failed there.
-pub(crate) fn at<T: Drop>(place: Place, done: Result<T, Fault>) -> Result<T, Failed> {
+/// What was done, or its fault with the path of which it is told.
+pub(crate) fn failing_at<T: Drop>(place: Place, done: Result<T, Fault>) -> Result<T, Failed> {
     done.map_err(|fault| Failed { place, fault })
 }
 
+/// Prints the line `ok`, by which both commands end well.
 pub(crate) fn print_ok<W: Write>(output: &mut W) -> Result<(), Fault> {
     Ok(print_text(output, "ok\n")?)
 }
 
+/// The path where the copy stands until it is whole: `FILE.part`.
 pub(crate) fn part_of(rt: &HostRuntime, file: &str) -> Result<String, Fault> {
     Ok(format!(in rt.alloc(); "{file}.part")?)
 }
 
-fn log_of(rt: &HostRuntime, path: &str) -> Result<String, Fault> {
+/// The path of a database's write-ahead log.
+fn wal_path(rt: &HostRuntime, path: &str) -> Result<String, Fault> {
     Ok(format!(in rt.alloc(); "{path}-wal")?)
 }
 
-/// The tables of a database that is there, which are the store's.
-pub(crate) fn open_tables<S: Alter + Drop, K: Keeper<Kept = Connection<S>>>(
+/// Opens a database that is there, and its tables. `Store` where no file is there, or its tables
+/// are none of ours.
+pub(crate) fn open_tables<S: Alter + Drop, K: DatabaseOpener<Database = Connection<S>>>(
     rt: &HostRuntime,
-    keeper: &K,
+    opener: &K,
     path: &str,
 ) -> Result<Rounds<S>, Fault> {
     if is_free(rt, path) {
         return Err(Fault::Store);
     }
-    let connection = keeper.open(path)?;
-    tables_of(keeper, Store::open(connection))
+    let connection = opener.open(path)?;
+    tables_of(opener, Store::open(connection))
 }
 
-/// The tables of a store, or of what is none, whose connection is closed.
-pub(crate) fn tables_of<S: Alter + Drop, K: Keeper<Kept = Connection<S>>>(
-    keeper: &K,
+/// The tables of a store that was opened. If it was refused its connection is closed, and the fault
+/// is why.
+pub(crate) fn tables_of<S: Alter + Drop, K: DatabaseOpener<Database = Connection<S>>>(
+    opener: &K,
     store: Result<Store<S>, Refused<S>>,
 ) -> Result<Rounds<S>, Fault> {
     match store {
         Ok(store) => Ok(store.into_rounds()),
         Err(Refused { connection, fault }) => {
-            let _ = keeper.close(connection);
+            let _ = opener.close(connection);
             Err(open_fault(fault))
         }
     }
 }
 
-/// The database or the log that stands at the path, if one does, held open. `Store` where it is
-/// none, or where anyone has it open, as this run has its own database.
-pub(crate) fn open_there<S: Alter + Drop, K: Keeper<Kept = Connection<S>>>(
+/// Opens the database at the path, also where its write-ahead log alone is left there, so that
+/// nobody else can. `None`: nothing is there. `Store` where what is there is no database, or
+/// somebody has it open, which may be this run.
+pub(crate) fn open_there<S: Alter + Drop, K: DatabaseOpener<Database = Connection<S>>>(
     rt: &HostRuntime,
-    keeper: &K,
+    opener: &K,
     path: &str,
 ) -> Result<Option<Connection<S>>, Fault> {
-    let log = log_of(rt, path)?;
-    if path != MEMORY && is_free(rt, path) && is_free(rt, log.as_str()) {
+    let wal = wal_path(rt, path)?;
+    if path != MEMORY && is_free(rt, path) && is_free(rt, wal.as_str()) {
         return Ok(None);
     }
-    Ok(Some(keeper.open(path)?))
+    Ok(Some(opener.open(path)?))
 }
 
+/// Whether no file is at the path.
 fn is_free(rt: &HostRuntime, path: &str) -> bool {
     fs::metadata(rt, path).is_err()
 }
 
-/// Removes a database and its log, as far as they are there. They are held until both are gone, so
-/// they are nobody else's.
-pub(crate) fn remove_database<S: Alter + Drop, K: Keeper<Kept = Connection<S>>>(
+/// Removes a database and its write-ahead log, as far as they are there. They are held until both
+/// are gone, so they are nobody else's.
+pub(crate) fn remove_database<S: Alter + Drop, K: DatabaseOpener<Database = Connection<S>>>(
     rt: &HostRuntime,
-    keeper: &K,
+    opener: &K,
     path: &str,
 ) -> Result<(), Fault> {
-    match open_there(rt, keeper, path)? {
+    match open_there(rt, opener, path)? {
         Some(_held) => remove_both(rt, path),
         None => Ok(()),
     }
 }
 
+/// Removes the write-ahead log of the database at the path, and then the database.
 fn remove_both(rt: &HostRuntime, path: &str) -> Result<(), Fault> {
-    remove_log(rt, path)?;
+    remove_wal(rt, path)?;
     remove(rt, path)
 }
 
-fn remove_log(rt: &HostRuntime, path: &str) -> Result<(), Fault> {
-    let log = log_of(rt, path)?;
-    remove(rt, log.as_str())
+/// Removes the write-ahead log of the database at the path, if it is there.
+fn remove_wal(rt: &HostRuntime, path: &str) -> Result<(), Fault> {
+    let wal = wal_path(rt, path)?;
+    remove(rt, wal.as_str())
 }
 
+/// Removes the file, if it is there.
 fn remove(rt: &HostRuntime, path: &str) -> Result<(), Fault> {
     match fs::remove_file(rt, path) {
         Err(error) if error.kind() != ErrorKind::NotFound => Err(Fault::from(error)),
@@ -169,24 +180,25 @@ fn remove(rt: &HostRuntime, path: &str) -> Result<(), Fault> {
     }
 }
 
-/// Puts the whole copy in the place of the file, by one rename. Before that the older file's log
-/// goes into it: the copy can't have a log of another file beside it.
-pub(crate) fn replace<S: Alter + Drop, K: Keeper<Kept = Connection<S>>>(
+/// Puts the whole copy in the place of the file, by one rename. Before that `older`, the database
+/// that stands at `file`, is closed, which puts its write-ahead log into it, and both such logs are
+/// removed: one of another file must not stand beside the copy.
+pub(crate) fn replace<S: Alter + Drop, K: DatabaseOpener<Database = Connection<S>>>(
     rt: &HostRuntime,
-    keeper: &K,
+    opener: &K,
     older: Option<Connection<S>>,
     part: &str,
     file: &str,
 ) -> Result<(), Fault> {
-    if let Some(rows) = older {
-        keeper.close(rows)?;
+    if let Some(database) = older {
+        opener.close(database)?;
     }
-    remove_log(rt, part)?;
-    remove_log(rt, file)?;
+    remove_wal(rt, part)?;
+    remove_wal(rt, file)?;
     Ok(rename(rt, part, file)?)
 }
 
-/// Renames the file, and waits until the disk has the names of its folder.
+/// Renames the file, and syncs its folder, so that the new name is on the disk.
 fn rename(rt: &HostRuntime, part: &str, file: &str) -> io::Result<()> {
     fs::rename(rt, part, file)?;
     let folder = match file.rsplit_once('/') {

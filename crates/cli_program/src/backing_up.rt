@@ -1,4 +1,4 @@
-//! `backup`: an operator's address is asked for a backup.
+//! The command `backup`: it connects to an operator's address; `cli_databases` does the rest.
 ghost use Rattle.std.specs.Prelude.{◌≤◌, IfOk};
 
 use cli_asking::{BUFFER, at_path, at_port};
@@ -7,8 +7,8 @@ use cli_words::{Address, BackingUp, Fault};
 use client_lines::Peer;
 use std::io::{BufReader, BufWriter, Read, Write};
 
-/// Has a process back up its database, and answers the exit status. Where that is not 0, standard
-/// error has why.
+/// Connects to the command's address, has the process there back up its database, and answers the
+/// exit status. Where that is not 0, standard error has why.
 pub(crate) fn run_backup<O: Write>(
     rt: &HostRuntime,
     asked: &BackingUp<'_>,
@@ -19,16 +19,17 @@ pub(crate) fn run_backup<O: Write>(
     match asked.address {
         Address::Port(port) => {
             let stream = at_port(rt, port)?;
-            run_over(rt, asked, &stream, &stream, output)
+            back_up_over_stream(rt, asked, &stream, &stream, output)
         }
         Address::Path(path) => {
             let stream = at_path(rt, path)?;
-            run_over(rt, asked, &stream, &stream, output)
+            back_up_over_stream(rt, asked, &stream, &stream, output)
         }
     }
 }
 
-fn run_over<R: Read + Drop, W: Write + Drop, O: Write>(
+/// Does the backup over a stream that is connected, and answers the exit status.
+fn back_up_over_stream<R: Read + Drop, W: Write + Drop, O: Write>(
     rt: &HostRuntime,
     asked: &BackingUp<'_>,
     reader: R,

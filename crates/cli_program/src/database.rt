@@ -1,43 +1,44 @@
-//! A front over the database that its command names.
+//! The database of `listen` and `serve`: opened before they serve, and closed once they have ended.
 
-use crate::front::Front;
+use crate::serving_command::ServingCommand;
 use cli_commands::{Begin, Opener, store_of};
 use cli_databases::{InFile, InMemory};
 use cli_words::{Fault, MEMORY};
 use sqlite::{Alter, Connection};
 use std::io::Write;
 
-/// Opens the database, lets the front serve over it, and closes it once the front has ended. Where
-/// it is `:memory:` its tables are made; in a file they have to be there. Answers what the front
-/// does, or why the database can't be opened.
-pub fn serve_over<T: Front, W: Write>(
+/// Opens the database, lets the command serve over it, and closes it once the command has ended.
+/// Where it is `:memory:` its tables are made; in a file they have to be there. Answers what the
+/// command does, or why the database can't be opened.
+pub fn serve_on_database<T: ServingCommand, W: Write>(
     rt: &HostRuntime,
     database: &str,
-    front: &mut T,
+    command: &mut T,
     output: &mut W,
 ) -> Result<(), Fault> {
     if database == MEMORY {
         let alloc = rt.alloc();
-        return serve_by(rt, InMemory { alloc }, database, front, output);
+        return serve_with_opener(rt, InMemory { alloc }, database, command, output);
     }
-    serve_by(rt, InFile { rt, is_new: false }, database, front, output)
+    serve_with_opener(rt, InFile { rt, is_new: false }, database, command, output)
 }
 
-fn serve_by<S, F, T, W>(
+/// Opens the database by this opener, lets the command serve over it, and closes it.
+fn serve_with_opener<S, F, T, W>(
     rt: &HostRuntime,
     mut opener: F,
     database: &str,
-    front: &mut T,
+    command: &mut T,
     output: &mut W,
 ) -> Result<(), Fault>
 where
     S: Alter + Drop,
     F: Opener<Kept = Connection<S>> + Drop,
-    T: Front,
+    T: ServingCommand,
     W: Write,
 {
     let store = store_of(rt.alloc(), &mut opener, database, Begin::Serve)?;
-    let (connection, served) = front.serve(rt, store, output);
+    let (connection, served) = command.serve(rt, store, output);
     opener.close(connection);
     served
 }

@@ -1,10 +1,10 @@
-//! `listen`: connections on a port of this machine, served one after another.
+//! The command `listen`: connections on a port of this machine, served one after another.
 ghost use Rattle.std.specs.Prelude.{◌≡◌, false};
 ghost use Rattle.room_serve.specs.Connections.{CarriesOutAll, TakesLivesOn};
 ghost use Rattle.room_serve.specs.Wires.{reader_of, wire_has_ended, writer_of};
 
-use crate::database::serve_over;
-use crate::front::Front;
+use crate::database::serve_on_database;
+use crate::serving_command::ServingCommand;
 use cli_words::{Fault, Listening};
 use input_fields::Counted;
 use room_serve::{After, Sink, Source, Wire, serve_one};
@@ -46,25 +46,26 @@ pub fn listen<W: Write>(
     asked: &Listening<'_>,
     output: &mut W,
 ) -> Result<(), Fault> {
-    let mut front = *asked;
-    serve_over(rt, asked.database, &mut front, output)
+    let mut command = *asked;
+    serve_on_database(rt, asked.database, &mut command, output)
 }
 
-impl Front for Listening<'_> {
+impl ServingCommand for Listening<'_> {
+    /// Serves the connections, and hands back the store's one to the database, which is still open.
     fn serve<S: Alter + Drop, W: Write>(
         &mut self,
         rt: &HostRuntime,
         mut store: Store<S>,
         output: &mut W,
     ) -> (Connection<S>, Result<(), Fault>) {
-        let served = serve_all(rt, &mut store, self, output);
+        let served = serve_connections(rt, &mut store, self, output);
         (store.close(), served)
     }
 }
 
-/// Serves the connections, one after another. What an account was told before, and behind it what
-/// it is told here, is a life, and its rows are what that left.
-fn serve_all<S: Alter, W: Write>(
+/// Serves as many connections as the command asks for, one after another. What an account was told
+/// before, and behind it what it is told here, is a life, and its rows are what that left.
+fn serve_connections<S: Alter, W: Write>(
     rt: &HostRuntime,
     store: &mut Store<S>,
     asked: &Listening<'_>,
@@ -83,8 +84,8 @@ fn serve_all<S: Alter, W: Write>(
     Ok(())
 }
 
-/// The next connection. A try that fails says nothing of the next one, which comes after a pause;
-/// `Io` after `MOST_TRIES` in a row that failed.
+/// Waits for the next connection. A try that fails is followed by a pause and another one. `Io`
+/// after `MOST_TRIES` in a row that failed.
 fn accept(rt: &HostRuntime, listener: &TcpListener) -> Result<TcpStream, Fault> {
     for _ in 0..MOST_TRIES {
         match listener.accept() {
@@ -116,8 +117,8 @@ fn serve_connection<S: Alter>(
 }
 
 /// Serves the messages of a connection, each at the clock's moment: each that is applied was taken
-/// of what came, is applied once, and is answered. Whether its answers went out whole, so that it
-/// can part.
+/// of what came, is applied once, and is answered. Answers whether all answers went out whole, so
+/// that the connection can be ended in order (`part`).
 fn serve_messages<S: Alter, R: Source, W: Sink>(
     rt: &HostRuntime,
     store: &mut Store<S>,

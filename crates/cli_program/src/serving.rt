@@ -1,9 +1,10 @@
-//! `serve`: one process for clients over HTTP, stations and operators.
+//! The command `serve`: one process for clients over HTTP, browsers, stations and operators. Here
+//! it is set up: its database, log, kept space and doors; `serve_sockets` serves.
 ghost use Rattle.std.specs.Prelude.{◌≡◌, [], IfOk};
 ghost use Rattle.serve_peers.specs.Journals.{open_of, rounds_of};
 
-use crate::database::serve_over;
-use crate::front::Front;
+use crate::database::serve_on_database;
+use crate::serving_command::ServingCommand;
 use cli_databases::CopyFiles;
 use cli_words::{Address, Fault, MEMORY, ServedDoor, Serving, Visitors};
 use room_store::Store;
@@ -22,16 +23,16 @@ use std::io::Write;
 /// ` VISITORS=ADDRESS` for each door. A log that can't be opened is the system's failure.
 pub fn serve<W: Write>(rt: &HostRuntime, asked: &Serving<'_>, output: &mut W) -> Result<(), Fault> {
     let moment = moment(rt).ok_or(Fault::Io)?;
-    let mut front = Begun {
+    let mut command = ServeCommand {
         asked,
         moment,
         hall: None,
     };
-    serve_over(rt, asked.database, &mut front, output)
+    serve_on_database(rt, asked.database, &mut command, output)
 }
 
-// The command, begun at a moment.
-struct Begun<'a> {
+/// The command `serve`, begun at a moment, and its hall once that is open.
+struct ServeCommand<'a> {
     asked: &'a Serving<'a>,
     moment: u64,
     /// Stays until the file is closed, so that a connection that asked for the end sees it last.
@@ -39,9 +40,9 @@ struct Begun<'a> {
 }
 
 // In the place of `#[derive(Drop)]`, so that no caller proves again how each part is dropped.
-impl Drop for Begun<'_> {
+impl Drop for ServeCommand<'_> {
     fn drop(self) {
-        let Begun {
+        let ServeCommand {
             asked: _,
             moment: _,
             hall: _,
@@ -49,7 +50,8 @@ impl Drop for Begun<'_> {
     }
 }
 
-impl Front for Begun<'_> {
+impl ServingCommand for ServeCommand<'_> {
+    /// Serves at the doors, and hands back the connection to the database, which is still open.
     fn serve<S: Alter + Drop, W: Write>(
         &mut self,
         rt: &HostRuntime,
@@ -57,12 +59,14 @@ impl Front for Begun<'_> {
         output: &mut W,
     ) -> (Connection<S>, Result<(), Fault>) {
         let mut served = Served::new(rt.alloc(), store, self.moment);
-        let ended = serve_all(rt, &mut served, self.asked, &mut self.hall, output);
+        let ended = serve_at_doors(rt, &mut served, self.asked, &mut self.hall, output);
         (served.close(), ended)
     }
 }
 
-fn serve_all<S: Alter, W: Write>(
+/// Sets up what the command asks for, the log, the kept space and the doors, and serves at them
+/// until that ends. The hall is handed out in `kept`.
+fn serve_at_doors<S: Alter, W: Write>(
     rt: &HostRuntime,
     served: &mut Served<S>,
     asked: &Serving<'_>,
@@ -79,12 +83,13 @@ fn serve_all<S: Alter, W: Write>(
     served.set_spare(spare_for(rt, asked.database)?);
     served.set_needs_password(asked.needs_password);
     let mut hall = open(rt, asked, output)?;
-    let ended = run(rt, &mut hall, served);
+    let ended = run_hall(rt, &mut hall, served);
     *kept = Some(hall);
     Ok(ended?)
 }
 
-fn run<S: Alter>(rt: &HostRuntime, hall: &mut Hall, served: &mut Served<S>) -> io::Result<()> {
+/// Runs the hall until an operator ends it, with backups as files of this machine.
+fn run_hall<S: Alter>(rt: &HostRuntime, hall: &mut Hall, served: &mut Served<S>) -> io::Result<()> {
     let mut copies = Copies::new(CopyFiles::new(rt));
     hall.run(rt, served, &mut copies)
 }
@@ -99,13 +104,15 @@ fn spare_for(rt: &HostRuntime, database: &str) -> io::Result<Spare> {
     Spare::open(rt, path.as_str())
 }
 
-/// The hall behind the doors, at which all can connect.
+/// Opens the doors that the command asks for, prints their addresses, and makes the hall behind
+/// them.
 fn open<W: Write>(rt: &HostRuntime, asked: &Serving<'_>, output: &mut W) -> io::Result<Hall> {
     let doors = doors_at(rt, asked.doors.as_slice())?;
     tell(output, asked.doors.as_slice(), doors.as_slice())?;
     Hall::open(rt, doors, RandomState::new(rt)?)
 }
 
+/// Opens each door that the command line names.
 fn doors_at(rt: &HostRuntime, asked: &[ServedDoor<'_>]) -> io::Result<Vec<Entrance>> {
     let mut doors = Vec::with_capacity(rt.alloc(), asked.len())?;
     for door in asked {
@@ -115,6 +122,7 @@ fn doors_at(rt: &HostRuntime, asked: &[ServedDoor<'_>]) -> io::Result<Vec<Entran
     Ok(doors)
 }
 
+/// Opens a socket that listens at the address.
 fn door_at(rt: &HostRuntime, address: Address<'_>) -> io::Result<Door> {
     match address {
         Address::Port(port) => Door::at_port(rt, port),
@@ -122,17 +130,18 @@ fn door_at(rt: &HostRuntime, address: Address<'_>) -> io::Result<Door> {
     }
 }
 
+/// What a hall has to know of a door that the command line names: who comes in there, and how many.
 fn kind_of(rt: &HostRuntime, door: &ServedDoor<'_>) -> io::Result<Kind> {
     match door.visitors {
         Visitors::Clients => Ok(Kind::CLIENTS),
         Visitors::Pages => Ok(Kind::PAGES),
         Visitors::Stations => Ok(Kind::STATIONS),
-        Visitors::Station => Ok(Kind::station(kept(rt.alloc(), door.devices)?)),
+        Visitors::BoundStations => Ok(Kind::station(kept(rt.alloc(), door.devices)?)),
         Visitors::Operators => Ok(Kind::OPERATORS),
     }
 }
 
-/// The names, in memory that is never freed: a door is there as long as the process.
+/// Copies the names into memory that is never freed: a door is there as long as the process.
 fn kept(alloc: Global, names: &str) -> Result<&'static [u8], AllocError>
     ensures { IfOk result (λ kept. kept.now ≡ names.now) }
 {
@@ -141,7 +150,7 @@ fn kept(alloc: Global, names: &str) -> Result<&'static [u8], AllocError>
     Ok(kept.leak())
 }
 
-/// Tells where each can connect, a free port that was taken among them.
+/// Prints the line `serving`, with the address of each door, also where that is a free port.
 fn tell<W: Write>(output: &mut W, asked: &[ServedDoor<'_>], doors: &[Entrance]) -> io::Result<()> {
     write!(output, "serving")?;
     for (asked, door) in asked.iter().zip(doors) {
@@ -153,7 +162,7 @@ fn tell<W: Write>(output: &mut W, asked: &[ServedDoor<'_>], doors: &[Entrance]) 
     output.flush()
 }
 
-/// The address, with the port that was taken for it.
+/// The address where the door listens: the port that was taken for it, if it listens on one.
 fn named<'a>(address: Address<'a>, door: &Entrance) -> Address<'a> {
     match door.port() {
         Some(port) => Address::Port(port),

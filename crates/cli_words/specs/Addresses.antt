@@ -12,8 +12,8 @@ abbrev pub last_port : ℕ
 last_port = 65535
 
 -- decimal digits and nothing else
-abbrev pub has_digits_alone : List ℕ → Bool
-has_digits_alone word = list_all is_ascii_digit word
+abbrev pub is_all_digits : List ℕ → Bool
+is_all_digits word = list_all is_ascii_digit word
 
 -- a decimal number that is a port, which is at least so much
 abbrev pub IsPort : (word : List ℕ) (least : ℕ) → Type 0
@@ -23,13 +23,13 @@ IsPort word least = IsDecimal word × (least ≤ digits_value 10 word)
 -- the address is that of the word: a port where it has digits alone, else a path
 abbrev pub IsAddressOf : (word : List ℕ) (least : ℕ) → Address → Type 0
 IsAddressOf word least (Port port) =
-    IsTrue (has_digits_alone word) × IsPort word least × (port ≡ digits_value 10 word)
-IsAddressOf word least (Path path) = (has_digits_alone word ≡ false) × (path.now ≡ word)
+    IsTrue (is_all_digits word) × IsPort word least × (port ≡ digits_value 10 word)
+IsAddressOf word least (Path path) = (is_all_digits word ≡ false) × (path.now ≡ word)
 
 -- the word is no address: it is empty, or digits alone that are no such port
 abbrev pub IsNoAddress : (word : List ℕ) (least : ℕ) → Type 0
 IsNoAddress word least = (word ≡ [])
-    ⊎ (IsTrue (has_digits_alone word) × (IsPort word least → ⊥))
+    ⊎ (IsTrue (is_all_digits word) × (IsPort word least → ⊥))
 
 -- a port that is at least so much, or a path
 abbrev pub has_port_from : (least : ℕ) → Address → Bool

@@ -18,7 +18,7 @@ use Rattle.client_operator.specs.declared.task.Task.{Task}
 use Rattle.client_operator.specs.declared.task.Task.TheVariants as task
 use Rattle.cli_words.specs.Addresses.{IsAddressOf, has_port_from}
 use Rattle.cli_words.specs.Visitors.{AreDoors, log_option, pin_option, value_behind}
-use Rattle.cli_words.specs.Words.{SaysNumber}
+use Rattle.input_fields.specs.Fields.{SaysNumber}
 
 -- connections of one run of `listen`
 abbrev pub most_connections : ℕ

@@ -1,17 +1,17 @@
 -- Rule: Who comes in by the doors of `serve`, and by which address (this project's own).
 use Rattle.std.specs.Prelude.{◌≡◌, ◌⊎◌, ◌&&◌, ◌||◌, ℕ, Bool, true, false, if◌then◌else◌, IsTrue, List, [], ◌∷◌, codes, Option, Some, None}
 use Rattle.std.specs.Str.{bytes_eq}
-use Rattle.cli_words.specs.Addresses.{IsAddressOf, has_digits_alone}
+use Rattle.cli_words.specs.Addresses.{IsAddressOf, is_all_digits}
 use Rattle.cli_words.specs.ServedWords.{SaysPlace}
 use Rattle.cli_words.specs.declared.served_door.ServedDoor.{ServedDoor}
 use Rattle.cli_words.specs.declared.visitors.Visitors.{Visitors}
-use Rattle.cli_words.specs.declared.visitors.Visitors.TheVariants.{Clients, Operators, Pages, Station, Stations}
+use Rattle.cli_words.specs.declared.visitors.Visitors.TheVariants.{BoundStations, Clients, Operators, Pages, Stations}
 
 abbrev pub name_of : Visitors → List ℕ
 name_of Clients = codes "clients"
 name_of Pages = codes "pages"
 name_of Stations = codes "stations"
-name_of Station = codes "station"
+name_of BoundStations = codes "station"
 name_of Operators = codes "operators"
 
 -- the word behind which an address of theirs stands
@@ -19,7 +19,7 @@ abbrev pub option_of : Visitors → List ℕ
 option_of Clients = codes "--clients"
 option_of Pages = codes "--pages"
 option_of Stations = codes "--stations"
-option_of Station = codes "--station"
+option_of BoundStations = codes "--station"
 option_of Operators = codes "--operators"
 
 -- who comes for some devices alone
@@ -27,7 +27,7 @@ abbrev pub names_devices : Visitors → Bool
 names_devices Clients = false
 names_devices Pages = false
 names_devices Stations = false
-names_devices Station = true
+names_devices BoundStations = true
 names_devices Operators = false
 
 -- the door is theirs, at the address in the word, and for the devices that it names there
@@ -77,7 +77,7 @@ value_behind option _ = None
 -- the port of clients, the addresses of stations and operators, and behind them options
 abbrev pub AreDoors : (words : List (List ℕ)) (doors : List ServedDoor) → Type 0
 AreDoors (port ∷ stations ∷ operators ∷ options) (first ∷ second ∷ third ∷ further) =
-    IsTrue (has_digits_alone port) × IsDoorOf Clients port first
+    IsTrue (is_all_digits port) × IsDoorOf Clients port first
     × IsDoorOf Stations stations second × IsDoorOf Operators operators third
     × AreOptions options further
 AreDoors _ _ = ⊥

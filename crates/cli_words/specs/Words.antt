@@ -3,8 +3,6 @@
 use Rattle.std.specs.Prelude.{◌≡◌, ◌⊎◌, ℕ, if◌then◌else◌, List, [], ◌∷◌, map, codes, Option, Some, option_map, slice_get}
 use Rattle.std.specs.Borrow.{Bor}
 use Rattle.std.specs.Str.{bytes_eq}
-use Rattle.std.specs.Str.Parse.{digits_value}
-use Rattle.input_fields.specs.Fields.{IsDecimal}
 
 -- the first word, by which a command is told from the others
 abbrev pub first_word : List (Bor (List ℕ)) → Option (List ℕ)
@@ -30,7 +28,3 @@ IsOwnerErrand word = (word ≡ Some (codes "print")) ⊎ ((word ≡ Some (codes 
 abbrev pub placed : List (List ℕ) → List (List ℕ)
 placed [] = []
 placed (word ∷ words) = if bytes_eq word (codes "--") then words else word ∷ placed words
-
--- a number, in decimal
-abbrev pub SaysNumber : (word : List ℕ) → ℕ → Type 0
-SaysNumber word number = IsDecimal word × (digits_value 10 word ≡ number)

@@ -1,6 +1,6 @@
 //! An address on the command line: a port of this machine, or the path of a socket.
 ghost use Rattle.std.specs.Prelude.{◌≡◌, IfNone, IfSome, IsTrue};
-ghost use Rattle.cli_words.specs.Addresses.{has_digits_alone};
+ghost use Rattle.cli_words.specs.Addresses.{is_all_digits};
 
 use std::fmt;
 
@@ -28,7 +28,7 @@ impl<'a> Address<'a> {
         if word.is_empty() {
             return None;
         }
-        if !has_digits_alone(word) {
+        if !is_all_digits(word) {
             return Some(Address::Path(word));
         }
         let port = input_fields::number(word.as_bytes(), least, LAST_PORT)?;
@@ -37,8 +37,8 @@ impl<'a> Address<'a> {
 }
 
 /// Whether the word has decimal digits alone, so that it is read as a port.
-fn has_digits_alone(word: &str) -> bool
-    ensures { result ≡ has_digits_alone word.now }
+fn is_all_digits(word: &str) -> bool
+    ensures { result ≡ is_all_digits word.now }
 {
     word.bytes().all(|byte| byte.is_ascii_digit())
 }

@@ -4,7 +4,8 @@ ghost use Rattle.std.specs.Prelude.{◌≡◌, ◌≤◌, ℕ, List, IfOk, IfSom
 ghost use Rattle.std.specs.List.{list_any};
 ghost use Rattle.cli_words.specs.Addresses.{has_port_from};
 ghost use Rattle.cli_words.specs.Commands.{asks_for_help, is_in_range, is_owner_task_in_range, is_task_in_range, IsSaidBy};
-ghost use Rattle.cli_words.specs.Words.{SaysNumber, placed, texts};
+ghost use Rattle.cli_words.specs.Words.{placed, texts};
+ghost use Rattle.input_fields.specs.Fields.{SaysNumber};
 
 use crate::address::{Address, LAST_PORT};
 use crate::backing_up::BackingUp;
@@ -63,7 +64,7 @@ pub enum Command<'a> {
     Copy(Copying<'a>),
     /// Copies the database of a running process.
     Backup(BackingUp<'a>),
-    /// Makes a device known, and turns it on or off.
+    /// Makes a device known, and switches it on or off.
     Device {
         database: &'a str,
         name: Name,

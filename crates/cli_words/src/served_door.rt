@@ -1,7 +1,7 @@
 //! The doors that the words of `serve` name, each with who comes in and where; and its other
 //! options.
 ghost use Rattle.std.specs.Prelude.{◌≡◌, ◌++◌, IfOk, IsTrue, List, OnOk, is_some, option_map};
-ghost use Rattle.cli_words.specs.Addresses.{has_digits_alone};
+ghost use Rattle.cli_words.specs.Addresses.{is_all_digits};
 ghost use Rattle.cli_words.specs.Visitors.{AreDoors, AreOptions, IsDoorOf, is_no_door, is_required, log_option, pin_option, value_among, value_behind};
 ghost use Rattle.cli_words.specs.Words.{texts};
 ghost use Rattle.cli_words.specs.declared.served_door.ServedDoor.{ServedDoor as PlainDoor};
@@ -48,7 +48,7 @@ impl<'a> ServedDoor<'a> {
     /// Reads the door of clients from its word, a port.
     fn at_port(word: &'a str) -> Result<ServedDoor<'a>, Unfit>
         ensures door { IfOk result (IsDoorOf Clients word.now) }
-        ensures port { IfOk result (λ _. IsTrue (has_digits_alone word.now)) }
+        ensures port { IfOk result (λ _. IsTrue (is_all_digits word.now)) }
     {
         match Address::read(word, 0) {
             Some(address @ Address::Port(_)) => {

@@ -12,7 +12,7 @@ pub enum Visitors {
     /// Stations, by lines, for any device.
     Stations,
     /// Stations, by lines, at a bound door: for some devices alone.
-    Station,
+    BoundStations,
     /// Operators, by lines.
     Operators,
 }
@@ -26,7 +26,7 @@ impl Visitors {
             Visitors::Clients => "clients",
             Visitors::Pages => "pages",
             Visitors::Stations => "stations",
-            Visitors::Station => "station",
+            Visitors::BoundStations => "station",
             Visitors::Operators => "operators",
         }
     }
@@ -36,7 +36,7 @@ impl Visitors {
         ensures { result ≡ names_devices self }
     {
         match self {
-            Visitors::Station => true,
+            Visitors::BoundStations => true,
             Visitors::Clients | Visitors::Pages | Visitors::Stations | Visitors::Operators => false,
         }
     }
@@ -49,7 +49,7 @@ impl Visitors {
             "--clients" => Some(Visitors::Clients),
             "--pages" => Some(Visitors::Pages),
             "--stations" => Some(Visitors::Stations),
-            "--station" => Some(Visitors::Station),
+            "--station" => Some(Visitors::BoundStations),
             "--operators" => Some(Visitors::Operators),
             _ => None,
         }

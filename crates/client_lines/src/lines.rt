@@ -85,7 +85,8 @@ fn send_next<I: BufRead, R: BufRead, W: Write, K: Keeper, O: Write>(
     Ok(Some(answer))
 }
 
-/// Takes the answer to the line and prints it.
+/// Takes the answer to the line and prints it. Any line that the program does not know counts as a
+/// refusal. `Broken` where a count of lines or documents that follow is no number.
 fn take_answer<R: BufRead, W: Write, K: Keeper, O: Write>(
     alloc: Global,
     peer: &mut Peer<R, W>,

@@ -1,4 +1,4 @@
-//! Grants, as the answer to `grants` tells them, and which of them gave pages back.
+//! Reads grants of lines of the answer to `grants`, and finds which of them are refunds.
 ghost use Rattle.std.specs.Prelude.{◌≡◌, ◌<◌, ◌≤◌, IfOk, IfSome, false, map, nat_lt, true};
 ghost use Rattle.client_operator.specs.Refunds.{GivesBack, HasGrant, HasNoGrant, IsLatestFree, TellsGrant, after_refunds};
 ghost use Rattle.account_rules.specs.Limits.{first_month, last_month};
@@ -8,7 +8,8 @@ use account_rules::{FIRST_MONTH, MOST_PAGES};
 use client_lines::ClientFault;
 use input_fields::{month, number};
 
-/// January 2000: grants of earlier months are pages given back.
+/// January 2000, the first month that is not for refunds: a grant of an earlier month gives pages
+/// back (the command `refund`), and `report` tells it as that.
 pub(crate) const AFTER_REFUNDS: u32 = 24_000;
 
 /// Pages that were granted for a month.
@@ -19,7 +20,7 @@ pub(crate) struct Granted {
 }
 
 impl Granted {
-    /// What `grant YYYY-MM PAGES` says. Any other line is broken.
+    /// Reads a line `grant YYYY-MM PAGES`. `Broken` where it is any other.
     pub(crate) fn read(line: &[u8]) -> Result<Granted, ClientFault>
         ensures { IfOk result (λ granted. TellsGrant line.now granted) }
     {
@@ -30,6 +31,7 @@ impl Granted {
         Ok(Granted { month, pages })
     }
 
+    /// Whether the grant gave pages back: its month is before 2000-01.
     fn is_refund(self) -> bool
         ensures { result ≡ nat_lt self.month after_refunds }
     {
@@ -37,7 +39,7 @@ impl Granted {
     }
 }
 
-/// How many pages the grants gave back, of which each is a line.
+/// Adds up the pages that the grants gave back. Each line tells one grant.
 pub(crate) fn refunded(lines: &[Vec<u8>]) -> Result<u64, ClientFault>
     ensures { IfOk result (λ sum. GivesBack (map (λ line. line.items) lines.now) sum) }
 {
@@ -56,9 +58,10 @@ pub(crate) fn refunded(lines: &[Vec<u8>]) -> Result<u64, ClientFault>
     }
 }
 
-/// The latest month for which pages can be given back: the latest before 2000-01 that has no grant
-/// yet, or `None` where each has one.
-pub(crate) fn free_month(lines: &[Vec<u8>]) -> Result<Option<u32>, ClientFault>
+/// Finds the month by which the next refund is granted. A month has one grant, so each refund needs
+/// a month of its own: the latest before 2000-01 of which no line tells a grant. `None` where each
+/// such month has one.
+pub(crate) fn unused_refund_month(lines: &[Vec<u8>]) -> Result<Option<u32>, ClientFault>
     ensures latest { IfOk result (λ found. IfSome found
         (λ month. IsLatestFree (map (λ line. line.items) lines.now) month)) }
     ensures first { IfOk result (λ found. IfSome found (λ month. first_month ≤ month)) }
@@ -74,6 +77,7 @@ pub(crate) fn free_month(lines: &[Vec<u8>]) -> Result<Option<u32>, ClientFault>
     Ok(None)
 }
 
+/// Whether one of the lines tells a grant of the month.
 fn has_grant(lines: &[Vec<u8>], month: u32) -> Result<bool, ClientFault>
     ensures some { IfOk result (λ has. has ≡ true
         → HasGrant (map (λ line. line.items) lines.now) month) }

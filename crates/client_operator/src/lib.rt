@@ -1,12 +1,13 @@
-//! What an operator asks of a process that serves rooms, account by account over a connection, and
-//! what is printed of the answers. It opens no connection.
+//! The operator's client of a server process: what each command (`ping`, `end`, `report`,
+//! `waiting`, `expire`, `refund`, backups) asks over a connection, and what it prints. It opens no
+//! connection.
 #![tactic(auto)]
 
-mod age;
 mod asked;
 mod backup;
 mod bar;
 mod csv;
+mod days_ago;
 mod devices;
 mod end;
 mod expire;
@@ -24,10 +25,10 @@ mod task;
 mod waiting;
 mod words;
 
-pub use age::MOST_DAYS;
 pub use backup::back_up;
 pub use bar::Bar;
 pub use csv::put_record;
+pub use days_ago::MOST_DAYS;
 pub use report_month::ReportMonth;
 pub use shown::shown_text;
 pub use task::{Task, perform};

@@ -1,4 +1,4 @@
-//! `waiting`: the jobs that are held or pending.
+//! The command `waiting`: prints a CSV record for each job that is held or pending.
 ghost use Rattle.std.specs.Prelude.{◌≡◌, ◌++◌, IfOk, OnOk, map};
 ghost use Rattle.std.specs.Io.KnownBytes.{Appends};
 ghost use Rattle.client_operator.specs.Csv.{record_text};
@@ -6,10 +6,10 @@ ghost use Rattle.client_operator.specs.Tables.{PrintsTable};
 ghost use Rattle.client_operator.specs.Talks.{InTurn, at};
 ghost use Rattle.client_operator.specs.Waiting.{ListsAccount, ListsJob, is_chosen, job_fields, or_empty, waiting_head};
 
-use crate::age::is_as_old;
 use crate::asked::account_line;
 use crate::bar::Bar;
 use crate::csv::put_record;
+use crate::days_ago::is_as_old;
 use crate::job::TellsJob;
 use crate::names::all_names;
 use crate::printed::print_record;
@@ -19,10 +19,12 @@ use client_lines::{ClientFault, Peer, ask_list};
 use std::alloc::Global;
 use std::io::{BufRead, Write};
 
-/// Jobs of any age, or those that were made at least so many days before now.
+/// Which jobs a command is about, by age: all, or those made at least so many days before now.
 #[derive(Clone, Copy)]
 pub(crate) struct Age {
+    /// `None` is any age.
     pub(crate) days: Option<u32>,
+    /// In seconds since 1970-01-01T00:00:00Z.
     pub(crate) now: u64,
 }
 
@@ -41,7 +43,8 @@ impl Age {
     }
 }
 
-/// Prints a record for each job of the age that waits, of all accounts.
+/// Prints a record for each job of the age that waits, of all accounts. `bar` shows how many
+/// accounts are done.
 pub(crate) fn list_waiting<R: BufRead, W: Write, O: Write, E: Write>(
     alloc: Global,
     peer: &mut Peer<R, W>,
@@ -59,6 +62,7 @@ pub(crate) fn list_waiting<R: BufRead, W: Write, O: Write, E: Write>(
     Ok(output.flush()?)
 }
 
+/// Prints the names of the columns.
 fn print_head<O: Write>(alloc: Global, output: &mut O) -> Result<(), ClientFault>
     ensures { OnOk result (Appends (O.contents output.old) (O.contents output.new)
         (record_text waiting_head)) }
@@ -78,7 +82,7 @@ fn print_head<O: Write>(alloc: Global, output: &mut O) -> Result<(), ClientFault
     print_record(alloc, &fields, output)
 }
 
-/// Prints the records of the jobs of these accounts.
+/// Prints the records of these accounts' jobs, and has the bar show how many accounts are done.
 fn list_each<R: BufRead, W: Write, O: Write, E: Write>(
     alloc: Global,
     peer: &mut Peer<R, W>,
@@ -117,7 +121,7 @@ fn list_account<R: BufRead, W: Write, O: Write>(
     Ok(output.write_all(records.as_slice())?)
 }
 
-/// Appends the records of the jobs of the age that wait, of which each line tells one.
+/// Appends the records of those jobs, told by a line each, that wait and are of the age.
 fn put_jobs(
     lines: &[Vec<u8>],
     account: &Name,
@@ -133,7 +137,7 @@ fn put_jobs(
     Ok(())
 }
 
-/// Appends the record of the job that a line tells of, where it is of the age and waits.
+/// Appends the record of the job that a line tells of, if it waits and is of the age.
 fn put_line(line: &[u8], account: &Name, age: Age, records: &mut Vec<u8>) -> Result<(), ClientFault>
     ensures { OnOk result (ListsJob age account.now line.now
         records.old.items records.new.items) }
@@ -145,7 +149,7 @@ fn put_line(line: &[u8], account: &Name, age: Age, records: &mut Vec<u8>) -> Res
     put_job(records, account, &job)
 }
 
-/// Appends the record of a job. What is told as `-` is an empty field.
+/// Appends the record of a job. What is told as `-` becomes an empty field.
 fn put_job(records: &mut Vec<u8>, account: &Name, job: &TellsJob<'_>) -> Result<(), ClientFault>
     ensures { OnOk result (records.new.items
         ≡ records.old.items ++ record_text (job_fields account.now job.now)) }
@@ -166,6 +170,7 @@ fn put_job(records: &mut Vec<u8>, account: &Name, job: &TellsJob<'_>) -> Result<
     Ok(put_record(records, &fields)?)
 }
 
+/// Gives the word, or nothing where it is `-`.
 fn or_empty(word: &[u8]) -> &[u8]
     ensures { result.now ≡ or_empty word.now }
 {

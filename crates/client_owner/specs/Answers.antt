@@ -11,11 +11,11 @@ abbrev pub value_named : (name : List ℕ) (attributes : List PlainAttribute) �
 value_named name attributes = option_and_then (λ a. lone_value a.values) (named name attributes)
 
 -- an integer or an enum, if it is not negative
-abbrev pub number_of : PlainValue → Option ℕ
-number_of value = option_and_then from_zero (int_said value)
+abbrev pub unsigned_of : PlainValue → Option ℕ
+unsigned_of value = option_and_then from_zero (int_said value)
 
 abbrev pub number_named : (name : List ℕ) (attributes : List PlainAttribute) → Option ℕ
-number_named name attributes = option_and_then number_of (value_named name attributes)
+number_named name attributes = option_and_then unsigned_of (value_named name attributes)
 
 abbrev pub text_named : (name : List ℕ) (attributes : List PlainAttribute) → Option (List ℕ)
 text_named name attributes = option_and_then text_said (value_named name attributes)

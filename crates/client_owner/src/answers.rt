@@ -14,7 +14,7 @@ use client_lines::{ClientFault, is_text};
 use ipp_coding::{Message, ReadFault, read_message};
 use std::alloc::Global;
 
-/// Whether what was asked was done, and the text that is printed of it.
+/// Whether the queue did what it was asked, and the text that is printed of its answer.
 #[derive(Drop)]
 pub(crate) struct Told {
     pub(crate) done: bool,
@@ -52,14 +52,16 @@ fn told_by_ipp(
         (λ told. TellsIpp uri.now asked.now now body.now told.done told.text.items) }
 {
     match read_message(alloc, body) {
-        Ok(message) => told_by(alloc, uri, asked, now, &message),
+        Ok(message) => told_by_message(alloc, uri, asked, now, &message),
         Err(ReadFault::Malformed) => Err(ClientFault::Broken),
         Err(ReadFault::Memory) => Err(ClientFault::Memory),
     }
 }
 
-/// Makes the text for an IPP message: of what was done, or why it was refused.
-fn told_by(
+/// Makes the text for an IPP message: of what was done, or why it was refused. `Broken` where the
+/// message lacks what that takes: the number of the new job, or a status-message that can be
+/// printed.
+fn told_by_message(
     alloc: Global,
     uri: &[u8],
     asked: &Asked<'_>,

@@ -1,7 +1,7 @@
 //! Finds the attributes of an answer by their names.
 ghost use Rattle.std.specs.Prelude.{◌≡◌, map, option_map};
 ghost use Rattle.ipp_coding.specs.Plain.{plain_attribute, plain_value};
-ghost use Rattle.client_owner.specs.Answers.{number_named, number_of, text_named, value_named};
+ghost use Rattle.client_owner.specs.Answers.{number_named, unsigned_of, text_named, value_named};
 
 use account_asks::{lone_value, named};
 use ipp_coding::{Attribute, Value, int_of, text_of};
@@ -10,7 +10,7 @@ use ipp_coding::{Attribute, Value, int_of, text_of};
 pub(crate) fn number_named(attributes: &[Attribute<'_>], name: &[u8]) -> Option<u32>
     ensures { result ≡ number_named name.now (map plain_attribute attributes.now) }
 {
-    number_of(value_named(attributes, name)?)
+    unsigned_of(value_named(attributes, name)?)
 }
 
 /// Gives the text of the first attribute with the name, if its one value is a text.
@@ -22,8 +22,8 @@ pub(crate) fn text_named<'a>(attributes: &[Attribute<'a>], name: &[u8]) -> Optio
 }
 
 /// Gives the number of an integer, if it is not negative.
-fn number_of(value: Value<'_>) -> Option<u32>
-    ensures { result ≡ number_of (plain_value value.entry) }
+fn unsigned_of(value: Value<'_>) -> Option<u32>
+    ensures { result ≡ unsigned_of (plain_value value.entry) }
 {
     u32::try_from(int_of(value)?).ok()
 }

@@ -1,6 +1,6 @@
 -- Rule: What one field says: numbers, months, choices and bytes.
 use Rattle.std.specs.Prelude.{◌≡◌, ℕ, ◌+◌, ◌*◌, ◌-◌, Bool, true, false, ◌&&◌, ◌==◌, bytes_eq, nat_le, if◌then◌else◌, List, length, slice_index, Option, Some, None, option_map, option_and_then}
-use Rattle.std.specs.Str.Parse.{IsNumeral}
+use Rattle.std.specs.Str.Parse.{IsNumeral, digits_value}
 
 -- one of two words
 abbrev pub choice_said : (first second text : List ℕ) → Option Bool
@@ -23,6 +23,10 @@ two_digits_said tens ones = option_and_then (after_tens ones) (digit_said tens)
 pub record IsDecimal (text : List ℕ) : Type 0 where
   pub numeral : IsNumeral 10 text
   pub no_leading_zero : slice_index text 0 ≡ 48 → length text ≡ 1
+
+-- a number, in decimal
+abbrev pub SaysNumber : (text : List ℕ) → ℕ → Type 0
+SaysNumber text number = IsDecimal text × (digits_value 10 text ≡ number)
 
 -- twelve times the year, and 0 for January to 11 for December; the years 1970 to 2099
 abbrev pub month_number : (year month : ℕ) → Option ℕ

@@ -16,8 +16,8 @@ use std::alloc::Global;
 /// The most records that a file may have.
 const MOST_RECORDS: usize = 100_000;
 
-/// The most bytes that a file may have: 64 MiB.
-const MOST_BYTES: usize = 67_108_864;
+/// The most bytes that an input may have, a file of grants or lines: 64 MiB.
+pub const MOST_BYTES: usize = 67_108_864;
 
 /// Reads all records of a file of grants, in order. No record is a header, and each may have any
 /// number of fields. Where there are too many records or bytes it is `TooMany`, whatever they say.

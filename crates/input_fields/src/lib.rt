@@ -18,7 +18,7 @@ pub use counted::Counted;
 pub use fields::{FieldFault, bytes, choice, decimal, month, number};
 pub use grant_fault::GrantFault;
 pub use grant_line::GrantLine;
-pub use grants::read_grants;
+pub use grants::{MOST_BYTES, read_grants};
 pub use hex_text::print_hex;
 pub use sink::Sink;
 pub use source::{Source, read_byte};

@@ -1,6 +1,6 @@
-//! Rules of IPP over HTTP/1.1 that `listen` and `serve` share: which account a request is for, why
-//! one is refused, how long its parts may be, whether another site sent it, and the texts of
-//! answers.
+//! Rules of requests over HTTP/1.1. `listen` and `serve` share which account a request of IPP is for,
+//! why one is refused, how long its parts may be, and the texts of answers. The pages alone ask
+//! whether another site sent a form (`origin`).
 #![tactic(auto)]
 
 mod answer;

@@ -7,7 +7,8 @@ use Rattle.std.proofs.lemmas.List.{take_all}
 use Rattle.std.proofs.lemmas.List.Elements.{All-cons, All-nil}
 use Rattle.std.proofs.lemmas.List.Sums.{fails_before_first, split_at_first, passes_at_first}
 use Rattle.std.specs.List.{join_with_byte, position, position_or_len, before_first, after_first}
-use Rattle.input_lines.specs.Saying.{AreFields, HasNoSpace, Says, SaysLine, SaysNumber}
+use Rattle.input_fields.specs.Fields.{SaysNumber}
+use Rattle.input_lines.specs.Saying.{AreFields, HasNoSpace, Says, SaysLine}
 use Rattle.input_lines.specs.ProofTaking.{TakesField, TakesFields, space_before}
 use Rattle.input_lines.specs.declared.action.Action.{Action}
 use Rattle.input_lines.specs.declared.line.Line.{Line}

@@ -53,7 +53,7 @@ is_of_script _ = true
 
 abbrev pub event_of_action : Action → PlainEvent
 event_of_action (action.Open account) = OfAccount account event.Open
-event_of_action (action.Device name on) = OfDevice name (event.Turn on)
+event_of_action (action.Device name on) = OfDevice name (event.Switch on)
 event_of_action (action.Rate name units) = OfDevice name (event.Rate units)
 event_of_action (action.Grant account month pages) = OfAccount account (event.Grant month pages)
 event_of_action (action.Ipp account body) = OfAccount account (event.Ipp body.items)

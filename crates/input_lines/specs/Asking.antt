@@ -1,6 +1,7 @@
 -- Rule: Which lines are questions, who may ask them, and what they ask (this project's own).
 use Rattle.std.specs.Prelude.{◌≡◌, ℕ, ◌≤◌, Bool, true, false, List, [], ◌∷◌, codes}
-use Rattle.input_lines.specs.Saying.{AreFields, SaysMonth, SaysNumber, name_said}
+use Rattle.input_fields.specs.Fields.{SaysNumber}
+use Rattle.input_lines.specs.Saying.{AreFields, SaysMonth, name_said}
 use Rattle.account_questions.specs.declared.question.About.{About}
 use Rattle.account_questions.specs.declared.question.About.TheVariants.{Left, Statement, Jobs, Ended, Grants, Waiting, Again, OwnerPage, StatementPage}
 use Rattle.account_questions.specs.declared.question.Question.{Question}

@@ -1,9 +1,8 @@
 -- Rule: What a line that asks for an event says, field by field (this project's own).
 use Rattle.std.specs.Prelude.{◌≡◌, ◌≢◌, ◌⊎◌, ℕ, ◌<◌, Bool, All, List, [], ◌∷◌, ◌++◌, codes, length, Option, Some, None, Ok}
 use Rattle.std.specs.List.{AllZip, join_with_byte}
-use Rattle.std.specs.Str.Parse.{digits_value}
 use Rattle.hex.specs.Hex.{decode_of}
-use Rattle.input_fields.specs.Fields.{IsDecimal, choice_said, month_said}
+use Rattle.input_fields.specs.Fields.{SaysNumber, choice_said, month_said}
 use Rattle.input_lines.specs.OwnerRequests.{act_word}
 use Rattle.input_lines.specs.declared.action.Action.{Action}
 use Rattle.input_lines.specs.declared.action.Action.TheVariants.{Open, Device, Rate, Grant, Ipp, Release, Start, Settle, Owner}
@@ -17,10 +16,6 @@ use Rattle.input_lines.specs.declared.line.Line.{Line}
 abbrev pub name_said : Option (List ℕ) → List ℕ
 name_said None = codes "-"
 name_said (Some name) = name
-
--- a number, in decimal
-abbrev pub SaysNumber : (field : List ℕ) → ℕ → Type 0
-SaysNumber field number = IsDecimal field × (digits_value 10 field ≡ number)
 
 abbrev pub SaysMonth : (field : List ℕ) → ℕ → Type 0
 SaysMonth field month = month_said field ≡ Some month

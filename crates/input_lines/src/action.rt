@@ -9,7 +9,7 @@ pub enum Action {
     Open {
         account: Name,
     },
-    /// Makes a device known, and turns it on or off.
+    /// Makes a device known, and switches it on or off.
     Device {
         name: Name,
         on: bool,
@@ -52,7 +52,7 @@ pub enum Action {
         impressions: u32,
         failed: bool,
     },
-    /// Asks about a job, 1 to 999999, what the owner of its account could ask.
+    /// Cancels or holds a job, 1 to 999999, as the owner of its account could.
     Owner(OwnerRequest),
 }
 

@@ -2,7 +2,8 @@
 ghost use Rattle.std.specs.Prelude.{◌≡◌, ◌==◌, ◌≤◌, ◌<◌, None, IfOk, IfSome, IsTrue, OnOk, length, position};
 ghost use Rattle.account_rules.specs.Limits.{first_month, last_moment, last_month};
 ghost use Rattle.input_lines.specs.Actions.{are_impressions};
-ghost use Rattle.input_lines.specs.Saying.{SaysBytes, SaysImpressions, SaysMonth, SaysNumber, SaysPassword, SaysWord, name_said};
+ghost use Rattle.input_fields.specs.Fields.{SaysNumber};
+ghost use Rattle.input_lines.specs.Saying.{SaysBytes, SaysImpressions, SaysMonth, SaysPassword, SaysWord, name_said};
 ghost use Rattle.input_lines.specs.ProofTaking.{TakesField, TakesOne, left};
 
 use account_machine::{LAST_MOMENT, MOST_IMPRESSIONS, Name};

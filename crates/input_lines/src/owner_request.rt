@@ -7,9 +7,10 @@ ghost use Rattle.account_replies.specs.Attributes.{value_with};
 ghost use Rattle.input_lines.specs.OwnerRequests.{operation_id, queue_uri, request_header, request_text};
 
 use account_machine::Name;
+use account_replies::want_of_memory;
 use account_rules::QUEUES;
 use ipp_coding::tags::{CHARSET, INTEGER, NATURAL_LANGUAGE, OPERATION_ATTRIBUTES, URI};
-use ipp_coding::{Header, PutFault, put_attribute, put_end, put_group, put_header};
+use ipp_coding::{Header, put_attribute, put_end, put_group, put_header};
 use std::alloc::{AllocError, Global};
 
 /// What an operator may do to a job for its owner.
@@ -137,14 +138,4 @@ fn end_groups(out: &mut Vec<u8>) -> Result<(), AllocError>
     ensures { OnOk result (out.new.items ≡ out.old.items ++ end_tag ∷ []) }
 {
     put_end(out).map_err(|fault| want_of_memory(fault))
-}
-
-/// The fault of writing a part that is well-formed: only memory can be wanting.
-fn want_of_memory(fault: PutFault) -> AllocError
-    requires { fault ≡ PutFault.Memory }
-{
-    match fault {
-        PutFault::Memory => AllocError,
-        PutFault::TooLong | PutFault::EmptyName | PutFault::BadTag => unreachable!(),
-    }
 }

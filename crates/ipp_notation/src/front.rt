@@ -5,17 +5,9 @@ ghost use Rattle.std.specs.Prelude.{◌≡◌, ◌≤◌, ◌⊎◌, IfOk, IfSom
 ghost use Rattle.ipp_coding.specs.Reading.{message_of};
 ghost use Rattle.ipp_notation.specs.Fronts.{closed_by_end};
 
-use ipp_coding::{ReadFault, read_message};
+use ipp_coding::tags::END_OF_ATTRIBUTES;
+use ipp_coding::{HEADER_LENGTH, LONGEST, ReadFault, read_message};
 use std::alloc::{AllocError, Global};
-
-/// The bytes before the first group.
-const HEADER_LENGTH: usize = 8;
-
-/// The longest name or value, in bytes.
-const LONGEST: usize = 32767;
-
-/// The end tag of a message's groups (RFC 8010 section 3.5.1).
-const END_OF_ATTRIBUTES: u8 = 0x03;
 
 /// What the last whole part was.
 #[derive(Clone, Copy)]
@@ -52,7 +44,8 @@ pub(crate) fn closed(alloc: Global, front: &[u8]) -> Result<Vec<u8>, AllocError>
     Ok(bytes)
 }
 
-/// How many bytes at the front are whole parts: the header, tags of groups, and values.
+/// How many bytes at the front are whole parts: the header, tags of groups, and values. Of fewer
+/// bytes than a header has, all of them: they are no message even with an end tag.
 fn whole_length(bytes: &[u8]) -> usize
     ensures { result ≤ length bytes.now }
 {

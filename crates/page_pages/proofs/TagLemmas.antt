@@ -10,7 +10,7 @@ use Rattle.page_pages.specs.Ended.{ended_job, ended_name}
 use Rattle.page_markup.specs.Escaping.{escaped}
 use Rattle.page_markup.specs.Laws.{IsMarkup}
 use Rattle.page_markup.specs.Parts.{Part, Mark, Text, Number, Known, Moment, Ending, Month, MonthNumber, html, shown}
-use Rattle.page_pages.specs.Tags.{NamesAreNoTags, kept, named, tags, turned}
+use Rattle.page_pages.specs.Tags.{NamesAreNoTags, kept, named, tags, inside_after}
 use Rattle.page_pages.specs.Waiting.{job_name, job_row}
 use Rattle.page_markup.proofs.Escapes.{clean_text}
 
@@ -18,15 +18,15 @@ use Rattle.page_markup.proofs.Escapes.{clean_text}
 
 abbrev after : (inside : Bool) → List ℕ → Bool
 after inside [] = inside
-after inside (byte ∷ more) = after (turned inside byte) more
+after inside (byte ∷ more) = after (inside_after inside byte) more
 
 after_append : (inside : Bool) (xs ys : List ℕ) → after inside (xs ++ ys) ≡ after (after inside xs) ys
 after_append inside [] ys = refl
-after_append inside (x ∷ xs) ys = after_append (turned inside x) xs ys
+after_append inside (x ∷ xs) ys = after_append (inside_after inside x) xs ys
 
 tags_append : (inside : Bool) (xs ys : List ℕ) → tags inside (xs ++ ys) ≡ tags inside xs ++ tags (after inside xs) ys
 tags_append inside [] ys = refl
-tags_append inside (x ∷ xs) ys = ap (λ (t : List ℕ). kept inside x ++ t) (tags_append (turned inside x) xs ys) ∙ sym (append_assoc (kept inside x) (tags (turned inside x) xs) (tags (after (turned inside x) xs) ys))
+tags_append inside (x ∷ xs) ys = ap (λ (t : List ℕ). kept inside x ++ t) (tags_append (inside_after inside x) xs ys) ∙ sym (append_assoc (kept inside x) (tags (inside_after inside x) xs) (tags (after (inside_after inside x) xs) ys))
 
 -- ---- texts
 
@@ -47,7 +47,7 @@ no_end byte clean =
       | inr none ↦ none
     ]
 
-stays : (inside : Bool) (byte : ℕ) → Clean byte → turned inside byte ≡ inside
+stays : (inside : Bool) (byte : ℕ) → Clean byte → inside_after inside byte ≡ inside
 stays true byte clean = rw (no_end byte clean) refl
 stays false byte clean = no_begin byte clean
 

@@ -1,17 +1,13 @@
 -- Rule: How a job stands, as its owner is told.
 use Rattle.std.specs.Prelude.{ℕ, ◌==◌, Bool, true, false, not, if◌then◌else◌, length, List, codes}
-use Rattle.account_rules.specs.Effects.{is_incomplete as lacks_documents}
+use Rattle.account_rules.specs.Effects.{is_incomplete}
 use Rattle.account_rules.specs.declared.job.Job.{Job}
 use Rattle.account_rules.specs.declared.job.JobState.{JobState}
 use Rattle.account_rules.specs.declared.job.JobState.TheVariants as state
 use Rattle.account_rules.specs.declared.job.Standing.{Standing}
 use Rattle.page_pages.specs.declared.phase.Phase.{Phase}
 use Rattle.page_pages.specs.declared.phase.Phase.TheVariants.{Incomplete, Locked, Uncounted, Ready, Released, Printing, Stopping, Printed, Canceled, Failed}
-use Rattle.page_pages.specs.declared.texts.TheConstants.{CANCELLED, FAILED, HELD, IS_INCOMPLETE, IS_LOCKED, IS_PRINTING, IS_READY, IS_RELEASED, IS_STOPPING, IS_UNCOUNTED, NOTHING, PRINTED, PRINTING, RELEASED, STOPPING}
-
--- it is open, or has no document
-abbrev pub is_incomplete : Standing → Bool
-is_incomplete = lacks_documents
+use Rattle.page_pages.specs.declared.texts.TheConstants.{CANCELED, FAILED, HELD, IS_INCOMPLETE, IS_LOCKED, IS_PRINTING, IS_READY, IS_RELEASED, IS_STOPPING, IS_UNCOUNTED, NOTHING, PRINTED, PRINTING, RELEASED, STOPPING}
 
 -- in the order in which a release is refused
 abbrev pub held_phase : (s : Standing) (password : List ℕ) → Phase
@@ -46,7 +42,7 @@ word Released = RELEASED.now
 word Printing = PRINTING.now
 word Stopping = STOPPING.now
 word Printed = PRINTED.now
-word Canceled = CANCELLED.now
+word Canceled = CANCELED.now
 word Failed = FAILED.now
 
 -- of a job that waits; one that ended needs none

@@ -9,13 +9,13 @@ use Rattle.page_pages.specs.Waiting.{job_row}
 abbrev pub kept : (inside : Bool) (byte : ℕ) → List ℕ
 kept inside byte = if inside || byte == 60 then byte ∷ [] else []
 
-abbrev pub turned : (inside : Bool) (byte : ℕ) → Bool
-turned inside byte = if inside then not (byte == 62) else byte == 60
+abbrev pub inside_after : (inside : Bool) (byte : ℕ) → Bool
+inside_after inside byte = if inside then not (byte == 62) else byte == 60
 
 -- all bytes of tags
 abbrev pub tags : (inside : Bool) → List ℕ → List ℕ
 tags inside [] = []
-tags inside (byte ∷ more) = kept inside byte ++ tags (turned inside byte) more
+tags inside (byte ∷ more) = kept inside byte ++ tags (inside_after inside byte) more
 
 -- the job under another name
 abbrev pub named : List ℕ → Job → Job

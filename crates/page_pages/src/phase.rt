@@ -1,13 +1,13 @@
 //! The phase of a job: how it stands, as its owner is told, with a word, a sentence and a sign.
 
 ghost use Rattle.std.specs.Prelude.{◌≡◌};
-ghost use Rattle.page_pages.specs.Phases.{held_phase, is_incomplete, phase_of, sentence, sign, word};
+ghost use Rattle.page_pages.specs.Phases.{held_phase, phase_of, sentence, sign, word};
 
 use crate::texts::{
-    CANCELLED, FAILED, HELD, IS_INCOMPLETE, IS_LOCKED, IS_PRINTING, IS_READY, IS_RELEASED,
+    CANCELED, FAILED, HELD, IS_INCOMPLETE, IS_LOCKED, IS_PRINTING, IS_READY, IS_RELEASED,
     IS_STOPPING, IS_UNCOUNTED, NOTHING, PRINTED, PRINTING, RELEASED, STOPPING,
 };
-use account_rules::{Job, JobState, Standing};
+use account_rules::{Job, JobState, Standing, is_incomplete};
 
 /// How a job stands. The first four are of one that is held.
 #[derive(Clone, Copy)]
@@ -60,13 +60,6 @@ fn held_phase(standing: &Standing, password: &[u8]) -> Phase
     Phase::Ready
 }
 
-/// Whether documents of the job are still to come, or it has none.
-fn is_incomplete(standing: &Standing) -> bool
-    ensures { result ≡ is_incomplete standing.now }
-{
-    standing.is_open || standing.documents == 0
-}
-
 /// Gives the word of the phase, for a job's row.
 pub(crate) fn word(phase: Phase) -> &'static str
     ensures { result.now ≡ word phase }
@@ -77,7 +70,7 @@ pub(crate) fn word(phase: Phase) -> &'static str
         Phase::Printing => PRINTING,
         Phase::Stopping => STOPPING,
         Phase::Printed => PRINTED,
-        Phase::Canceled => CANCELLED,
+        Phase::Canceled => CANCELED,
         Phase::Failed => FAILED,
     }
 }

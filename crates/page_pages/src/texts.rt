@@ -64,7 +64,7 @@ pub(crate) const STOPPING: &str = "Stopping";
 
 pub(crate) const PRINTED: &str = "Printed";
 
-pub(crate) const CANCELLED: &str = "Cancelled";
+pub(crate) const CANCELED: &str = "Cancelled";
 
 pub(crate) const FAILED: &str = "Failed";
 

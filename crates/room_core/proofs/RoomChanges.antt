@@ -13,7 +13,6 @@ use Rattle.account_state.specs.Rooms.{RoomValue}
 use Rattle.room_core.specs.ProofRoomLists.{job_map, document_map, grant_map, PlacesOnce, MonthsOnce}
 use Rattle.account_state.specs.RoomRules.{IsRoom, NumbersRise, has_document}
 use Rattle.account_state.specs.Changes.{with_new_job, with_standing, with_ended, with_grant, with_document, restood}
-use Rattle.room_core.specs.ProofSkips.{with_next, CanSkipTo}
 use Rattle.account_state.specs.Conditions.{CanAddJob, CanRestand, CanFinish, CanAddGrant, GoesOn}
 use Rattle.room_core.specs.ProofRestanding.{restood_job}
 use Rattle.account_state.proofs.KeptRooms.{add_job_keeps, restand_keeps, finish_keeps, add_grant_keeps, job_there, restood_there}
@@ -22,7 +21,7 @@ use Rattle.room_core.proofs.JobLists.{job_map-push, values-job_map, rise_push, r
 use Rattle.room_core.proofs.DocumentLists.{document_map-others, list_with, places_left}
 use Rattle.room_core.proofs.GrantLists.{grant_map-push, list_with as one_month_more}
 use Rattle.account_state.proofs.Bounds.{values_by_the_rules}
-use Rattle.account_state.proofs.KeptJobs.{below_more, none_next}
+use Rattle.account_state.proofs.KeptJobs.{none_next}
 
 -- the value of a room with these parts
 abbrev pub whole : (opened next : ℕ) → List Job → List Document → List Grant → RoomValue
@@ -30,19 +29,6 @@ whole opened next jobs documents grants = record { opened = opened; next = next;
 
 abbrev pub Keeps : (opened next : ℕ) → List Job → List Document → List Grant → Type 0
 Keeps opened next jobs documents grants = NumbersRise jobs × PlacesOnce documents × MonthsOnce grants × IsRoom (whole opened next jobs documents grants)
-
--- job numbers that are left out
-skip_keeps : (room : RoomValue) (next : ℕ) → IsRoom room → CanSkipTo room next → IsRoom (with_next room next)
-skip_keeps room next rules can = record {
-  opened_in_range = rules.opened_in_range;
-  next_from_one = omega (arith, rules.next_from_one, can.goes_up);
-  next_in_range = can.in_range;
-  jobs = λ number job here. below_more room.next next number job can.goes_up (rules.jobs number job here);
-  few_unfinished = rules.few_unfinished;
-  documents = rules.documents;
-  all_documents = rules.all_documents;
-  grants = rules.grants;
-}
 
 is_none : {A : Type 0} (o : Option A) → is_some o ≡ false → o ≡ None
 is_none None h = refl
@@ -144,13 +130,6 @@ module _ (room : RoomValue) (opened next : ℕ) (jobs : List Job) (documents : L
 
       pub job_finished_keeps : Keeps opened next grown fewer grants
       job_finished_keeps = (numbers_rise, subst PlacesOnce (sym drops) (places_left documents number keeps.1), keeps.2, subst IsRoom (sym job_finished) (finish_keeps room number standing rules can))
-
-  module _ (later : ℕ) (can : CanSkipTo room later) where
-    pub skipped : whole opened later jobs documents grants ≡ with_next room later
-    skipped = ap (λ (r : RoomValue). with_next r later) seen
-
-    pub skipped_keeps : Keeps opened later jobs documents grants
-    skipped_keeps = (keeps.0, keeps.1, keeps.2, subst IsRoom (sym skipped) (skip_keeps room later rules can))
 
   module _ (month pages : ℕ) (grown : List Grant) (grows : grown ≡ grants ++ record { month = month; pages = pages } ∷ []) (can : CanAddGrant room month pages) where
     new_month : get (grant_map grants) month ≡ None

@@ -1,5 +1,5 @@
-//! `Room`: one account whole in memory, as lists of jobs, documents and grants. For tests and
-//! programs that need no file; the server keeps accounts in tables.
+//! `Room`: one account whole in memory, as lists of jobs, documents and grants. For programs that
+//! need no file; the server keeps accounts in tables.
 
 ghost use Rattle.std.specs.Prelude.{◌≡◌, ◌≤◌, pos, is_some, option_copied, IfSome, IsNone, IsOk, OnOk, OnErr};
 ghost use Rattle.std.specs.List.{AllByRecursion};
@@ -9,7 +9,6 @@ ghost use Rattle.account_state.specs.Rooms.{empty_room};
 ghost use Rattle.account_state.specs.RoomRules.{IsJobAt, IsDocumentAt, IsGrant, NumbersRise, has_document, unfinished_count};
 ghost use Rattle.account_state.specs.Sums.{has_processing, reserved_in, charged_in, granted_to};
 ghost use Rattle.account_state.specs.Changes.{with_new_job, with_standing, with_ended, with_grant};
-ghost use Rattle.room_core.specs.ProofSkips.{with_next, CanSkipTo};
 ghost use Rattle.account_state.specs.Conditions.{CanAddJob, CanRestand, CanFinish, CanAddGrant};
 
 use crate::{documents, grants, jobs};
@@ -164,15 +163,6 @@ impl Room {
         jobs::push_job(&mut self.jobs, &mut self.documents, job, document)?;
         self.account.next_job += 1;
         Ok(())
-    }
-
-    /// Leaves job numbers out: the next job gets this one, which may be 1000000 and then leaves
-    /// none for it.
-    pub fn skip_to(&mut self, next_job: u32)
-        requires { CanSkipTo self.old next_job }
-        ensures { self.new ≡ with_next self.old next_job }
-    {
-        self.account.next_job = next_job;
     }
 
     /// Gives an unfinished job another standing, in which it stays unfinished, and its next

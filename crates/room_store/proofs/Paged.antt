@@ -14,7 +14,7 @@ use Rattle.account_state.specs.declared.summary.Summary.{Summary}
 use Rattle.account_rules.specs.Devices.{Devices}
 use Rattle.account_rules.specs.declared.device.Device.{Device}
 use Rattle.account_rules.specs.declared.job.Job.{Job}
-use Rattle.account_state.specs.Queues.{at_most, completed, not_completed}
+use Rattle.account_state.specs.Queues.{first_jobs, completed, not_completed}
 use Rattle.account_state.specs.Rooms.{RoomValue}
 use Rattle.account_state.specs.Sums.{charged_in, granted_to, reserved_in}
 
@@ -36,7 +36,7 @@ module _ (account : List ℕ) (month : ℕ) (outcome : Option Outcome) (stays ne
 
   pub owner_told : (room : RoomValue) (devices : Devices) (granted reserved charged : ℕ) (waiting ended : List Job) (listed : List Device) (page : List ℕ)
       → (granted ≡ granted_to room month) × (reserved ≡ reserved_in room) × (charged ≡ charged_in room)
-      → (waiting ≡ not_completed (values room.jobs)) × (ended ≡ at_most (Some most_shown) (completed (values room.jobs))) → listed ≡ values devices
+      → (waiting ≡ not_completed (values room.jobs)) × (ended ≡ first_jobs (Some most_shown) (completed (values room.jobs))) → listed ≡ values devices
       → page ≡ owner_page (owner_with granted reserved charged waiting ended listed)
       → ◌≡◌ {A = Reply} (Line page) (Line (owner_page (owner_of account month outcome stays needs_password room devices)))
   owner_told room devices granted reserved charged waiting ended listed page quota jobs all is =

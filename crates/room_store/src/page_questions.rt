@@ -1,26 +1,28 @@
-//! The pages of an account that is open.
+//! Questions that are answered by web pages about one account: its owner's page, and its statement
+//! of a month. `questions` has asked before whether the account is open.
 
 ghost use Rattle.std.specs.Prelude.{◌≡◌, Some, None, Err, IfOk};
 ghost use Rattle.std.specs.FinMap.{values};
 ghost use Rattle.account_asks.specs.declared.ask.Which.TheVariants.{NotCompleted, Completed};
 ghost use Rattle.account_questions.specs.Pages.{most_shown};
 ghost use Rattle.account_questions.specs.declared.question.About.TheVariants as about;
-ghost use Rattle.account_state.specs.Queues.{at_most, completed, not_completed};
+ghost use Rattle.account_state.specs.Queues.{first_jobs, completed, not_completed};
 ghost use Rattle.room_store.specs.Prelude.{HoldsRoom, IfOurTables, LooksUp, RoomValue};
 ghost use Rattle.room_store.specs.Questions.{OwnerPageIsReadable, StatementPageIsReadable, TellsAbout};
 ghost use Rattle.store_events.specs.Reading.{JobsAreReadable};
 
-use crate::about_accounts::{read_quota, read_statement};
+use crate::about_account::{read_quota, read_statement};
 use account_machine::{Job, Name, Reply};
 use account_questions::{MOST_SHOWN, owner_page, statement_page, statement_with};
 use ipp_coding::List;
 use page_pages::{Outcome, Owner};
+use rows_statements::{ended_jobs, list_devices, unfinished_jobs};
 use rows_tables::TableFault;
 use sqlite::Alter;
 use std::alloc::Global;
-use store_rounds::{Rounds, ended_jobs, list_devices, unfinished_jobs};
+use store_rounds::Rounds;
 
-/// Tells the page of the account's owner.
+/// Answers with the page of the account's owner.
 pub(crate) fn tell_owner_page<S: Alter>(
     alloc: Global,
     connection: &mut Rounds<S>,
@@ -55,7 +57,8 @@ pub(crate) fn tell_owner_page<S: Alter>(
     Ok(Reply::Line(owner_page(alloc, &owner)?))
 }
 
-/// The jobs that have not ended, and the last that have.
+/// Reads the jobs for the owner's page: all that have not ended, and the last `MOST_SHOWN` that
+/// have.
 fn read_jobs<S: Alter>(
     alloc: Global,
     connection: &mut Rounds<S>,
@@ -64,7 +67,7 @@ fn read_jobs<S: Alter>(
     ensures told { IfOurTables S.Store connection.old connection.new (λ db.
         (room : RoomValue) → HoldsRoom db account room → IfOk result (λ jobs.
         (jobs.0 ≡ not_completed (values room.jobs))
-        × (jobs.1 ≡ at_most (Some most_shown) (completed (values room.jobs))))) }
+        × (jobs.1 ≡ first_jobs (Some most_shown) (completed (values room.jobs))))) }
     ensures damaged { IfOurTables S.Store connection.old connection.new (λ db.
         result ≡ Err TableFault.Damaged → JobsAreReadable account NotCompleted None db
         → JobsAreReadable account Completed (Some most_shown) db → ⊥) }
@@ -75,7 +78,8 @@ fn read_jobs<S: Alter>(
     Ok((waiting, ended))
 }
 
-/// Tells the statement of a month for paper.
+/// Answers with the statement of a month as a page to be printed. `drawn_up` is the moment that it
+/// tells as its own.
 pub(crate) fn tell_statement_page<S: Alter>(
     alloc: Global,
     connection: &mut Rounds<S>,

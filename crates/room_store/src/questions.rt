@@ -1,4 +1,5 @@
-//! Questions, which change nothing.
+//! The dispatch of questions, which change nothing: which function answers which question.
+//! Questions about an open account are answered in the other files, all others here.
 
 ghost use Rattle.std.specs.Prelude.{◌≡◌, ℕ, List, Option, Err, IfOk, codes};
 ghost use Rattle.std.specs.FinMap.{values};
@@ -14,18 +15,20 @@ ghost use Rattle.room_store.specs.Prelude.{IfOurTables, LooksUp, RoomValue, WasO
 ghost use Rattle.rows_tables.specs.Accounts.{Holds};
 ghost use Rattle.rows_tables.specs.Devices.{HoldsDevices};
 
-use crate::about_accounts::{tell_ended, tell_grants, tell_jobs, tell_left, tell_statement};
+use crate::about_account::{tell_ended, tell_grants, tell_left, tell_statement, tell_unfinished};
 use crate::page_questions::{tell_owner_page, tell_statement_page};
 use crate::station_questions::{tell_again, tell_waiting};
 use account_machine::{Name, Reply, Success, Word};
 use account_questions::{About, Question, accounts_lines, check_line, devices_lines};
+use rows_checks::check_account;
+use rows_statements::{list_devices, next_accounts};
 use rows_tables::TableFault;
 use sqlite::Alter;
 use std::alloc::Global;
 use store_events::{refusal_line, success_line};
-use store_rounds::{Rounds, check_account, find_account, knock, list_devices, next_accounts};
+use store_rounds::{Rounds, find_account, knock};
 
-/// Answers a question.
+/// Answers a question, by the function for its kind.
 pub(crate) fn answer_question<S: Alter>(
     alloc: Global,
     connection: &mut Rounds<S>,
@@ -50,7 +53,7 @@ pub(crate) fn answer_question<S: Alter>(
     }
 }
 
-/// Tells `ok` where the tables can be asked.
+/// Answers `ok` where the tables can be read.
 fn tell_ok<S: Alter>(alloc: Global, connection: &mut Rounds<S>) -> Result<Reply, TableFault>
     ensures told { IfOk result (λ told. told ≡ reply.Line (codes "ok")) }
     ensures damaged { result ≡ Err TableFault.Damaged → ⊥ }
@@ -61,7 +64,7 @@ fn tell_ok<S: Alter>(alloc: Global, connection: &mut Rounds<S>) -> Result<Reply,
     success_line(alloc, Success::Ok)
 }
 
-/// Tells the devices.
+/// Answers all devices, one in a line.
 fn tell_devices<S: Alter>(alloc: Global, connection: &mut Rounds<S>) -> Result<Reply, TableFault>
     ensures told { IfOurTables S.Store connection.old connection.new (λ db. IfOk result (λ told.
         (devices : Devices) → HoldsDevices db devices
@@ -75,7 +78,7 @@ fn tell_devices<S: Alter>(alloc: Global, connection: &mut Rounds<S>) -> Result<R
     Ok(Reply::Line(devices_lines(alloc, devices.as_slice())?))
 }
 
-/// Tells the names of accounts that come next.
+/// Answers the next page of names of accounts, one in a line.
 fn tell_accounts<S: Alter>(
     alloc: Global,
     connection: &mut Rounds<S>,
@@ -93,8 +96,8 @@ fn tell_accounts<S: Alter>(
     Ok(Reply::Line(accounts_lines(alloc, names.as_slice())?))
 }
 
-/// Tells whether the rows of an account are sound. `Storage` tells also that a transaction is under
-/// way.
+/// Answers whether the rows of the account are sound. `Storage` also where a transaction is under
+/// way, which a read that fails would undo.
 fn tell_check<S: Alter>(
     alloc: Global,
     connection: &mut Rounds<S>,
@@ -110,7 +113,7 @@ fn tell_check<S: Alter>(
     ensures asks { WasOpen S.Store connection.old connection.new result }
 {
     // A read that fails would undo the transaction.
-    if !connection.is_autocommit() {
+    if connection.is_under_way() {
         return Err(TableFault::Storage);
     }
     match check_account(alloc, connection, account) {
@@ -124,7 +127,7 @@ fn tell_check<S: Alter>(
     }
 }
 
-/// Tells what is asked about an account, where that is open.
+/// Answers a question about an account, or refuses it where the account is not open.
 fn tell_account<S: Alter>(
     alloc: Global,
     connection: &mut Rounds<S>,
@@ -146,7 +149,7 @@ fn tell_account<S: Alter>(
     }
 }
 
-/// Tells what is asked about an account that is open.
+/// Answers a question about an account that is open, by the function for its kind.
 fn tell_about<S: Alter>(
     alloc: Global,
     connection: &mut Rounds<S>,
@@ -161,7 +164,7 @@ fn tell_about<S: Alter>(
     match about {
         About::Left { month } => tell_left(alloc, connection, account, month),
         About::Statement { month } => tell_statement(alloc, connection, account, month),
-        About::Jobs => tell_jobs(alloc, connection, account),
+        About::Jobs => tell_unfinished(alloc, connection, account),
         About::Ended { most } => tell_ended(alloc, connection, account, most),
         About::Grants => tell_grants(alloc, connection, account),
         About::Waiting { device } => tell_waiting(alloc, connection, account, device),

@@ -11,11 +11,12 @@ ghost use Rattle.store_events.specs.Reading.{DocumentsAreReadable};
 
 use account_machine::{Job, Name, Reply, Word, known_device};
 use account_questions::{jobs_lines, printed_by, waiting_at};
+use rows_statements::{find_device, find_documents, unfinished_jobs};
 use rows_tables::TableFault;
 use sqlite::Alter;
 use std::alloc::Global;
 use store_events::{parts, refusal_line};
-use store_rounds::{Rounds, find_device, find_documents, look_up, unfinished_jobs};
+use store_rounds::{Rounds, look_up};
 
 /// Answers the jobs of the account that the station may release, start or settle, one in a line.
 pub(crate) fn tell_waiting<S: Alter>(

@@ -12,45 +12,46 @@ ghost use Rattle.rows_tables.specs.Cells.{document_cells};
 
 use crate::keys::{Nothing, Places, walk_places};
 use account_rules::{Document, Job, LONGEST_DOCUMENT, Name};
-use rows_statements::find_job;
+use rows_statements::{Reads, find_job};
+use rows_tables::TableFault;
 use rows_tables::values::{bytes_at, format_at, number};
-use rows_tables::{TableFault, find_row};
-use sqlite::{Alter, Connection, Error, Row};
+use sqlite::{Error, Row};
 use sqlite_value::value::ValueRef;
 use std::alloc::Global;
 
 /// Checks that the account has no document. `Damaged` where it has one.
-pub(crate) fn check_no_document<S: Alter>(
-    connection: &mut Connection<S>,
+pub(crate) fn check_no_document<R: Reads>(
+    connection: &mut R,
     account: Name,
 ) -> Result<(), TableFault>
-    ensures none { IfOurTables S.Store connection.old connection.new
+    ensures none { IfOurTables R.S.Store (R.held connection.old) (R.held connection.new)
         (λ db. OnOk result ((job number : ℤ) → document_at db account job number ≡ None)) }
-    ensures damaged { IfOurTables S.Store connection.old connection.new
+    ensures damaged { IfOurTables R.S.Store (R.held connection.old) (R.held connection.new)
         (λ db. result ≡ Err TableFault.Damaged
         → ((job number : ℤ) → document_at db account job number ≡ None) → ⊥) }
-    ensures reads { ReadsStore S.Store connection.old connection.new result }
+    ensures reads { ReadsStore R.S.Store (R.held connection.old) (R.held connection.new) result }
 {
     let mut nothing = Nothing {};
     walk_places(connection, account, &mut nothing)
 }
 
 /// Reads one document of a job. `None` where it is not there; `Damaged` where its row is broken.
-fn find_document<S: Alter>(
-    connection: &mut Connection<S>,
+fn find_document<R: Reads>(
+    connection: &mut R,
     account: Name,
     job: u32,
     document: u32,
 ) -> Result<Option<Document>, TableFault>
-    ensures found { IfOurTables S.Store connection.old connection.new (λ db. IfOk result (λ found.
+    ensures found { IfOurTables R.S.Store (R.held connection.old) (R.held connection.new)
+        (λ db. IfOk result (λ found.
         document_at db account (pos job) (pos document)
         ≡ option_map (document_cells account) found)) }
     ensures in_range { IfOk result (λ found. IfSome found (IsDocumentAt (job, document))) }
-    ensures damaged { IfOurTables S.Store connection.old connection.new (λ db.
+    ensures damaged { IfOurTables R.S.Store (R.held connection.old) (R.held connection.new) (λ db.
         result ≡ Err TableFault.Damaged
         → IsRowOf (document_cells account) (IsDocumentAt (job, document))
         (document_at db account (pos job) (pos document)) → ⊥) }
-    ensures reads { ReadsStore S.Store connection.old connection.new result }
+    ensures reads { ReadsStore R.S.Store (R.held connection.old) (R.held connection.new) result }
 {
     match document_row(connection, account, job, document)? {
         Some(row) => Ok(Some(document_told(&row, job, document)?)),
@@ -59,20 +60,20 @@ fn find_document<S: Alter>(
 }
 
 /// Runs the query of `find_document`.
-fn document_row<S: Alter>(
-    connection: &mut Connection<S>,
+fn document_row<R: Reads>(
+    connection: &mut R,
     account: Name,
     job: u32,
     document: u32,
 ) -> Result<Option<Row>, Error>
-    ensures gets { GetsRow S.Store connection.old connection.new
+    ensures gets { GetsRow R.S.Store (R.held connection.old) (R.held connection.new)
         (λ db. document_at db account (pos job) (pos document))
         (λ cells. cell document_column.format cells ∷ cell document_column.bytes cells ∷ [])
         result }
-    ensures connection { KeepsOpen S.Store connection.old connection.new result }
+    ensures connection { KeepsOpen R.S.Store (R.held connection.old)
+        (R.held connection.new) result }
 {
-    find_row(
-        connection,
+    connection.find_row(
         "SELECT format, bytes FROM document WHERE account = ?1 AND job = ?2 AND number = ?3",
         &[
             ValueRef::Text(account.bytes()),
@@ -105,16 +106,16 @@ fn document_told(row: &Row, job: u32, document: u32) -> Result<Document, TableFa
 
 /// Checks each document of the account: its job has to be unfinished, and to have so many.
 /// `Damaged` where the rows are not sound.
-pub(crate) fn check_places<S: Alter>(
+pub(crate) fn check_places<R: Reads>(
     alloc: Global,
-    connection: &mut Connection<S>,
+    connection: &mut R,
     account: Name,
 ) -> Result<(), TableFault>
-    ensures in_order { IfOurTables S.Store connection.old connection.new
+    ensures in_order { IfOurTables R.S.Store (R.held connection.old) (R.held connection.new)
         (λ db. OnOk result (DocumentsAreInOrder db account)) }
-    ensures damaged { IfOurTables S.Store connection.old connection.new
+    ensures damaged { IfOurTables R.S.Store (R.held connection.old) (R.held connection.new)
         (λ db. result ≡ Err TableFault.Damaged → IsSound db account → ⊥) }
-    ensures reads { ReadsStore S.Store connection.old connection.new result }
+    ensures reads { ReadsStore R.S.Store (R.held connection.old) (R.held connection.new) result }
 {
     // The connection can read nothing else while the walk is under way.
     let mut places = Places {
@@ -135,17 +136,17 @@ fn has_document(job: &Job, document: u32) -> bool
 }
 
 /// Checks that a document, if it is there, is one that its job has. `Damaged` where it is not.
-fn check_place<S: Alter>(
-    connection: &mut Connection<S>,
+fn check_place<R: Reads>(
+    connection: &mut R,
     account: Name,
     job: u32,
     document: u32,
 ) -> Result<(), TableFault>
-    ensures in_order { IfOurTables S.Store connection.old connection.new
+    ensures in_order { IfOurTables R.S.Store (R.held connection.old) (R.held connection.new)
         (λ db. OnOk result (DocumentIsInOrder db account job document)) }
-    ensures damaged { IfOurTables S.Store connection.old connection.new
+    ensures damaged { IfOurTables R.S.Store (R.held connection.old) (R.held connection.new)
         (λ db. result ≡ Err TableFault.Damaged → IsSound db account → ⊥) }
-    ensures reads { ReadsStore S.Store connection.old connection.new result }
+    ensures reads { ReadsStore R.S.Store (R.held connection.old) (R.held connection.new) result }
 {
     if has_job_with(connection, account, job, document)? {
         return Ok(());
@@ -158,17 +159,17 @@ fn check_place<S: Alter>(
 
 /// Whether the job is there and has a document of this number. `Damaged` where the row of the job
 /// is broken.
-fn has_job_with<S: Alter>(
-    connection: &mut Connection<S>,
+fn has_job_with<R: Reads>(
+    connection: &mut R,
     account: Name,
     job: u32,
     document: u32,
 ) -> Result<bool, TableFault>
-    ensures there { IfOurTables S.Store connection.old connection.new
+    ensures there { IfOurTables R.S.Store (R.held connection.old) (R.held connection.new)
         (λ db. IfOk result (HasDocument db account job document)) }
-    ensures damaged { IfOurTables S.Store connection.old connection.new
+    ensures damaged { IfOurTables R.S.Store (R.held connection.old) (R.held connection.new)
         (λ db. result ≡ Err TableFault.Damaged → IsSound db account → ⊥) }
-    ensures reads { ReadsStore S.Store connection.old connection.new result }
+    ensures reads { ReadsStore R.S.Store (R.held connection.old) (R.held connection.new) result }
 {
     match find_job(connection, account, job)? {
         Some(it) => Ok(has_document(&it, document)),
@@ -177,17 +178,17 @@ fn has_job_with<S: Alter>(
 }
 
 /// Checks that a document of a job is there. `Damaged` where it is missing, or its row is broken.
-pub(crate) fn check_there<S: Alter>(
-    connection: &mut Connection<S>,
+pub(crate) fn check_there<R: Reads>(
+    connection: &mut R,
     account: Name,
     job: u32,
     document: u32,
 ) -> Result<(), TableFault>
-    ensures there { IfOurTables S.Store connection.old connection.new
+    ensures there { IfOurTables R.S.Store (R.held connection.old) (R.held connection.new)
         (λ db. OnOk result (IsDocumentThere db account job document)) }
-    ensures damaged { IfOurTables S.Store connection.old connection.new (λ db.
+    ensures damaged { IfOurTables R.S.Store (R.held connection.old) (R.held connection.new) (λ db.
         result ≡ Err TableFault.Damaged → IsDocumentThere db account job document → ⊥) }
-    ensures reads { ReadsStore S.Store connection.old connection.new result }
+    ensures reads { ReadsStore R.S.Store (R.held connection.old) (R.held connection.new) result }
 {
     match find_document(connection, account, job, document)? {
         Some(_) => Ok(()),

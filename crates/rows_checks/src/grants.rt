@@ -7,38 +7,34 @@ ghost use Rattle.rows_tables.specs.Accounts.{grant_at, IsSound};
 
 use crate::keys::{Nothing, Numbers, walk_months};
 use account_rules::{FIRST_MONTH, LAST_MONTH, Name};
-use rows_statements::find_grant;
+use rows_statements::{Reads, find_grant};
 use rows_tables::TableFault;
-use sqlite::{Alter, Connection};
 use std::alloc::Global;
 
 /// Checks that the account has no grant. `Damaged` where it has one.
-pub(crate) fn check_no_grant<S: Alter>(
-    connection: &mut Connection<S>,
-    account: Name,
-) -> Result<(), TableFault>
-    ensures none { IfOurTables S.Store connection.old connection.new
+pub(crate) fn check_no_grant<R: Reads>(connection: &mut R, account: Name) -> Result<(), TableFault>
+    ensures none { IfOurTables R.S.Store (R.held connection.old) (R.held connection.new)
         (λ db. OnOk result ((month : ℤ) → grant_at db account month ≡ None)) }
-    ensures damaged { IfOurTables S.Store connection.old connection.new
+    ensures damaged { IfOurTables R.S.Store (R.held connection.old) (R.held connection.new)
         (λ db. result ≡ Err TableFault.Damaged
         → ((month : ℤ) → grant_at db account month ≡ None) → ⊥) }
-    ensures reads { ReadsStore S.Store connection.old connection.new result }
+    ensures reads { ReadsStore R.S.Store (R.held connection.old) (R.held connection.new) result }
 {
     let mut nothing = Nothing {};
     walk_months(connection, account, &mut nothing)
 }
 
 /// Checks each grant of the account. `Damaged` where one is out of range.
-pub(crate) fn check_grants<S: Alter>(
+pub(crate) fn check_grants<R: Reads>(
     alloc: Global,
-    connection: &mut Connection<S>,
+    connection: &mut R,
     account: Name,
 ) -> Result<(), TableFault>
-    ensures in_order { IfOurTables S.Store connection.old connection.new
+    ensures in_order { IfOurTables R.S.Store (R.held connection.old) (R.held connection.new)
         (λ db. OnOk result (GrantsAreInOrder db account)) }
-    ensures damaged { IfOurTables S.Store connection.old connection.new
+    ensures damaged { IfOurTables R.S.Store (R.held connection.old) (R.held connection.new)
         (λ db. result ≡ Err TableFault.Damaged → IsSound db account → ⊥) }
-    ensures reads { ReadsStore S.Store connection.old connection.new result }
+    ensures reads { ReadsStore R.S.Store (R.held connection.old) (R.held connection.new) result }
 {
     // The connection can read nothing else while the walk is under way.
     let mut months = Numbers {
@@ -53,16 +49,12 @@ pub(crate) fn check_grants<S: Alter>(
 
 /// Checks the grant of the month, if there is one. `Damaged` where the month or the pages are out
 /// of range.
-fn check_grant<S: Alter>(
-    connection: &mut Connection<S>,
-    account: Name,
-    month: u32,
-) -> Result<(), TableFault>
-    ensures in_order { IfOurTables S.Store connection.old connection.new
+fn check_grant<R: Reads>(connection: &mut R, account: Name, month: u32) -> Result<(), TableFault>
+    ensures in_order { IfOurTables R.S.Store (R.held connection.old) (R.held connection.new)
         (λ db. OnOk result (GrantIsInOrder db account month)) }
-    ensures damaged { IfOurTables S.Store connection.old connection.new
+    ensures damaged { IfOurTables R.S.Store (R.held connection.old) (R.held connection.new)
         (λ db. result ≡ Err TableFault.Damaged → IsSound db account → ⊥) }
-    ensures reads { ReadsStore S.Store connection.old connection.new result }
+    ensures reads { ReadsStore R.S.Store (R.held connection.old) (R.held connection.new) result }
 {
     match find_grant(connection, account, month)? {
         Some(_) if month < FIRST_MONTH || month > LAST_MONTH => Err(TableFault::Damaged),

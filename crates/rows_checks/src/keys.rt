@@ -9,10 +9,10 @@ ghost use Rattle.rows_statements.specs.SoundRows.{grant_rows, job_rows};
 ghost use Rattle.rows_statements.specs.Totals.{number_cell};
 
 use account_rules::Name;
-use rows_statements::{Gather, walk};
+use rows_statements::{Gather, Reads};
 use rows_tables::TableFault;
 use rows_tables::values::short_at;
-use sqlite::{Alter, Connection, Row};
+use sqlite::Row;
 use sqlite_value::value::ValueRef;
 use std::marker::Model;
 
@@ -33,19 +33,19 @@ impl Gather for Nothing {
 }
 
 /// Hands the numbers of all jobs of the account to `gathered`.
-pub(crate) fn walk_jobs<S: Alter, G: Gather>(
-    connection: &mut Connection<S>,
+pub(crate) fn walk_jobs<R: Reads, G: Gather>(
+    connection: &mut R,
     account: Name,
     gathered: &mut G,
 ) -> Result<(), TableFault>
     ensures walks { WalksStore G.step G.refuses
-        S.Store connection.old connection.new
+        R.S.Store (R.held connection.old) (R.held connection.new)
         (λ db. IsPermutation (map number_cell (job_rows db account)))
         gathered.old gathered.new result }
-    ensures connection { KeepsOpen S.Store connection.old connection.new result }
+    ensures connection { KeepsOpen R.S.Store (R.held connection.old)
+        (R.held connection.new) result }
 {
-    walk(
-        connection,
+    connection.walk(
         "SELECT job FROM job WHERE account = ?1",
         &[ValueRef::Text(account.bytes())],
         gathered,
@@ -53,19 +53,19 @@ pub(crate) fn walk_jobs<S: Alter, G: Gather>(
 }
 
 /// Hands the months of all grants of the account to `gathered`.
-pub(crate) fn walk_months<S: Alter, G: Gather>(
-    connection: &mut Connection<S>,
+pub(crate) fn walk_months<R: Reads, G: Gather>(
+    connection: &mut R,
     account: Name,
     gathered: &mut G,
 ) -> Result<(), TableFault>
     ensures walks { WalksStore G.step G.refuses
-        S.Store connection.old connection.new
+        R.S.Store (R.held connection.old) (R.held connection.new)
         (λ db. IsPermutation (map number_cell (grant_rows db account)))
         gathered.old gathered.new result }
-    ensures connection { KeepsOpen S.Store connection.old connection.new result }
+    ensures connection { KeepsOpen R.S.Store (R.held connection.old)
+        (R.held connection.new) result }
 {
-    walk(
-        connection,
+    connection.walk(
         "SELECT month FROM grants WHERE account = ?1",
         &[ValueRef::Text(account.bytes())],
         gathered,
@@ -110,19 +110,19 @@ impl Gather for Numbers {
 
 /// Hands the keys of all documents of the account to `gathered`: the number of the job, and that of
 /// the document.
-pub(crate) fn walk_places<S: Alter, G: Gather>(
-    connection: &mut Connection<S>,
+pub(crate) fn walk_places<R: Reads, G: Gather>(
+    connection: &mut R,
     account: Name,
     gathered: &mut G,
 ) -> Result<(), TableFault>
     ensures walks { WalksStore G.step G.refuses
-        S.Store connection.old connection.new
+        R.S.Store (R.held connection.old) (R.held connection.new)
         (λ db. IsPermutation (map place_cells (all_documents db account)))
         gathered.old gathered.new result }
-    ensures connection { KeepsOpen S.Store connection.old connection.new result }
+    ensures connection { KeepsOpen R.S.Store (R.held connection.old)
+        (R.held connection.new) result }
 {
-    walk(
-        connection,
+    connection.walk(
         "SELECT job, number FROM document WHERE account = ?1",
         &[ValueRef::Text(account.bytes())],
         gathered,

@@ -9,13 +9,13 @@ use Rattle.sqlite.specs.Effect.{Database}
 use Rattle.account_rules.specs.Limits.{most_rate}
 use Rattle.account_rules.specs.Names.{is_name}
 use Rattle.account_rules.specs.declared.device.Device.{Device}
-use Rattle.account_rules.specs.Devices.{Devices, turned, rated}
+use Rattle.account_rules.specs.Devices.{Devices, switched, rated}
 use Rattle.account_rules.proofs.DeviceMaps.{named}
 use Rattle.rows_tables.specs.Tables.{device as device_table, rates as rates_table}
 use Rattle.rows_tables.specs.Keyed.{SetsRow}
 use Rattle.rows_tables.specs.Cells.{flag, number, on_cells, units_cells, device_cells, rate_cells}
 use Rattle.rows_tables.specs.Devices.{device_at, rate_at, HoldsDevices, IsDevice}
-use Rattle.rows_statements.specs.Rows.{TurnsDevice}
+use Rattle.rows_statements.specs.Rows.{SetsDevice}
 use Rattle.rows_statements.proofs.KeyTests.{is_at_text, text_met, text_here}
 use Rattle.rows_statements.proofs.LeftAlone.{row_kept}
 
@@ -115,8 +115,8 @@ module _ (name : List ℕ) (named : IsTrue (is_name name)) (old new : Database) 
       (λ e. subst (λ n. is_at_text name (number units ∷ []) n ≡ true) e (text_here name (number units ∷ []))) (kept other ∙ held.rate_rows other)
       (h.rows (Text other ∷ []) ∙ (λ i. cond (is_at_text name (number units ∷ []) other) (Some (units_cells (sym is_named i) (sym is_rated i))) (rate_at mid other)))
 
-  pub turned_devices : (on is_new : Bool) → TurnsDevice name on is_new old new → is_new ≡ not (contains_key devices name) → HoldsDevices new (turned devices name on)
-  turned_devices on true turns is_new =
+  pub switched_devices : (on is_new : Bool) → SetsDevice name on is_new old new → is_new ≡ not (contains_key devices name) → HoldsDevices new (switched devices name on)
+  switched_devices on true turns is_new =
       let it : Device = turned_to name on (get devices name) in
       let unknown : is_some (get devices name) ≡ false = is_unknown (contains_key devices name) is_new in
       record {
@@ -124,7 +124,7 @@ module _ (name : List ℕ) (named : IsTrue (is_name name)) (old new : Database) 
         device_rows = λ other. device_rows_kept name (number 1 ∷ []) turns.with_device new turns.rate_row other ∙ on_set on turns.with_device it refl refl turns.device_row other;
         rate_rows = rate_set 1 turns.with_device it refl (rate_of_new (get devices name) unknown) turns.rate_row (rate_rows_kept name (flag on ∷ []) old turns.with_device turns.device_row);
       }
-  turned_devices on false turns is_new =
+  switched_devices on false turns is_new =
       let it : Device = turned_to name on (get devices name) in
       let known : is_some (get devices name) ≡ true = is_known (contains_key devices name) is_new in
       record {

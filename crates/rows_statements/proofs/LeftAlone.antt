@@ -17,7 +17,7 @@ use Rattle.rows_tables.specs.Keyed.{has_key, row_at, OnlyChanges, StaysUnless, S
 use Rattle.rows_tables.specs.Cells.{number, account_cells, job_cells}
 use Rattle.rows_tables.specs.Accounts.{account_at, job_at, AgreeOnRows}
 use Rattle.rows_statements.specs.Alone.{OnlyAccount, OnlyDevices}
-use Rattle.rows_statements.specs.Rows.{AddsDocument, AddsJob, Restands, EndsJob, TurnsDevice}
+use Rattle.rows_statements.specs.Rows.{AddsDocument, AddsJob, Restands, EndsJob, SetsDevice}
 use Rattle.rows_statements.proofs.KeyTests.{first_met, unmet}
 
 -- a table that is as it was has the rows that it had
@@ -198,6 +198,6 @@ ended_leaves_account name number standing old new ends of there =
     let removed : account_at new name ≡ account_at mid name = row_kept account mid new (ends.document_rows.rest.account (λ e. let no : ⊥ = cc in no)) (Text name ∷ []) in
     removed ∙ account_row_kept name old mid (pos of.job) _ (ends.job_row of there)
 
-pub turned_alone : (name : List ℕ) (on is_new : Bool) (old new : Database) → TurnsDevice name on is_new old new → OnlyDevices old new
+pub turned_alone : (name : List ℕ) (on is_new : Bool) (old new : Database) → SetsDevice name on is_new old new → OnlyDevices old new
 turned_alone name on true old new turns = devices_then old turns.with_device new (device_alone name old turns.with_device _ turns.device_row) (rate_alone name turns.with_device new _ turns.rate_row)
 turned_alone name on false old new turns = subst (OnlyDevices old) (sym turns.rate_row) (device_alone name old turns.with_device _ turns.device_row)

@@ -24,7 +24,7 @@ use Rattle.account_rules.specs.declared.job.JobState.TheVariants.{Held, Pending,
 use Rattle.account_rules.specs.Standings.{IsStanding, KeepsToState}
 use Rattle.account_state.specs.Rooms.{RoomValue}
 use Rattle.account_state.specs.RoomRules.{NumbersRise}
-use Rattle.account_state.specs.Queues.{not_completed, ended_jobs, completed, at_most}
+use Rattle.account_state.specs.Queues.{not_completed, ended_jobs, completed, first_jobs}
 use Rattle.account_state.proofs.JobMaps.{values_keep, values_rise}
 use Rattle.account_state.proofs.QueueOrders.{not_completed_rise, completed_permutes, completed_fall}
 use Rattle.rows_tables.specs.Places.{job_tree, account_places}
@@ -86,14 +86,14 @@ module _ (tests : List Term) (order : List (Term × Key)) (name : List ℕ) (lim
       outputs_alike [] = refl
       outputs_alike (r ∷ rs) = ap (λ (l : List Output). output query (env (params name limit) r) ∷ l) (outputs_alike rs) ∙ ap (λ (o : Output). o ∷ map (told_by sorts) (map (drop 1) rs)) (outputs r)
 
-  limited_so : (wanted : List Job) (most : Option ℕ) → most ≡ limit → page query (params name most) (map (λ (o : Output). o.1) (map (job_told sorts name) wanted)) ≡ map numbered_cells (at_most most wanted)
+  limited_so : (wanted : List Job) (most : Option ℕ) → most ≡ limit → page query (params name most) (map (λ (o : Output). o.1) (map (job_told sorts name) wanted)) ≡ map numbered_cells (first_jobs most wanted)
   limited_so wanted None same = map-map (λ (o : Output). o.1) (job_told sorts name) wanted
   limited_so wanted (Some n) same = ap (take n) (map-map (λ (o : Output). o.1) (job_told sorts name) wanted) ∙ take-map numbered_cells n wanted
 
   pub rows_told : (db : Database) (rows : List Row) → IsShownBy query db.trees (params name limit) rows → (wanted : List Job)
       → IsPermutation (filter state_test (rows_under job account_places (Text name ∷ []) db)) (map (job_cells name) wanted)
       → IsAscending (λ a b. output_cmp query (job_told sorts name a) (job_told sorts name b) ≡ Less) wanted
-      → rows ≡ map numbered_cells (at_most limit wanted)
+      → rows ≡ map numbered_cells (first_jobs limit wanted)
   rows_told db rows answer wanted same up =
       let permuted = IsPermutation-map (told_by sorts) (filter state_test (rows_under job account_places (Text name ∷ []) db)) (map (job_cells name) wanted) same in
       let all : IsPermutation (map (λ r. output query (env (params name limit) r)) (filter (passes tests (params name limit)) (db.trees job_tree))) (map (job_told sorts name) wanted) =
@@ -136,7 +136,7 @@ module _ (name : List ℕ) (limit : Option ℕ) where
   room_rises : (db : Database) (room : RoomValue) → HoldsRoom db name room → NumbersRise (values room.jobs)
   room_rises db room held = values_rise room.jobs (λ n it is. (held.is_room.jobs n it is).numbered)
 
-  pub unfinished_listed : (db : Database) → HasSchema db → (rows : List Row) → IsShownBy unfinished_query db.trees (params name limit) rows → AreListed (λ all. at_most limit (not_completed all)) by_rising_number limit (unfinished_rows db name) db name rows
+  pub unfinished_listed : (db : Database) → HasSchema db → (rows : List Row) → IsShownBy unfinished_query db.trees (params name limit) rows → AreListed (λ all. first_jobs limit (not_completed all)) by_rising_number limit (unfinished_rows db name) db name rows
   unfinished_listed db has rows answer =
       let first = rows_first unfinished_tests unfinished_order name limit tells_unfinished by_number (asks_early name limit) (early_outputs name limit) by_rising_number (rises_by name limit) db rows answer in
       record {
@@ -165,7 +165,7 @@ module _ (name : List ℕ) (limit : Option ℕ) where
       by_case true is rest = rw is rest
       by_case false isnt rest = rw isnt (by_state_ended it it.standing.state sound.0.by_state isnt, rest)
 
-  pub ended_listed : (db : Database) → HasSchema db → (rows : List Row) → IsShownBy ended_query db.trees (params name limit) rows → AreListed (λ all. at_most limit (completed all)) by_falling_end limit (ended_rows db name) db name rows
+  pub ended_listed : (db : Database) → HasSchema db → (rows : List Row) → IsShownBy ended_query db.trees (params name limit) rows → AreListed (λ all. first_jobs limit (completed all)) by_falling_end limit (ended_rows db name) db name rows
   ended_listed db has rows answer =
       let first = rows_first ended_tests ended_order name limit tells_ended by_end (asks_late name limit) (late_outputs name limit) by_falling_end (falls_by name limit) db rows answer in
       record {

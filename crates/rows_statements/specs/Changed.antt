@@ -3,7 +3,7 @@
 use Rattle.std.specs.Prelude.{◌≡◌, ℕ, ◌+◌, ℤ, pos, Bool, true, not, List, Option, Some}
 use Rattle.std.specs.FinMap.{contains_key}
 use Rattle.sqlite.specs.Effect.{Database}
-use Rattle.account_rules.specs.Devices.{Devices, turned, rated}
+use Rattle.account_rules.specs.Devices.{Devices, switched, rated}
 use Rattle.account_rules.specs.declared.account.Account.{Account}
 use Rattle.account_rules.specs.declared.job.Document.{Document}
 use Rattle.account_rules.specs.declared.job.Job.{Job}
@@ -86,11 +86,11 @@ pub record FinishesJob (name : List ℕ) (number : ℕ) (standing : Standing) (b
       → job_at before name (pos number) ≡ Some (job_cells name job)
       → MovesCount name (counts job.standing) (counts standing) before after
 
--- ---- a device, which is turned on or off, and is new or not, or which gets another rate
+-- ---- a device, which is switched on or off, and is new or not, or which gets another rate
 
 pub record SwitchesDevice (name : List ℕ) (on is_new : Bool) (before after : Database) : Type 0 where
   pub devices : (devices : Devices) → HoldsDevices before devices
-      → is_new ≡ not (contains_key devices name) → HoldsDevices after (turned devices name on)
+      → is_new ≡ not (contains_key devices name) → HoldsDevices after (switched devices name on)
   pub alone : OnlyDevices before after
 
 pub record RatesDevice (name : List ℕ) (units : ℕ) (before after : Database) : Type 0 where

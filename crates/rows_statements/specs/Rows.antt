@@ -54,7 +54,7 @@ abbrev pub RatesNew : (name : List ℕ) (is_new : Bool) (old new : Database) →
 RatesNew name true old new = SetsRow rates_table (units_cells name 1) old new
 RatesNew name false old new = new ≡ old
 
-pub record TurnsDevice (name : List ℕ) (on is_new : Bool) (old new : Database) : Type 0 where
+pub record SetsDevice (name : List ℕ) (on is_new : Bool) (old new : Database) : Type 0 where
   pub with_device : Database
   pub device_row : SetsRow device_table (on_cells name on) old with_device
   pub rate_row : RatesNew name is_new with_device new

@@ -10,29 +10,30 @@ ghost use Rattle.rows_tables.specs.Accounts.{account_at};
 ghost use Rattle.sqlite_value.specs.Value.{owned};
 ghost use Rattle.sqlite_value.specs.declared.value.Value.TheVariants.{Text};
 
-use crate::walking::{Gather, walk};
+use crate::reads::Reads;
+use crate::walking::Gather;
 use account_rules::Name;
 use ipp_coding::List;
 use rows_tables::TableFault;
 use rows_tables::values::name_at;
-use sqlite::{Alter, Connection, Row};
+use sqlite::Row;
 use sqlite_value::value::ValueRef;
 use std::alloc::Global;
 
 /// Reads the next page of names: at most 100 that come after `behind`, or the first, in the order
 /// of their bytes. An operator who lists the accounts, and a backup, ask again behind the last name
 /// of a page. `Damaged` where a row has no valid name.
-pub fn next_accounts<S: Alter>(
+pub fn next_accounts<R: Reads>(
     alloc: Global,
-    connection: &mut Connection<S>,
+    connection: &mut R,
     behind: Option<Name>,
 ) -> Result<List<Name>, TableFault>
-    ensures listed { IfOurTables S.Store connection.old connection.new (λ db.
+    ensures listed { IfOurTables R.S.Store (R.held connection.old) (R.held connection.new) (λ db.
         (names : List (List ℕ)) → AreNames (λ name. IsSome (account_at db name)) names
         → IfOk result (λ next. next ≡ next_names behind names)) }
-    ensures damaged { IfOurTables S.Store connection.old connection.new
+    ensures damaged { IfOurTables R.S.Store (R.held connection.old) (R.held connection.new)
         (λ db. result ≡ Err TableFault.Damaged → AreNamed db → ⊥) }
-    ensures reads { ReadsStore S.Store connection.old connection.new result }
+    ensures reads { ReadsStore R.S.Store (R.held connection.old) (R.held connection.new) result }
 {
     let mut names = List {
         items: Vec::new(alloc),
@@ -42,17 +43,18 @@ pub fn next_accounts<S: Alter>(
 }
 
 /// Gathers the names of the page.
-fn walk_names<S: Alter>(
-    connection: &mut Connection<S>,
+fn walk_names<R: Reads>(
+    connection: &mut R,
     behind: &Option<Name>,
     names: &mut List<Name>,
 ) -> Result<(), TableFault>
     ensures walks { WalksStore ListsName (λ _ row. refuses_name row)
-        S.Store connection.old connection.new (ShowsNames behind.now) names.old names.new result }
-    ensures connection { KeepsOpen S.Store connection.old connection.new result }
+        R.S.Store (R.held connection.old)
+        (R.held connection.new) (ShowsNames behind.now) names.old names.new result }
+    ensures connection { KeepsOpen R.S.Store (R.held connection.old)
+        (R.held connection.new) result }
 {
-    walk(
-        connection,
+    connection.walk(
         "SELECT name FROM account WHERE name > ?1 ORDER BY name LIMIT 100",
         &[start_text(behind)],
         names,

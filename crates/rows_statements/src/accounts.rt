@@ -10,26 +10,27 @@ ghost use Rattle.rows_tables.specs.Cells.{account_cells};
 ghost use Rattle.rows_tables.specs.Accounts.{account_at, IsAccount};
 ghost use Rattle.rows_statements.specs.Updates.{SetsNextJob};
 
+use crate::reads::Reads;
 use account_rules::{Account, LAST_JOB, LAST_MOMENT, Name};
 use rows_tables::values::{number, number_at};
-use rows_tables::{TableFault, find_row, write};
-use sqlite::{Alter, Connection, Error, Row, Savepoint};
+use rows_tables::{TableFault, write};
+use sqlite::{Alter, Error, Row, Savepoint};
 use sqlite_value::value::ValueRef;
 
 /// Reads the account's own row. `None` where the account is not open. `Damaged` where the row is
 /// broken.
-pub fn find_account<S: Alter>(
-    connection: &mut Connection<S>,
+pub fn find_account<R: Reads>(
+    connection: &mut R,
     account: Name,
 ) -> Result<Option<Account>, TableFault>
-    ensures found { IfOurTables S.Store connection.old connection.new
+    ensures found { IfOurTables R.S.Store (R.held connection.old) (R.held connection.new)
         (λ db. IfOk result
         (λ found. account_at db account ≡ option_map (account_cells account) found)) }
     ensures in_range { IfOk result (λ found. IfSome found IsAccount) }
-    ensures damaged { IfOurTables S.Store connection.old connection.new (λ db.
+    ensures damaged { IfOurTables R.S.Store (R.held connection.old) (R.held connection.new) (λ db.
         result ≡ Err TableFault.Damaged
         → IsRowOf (account_cells account) IsAccount (account_at db account) → ⊥) }
-    ensures reads { ReadsStore S.Store connection.old connection.new result }
+    ensures reads { ReadsStore R.S.Store (R.held connection.old) (R.held connection.new) result }
 {
     match account_row(connection, account)? {
         Some(row) => Ok(Some(account_from(&row)?)),
@@ -38,17 +39,15 @@ pub fn find_account<S: Alter>(
 }
 
 /// Runs the query of `find_account`.
-fn account_row<S: Alter>(
-    connection: &mut Connection<S>,
-    account: Name,
-) -> Result<Option<Row>, Error>
-    ensures gets { GetsRow S.Store connection.old connection.new (λ db. account_at db account)
+fn account_row<R: Reads>(connection: &mut R, account: Name) -> Result<Option<Row>, Error>
+    ensures gets { GetsRow R.S.Store (R.held connection.old) (R.held connection.new)
+        (λ db. account_at db account)
         (λ cells. cell account_column.opened cells ∷ cell account_column.next_job cells ∷ [])
         result }
-    ensures connection { KeepsOpen S.Store connection.old connection.new result }
+    ensures connection { KeepsOpen R.S.Store (R.held connection.old)
+        (R.held connection.new) result }
 {
-    find_row(
-        connection,
+    connection.find_row(
         "SELECT opened, next_job FROM account WHERE name = ?1",
         &[ValueRef::Text(account.bytes())],
     )

@@ -7,14 +7,14 @@ ghost use Rattle.account_rules.specs.Names.{is_name};
 ghost use Rattle.rows_tables.specs.Cells.{units_cells};
 ghost use Rattle.rows_tables.specs.Tables.{rates as rates_table};
 ghost use Rattle.rows_statements.specs.Changed.{RatesDevice, SwitchesDevice};
-ghost use Rattle.rows_statements.specs.Rows.{TurnsDevice};
+ghost use Rattle.rows_statements.specs.Rows.{SetsDevice};
 
 use crate::{set_device, set_rate};
 use account_rules::Name;
 use sqlite::{Alter, Connection, Error, Savepoint};
 
-/// Turns the device on or off. Where it is new (`is_new`) it is added, and gets rate 1.
-pub fn turn_device<S: Alter>(
+/// Switches the device on or off. Where it is new (`is_new`) it is added, and gets rate 1.
+pub fn switch_device<S: Alter>(
     connection: &mut Connection<S>,
     name: Name,
     on: bool,
@@ -26,7 +26,7 @@ pub fn turn_device<S: Alter>(
     put_device(connection, name, on, is_new)
 }
 
-/// The work of `turn_device`, in one savepoint.
+/// The work of `switch_device`, in one savepoint.
 fn put_device<S: Alter>(
     connection: &mut Connection<S>,
     name: Name,
@@ -34,7 +34,7 @@ fn put_device<S: Alter>(
     is_new: bool,
 ) -> Result<(), Error>
     ensures turns { ChangesWhole S.Store connection.old connection.new result
-        (TurnsDevice name on is_new) }
+        (SetsDevice name on is_new) }
     ensures name { IsTrue (is_name name) }
 {
     let mut savepoint = connection.savepoint()?;
@@ -42,7 +42,7 @@ fn put_device<S: Alter>(
     savepoint.commit()
 }
 
-/// The work of `turn_device`, inside a savepoint.
+/// The work of `switch_device`, inside a savepoint.
 fn switch<S: Alter>(
     savepoint: &mut Savepoint<'_, S>,
     name: Name,
@@ -50,7 +50,7 @@ fn switch<S: Alter>(
     is_new: bool,
 ) -> Result<(), Error>
     ensures turns { Changes S.Store savepoint.old.conn.now savepoint.new.conn.now result
-        (TurnsDevice name on is_new) }
+        (SetsDevice name on is_new) }
     ensures name { IsTrue (is_name name) }
     ensures inside { WritesInSavepoint savepoint.old savepoint.new result }
 {

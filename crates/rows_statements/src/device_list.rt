@@ -11,26 +11,24 @@ ghost use Rattle.rows_tables.specs.Cells.{units_cells};
 ghost use Rattle.rows_tables.specs.Devices.{rate_at, HoldsDevices};
 
 use crate::rates::find_rate;
-use crate::walking::{Gather, walk};
+use crate::reads::Reads;
+use crate::walking::Gather;
 use account_rules::{Device, Name};
 use ipp_coding::List;
 use rows_tables::TableFault;
 use rows_tables::values::{flag_at, name_at};
-use sqlite::{Alter, Connection, Row};
+use sqlite::Row;
 use std::alloc::Global;
 
 /// Reads all devices with their rates, by name. `Damaged` where a row is broken, or a device has no
 /// rate.
-pub fn list_devices<S: Alter>(
-    alloc: Global,
-    connection: &mut Connection<S>,
-) -> Result<List<Device>, TableFault>
-    ensures listed { IfOurTables S.Store connection.old connection.new (λ db.
+pub fn list_devices<R: Reads>(alloc: Global, connection: &mut R) -> Result<List<Device>, TableFault>
+    ensures listed { IfOurTables R.S.Store (R.held connection.old) (R.held connection.new) (λ db.
         (devices : Devices) → HoldsDevices db devices
         → IfOk result (λ listed. listed ≡ values devices)) }
-    ensures damaged { IfOurTables S.Store connection.old connection.new
+    ensures damaged { IfOurTables R.S.Store (R.held connection.old) (R.held connection.new)
         (λ db. result ≡ Err TableFault.Damaged → CanBeListed db → ⊥) }
-    ensures reads { ReadsStore S.Store connection.old connection.new result }
+    ensures reads { ReadsStore R.S.Store (R.held connection.old) (R.held connection.new) result }
 {
     // The connection can read nothing else while the walk is under way.
     let mut switches = List {
@@ -45,16 +43,17 @@ pub fn list_devices<S: Alter>(
 }
 
 /// Gathers each device's name, and whether it takes jobs.
-fn walk_switches<S: Alter>(
-    connection: &mut Connection<S>,
+fn walk_switches<R: Reads>(
+    connection: &mut R,
     switches: &mut List<(Name, bool)>,
 ) -> Result<(), TableFault>
     ensures walks { WalksStore ListsSwitch (λ _ row. refuses_switch row)
-        S.Store connection.old connection.new ShowsDevices switches.old switches.new result }
-    ensures connection { KeepsOpen S.Store connection.old connection.new result }
+        R.S.Store (R.held connection.old)
+        (R.held connection.new) ShowsDevices switches.old switches.new result }
+    ensures connection { KeepsOpen R.S.Store (R.held connection.old)
+        (R.held connection.new) result }
 {
-    walk(
-        connection,
+    connection.walk(
         "SELECT name, accepting FROM device ORDER BY name",
         &[],
         switches,
@@ -78,18 +77,14 @@ impl Gather for List<(Name, bool)> {
 }
 
 /// Adds its rate to a device. `Damaged` where it has none, or the row of the rate is broken.
-fn with_rate<S: Alter>(
-    connection: &mut Connection<S>,
-    name: Name,
-    on: bool,
-) -> Result<Device, TableFault>
+fn with_rate<R: Reads>(connection: &mut R, name: Name, on: bool) -> Result<Device, TableFault>
     ensures told { IfOk result (λ device. switch_of device ≡ (name, on)) }
-    ensures rated { IfOurTables S.Store connection.old connection.new
+    ensures rated { IfOurTables R.S.Store (R.held connection.old) (R.held connection.new)
         (λ db. IfOk result (HasRate db)) }
-    ensures damaged { IfOurTables S.Store connection.old connection.new (λ db.
+    ensures damaged { IfOurTables R.S.Store (R.held connection.old) (R.held connection.new) (λ db.
         result ≡ Err TableFault.Damaged
         → (units : ℕ) → IsRate units → rate_at db name ≡ Some (units_cells name units) → ⊥) }
-    ensures reads { ReadsStore S.Store connection.old connection.new result }
+    ensures reads { ReadsStore R.S.Store (R.held connection.old) (R.held connection.new) result }
 {
     match find_rate(connection, name)? {
         Some(rate) => Ok(Device { name, on, rate }),

@@ -11,25 +11,23 @@ ghost use Rattle.rows_tables.specs.Devices.{device_at, HoldsDevices};
 ghost use Rattle.rows_statements.specs.Totals.{GathersOn, refuses_flag};
 ghost use Rattle.rows_statements.specs.SoundRows.{device_rows, AreRowsOf};
 
-use crate::walking::{Gather, walk};
+use crate::reads::Reads;
+use crate::walking::Gather;
 use account_rules::Name;
 use rows_tables::values::{flag, flag_at};
-use rows_tables::{TableFault, find_row, write};
-use sqlite::{Alter, Connection, Error, Row, Savepoint};
+use rows_tables::{TableFault, write};
+use sqlite::{Alter, Error, Row, Savepoint};
 use sqlite_value::value::ValueRef;
 
 /// Reads whether the device takes jobs now. `None` where no device has the name; `Damaged` where
 /// its row is broken.
-pub fn find_device<S: Alter>(
-    connection: &mut Connection<S>,
-    name: Name,
-) -> Result<Option<bool>, TableFault>
-    ensures found { IfOurTables S.Store connection.old connection.new
+pub fn find_device<R: Reads>(connection: &mut R, name: Name) -> Result<Option<bool>, TableFault>
+    ensures found { IfOurTables R.S.Store (R.held connection.old) (R.held connection.new)
         (λ db. IfOk result (λ found. device_at db name ≡ option_map (on_cells name) found)) }
-    ensures damaged { IfOurTables S.Store connection.old connection.new (λ db.
+    ensures damaged { IfOurTables R.S.Store (R.held connection.old) (R.held connection.new) (λ db.
         result ≡ Err TableFault.Damaged
         → IsRowOf (on_cells name) (λ _. ⊤) (device_at db name) → ⊥) }
-    ensures reads { ReadsStore S.Store connection.old connection.new result }
+    ensures reads { ReadsStore R.S.Store (R.held connection.old) (R.held connection.new) result }
 {
     match device_row(connection, name)? {
         Some(row) => Ok(Some(flag_at(&row, 0)?)),
@@ -38,13 +36,14 @@ pub fn find_device<S: Alter>(
 }
 
 /// Runs the query of `find_device`.
-fn device_row<S: Alter>(connection: &mut Connection<S>, name: Name) -> Result<Option<Row>, Error>
-    ensures gets { GetsRow S.Store connection.old connection.new (λ db. device_at db name)
+fn device_row<R: Reads>(connection: &mut R, name: Name) -> Result<Option<Row>, Error>
+    ensures gets { GetsRow R.S.Store (R.held connection.old) (R.held connection.new)
+        (λ db. device_at db name)
         (λ cells. cell device_column.accepting cells ∷ []) result }
-    ensures connection { KeepsOpen S.Store connection.old connection.new result }
+    ensures connection { KeepsOpen R.S.Store (R.held connection.old)
+        (R.held connection.new) result }
 {
-    find_row(
-        connection,
+    connection.find_row(
         "SELECT accepting FROM device WHERE name = ?1",
         &[ValueRef::Text(name.bytes())],
     )
@@ -52,15 +51,17 @@ fn device_row<S: Alter>(connection: &mut Connection<S>, name: Name) -> Result<Op
 
 /// Whether any device takes jobs now, which the printer's attributes tell. `Damaged` where a row is
 /// broken.
-pub fn is_device_on<S: Alter>(connection: &mut Connection<S>) -> Result<bool, TableFault>
-    ensures found { IfOurTables S.Store connection.old connection.new (λ db. IfOk result
+pub fn is_device_on<R: Reads>(connection: &mut R) -> Result<bool, TableFault>
+    ensures found { IfOurTables R.S.Store (R.held connection.old) (R.held connection.new)
+        (λ db. IfOk result
         (λ on. IsTrue on ↔ ((name : List ℕ) × (device_at db name ≡ Some (on_cells name true))))) }
-    ensures of_map { IfOurTables S.Store connection.old connection.new (λ db. IfOk result
+    ensures of_map { IfOurTables R.S.Store (R.held connection.old) (R.held connection.new)
+        (λ db. IfOk result
         (λ on. (devices : Devices) → HoldsDevices db devices → on ≡ is_some_on devices)) }
-    ensures damaged { IfOurTables S.Store connection.old connection.new (λ db.
+    ensures damaged { IfOurTables R.S.Store (R.held connection.old) (R.held connection.new) (λ db.
         result ≡ Err TableFault.Damaged
         → AreRowsOf (λ (it : List ℕ × Bool). on_cells it.0 it.1) (λ _. ⊤) (device_rows db) → ⊥) }
-    ensures reads { ReadsStore S.Store connection.old connection.new result }
+    ensures reads { ReadsStore R.S.Store (R.held connection.old) (R.held connection.new) result }
 {
     let mut found = AnyOn { is_on: false };
     walk_devices(connection, &mut found)?;
@@ -89,19 +90,17 @@ impl Gather for AnyOn {
 }
 
 /// Reads all devices into `found`.
-fn walk_devices<S: Alter>(
-    connection: &mut Connection<S>,
-    found: &mut AnyOn,
-) -> Result<(), TableFault>
+fn walk_devices<R: Reads>(connection: &mut R, found: &mut AnyOn) -> Result<(), TableFault>
     ensures walks { WalksStore
         (λ first row last. GathersOn first.is_on row last.is_on) (λ first row. refuses_flag row)
-        S.Store connection.old connection.new
+        R.S.Store (R.held connection.old) (R.held connection.new)
         (λ db. IsPermutation
         (map (λ row. column row device_column.accepting ∷ []) (db.trees device_table.tree)))
         found.old found.new result }
-    ensures connection { KeepsOpen S.Store connection.old connection.new result }
+    ensures connection { KeepsOpen R.S.Store (R.held connection.old)
+        (R.held connection.new) result }
 {
-    walk(connection, "SELECT accepting FROM device", &[], found)
+    connection.walk("SELECT accepting FROM device", &[], found)
 }
 
 /// Inserts or replaces a device's row, which tells whether it takes jobs, inside a savepoint.

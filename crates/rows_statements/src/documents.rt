@@ -15,30 +15,32 @@ ghost use Rattle.rows_tables.specs.Accounts.{document_at};
 ghost use Rattle.rows_statements.specs.Documents.{IsDocumentOf, ShowsDocument, gathers_document, refuses_document, shown_documents};
 ghost use Rattle.rows_statements.specs.SoundRows.{document_rows, AreRowsOf};
 
-use crate::walking::{Gather, walk};
+use crate::reads::Reads;
+use crate::walking::Gather;
 use account_rules::{Document, Format, LONGEST_DOCUMENT, MOST_DOCUMENTS, Name};
 use ipp_coding::List;
 use rows_tables::values::{bytes_at, format_at, format_text, number, short_at};
 use rows_tables::{TableFault, put, write};
-use sqlite::{Alter, Connection, Error, Row, Savepoint};
+use sqlite::{Alter, Error, Row, Savepoint};
 use sqlite_value::value::ValueRef;
 use std::alloc::Global;
 
 /// Reads the documents of a job, by rising number. `Damaged` where a row is broken.
-pub fn find_documents<S: Alter>(
+pub fn find_documents<R: Reads>(
     alloc: Global,
-    connection: &mut Connection<S>,
+    connection: &mut R,
     account: Name,
     job: u32,
 ) -> Result<List<Document>, TableFault>
-    ensures listed { IfOurTables S.Store connection.old connection.new (λ db. (room : RoomValue)
+    ensures listed { IfOurTables R.S.Store (R.held connection.old) (R.held connection.new)
+        (λ db. (room : RoomValue)
         → HoldsRoom db account room
         → IfOk result (λ documents. documents ≡ documents_of room job)) }
-    ensures damaged { IfOurTables S.Store connection.old connection.new (λ db.
+    ensures damaged { IfOurTables R.S.Store (R.held connection.old) (R.held connection.new) (λ db.
         result ≡ Err TableFault.Damaged
         → AreRowsOf (document_cells account) (IsDocumentOf job)
         (document_rows db account job) → ⊥) }
-    ensures reads { ReadsStore S.Store connection.old connection.new result }
+    ensures reads { ReadsStore R.S.Store (R.held connection.old) (R.held connection.new) result }
 {
     let mut found = Found {
         job,
@@ -96,19 +98,19 @@ fn document_from(row: &Row, job: u32) -> Result<Document, TableFault>
 }
 
 /// Reads the rows of the job's documents into `found`, in any order.
-fn walk_documents<S: Alter>(
-    connection: &mut Connection<S>,
+fn walk_documents<R: Reads>(
+    connection: &mut R,
     account: Name,
     found: &mut Found,
 ) -> Result<(), TableFault>
     ensures walks { WalksStore gathers_document (λ first row. refuses_document first.job row)
-        S.Store connection.old connection.new
+        R.S.Store (R.held connection.old) (R.held connection.new)
         (λ db. IsPermutation (shown_documents db account found.old.job))
         found.old found.new result }
-    ensures connection { KeepsOpen S.Store connection.old connection.new result }
+    ensures connection { KeepsOpen R.S.Store (R.held connection.old)
+        (R.held connection.new) result }
 {
-    walk(
-        connection,
+    connection.walk(
         "SELECT number, format, bytes FROM document WHERE account = ?1 AND job = ?2",
         &[ValueRef::Text(account.bytes()), number(found.job as u64)],
         found,

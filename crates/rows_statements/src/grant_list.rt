@@ -11,30 +11,32 @@ ghost use Rattle.rows_statements.specs.SoundRows.{grant_rows, AreRowsOf};
 ghost use Rattle.rows_statements.specs.Totals.{TellsGrant};
 ghost use Rattle.rows_tables.specs.Cells.{grant_cells};
 
-use crate::walking::{Gather, walk};
+use crate::reads::Reads;
+use crate::walking::Gather;
 use account_rules::{FIRST_MONTH, Grant, LAST_MONTH, MOST_PAGES, Name};
 use ipp_coding::List;
 use rows_tables::TableFault;
 use rows_tables::values::short_at;
-use sqlite::{Alter, Connection, Row};
+use sqlite::Row;
 use sqlite_value::value::ValueRef;
 use std::alloc::Global;
 
 /// Reads the grants of the account, by month. `Damaged` where a row is broken.
-pub fn list_grants<S: Alter>(
+pub fn list_grants<R: Reads>(
     alloc: Global,
-    connection: &mut Connection<S>,
+    connection: &mut R,
     account: Name,
 ) -> Result<List<Grant>, TableFault>
-    ensures listed { IfOurTables S.Store connection.old connection.new (λ db. (room : RoomValue)
+    ensures listed { IfOurTables R.S.Store (R.held connection.old) (R.held connection.new)
+        (λ db. (room : RoomValue)
         → HoldsRoom db account room
         → IfOk result (λ grants. grants ≡ map grant_of (entries room.grants))) }
     ensures in_range { IfOk result (AllByRecursion IsInRange) }
-    ensures damaged { IfOurTables S.Store connection.old connection.new (λ db.
+    ensures damaged { IfOurTables R.S.Store (R.held connection.old) (R.held connection.new) (λ db.
         result ≡ Err TableFault.Damaged
         → AreRowsOf (λ (grant : ℕ × ℕ). grant_cells account grant.0 grant.1)
         (λ grant. IsGrant grant.0 grant.1) (grant_rows db account) → ⊥) }
-    ensures reads { ReadsStore S.Store connection.old connection.new result }
+    ensures reads { ReadsStore R.S.Store (R.held connection.old) (R.held connection.new) result }
 {
     let mut grants = List {
         items: Vec::new(alloc),
@@ -44,19 +46,19 @@ pub fn list_grants<S: Alter>(
 }
 
 /// Gathers the grants in the order of their months.
-fn walk_by_month<S: Alter>(
-    connection: &mut Connection<S>,
+fn walk_by_month<R: Reads>(
+    connection: &mut R,
     account: Name,
     grants: &mut List<Grant>,
 ) -> Result<(), TableFault>
     ensures gathers { OnOk result (HasGathered ListsGrant grants.old grants.new) }
     ensures walks { WalksStore ListsGrant (λ _ row. tells_no_grant row)
-        S.Store connection.old connection.new (λ db. AreByMonth db account)
+        R.S.Store (R.held connection.old) (R.held connection.new) (λ db. AreByMonth db account)
         grants.old grants.new result }
-    ensures connection { KeepsOpen S.Store connection.old connection.new result }
+    ensures connection { KeepsOpen R.S.Store (R.held connection.old)
+        (R.held connection.new) result }
 {
-    walk(
-        connection,
+    connection.walk(
         "SELECT month, pages FROM grants WHERE account = ?1 ORDER BY month",
         &[ValueRef::Text(account.bytes())],
         grants,

@@ -11,29 +11,31 @@ ghost use Rattle.rows_tables.specs.Accounts.{grant_at};
 ghost use Rattle.rows_statements.specs.Totals.{granted_cells, gathers_grant, refuses_grant};
 ghost use Rattle.rows_statements.specs.SoundRows.{grant_rows, CanBeAdded};
 
-use crate::walking::{Gather, walk};
+use crate::reads::Reads;
+use crate::walking::Gather;
 use account_rules::{MOST_PAGES, Name};
 use account_state::sum_of_units;
 use rows_tables::values::{number, number_at};
-use rows_tables::{TableFault, find_row, write};
-use sqlite::{Alter, Connection, Error, Row, Savepoint};
+use rows_tables::{TableFault, write};
+use sqlite::{Alter, Error, Row, Savepoint};
 use sqlite_value::value::ValueRef;
 
 /// Reads the pages that the account was granted in the month. `None` where that has no grant;
 /// `Damaged` where the row is broken.
-pub fn find_grant<S: Alter>(
-    connection: &mut Connection<S>,
+pub fn find_grant<R: Reads>(
+    connection: &mut R,
     account: Name,
     month: u32,
 ) -> Result<Option<u32>, TableFault>
-    ensures found { IfOurTables S.Store connection.old connection.new (λ db. IfOk result
+    ensures found { IfOurTables R.S.Store (R.held connection.old) (R.held connection.new)
+        (λ db. IfOk result
         (λ found. grant_at db account (pos month) ≡ option_map (grant_cells account month) found)) }
     ensures in_range { IfOk result (λ found. IfSome found (λ pages. pages ≤ most_pages)) }
-    ensures damaged { IfOurTables S.Store connection.old connection.new (λ db.
+    ensures damaged { IfOurTables R.S.Store (R.held connection.old) (R.held connection.new) (λ db.
         result ≡ Err TableFault.Damaged
         → IsRowOf (grant_cells account month) (λ pages. pages ≤ most_pages)
         (grant_at db account (pos month)) → ⊥) }
-    ensures reads { ReadsStore S.Store connection.old connection.new result }
+    ensures reads { ReadsStore R.S.Store (R.held connection.old) (R.held connection.new) result }
 {
     match grant_row(connection, account, month)? {
         Some(row) => Ok(Some(pages_from(&row)?)),
@@ -42,18 +44,14 @@ pub fn find_grant<S: Alter>(
 }
 
 /// Runs the query of `find_grant`.
-fn grant_row<S: Alter>(
-    connection: &mut Connection<S>,
-    account: Name,
-    month: u32,
-) -> Result<Option<Row>, Error>
-    ensures gets { GetsRow S.Store connection.old connection.new
+fn grant_row<R: Reads>(connection: &mut R, account: Name, month: u32) -> Result<Option<Row>, Error>
+    ensures gets { GetsRow R.S.Store (R.held connection.old) (R.held connection.new)
         (λ db. grant_at db account (pos month))
         (λ cells. cell grant_column.pages cells ∷ []) result }
-    ensures connection { KeepsOpen S.Store connection.old connection.new result }
+    ensures connection { KeepsOpen R.S.Store (R.held connection.old)
+        (R.held connection.new) result }
 {
-    find_row(
-        connection,
+    connection.find_row(
         "SELECT pages FROM grants WHERE account = ?1 AND month = ?2",
         &[ValueRef::Text(account.bytes()), number(month as u64)],
     )
@@ -75,18 +73,19 @@ fn pages_from(row: &Row) -> Result<u32, TableFault>
 
 /// Adds up the pages that the account was granted for all months up to and with the given one.
 /// `Damaged` where a row is broken, or the sum is more than an account can have.
-pub fn granted_to<S: Alter>(
-    connection: &mut Connection<S>,
+pub fn granted_to<R: Reads>(
+    connection: &mut R,
     account: Name,
     month: u32,
 ) -> Result<u64, TableFault>
-    ensures granted { IfOurTables S.Store connection.old connection.new (λ db. (room : RoomValue)
+    ensures granted { IfOurTables R.S.Store (R.held connection.old) (R.held connection.new)
+        (λ db. (room : RoomValue)
         → HoldsRoom db account room → IfOk result (λ pages. pages ≡ granted_to room month)) }
     ensures in_range { IfOk result (λ pages. pages ≤ most_units) }
-    ensures damaged { IfOurTables S.Store connection.old connection.new
+    ensures damaged { IfOurTables R.S.Store (R.held connection.old) (R.held connection.new)
         (λ db. result ≡ Err TableFault.Damaged
         → CanBeAdded account month (grant_rows db account) → ⊥) }
-    ensures reads { ReadsStore S.Store connection.old connection.new result }
+    ensures reads { ReadsStore R.S.Store (R.held connection.old) (R.held connection.new) result }
 {
     let mut granted = Granted { month, pages: 0 };
     walk_grants(connection, account, &mut granted)?;
@@ -121,21 +120,21 @@ impl Gather for Granted {
 }
 
 /// Adds the account's grants up in `granted`.
-fn walk_grants<S: Alter>(
-    connection: &mut Connection<S>,
+fn walk_grants<R: Reads>(
+    connection: &mut R,
     account: Name,
     granted: &mut Granted,
 ) -> Result<(), TableFault>
     ensures gathers { OnOk result (HasGathered gathers_grant granted.old granted.new) }
     ensures walks { WalksStore gathers_grant
         (λ first row. refuses_grant first.month first.pages row)
-        S.Store connection.old connection.new
+        R.S.Store (R.held connection.old) (R.held connection.new)
         (λ db. IsPermutation (map granted_cells (grant_rows db account)))
         granted.old granted.new result }
-    ensures connection { KeepsOpen S.Store connection.old connection.new result }
+    ensures connection { KeepsOpen R.S.Store (R.held connection.old)
+        (R.held connection.new) result }
 {
-    walk(
-        connection,
+    connection.walk(
         "SELECT month, pages FROM grants WHERE account = ?1",
         &[ValueRef::Text(account.bytes())],
         granted,

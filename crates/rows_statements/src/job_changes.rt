@@ -1,6 +1,6 @@
-//! A job is made, its standing changes, or it ends. The contract of each public function says what
-//! becomes of the account's room. The function behind it, which does the work in one savepoint,
-//! says what becomes of rows.
+//! The changes of jobs, each in one savepoint: a job is made, its standing changes, or it ends. The
+//! contract of each public function says what becomes of the account's room. The private function
+//! behind it (`put_..`) does the work, and its contract says what becomes of the rows.
 
 ghost use Rattle.std.specs.Prelude.{◌≡◌, ◌<◌, ◌+◌, pos, None, Some, Err};
 ghost use Rattle.rows_statements.specs.Prelude.{Changes, ChangesWhole, IfOurTables, WritesInSavepoint};
@@ -17,8 +17,9 @@ use crate::{TableFault, add_document, add_job, remove_documents, set_next_job, s
 use account_rules::{Job, Name, Standing};
 use sqlite::{Alter, Connection, Error, Savepoint};
 
-/// Makes the job, at most 999999, with its first document or with none. The account's next number
-/// is the one after it. `Damaged` tells that the job or the document is there already.
+/// Inserts the job, whose number is at most 999999, with its first document or with none. The
+/// account's next job gets the number after it. `Damaged` where the job or the document is there
+/// already.
 pub fn make_job<S: Alter>(
     connection: &mut Connection<S>,
     account: Name,
@@ -36,7 +37,7 @@ pub fn make_job<S: Alter>(
     put_job(connection, account, job, document)
 }
 
-/// `make_job`, by the rows.
+/// The work of `make_job`, in one savepoint.
 fn put_job<S: Alter>(
     connection: &mut Connection<S>,
     account: Name,
@@ -56,6 +57,7 @@ fn put_job<S: Alter>(
     Ok(savepoint.commit()?)
 }
 
+/// The work of `make_job`, inside a savepoint.
 fn add<S: Alter>(
     savepoint: &mut Savepoint<'_, S>,
     account: Name,
@@ -77,6 +79,7 @@ fn add<S: Alter>(
     }
 }
 
+/// The work of `make_job` for a job that comes with its first document, as by Print-Job.
 fn add_with_document<S: Alter>(
     savepoint: &mut Savepoint<'_, S>,
     account: Name,
@@ -101,9 +104,10 @@ fn add_with_document<S: Alter>(
         first.format,
         first.bytes,
     )?;
-    count_on(savepoint, account, job)
+    advance_next_job(savepoint, account, job)
 }
 
+/// The work of `make_job` for a job that comes without a document, as by Create-Job.
 fn add_without_document<S: Alter>(
     savepoint: &mut Savepoint<'_, S>,
     account: Name,
@@ -118,11 +122,11 @@ fn add_without_document<S: Alter>(
     ensures inside { WritesInSavepoint savepoint.old savepoint.new result }
 {
     add_job(savepoint, account, job)?;
-    count_on(savepoint, account, job)
+    advance_next_job(savepoint, account, job)
 }
 
-/// Sets the account's next number to the one after the job.
-fn count_on<S: Alter>(
+/// Sets the number of the account's next job to the one after this job's.
+fn advance_next_job<S: Alter>(
     savepoint: &mut Savepoint<'_, S>,
     account: Name,
     job: &Job,
@@ -136,8 +140,8 @@ fn count_on<S: Alter>(
     Ok(set_next_job(savepoint, account, job.job + 1)?)
 }
 
-/// Gives a job that is there another standing, with its next document or with none. `Damaged` tells
-/// that the document is there already.
+/// Gives a job that is there another standing, and adds its next document, if one is given.
+/// `Damaged` where a document of its number is there already.
 pub fn restand_job<S: Alter>(
     connection: &mut Connection<S>,
     account: Name,
@@ -155,7 +159,7 @@ pub fn restand_job<S: Alter>(
     put_standing(connection, account, number, standing, document)
 }
 
-/// `restand_job`, by the rows.
+/// The work of `restand_job`, in one savepoint.
 fn put_standing<S: Alter>(
     connection: &mut Connection<S>,
     account: Name,
@@ -175,6 +179,7 @@ fn put_standing<S: Alter>(
     Ok(savepoint.commit()?)
 }
 
+/// The work of `restand_job`, inside a savepoint.
 fn restand<S: Alter>(
     savepoint: &mut Savepoint<'_, S>,
     account: Name,
@@ -196,6 +201,7 @@ fn restand<S: Alter>(
     }
 }
 
+/// The work of `restand_job` where the job gets a document, as by Send-Document.
 fn restand_with_document<S: Alter>(
     savepoint: &mut Savepoint<'_, S>,
     account: Name,
@@ -222,6 +228,7 @@ fn restand_with_document<S: Alter>(
     Ok(set_standing(savepoint, account, number, standing)?)
 }
 
+/// The work of `restand_job` where the job gets no document.
 fn restand_without_document<S: Alter>(
     savepoint: &mut Savepoint<'_, S>,
     account: Name,
@@ -237,7 +244,7 @@ fn restand_without_document<S: Alter>(
     Ok(set_standing(savepoint, account, number, standing)?)
 }
 
-/// Gives a job that is there a standing in which it has ended, and removes its documents.
+/// Gives a job that is there a standing in which it has ended, and deletes its documents.
 pub fn end_job<S: Alter>(
     connection: &mut Connection<S>,
     account: Name,
@@ -251,7 +258,7 @@ pub fn end_job<S: Alter>(
     put_ended(connection, account, number, standing)
 }
 
-/// `end_job`, by the rows.
+/// The work of `end_job`, in one savepoint.
 fn put_ended<S: Alter>(
     connection: &mut Connection<S>,
     account: Name,
@@ -267,6 +274,7 @@ fn put_ended<S: Alter>(
     savepoint.commit()
 }
 
+/// The work of `end_job`, inside a savepoint.
 fn end<S: Alter>(
     savepoint: &mut Savepoint<'_, S>,
     account: Name,

@@ -12,31 +12,32 @@ ghost use Rattle.account_rules.specs.Names.{IsNameOrNone};
 ghost use Rattle.rows_statements.specs.Shown.{behind_key, ShowsStanding, ShowsJob, IsJob};
 ghost use Rattle.rows_statements.specs.Updates.{SetsStanding};
 
+use crate::reads::Reads;
 use account_rules::{Job, LONGEST_JOB_NAME, LONGEST_PASSWORD, Name, Standing};
 use rows_tables::values::{
     bytes_at, device_at, device_text, flag, flag_at, moment, moment_at, number, number_at,
     number_of_state, short_at, state_at,
 };
 use rows_tables::{TableFault, find_row, put, write};
-use sqlite::{Alter, Connection, Error, Row, Savepoint};
+use sqlite::{Alter, Error, Row, Savepoint};
 use sqlite_value::value::ValueRef;
 
 /// Reads the account's job of this number. `None` where there is none; `Damaged` where its row is
 /// broken.
-pub fn find_job<S: Alter>(
-    connection: &mut Connection<S>,
+pub fn find_job<R: Reads>(
+    connection: &mut R,
     account: Name,
     number: u32,
 ) -> Result<Option<Job>, TableFault>
-    ensures found { IfOurTables S.Store connection.old connection.new (λ db.
+    ensures found { IfOurTables R.S.Store (R.held connection.old) (R.held connection.new) (λ db.
         IfOk result
         (λ found. job_at db account (pos number) ≡ option_map (job_cells account) found)) }
     ensures in_range { IfOk result (λ found. IfSome found (λ job. (job.job ≡ number) × IsJob job)) }
-    ensures damaged { IfOurTables S.Store connection.old connection.new (λ db.
+    ensures damaged { IfOurTables R.S.Store (R.held connection.old) (R.held connection.new) (λ db.
         result ≡ Err TableFault.Damaged
         → IsRowOf (job_cells account) (λ job. (job.job ≡ number) × IsJob job)
         (job_at db account (pos number)) → ⊥) }
-    ensures reads { ReadsStore S.Store connection.old connection.new result }
+    ensures reads { ReadsStore R.S.Store (R.held connection.old) (R.held connection.new) result }
 {
     match job_row(connection, account, number)? {
         Some(row) => Ok(Some(job_from(&row, number)?)),
@@ -45,17 +46,13 @@ pub fn find_job<S: Alter>(
 }
 
 /// Runs the query of `find_job`. `job_from` knows the order of its columns.
-fn job_row<S: Alter>(
-    connection: &mut Connection<S>,
-    account: Name,
-    job: u32,
-) -> Result<Option<Row>, Error>
-    ensures gets { GetsRow S.Store connection.old connection.new
+fn job_row<R: Reads>(connection: &mut R, account: Name, job: u32) -> Result<Option<Row>, Error>
+    ensures gets { GetsRow R.S.Store (R.held connection.old) (R.held connection.new)
         (λ db. job_at db account (pos job)) behind_key result }
-    ensures connection { KeepsOpen S.Store connection.old connection.new result }
+    ensures connection { KeepsOpen R.S.Store (R.held connection.old)
+        (R.held connection.new) result }
 {
-    find_row(
-        connection,
+    connection.find_row(
         "SELECT name, password, state, open, stopping, copies, impressions, reserved, charged, documents, rate, device, created, started, ended FROM job WHERE account = ?1 AND job = ?2",
         &[ValueRef::Text(account.bytes()), number(job as u64)],
     )

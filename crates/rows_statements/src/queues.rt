@@ -4,7 +4,7 @@ ghost use Rattle.std.specs.Prelude.{◌≡◌, Err, IfOk, OnOk};
 ghost use Rattle.rows_statements.specs.Prelude.{HasGathered, HoldsRoom, IfOurTables, KeepsOpen, ReadsStore, RoomValue, WalksStore};
 ghost use Rattle.std.specs.List.{AllByRecursion};
 ghost use Rattle.std.specs.FinMap.{values};
-ghost use Rattle.account_state.specs.Queues.{not_completed, completed, at_most};
+ghost use Rattle.account_state.specs.Queues.{not_completed, completed, first_jobs};
 ghost use Rattle.rows_tables.specs.Cells.{job_cells};
 ghost use Rattle.sqlite_value.specs.Value.{owned};
 ghost use Rattle.sqlite_value.specs.declared.value.Value.TheVariants.{Int};
@@ -12,32 +12,33 @@ ghost use Rattle.rows_statements.specs.Queues.{by_falling_end, by_rising_number,
 ghost use Rattle.rows_statements.specs.SoundRows.{ended_rows, unfinished_rows, FirstAreRowsOf};
 
 use crate::jobs::job_from;
-use crate::walking::{Gather, walk};
+use crate::reads::Reads;
+use crate::walking::Gather;
 use account_rules::{Job, LAST_JOB, Name};
 use ipp_coding::List;
 use rows_tables::TableFault;
 use rows_tables::values::short_at;
-use sqlite::{Alter, Connection, Row};
+use sqlite::Row;
 use sqlite_value::value::ValueRef;
 use std::alloc::Global;
 
 /// Reads the jobs of the account that have not ended, by rising number: the first `limit` of them,
 /// or all. `Damaged` where one of their rows is broken.
-pub fn unfinished_jobs<S: Alter>(
+pub fn unfinished_jobs<R: Reads>(
     alloc: Global,
-    connection: &mut Connection<S>,
+    connection: &mut R,
     account: Name,
     limit: Option<u32>,
 ) -> Result<List<Job>, TableFault>
-    ensures listed { IfOurTables S.Store connection.old connection.new (λ db.
+    ensures listed { IfOurTables R.S.Store (R.held connection.old) (R.held connection.new) (λ db.
         (room : RoomValue) → HoldsRoom db account room
-        → IfOk result (λ jobs. jobs ≡ at_most limit (not_completed (values room.jobs)))) }
+        → IfOk result (λ jobs. jobs ≡ first_jobs limit (not_completed (values room.jobs)))) }
     ensures numbered { IfOk result (AllByRecursion IsNumbered) }
-    ensures damaged { IfOurTables S.Store connection.old connection.new (λ db.
+    ensures damaged { IfOurTables R.S.Store (R.held connection.old) (R.held connection.new) (λ db.
         result ≡ Err TableFault.Damaged
         → FirstAreRowsOf (job_cells account) IsNumbered by_rising_number limit
         (unfinished_rows db account) → ⊥) }
-    ensures reads { ReadsStore S.Store connection.old connection.new result }
+    ensures reads { ReadsStore R.S.Store (R.held connection.old) (R.held connection.new) result }
 {
     let mut jobs = List {
         items: Vec::new(alloc),
@@ -47,22 +48,22 @@ pub fn unfinished_jobs<S: Alter>(
 }
 
 /// Gathers the unfinished jobs. An `ended` of -1 says that a job has not ended.
-fn walk_unfinished<S: Alter>(
-    connection: &mut Connection<S>,
+fn walk_unfinished<R: Reads>(
+    connection: &mut R,
     account: Name,
     limit: Option<u32>,
     jobs: &mut List<Job>,
 ) -> Result<(), TableFault>
     ensures gathers { OnOk result (HasGathered ListsJob jobs.old jobs.new) }
     ensures walks { WalksStore ListsJob (λ _ row. refuses_numbered row)
-        S.Store connection.old connection.new
-        (λ db. AreListed (λ all. at_most limit (not_completed all)) by_rising_number limit
+        R.S.Store (R.held connection.old) (R.held connection.new)
+        (λ db. AreListed (λ all. first_jobs limit (not_completed all)) by_rising_number limit
         (unfinished_rows db account) db account)
         jobs.old jobs.new result }
-    ensures connection { KeepsOpen S.Store connection.old connection.new result }
+    ensures connection { KeepsOpen R.S.Store (R.held connection.old)
+        (R.held connection.new) result }
 {
-    walk(
-        connection,
+    connection.walk(
         "SELECT name, password, state, open, stopping, copies, impressions, reserved, charged, documents, rate, device, created, started, ended, job FROM job WHERE account = ?1 AND ended = -1 ORDER BY job LIMIT ?2",
         &[ValueRef::Text(account.bytes()), limit_of(limit)],
         jobs,
@@ -72,21 +73,21 @@ fn walk_unfinished<S: Alter>(
 /// Reads the jobs of the account that have ended, the last to end first; of those that ended at one
 /// moment the highest number is first. It reads the first `limit` of them, or all. `Damaged` where
 /// one of their rows is broken.
-pub fn ended_jobs<S: Alter>(
+pub fn ended_jobs<R: Reads>(
     alloc: Global,
-    connection: &mut Connection<S>,
+    connection: &mut R,
     account: Name,
     limit: Option<u32>,
 ) -> Result<List<Job>, TableFault>
-    ensures listed { IfOurTables S.Store connection.old connection.new (λ db.
+    ensures listed { IfOurTables R.S.Store (R.held connection.old) (R.held connection.new) (λ db.
         (room : RoomValue) → HoldsRoom db account room
-        → IfOk result (λ jobs. jobs ≡ at_most limit (completed (values room.jobs)))) }
+        → IfOk result (λ jobs. jobs ≡ first_jobs limit (completed (values room.jobs)))) }
     ensures numbered { IfOk result (AllByRecursion IsNumbered) }
-    ensures damaged { IfOurTables S.Store connection.old connection.new (λ db.
+    ensures damaged { IfOurTables R.S.Store (R.held connection.old) (R.held connection.new) (λ db.
         result ≡ Err TableFault.Damaged
         → FirstAreRowsOf (job_cells account) IsNumbered by_falling_end limit
         (ended_rows db account) → ⊥) }
-    ensures reads { ReadsStore S.Store connection.old connection.new result }
+    ensures reads { ReadsStore R.S.Store (R.held connection.old) (R.held connection.new) result }
 {
     let mut jobs = List {
         items: Vec::new(alloc),
@@ -96,22 +97,22 @@ pub fn ended_jobs<S: Alter>(
 }
 
 /// Gathers the ended jobs.
-fn walk_ended<S: Alter>(
-    connection: &mut Connection<S>,
+fn walk_ended<R: Reads>(
+    connection: &mut R,
     account: Name,
     limit: Option<u32>,
     jobs: &mut List<Job>,
 ) -> Result<(), TableFault>
     ensures gathers { OnOk result (HasGathered ListsJob jobs.old jobs.new) }
     ensures walks { WalksStore ListsJob (λ _ row. refuses_numbered row)
-        S.Store connection.old connection.new
-        (λ db. AreListed (λ all. at_most limit (completed all)) by_falling_end limit
+        R.S.Store (R.held connection.old) (R.held connection.new)
+        (λ db. AreListed (λ all. first_jobs limit (completed all)) by_falling_end limit
         (ended_rows db account) db account)
         jobs.old jobs.new result }
-    ensures connection { KeepsOpen S.Store connection.old connection.new result }
+    ensures connection { KeepsOpen R.S.Store (R.held connection.old)
+        (R.held connection.new) result }
 {
-    walk(
-        connection,
+    connection.walk(
         "SELECT name, password, state, open, stopping, copies, impressions, reserved, charged, documents, rate, device, created, started, ended, job FROM job WHERE account = ?1 AND ended >= 0 ORDER BY ended DESC, job DESC LIMIT ?2",
         &[ValueRef::Text(account.bytes()), limit_of(limit)],
         jobs,

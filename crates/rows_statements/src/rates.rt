@@ -9,27 +9,25 @@ ghost use Rattle.rows_tables.specs.Tables.{rates as rates_table};
 ghost use Rattle.rows_tables.specs.Cells.{units_cells};
 ghost use Rattle.rows_tables.specs.Devices.{rate_at};
 
+use crate::reads::Reads;
 use account_rules::{MOST_RATE, Name};
 use rows_tables::values::{number, number_at};
-use rows_tables::{TableFault, find_row, write};
-use sqlite::{Alter, Connection, Error, Row, Savepoint};
+use rows_tables::{TableFault, write};
+use sqlite::{Alter, Error, Row, Savepoint};
 use sqlite_value::value::ValueRef;
 
 /// Reads the units, 1 to 100, that an impression counts on the device. `None` where it has no rate;
 /// `Damaged` where the row is broken.
-pub fn find_rate<S: Alter>(
-    connection: &mut Connection<S>,
-    name: Name,
-) -> Result<Option<u32>, TableFault>
-    ensures found { IfOurTables S.Store connection.old connection.new
+pub fn find_rate<R: Reads>(connection: &mut R, name: Name) -> Result<Option<u32>, TableFault>
+    ensures found { IfOurTables R.S.Store (R.held connection.old) (R.held connection.new)
         (λ db. IfOk result (λ found. rate_at db name ≡ option_map (units_cells name) found)) }
     ensures in_range { IfOk result
         (λ found. IfSome found IsRate) }
-    ensures damaged { IfOurTables S.Store connection.old connection.new (λ db.
+    ensures damaged { IfOurTables R.S.Store (R.held connection.old) (R.held connection.new) (λ db.
         result ≡ Err TableFault.Damaged
         → IsRowOf (units_cells name) IsRate (rate_at db name)
         → ⊥) }
-    ensures reads { ReadsStore S.Store connection.old connection.new result }
+    ensures reads { ReadsStore R.S.Store (R.held connection.old) (R.held connection.new) result }
 {
     match rate_row(connection, name)? {
         Some(row) => Ok(Some(units_from(&row)?)),
@@ -38,13 +36,14 @@ pub fn find_rate<S: Alter>(
 }
 
 /// Runs the query of `find_rate`.
-fn rate_row<S: Alter>(connection: &mut Connection<S>, name: Name) -> Result<Option<Row>, Error>
-    ensures gets { GetsRow S.Store connection.old connection.new (λ db. rate_at db name)
+fn rate_row<R: Reads>(connection: &mut R, name: Name) -> Result<Option<Row>, Error>
+    ensures gets { GetsRow R.S.Store (R.held connection.old) (R.held connection.new)
+        (λ db. rate_at db name)
         (λ cells. cell rate_column.units cells ∷ []) result }
-    ensures connection { KeepsOpen S.Store connection.old connection.new result }
+    ensures connection { KeepsOpen R.S.Store (R.held connection.old)
+        (R.held connection.new) result }
 {
-    find_row(
-        connection,
+    connection.find_row(
         "SELECT units FROM rates WHERE device = ?1",
         &[ValueRef::Text(name.bytes())],
     )

@@ -10,31 +10,33 @@ ghost use Rattle.rows_statements.specs.SoundRows.{job_rows, CanBeSummed};
 ghost use Rattle.rows_statements.specs.Summed.{gathers_summed, refuses_summed, sum_of, summary_of_job, summed_cells, IsInBounds, TellsBeyond, TellsSummary};
 ghost use Rattle.rows_tables.specs.Cells.{moment};
 
-use crate::walking::{Gather, walk};
+use crate::reads::Reads;
+use crate::walking::Gather;
 use account_rules::{JobState, Moment, Name, month_of};
 use account_state::{Summary, sum_of_units};
 use rows_tables::TableFault;
 use rows_tables::values::{moment_at, number_at, state_at};
-use sqlite::{Alter, Connection, Row};
+use sqlite::Row;
 use sqlite_value::value::ValueRef;
 
 /// Adds up the jobs of the account for a statement of the month, in one walk over all of them: the
 /// units that they reserve and were charged and how many jobs are in each state, and apart what was
 /// charged and how many ended in the month. `Damaged` where a row is broken, or a sum is more than
 /// an account can have.
-pub fn summarize<S: Alter>(
-    connection: &mut Connection<S>,
+pub fn summarize<R: Reads>(
+    connection: &mut R,
     account: Name,
     month: u32,
 ) -> Result<Summary, TableFault>
-    ensures told { IfOurTables S.Store connection.old connection.new (λ db. (room : RoomValue)
+    ensures told { IfOurTables R.S.Store (R.held connection.old) (R.held connection.new)
+        (λ db. (room : RoomValue)
         → HoldsRoom db account room
         → IfOk result (λ summary. summary ≡ summary_of month (values room.jobs))) }
     ensures bounds { IfOk result
         (λ summary. (summary.reserved ≤ most_units) × (summary.charged ≤ most_units)) }
-    ensures damaged { IfOurTables S.Store connection.old connection.new
+    ensures damaged { IfOurTables R.S.Store (R.held connection.old) (R.held connection.new)
         (λ db. result ≡ Err TableFault.Damaged → CanBeSummed account (job_rows db account) → ⊥) }
-    ensures reads { ReadsStore S.Store connection.old connection.new result }
+    ensures reads { ReadsStore R.S.Store (R.held connection.old) (R.held connection.new) result }
 {
     let mut summed = Summed {
         month,
@@ -78,20 +80,20 @@ impl Gather for Summed {
 }
 
 /// Adds all jobs of the account up in `summed`.
-fn walk_jobs<S: Alter>(
-    connection: &mut Connection<S>,
+fn walk_jobs<R: Reads>(
+    connection: &mut R,
     account: Name,
     summed: &mut Summed,
 ) -> Result<(), TableFault>
     ensures gathers { OnOk result (HasGathered gathers_summed summed.old summed.new) }
     ensures walks { WalksStore gathers_summed refuses_summed
-        S.Store connection.old connection.new
+        R.S.Store (R.held connection.old) (R.held connection.new)
         (λ db. IsPermutation (map summed_cells (job_rows db account)))
         summed.old summed.new result }
-    ensures connection { KeepsOpen S.Store connection.old connection.new result }
+    ensures connection { KeepsOpen R.S.Store (R.held connection.old)
+        (R.held connection.new) result }
 {
-    walk(
-        connection,
+    connection.walk(
         "SELECT state, reserved, charged, ended, impressions, copies, rate FROM job WHERE account = ?1",
         &[ValueRef::Text(account.bytes())],
         summed,

@@ -9,32 +9,31 @@ ghost use Rattle.rows_statements.specs.Totals.{counted_cells, CountsJob, refuses
 ghost use Rattle.rows_statements.specs.JobSums.{IsSum, charges, reserves};
 ghost use Rattle.rows_statements.specs.SoundRows.{job_rows, CanBeCounted};
 
-use crate::walking::{Gather, walk};
+use crate::reads::Reads;
+use crate::walking::Gather;
 use account_rules::Name;
 use account_state::Tally;
 use rows_tables::TableFault;
 use rows_tables::values::{number_at, state_at};
-use sqlite::{Alter, Connection, Row};
+use sqlite::Row;
 use sqlite_value::value::ValueRef;
 
 /// Adds up what all jobs of the account reserve and were charged, and counts the unfinished ones.
 /// `Damaged` where a row is broken, or a sum is more than an account can have.
-pub fn tally_jobs<S: Alter>(
-    connection: &mut Connection<S>,
-    account: Name,
-) -> Result<Tally, TableFault>
-    ensures counted { IfOurTables S.Store connection.old connection.new (λ db. (room : RoomValue)
+pub fn tally_jobs<R: Reads>(connection: &mut R, account: Name) -> Result<Tally, TableFault>
+    ensures counted { IfOurTables R.S.Store (R.held connection.old) (R.held connection.new)
+        (λ db. (room : RoomValue)
         → HoldsRoom db account room → IfOk result (λ tally. tally ≡ tally_of (values room.jobs))) }
-    ensures reserved { IfOurTables S.Store connection.old connection.new
+    ensures reserved { IfOurTables R.S.Store (R.held connection.old) (R.held connection.new)
         (λ db. IfOk result (λ tally. IsSum reserves db account tally.reserved)) }
-    ensures charged { IfOurTables S.Store connection.old connection.new
+    ensures charged { IfOurTables R.S.Store (R.held connection.old) (R.held connection.new)
         (λ db. IfOk result (λ tally. IsSum charges db account tally.charged)) }
     ensures few { IfOk result (λ tally. tally.unfinished ≤ most_unfinished) }
     ensures bounds { IfOk result
         (λ tally. (tally.reserved ≤ most_units) × (tally.charged ≤ most_units)) }
-    ensures damaged { IfOurTables S.Store connection.old connection.new
+    ensures damaged { IfOurTables R.S.Store (R.held connection.old) (R.held connection.new)
         (λ db. result ≡ Err TableFault.Damaged → CanBeCounted account (job_rows db account) → ⊥) }
-    ensures reads { ReadsStore S.Store connection.old connection.new result }
+    ensures reads { ReadsStore R.S.Store (R.held connection.old) (R.held connection.new) result }
 {
     let mut tally = Tally::new();
     walk_jobs(connection, account, &mut tally)?;
@@ -61,18 +60,19 @@ impl Gather for Tally {
 }
 
 /// Adds all jobs of the account up in `tally`.
-fn walk_jobs<S: Alter>(
-    connection: &mut Connection<S>,
+fn walk_jobs<R: Reads>(
+    connection: &mut R,
     account: Name,
     tally: &mut Tally,
 ) -> Result<(), TableFault>
     ensures gathers { OnOk result (HasGathered CountsJob tally.old tally.new) }
-    ensures walks { WalksStore CountsJob refuses_job S.Store connection.old connection.new
+    ensures walks { WalksStore CountsJob refuses_job R.S.Store (R.held connection.old)
+        (R.held connection.new)
         (λ db. IsPermutation (map counted_cells (job_rows db account))) tally.old tally.new result }
-    ensures connection { KeepsOpen S.Store connection.old connection.new result }
+    ensures connection { KeepsOpen R.S.Store (R.held connection.old)
+        (R.held connection.new) result }
 {
-    walk(
-        connection,
+    connection.walk(
         "SELECT state, reserved, charged FROM job WHERE account = ?1",
         &[ValueRef::Text(account.bytes())],
         tally,

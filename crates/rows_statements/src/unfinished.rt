@@ -12,33 +12,31 @@ ghost use Rattle.account_state.specs.Tallies.{tally_of};
 ghost use Rattle.rows_statements.specs.Totals.{counted_cells, CountsJob, counts_one, number_cell, refuses_job, refuses_one};
 ghost use Rattle.rows_statements.specs.SoundRows.{unfinished_rows, CanBeCounted};
 
-use crate::walking::{Gather, walk};
+use crate::reads::Reads;
+use crate::walking::Gather;
 use account_rules::{MOST_UNFINISHED, Name};
 use account_state::Tally;
 use rows_tables::TableFault;
-use sqlite::{Alter, Connection, Row};
+use sqlite::Row;
 use sqlite_value::value::ValueRef;
 
 /// Tallies the unfinished jobs of the account, for Get-Printer-Attributes: how many there are, and
 /// whether one is processing. `Damaged` where a row is broken, or there are more than an account
 /// may have.
-pub fn tally_unfinished<S: Alter>(
-    connection: &mut Connection<S>,
-    account: Name,
-) -> Result<Tally, TableFault>
-    ensures counted { IfOurTables S.Store connection.old connection.new (λ db.
+pub fn tally_unfinished<R: Reads>(connection: &mut R, account: Name) -> Result<Tally, TableFault>
+    ensures counted { IfOurTables R.S.Store (R.held connection.old) (R.held connection.new) (λ db.
         (room : RoomValue) → HoldsRoom db account room
         → IfOk result (λ tally. tally ≡ tally_of (not_completed (values room.jobs)))) }
-    ensures queue { IfOurTables S.Store connection.old connection.new (λ db.
+    ensures queue { IfOurTables R.S.Store (R.held connection.old) (R.held connection.new) (λ db.
         (room : RoomValue) → HoldsRoom db account room → IfOk result (λ tally.
         (tally.unfinished ≡ unfinished_count room) × (tally.is_processing ≡ has_processing room))) }
     ensures few { IfOk result (λ tally. tally.unfinished ≤ most_unfinished) }
     ensures bounds { IfOk result
         (λ tally. (tally.reserved ≤ most_units) × (tally.charged ≤ most_units)) }
-    ensures damaged { IfOurTables S.Store connection.old connection.new
+    ensures damaged { IfOurTables R.S.Store (R.held connection.old) (R.held connection.new)
         (λ db. result ≡ Err TableFault.Damaged
         → CanBeCounted account (unfinished_rows db account) → ⊥) }
-    ensures reads { ReadsStore S.Store connection.old connection.new result }
+    ensures reads { ReadsStore R.S.Store (R.held connection.old) (R.held connection.new) result }
 {
     let mut tally = Tally::new();
     walk_queued(connection, account, &mut tally)?;
@@ -46,19 +44,20 @@ pub fn tally_unfinished<S: Alter>(
 }
 
 /// Adds the unfinished jobs up in `tally`. An `ended` of -1 says that a job has not ended.
-fn walk_queued<S: Alter>(
-    connection: &mut Connection<S>,
+fn walk_queued<R: Reads>(
+    connection: &mut R,
     account: Name,
     tally: &mut Tally,
 ) -> Result<(), TableFault>
     ensures gathers { OnOk result (HasGathered CountsJob tally.old tally.new) }
-    ensures walks { WalksStore CountsJob refuses_job S.Store connection.old connection.new
+    ensures walks { WalksStore CountsJob refuses_job R.S.Store (R.held connection.old)
+        (R.held connection.new)
         (λ db. IsPermutation (map counted_cells (unfinished_rows db account)))
         tally.old tally.new result }
-    ensures connection { KeepsOpen S.Store connection.old connection.new result }
+    ensures connection { KeepsOpen R.S.Store (R.held connection.old)
+        (R.held connection.new) result }
 {
-    walk(
-        connection,
+    connection.walk(
         "SELECT state, reserved, charged FROM job WHERE account = ?1 AND ended = -1",
         &[ValueRef::Text(account.bytes())],
         tally,
@@ -67,19 +66,17 @@ fn walk_queued<S: Alter>(
 
 /// Counts the unfinished jobs of the account, of which a queue takes only so many. Only the index
 /// is read. `Damaged` where there are more than an account may have.
-pub fn count_unfinished<S: Alter>(
-    connection: &mut Connection<S>,
-    account: Name,
-) -> Result<u32, TableFault>
-    ensures counted { IfOurTables S.Store connection.old connection.new (λ db. (room : RoomValue)
+pub fn count_unfinished<R: Reads>(connection: &mut R, account: Name) -> Result<u32, TableFault>
+    ensures counted { IfOurTables R.S.Store (R.held connection.old) (R.held connection.new)
+        (λ db. (room : RoomValue)
         → HoldsRoom db account room → IfOk result (λ count. count ≡ unfinished_count room)) }
-    ensures rows { IfOurTables S.Store connection.old connection.new
+    ensures rows { IfOurTables R.S.Store (R.held connection.old) (R.held connection.new)
         (λ db. IfOk result (λ count. count ≡ length (unfinished_rows db account))) }
     ensures few { IfOk result (λ count. count ≤ most_unfinished) }
-    ensures damaged { IfOurTables S.Store connection.old connection.new
+    ensures damaged { IfOurTables R.S.Store (R.held connection.old) (R.held connection.new)
         (λ db. result ≡ Err TableFault.Damaged
         → most_unfinished < length (unfinished_rows db account)) }
-    ensures reads { ReadsStore S.Store connection.old connection.new result }
+    ensures reads { ReadsStore R.S.Store (R.held connection.old) (R.held connection.new) result }
 {
     let mut unfinished = Unfinished { count: 0 };
     walk_index(connection, account, &mut unfinished)?;
@@ -109,8 +106,8 @@ impl Gather for Unfinished {
 }
 
 /// Counts the unfinished jobs by the index alone.
-fn walk_index<S: Alter>(
-    connection: &mut Connection<S>,
+fn walk_index<R: Reads>(
+    connection: &mut R,
     account: Name,
     unfinished: &mut Unfinished,
 ) -> Result<(), TableFault>
@@ -118,13 +115,14 @@ fn walk_index<S: Alter>(
         (λ first row last. counts_one first.count row last.count)
         unfinished.old unfinished.new) }
     ensures walks { WalksStore (λ first row last. counts_one first.count row last.count)
-        (λ first row. refuses_one first.count row) S.Store connection.old connection.new
+        (λ first row. refuses_one first.count row) R.S.Store (R.held connection.old)
+        (R.held connection.new)
         (λ db. IsPermutation (map number_cell (unfinished_rows db account)))
         unfinished.old unfinished.new result }
-    ensures connection { KeepsOpen S.Store connection.old connection.new result }
+    ensures connection { KeepsOpen R.S.Store (R.held connection.old)
+        (R.held connection.new) result }
 {
-    walk(
-        connection,
+    connection.walk(
         "SELECT job FROM job WHERE account = ?1 AND ended = -1",
         &[ValueRef::Text(account.bytes())],
         unfinished,

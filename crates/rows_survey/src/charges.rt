@@ -10,27 +10,28 @@ ghost use Rattle.rows_survey.specs.Charges.{charged_cells, refuses_charge, AddsC
 
 use account_rules::Name;
 use page_overview::{MOST_DAYS, place_of_day};
-use rows_statements::{Gather, walk};
+use rows_statements::{Gather, Reads};
 use rows_tables::TableFault;
 use rows_tables::values::{moment_at, number_at};
-use sqlite::{Alter, Connection, Row};
+use sqlite::Row;
 use sqlite_value::value::ValueRef;
 
 /// Adds up the units that jobs of the account were charged, by the day of the month on which they
 /// ended, in one walk over all its jobs. `Damaged` where a row is broken.
-pub(crate) fn charges_of<S: Alter>(
-    connection: &mut Connection<S>,
+pub(crate) fn charges_of<R: Reads>(
+    connection: &mut R,
     account: Name,
     month: u32,
 ) -> Result<[u64; MOST_DAYS], TableFault>
-    ensures told { IfOurTables S.Store connection.old connection.new (λ db. (room : RoomValue)
+    ensures told { IfOurTables R.S.Store (R.held connection.old) (R.held connection.new)
+        (λ db. (room : RoomValue)
         → HoldsRoom db account room → IfOk result (λ days. (place : ℕ) → place < MOST_DAYS
         → slice_index days place ≡ told (sum_by
         (λ job. charged_on month place job.standing.charged job.standing.ended)
         (values room.jobs)))) }
-    ensures damaged { IfOurTables S.Store connection.old connection.new
+    ensures damaged { IfOurTables R.S.Store (R.held connection.old) (R.held connection.new)
         (λ db. result ≡ Err TableFault.Damaged → CanBeSummed account (job_rows db account) → ⊥) }
-    ensures reads { ReadsStore S.Store connection.old connection.new result }
+    ensures reads { ReadsStore R.S.Store (R.held connection.old) (R.held connection.new) result }
 {
     let mut charges = Charges {
         month,
@@ -83,19 +84,19 @@ impl Charges {
 }
 
 /// Adds all jobs of the account up in `charges`.
-fn walk_jobs<S: Alter>(
-    connection: &mut Connection<S>,
+fn walk_jobs<R: Reads>(
+    connection: &mut R,
     account: Name,
     charges: &mut Charges,
 ) -> Result<(), TableFault>
     ensures walks { WalksStore AddsCharge (λ _ row. refuses_charge row)
-        S.Store connection.old connection.new
+        R.S.Store (R.held connection.old) (R.held connection.new)
         (λ db. IsPermutation (map charged_cells (job_rows db account)))
         charges.old charges.new result }
-    ensures connection { KeepsOpen S.Store connection.old connection.new result }
+    ensures connection { KeepsOpen R.S.Store (R.held connection.old)
+        (R.held connection.new) result }
 {
-    walk(
-        connection,
+    connection.walk(
         "SELECT charged, ended FROM job WHERE account = ?1",
         &[ValueRef::Text(account.bytes())],
         charges,

@@ -10,26 +10,26 @@ ghost use Rattle.rows_tables.specs.Calls.{IfOurTables, ReadsStore};
 use crate::charges::charges_of;
 use account_rules::Name;
 use page_overview::Survey;
-use rows_statements::{granted_to, summarize, unfinished_jobs};
+use rows_statements::{Reads, granted_to, summarize, unfinished_jobs};
 use rows_tables::TableFault;
-use sqlite::{Alter, Connection};
 use std::alloc::Global;
 
 /// Reads for the overview of a month what the account was granted, what its jobs come to, what was
 /// charged on each day, and its unfinished jobs. `Damaged` where a row is broken, or a sum is more
 /// than an account can have.
-pub fn survey<S: Alter>(
+pub fn survey<R: Reads>(
     alloc: Global,
-    connection: &mut Connection<S>,
+    connection: &mut R,
     account: Name,
     month: u32,
 ) -> Result<Survey, TableFault>
-    ensures told { IfOurTables S.Store connection.old connection.new (λ db. (room : RoomValue)
+    ensures told { IfOurTables R.S.Store (R.held connection.old) (R.held connection.new)
+        (λ db. (room : RoomValue)
         → HoldsRoom db account room → IfOk result (IsSurvey month room)) }
     ensures bounds { IfOk result IsInBounds }
-    ensures damaged { IfOurTables S.Store connection.old connection.new
+    ensures damaged { IfOurTables R.S.Store (R.held connection.old) (R.held connection.new)
         (λ db. result ≡ Err TableFault.Damaged → SurveyIsReadable account month db → ⊥) }
-    ensures reads { ReadsStore S.Store connection.old connection.new result }
+    ensures reads { ReadsStore R.S.Store (R.held connection.old) (R.held connection.new) result }
 {
     let summary = summarize(connection, account, month)?;
     let granted = granted_to(connection, account, month)?;

@@ -107,7 +107,7 @@ pub(crate) fn extend_tables<S: Alter>(savepoint: &mut Savepoint<'_, S>) -> Resul
     ensures inside { WritesInSavepoint savepoint.old savepoint.new result }
 {
     make_rates(savepoint)?;
-    make_job_ended(savepoint)
+    make_job_ended_index(savepoint)
 }
 
 /// Makes the table `rates`: how many units a device counts for an impression.
@@ -126,7 +126,7 @@ fn make_rates<S: Alter>(savepoint: &mut Savepoint<'_, S>) -> Result<(), Error>
 }
 
 /// Makes the index on jobs by account, end and number, with which Get-Jobs reads them in order.
-pub(crate) fn make_job_ended<S: Alter>(savepoint: &mut Savepoint<'_, S>) -> Result<(), Error>
+pub(crate) fn make_job_ended_index<S: Alter>(savepoint: &mut Savepoint<'_, S>) -> Result<(), Error>
     ensures adds { MakesIfHonest S.Store savepoint.old.conn.now savepoint.new.conn.now result
         (λ before after. before.schema ≡ unindexed_schema → AddsIndex before after) }
     ensures inside { WritesInSavepoint savepoint.old savepoint.new result }

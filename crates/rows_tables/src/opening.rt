@@ -8,7 +8,7 @@ ghost use Rattle.rows_tables.specs.Calls.{AllOrNothing, IfDiskHonest, MakesIfHon
 ghost use Rattle.rows_tables.specs.Making.{AddsIndex, IsOpened, IsOpenFault, LacksIndex, OpensTables};
 
 use crate::fault::OpenFault;
-use crate::making::make_job_ended;
+use crate::making::make_job_ended_index;
 use crate::version::lacks_index;
 use sqlite::{Alter, Connection, Error};
 
@@ -34,6 +34,6 @@ pub(crate) fn add_index<S: Alter>(connection: &mut Connection<S>) -> Result<(), 
     ensures whole { AllOrNothing S.Store connection.old connection.new result }
 {
     let mut savepoint = connection.savepoint()?;
-    make_job_ended(&mut savepoint)?;
+    make_job_ended_index(&mut savepoint)?;
     savepoint.commit()
 }

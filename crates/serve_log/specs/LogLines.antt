@@ -7,7 +7,7 @@ use Rattle.account_machine.specs.declared.event.Reply.TheVariants as reply_is
 use Rattle.account_machine.specs.declared.verdict.Answered.{Answered}
 use Rattle.account_machine.specs.declared.verdict.Verdict.{Verdict}
 use Rattle.account_machine.specs.declared.verdict.Verdict.TheVariants.{Done, Refused}
-use Rattle.account_machine.specs.Events.{PlainEvent, OfAccount, OfDevice, Open, Ipp, Release, Start, Settle, Grant, Turn, Rate}
+use Rattle.account_machine.specs.Events.{PlainEvent, OfAccount, OfDevice, Open, Ipp, Release, Start, Settle, Grant, Switch, Rate}
 use Rattle.account_replies.specs.Words.{word_text}
 use Rattle.serve_log.specs.IppWords.{code_text, job_field, operation_field, success_word}
 use Rattle.serve_log.specs.RequestJobs.{job_of}
@@ -63,8 +63,8 @@ abbrev pub request_fields :
     {F : Type 0} → (account body : List ℕ) (told : Result Answered F) → List ℕ
 request_fields account body told = ipp_fields account body (job_of account body told)
 
-abbrev pub turn_fields : (device : List ℕ) (on : Bool) → List ℕ
-turn_fields device on =
+abbrev pub switch_fields : (device : List ℕ) (on : Bool) → List ℕ
+switch_fields device on =
     codes "device " ++ device ++ codes " " ++ word_of on (codes "on") (codes "off")
 
 abbrev pub rate_fields : (device : List ℕ) (units : ℕ) → List ℕ
@@ -80,17 +80,17 @@ event_fields (OfAccount account (Start device job)) told =
 event_fields (OfAccount account (Settle device job impressions failed)) told =
     settle_fields device account job impressions failed
 event_fields (OfAccount account (Grant month pages)) told = grant_fields account month pages
-event_fields (OfDevice device (Turn on)) told = turn_fields device on
+event_fields (OfDevice device (Switch on)) told = switch_fields device on
 event_fields (OfDevice device (Rate units)) told = rate_fields device units
 
 -- ---- what it came to
 
 -- a byte outside of printable ASCII is shown as a question mark
-abbrev pub shown_byte : ℕ → ℕ
-shown_byte byte = if nat_le 32 byte && nat_le byte 126 then byte else 63
+abbrev pub printable_byte : ℕ → ℕ
+printable_byte byte = if nat_le 32 byte && nat_le byte 126 then byte else 63
 
 abbrev pub shown : List ℕ → List ℕ
-shown text = map shown_byte text
+shown text = map printable_byte text
 
 -- the status, and its keyword or the word that tells why
 abbrev pub verdict_field : Verdict → List ℕ

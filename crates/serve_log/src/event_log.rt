@@ -1,4 +1,4 @@
-//! The log of what was asked of the rooms.
+//! The log of all events that came in, and of what each came to: one line an event, in a file.
 ghost use Rattle.std.specs.Prelude.{◌≡◌, ◌++◌, [], false, IsTrue, IfOk};
 ghost use Rattle.account_machine.specs.Events.{plain_event};
 ghost use Rattle.serve_log.specs.Books.{Takes};
@@ -14,19 +14,20 @@ use std::alloc::{AllocError, Global};
 use std::fs::{File, Files};
 use std::marker::Model;
 
-/// For so many bytes of a line there is room at once.
+/// The bytes for which a line has room at once.
 const USUAL_LINE: usize = 128;
 
-/// A line an event, which goes to the end of a file. Where the file can't be written its lines wait,
-/// up to `MOST_WAITING` bytes of them, and those that find no room, or no memory, are left out.
-/// Contracts see it as what waits, with what the file has taken.
+/// The log: a line for each event, appended to a file. Where the file can't be written its lines
+/// wait, up to `MOST_WAITING` bytes of them, and those that find no room, or no memory, are left
+/// out. Contracts see it as what waits, with what the file has taken.
 pub struct EventLog {
     pub(crate) alloc: Global,
     pub(crate) waiting: Waiting,
     file: LogFile,
-    /// Lines of no event, which go behind those of the round that is under way.
+    /// Lines that tell of no event, as of a refusal. They wait for the end of the round that is
+    /// under way, and go behind its lines.
     notices: Vec<u8>,
-    /// The moment of the last look at the path.
+    /// The moment at which `look` last looked at the file.
     looked_at: Option<u64>,
 }
 
@@ -54,7 +55,7 @@ impl Model for EventLog {
 impl EventLog {
     ghost use Rattle.serve_log.specs.Waits.{drafts_of, is_behind, logged_of, missed_of};
 
-    /// A log into the file, to which nothing was noted yet.
+    /// Makes a log into the file, to which nothing was noted yet.
     pub fn new(alloc: Global, file: LogFile) -> EventLog
         ensures logged { logged_of result ≡ [] }
         ensures drafts { drafts_of result ≡ [] }
@@ -69,8 +70,8 @@ impl EventLog {
         }
     }
 
-    /// Notes an event and what it came to: its line goes to the file, or waits. It is left out where
-    /// a round is under way.
+    /// Notes an event and what it came to: gives its line to the file, or has it wait. It is left
+    /// out where a round is under way.
     pub fn note<F>(
         &mut self,
         moment: u64,
@@ -92,7 +93,7 @@ impl EventLog {
         self.settle(true);
     }
 
-    /// Notes an event of a round that is under way. Its line waits for the round's end.
+    /// Notes an event of a round that is under way. Its line waits for the round's end (`settle`).
     pub fn draft<F>(
         &mut self,
         moment: u64,
@@ -112,8 +113,7 @@ impl EventLog {
         }
     }
 
-    /// Ends the round: where it was kept its lines go to the file, or wait, and else they are
-    /// dropped.
+    /// Ends the round. If it was kept, its lines go to the file, or wait; else they are dropped.
     pub fn settle(&mut self, kept: bool)
         ensures kept { IsTrue kept → logged_of self.new
             ≡ logged_of self.old ++ drafts_of self.old }
@@ -127,9 +127,9 @@ impl EventLog {
         self.end_notices(kept);
     }
 
-    /// Has the next `note`, or the round's end, tell that the job which the event settles was charged
-    /// so many units beyond what it had reserved. The line is left out where memory is refused, lines
-    /// wait, or the round is lost.
+    /// Has the next `note`, or the round's end, tell that the job which the event settles was
+    /// charged so many units beyond what it had reserved. The line is left out where memory is
+    /// refused, lines wait, or the round is lost.
     pub fn tell_beyond(&mut self, moment: u64, event: &Event<'_>, units: u64)
         ensures { self.new ≡ self.old }
     {
@@ -144,6 +144,8 @@ impl EventLog {
         }
     }
 
+    /// Adds the notice that a job was charged beyond what it had reserved. It is left out where
+    /// memory is refused.
     fn add_notice(&mut self, moment: u64, device: Name, account: Name, job: u32, units: u64)
         ensures { self.new ≡ self.old }
     {
@@ -154,7 +156,7 @@ impl EventLog {
         }
     }
 
-    /// The notices go to the file, where no line waits for it, or are dropped.
+    /// Gives the notices to the file, if the round was kept and no line waits, and else drops them.
     fn end_notices(&mut self, kept: bool)
         ensures { self.new ≡ self.old }
     {
@@ -165,7 +167,8 @@ impl EventLog {
         self.notices.clear();
     }
 
-    /// Tells that a door refused a line. It is left out where memory is refused, or lines wait.
+    /// Notes that a door refused a line. The note is left out where memory is refused, or lines
+    /// wait.
     pub fn refuse_line(&mut self, moment: u64, door: Door, why: LineRefusal)
         ensures { self.new ≡ self.old }
     {
@@ -175,8 +178,8 @@ impl EventLog {
         }
     }
 
-    /// Tells that a request of HTTP was refused. It is left out where memory is refused, or lines
-    /// wait.
+    /// Notes that a request of HTTP was refused. The note is left out where memory is refused, or
+    /// lines wait.
     pub fn refuse_request(&mut self, moment: u64, status: u16, path: &[u8])
         ensures { self.new ≡ self.old }
     {
@@ -186,7 +189,8 @@ impl EventLog {
         }
     }
 
-    /// Gives the file a line by itself, where none waits for it.
+    /// Gives the file a line by itself. The line is left out where others wait, or the file refuses
+    /// it.
     fn append(&mut self, line: &[u8])
         ensures { self.new ≡ self.old }
     {
@@ -196,7 +200,7 @@ impl EventLog {
         }
     }
 
-    /// Gives the file what waits, once.
+    /// Gives the file what waits, by one write. Where the file refuses it all of it waits on.
     pub fn push_out(&mut self)
         ensures logged { logged_of self.new ≡ logged_of self.old }
         ensures drafts { drafts_of self.new ≡ drafts_of self.old }
@@ -208,14 +212,15 @@ impl EventLog {
         }
     }
 
-    /// Opens the file anew where it was moved away or removed. It looks once a moment: another call
-    /// at the same one, in seconds since any start, does nothing.
+    /// Opens the file anew where it was moved away or removed, as log rotation does. It looks at
+    /// most once a moment: another call at the same one does nothing. With `None`, where the clock
+    /// tells no moment, each call looks.
     pub fn look<R: Files<File = File>>(&mut self, files: &R, moment: Option<u64>)
         ensures { self.new ≡ self.old }
     {
         let was_now = moment.is_some() && moment == self.looked_at;
         if !was_now {
-            self.file.look(files);
+            self.file.reopen_if_moved(files);
             self.looked_at = moment;
         }
     }
@@ -235,6 +240,7 @@ impl EventLog {
     }
 }
 
+/// Makes the line of an event.
 fn line_of<F>(
     alloc: Global,
     moment: u64,

@@ -1,4 +1,4 @@
-//! The file of the log.
+//! The file of the log: opens it, appends to it, and opens it anew once it was moved away.
 
 use std::alloc::Global;
 use std::fs::{File, Files, OpenOptions};
@@ -6,26 +6,26 @@ use std::io::Write;
 use std::os::unix::fs::{MetadataExt, OpenOptionsExt};
 use std::{fs, io};
 
-/// Its owner alone reads and writes.
+/// The mode of the file: its owner alone reads and writes.
 const OWNER_ALONE: u32 = 0o600;
 
-/// The file at a path, to whose end lines go.
+/// The file of the log at a path, to whose end lines go.
 #[derive(Drop)]
 pub struct LogFile {
     path: String,
     file: File,
-    /// The last line that was appended by itself lacks its end.
+    /// Whether the file took only a part of the last line that was appended by itself.
     is_cut: bool,
 }
 
 impl LogFile {
-    /// Opens the file, or makes it, for its owner alone. The error is the system's, or
-    /// tells that memory was refused.
+    /// Opens the file, or makes it for its owner alone. The error is the system's, or tells that
+    /// memory was refused.
     pub fn open<R: Files<File = File> + Alloc<A = Global>>(
         files: &R,
         path: &str,
     ) -> io::Result<LogFile> {
-        let file = open_end(files, path)?;
+        let file = open_to_append(files, path)?;
         let path = String::from_str(files.alloc(), path)?;
         Ok(LogFile {
             path,
@@ -36,18 +36,18 @@ impl LogFile {
 
     /// Opens the path anew where the file that is open was moved away or removed. Where that fails,
     /// the file that is open goes on.
-    pub(crate) fn look<R: Files<File = File>>(&mut self, files: &R) {
+    pub(crate) fn reopen_if_moved<R: Files<File = File>>(&mut self, files: &R) {
         if self.is_in_place(files) {
             return;
         }
-        if let Ok(file) = open_end(files, self.path.as_str()) {
+        if let Ok(file) = open_to_append(files, self.path.as_str()) {
             self.file = file;
             self.is_cut = false;
         }
     }
 
-    /// Appends a line by itself. Where the file takes a part of it, what is written next begins a new
-    /// line.
+    /// Appends a line by itself. Where the file takes only a part of it, what is written next
+    /// begins a new line.
     pub(crate) fn append(&mut self, line: &[u8]) -> io::Result<()> {
         let taken = self.write(line)?;
         self.is_cut = 0 < taken && taken < line.len();
@@ -67,7 +67,7 @@ impl LogFile {
 }
 
 impl Write for LogFile {
-    /// One call of the system, and one before it where a line lacks its end.
+    /// Writes by one call of the system, behind a line feed where the last line lacks its end.
     fn write(&mut self, bytes: &[u8]) -> io::Result<usize> {
         if self.is_cut {
             self.is_cut = self.file.write(b"\n")? == 0;
@@ -80,7 +80,8 @@ impl Write for LogFile {
     }
 }
 
-fn open_end<R: Files<File = File>>(files: &R, path: &str) -> io::Result<File> {
+/// Opens a file to append to, or makes it for its owner alone.
+fn open_to_append<R: Files<File = File>>(files: &R, path: &str) -> io::Result<File> {
     OpenOptions::new()
         .append(true)
         .create(true)

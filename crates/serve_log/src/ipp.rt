@@ -1,12 +1,12 @@
-//! The words of IPP in a line.
+//! Writes what a line of the log tells in words of IPP: the operation, the job, and the status.
 ghost use Rattle.std.specs.Prelude.{◌≡◌, ◌<◌, ◌≤◌, ◌++◌, OnOk, length};
 ghost use Rattle.serve_log.specs.IppWords.{code_of, code_text, hex_digit, job_field, operation_field, operation_text, success_word};
 
-use crate::text::put_number;
+use crate::digits::put_number;
 use std::alloc::AllocError;
 
-/// Puts the operation that a request asks for: its name, or its operation-id as `0x000a` where it
-/// is none of the profile, or a dash where the request ends before it.
+/// Appends the operation that a request asks for: its name, or its operation-id as `0x000a` where
+/// this server has no such operation, or `-` where the request ends before it.
 pub(crate) fn put_operation(output: &mut Vec<u8>, body: &[u8]) -> Result<(), AllocError>
     ensures { OnOk result (output.new.items ≡ output.old.items ++ operation_field body.now) }
 {
@@ -16,6 +16,7 @@ pub(crate) fn put_operation(output: &mut Vec<u8>, body: &[u8]) -> Result<(), All
     put_operation_text(output, code_of(body))
 }
 
+/// Appends the name of an operation-id, or the id as `0x000a`.
 fn put_operation_text(output: &mut Vec<u8>, code: u16) -> Result<(), AllocError>
     ensures { OnOk result (output.new.items ≡ output.old.items ++ operation_text code) }
 {
@@ -34,7 +35,7 @@ fn put_operation_text(output: &mut Vec<u8>, code: u16) -> Result<(), AllocError>
     }
 }
 
-/// Puts the number of a job, or a dash where there is none.
+/// Appends the number of a job, or `-` where there is none.
 pub(crate) fn put_job(output: &mut Vec<u8>, job: Option<u32>) -> Result<(), AllocError>
     ensures { OnOk result (output.new.items ≡ output.old.items ++ job_field job) }
 {
@@ -44,6 +45,7 @@ pub(crate) fn put_job(output: &mut Vec<u8>, job: Option<u32>) -> Result<(), Allo
     }
 }
 
+/// Reads the operation-id of a request: its third and fourth byte.
 fn code_of(body: &[u8]) -> u16
     requires { 4 ≤ length body.now }
     ensures { result ≡ code_of body.now }
@@ -51,7 +53,7 @@ fn code_of(body: &[u8]) -> u16
     u16::from(body[2]) * 256 + u16::from(body[3])
 }
 
-/// Puts a code of two bytes as `0x000a`.
+/// Appends a code of two bytes as `0x000a`.
 pub(crate) fn put_code(output: &mut Vec<u8>, code: u16) -> Result<(), AllocError>
     ensures { OnOk result (output.new.items ≡ output.old.items ++ code_text code) }
 {
@@ -63,6 +65,7 @@ pub(crate) fn put_code(output: &mut Vec<u8>, code: u16) -> Result<(), AllocError
     Ok(())
 }
 
+/// Gives the hexadecimal digit of a number below 16, in small letters.
 fn hex_digit(digit: u8) -> u8
     requires { digit < 16 }
     ensures { result ≡ hex_digit digit }
@@ -70,7 +73,7 @@ fn hex_digit(digit: u8) -> u8
     if digit < 10 { 48 + digit } else { 87 + digit }
 }
 
-/// The keyword of a status of success.
+/// Gives the keyword of a status-code of success, which the line of a request shows.
 pub(crate) fn success_word(code: u16) -> &'static [u8]
     ensures { result.now ≡ success_word code }
 {

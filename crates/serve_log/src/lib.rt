@@ -1,6 +1,8 @@
-//! The lines of the log that tells what was asked of the rooms, and what it came to.
+//! The log of events: a line for each, which tells when and by which door it came, what was asked
+//! of the rooms, and what it came to.
 #![tactic(auto)]
 
+mod digits;
 mod door;
 mod event_log;
 mod file;
@@ -10,7 +12,6 @@ mod line;
 mod outcome;
 mod refusal;
 mod request_job;
-mod text;
 mod waiting;
 
 pub use door::Door;

@@ -1,20 +1,20 @@
-//! A line of the log, put after what a buffer holds.
+//! Writes the line of an event: moment, door, what was asked, and what it came to.
 ghost use Rattle.std.specs.Prelude.{◌≡◌, ◌++◌, codes, OnOk};
 ghost use Rattle.account_machine.specs.Events.{plain_event};
-ghost use Rattle.serve_log.specs.LogLines.{act_fields, beyond_text, event_fields, grant_fields, ipp_fields, line_text, month_text, rate_fields, request_fields, settle_fields, turn_fields};
+ghost use Rattle.serve_log.specs.LogLines.{act_fields, beyond_text, event_fields, grant_fields, ipp_fields, line_text, month_text, rate_fields, request_fields, settle_fields, switch_fields};
 
+use crate::digits::{put_four_digits, put_number, put_two_digits};
 use crate::door::Door;
 use crate::ipp::{put_job, put_operation};
 use crate::outcome::put_outcome;
 use crate::request_job::job_of;
-use crate::text::{put_four_digits, put_number, put_two_digits};
 use account_machine::{Answered, Event};
 use account_rules::Name;
 use std::alloc::AllocError;
 
-/// Puts the line of an event, with its line feed: when and where it came in, what was asked, and
-/// what it came to. An error is that of a store that failed, whatever it is. Where memory is
-/// refused, a part of the line may stand.
+/// Appends the line of an event, with its line feed: when and by which door it came in, what was
+/// asked, and what it came to. An error in `told` is that of a store that failed, whatever it is.
+/// Where memory is refused, a part of the line may stand.
 pub fn put_line<F>(
     output: &mut Vec<u8>,
     moment: u64,
@@ -35,8 +35,8 @@ pub fn put_line<F>(
     output.extend_from_slice(b"\n")
 }
 
-/// Puts the line, with its line feed, that a job was charged so many units beyond what it had reserved.
-/// Where memory is refused, a part may stand.
+/// Appends the line, with its line feed, that tells that a job was charged so many units beyond
+/// what it had reserved. Where memory is refused, a part may stand.
 pub(crate) fn put_beyond(
     output: &mut Vec<u8>,
     moment: u64,
@@ -56,6 +56,7 @@ pub(crate) fn put_beyond(
     output.extend_from_slice(b"\n")
 }
 
+/// Appends what was asked by the event.
 fn put_event<F>(
     output: &mut Vec<u8>,
     event: &Event<'_>,
@@ -97,11 +98,12 @@ fn put_event<F>(
             month,
             pages,
         } => put_grant(output, account.bytes(), *month, *pages),
-        Event::Device { name, on } => put_turn(output, name.bytes(), *on),
+        Event::Device { name, on } => put_switch(output, name.bytes(), *on),
         Event::Rate { name, units } => put_rate(output, name.bytes(), *units),
     }
 }
 
+/// Appends what a request of IPP asked: the account, the operation, and the job.
 fn put_request<F>(
     output: &mut Vec<u8>,
     account: Name,
@@ -115,6 +117,7 @@ fn put_request<F>(
     put_ipp(output, account.bytes(), body, job)
 }
 
+/// Appends which account is to be opened.
 fn put_open(output: &mut Vec<u8>, account: &[u8]) -> Result<(), AllocError>
     ensures { OnOk result (output.new.items ≡ output.old.items
         ++ codes "open " ++ account.now) }
@@ -123,6 +126,7 @@ fn put_open(output: &mut Vec<u8>, account: &[u8]) -> Result<(), AllocError>
     output.extend_from_slice(account)
 }
 
+/// Appends the account, the operation and the job of a request.
 fn put_ipp(
     output: &mut Vec<u8>,
     account: &[u8],
@@ -139,7 +143,7 @@ fn put_ipp(
     put_job(output, job)
 }
 
-/// Puts which device asks what of whose job.
+/// Appends which device asks what of whose job.
 fn put_act(
     output: &mut Vec<u8>,
     device: &[u8],
@@ -159,6 +163,7 @@ fn put_act(
     put_number(output, u64::from(job))
 }
 
+/// Appends which device settles whose job, with how many impressions, and whether it failed.
 fn put_settle(
     output: &mut Vec<u8>,
     device: &[u8],
@@ -181,6 +186,7 @@ fn put_settle(
     }
 }
 
+/// Appends which account is granted how many pages for which month.
 fn put_grant(output: &mut Vec<u8>, account: &[u8], month: u32, pages: u32) -> Result<(), AllocError>
     ensures { OnOk result (output.new.items ≡ output.old.items
         ++ grant_fields account.now month pages) }
@@ -193,6 +199,8 @@ fn put_grant(output: &mut Vec<u8>, account: &[u8], month: u32, pages: u32) -> Re
     put_number(output, u64::from(pages))
 }
 
+/// Appends a month as `YYYY-MM`. Its number is twelve times the year, and 0 for January to 11 for
+/// December.
 fn put_month(output: &mut Vec<u8>, month: u32) -> Result<(), AllocError>
     ensures { OnOk result (output.new.items ≡ output.old.items ++ month_text month) }
 {
@@ -201,8 +209,9 @@ fn put_month(output: &mut Vec<u8>, month: u32) -> Result<(), AllocError>
     put_two_digits(output, month % 12 + 1)
 }
 
-fn put_turn(output: &mut Vec<u8>, device: &[u8], on: bool) -> Result<(), AllocError>
-    ensures { OnOk result (output.new.items ≡ output.old.items ++ turn_fields device.now on) }
+/// Appends which device is switched on or off.
+fn put_switch(output: &mut Vec<u8>, device: &[u8], on: bool) -> Result<(), AllocError>
+    ensures { OnOk result (output.new.items ≡ output.old.items ++ switch_fields device.now on) }
 {
     output.extend_from_slice(b"device ")?;
     output.extend_from_slice(device)?;
@@ -214,6 +223,7 @@ fn put_turn(output: &mut Vec<u8>, device: &[u8], on: bool) -> Result<(), AllocEr
     }
 }
 
+/// Appends how many units a page is to cost on which device.
 fn put_rate(output: &mut Vec<u8>, device: &[u8], units: u32) -> Result<(), AllocError>
     ensures { OnOk result (output.new.items ≡ output.old.items ++ rate_fields device.now units) }
 {

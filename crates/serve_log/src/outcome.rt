@@ -1,13 +1,13 @@
-//! What an event came to.
+//! Writes the end of an event's line in the log: what the event came to.
 ghost use Rattle.std.specs.Prelude.{◌≡◌, ◌++◌, OnOk};
-ghost use Rattle.serve_log.specs.LogLines.{answer_field, outcome_field, shown, shown_byte, verdict_field};
+ghost use Rattle.serve_log.specs.LogLines.{answer_field, outcome_field, shown, printable_byte, verdict_field};
 
+use crate::digits::put_number;
 use crate::ipp::{put_code, success_word};
-use crate::text::put_number;
 use account_machine::{Answered, Reply, Verdict, line};
 use std::alloc::AllocError;
 
-/// Puts what an event came to: `failed` where the store failed.
+/// Appends what an event came to: its answer, or `failed` where the store failed.
 pub(crate) fn put_outcome<F>(
     output: &mut Vec<u8>,
     told: &Result<Answered, F>,
@@ -21,6 +21,7 @@ pub(crate) fn put_outcome<F>(
     }
 }
 
+/// Appends what was answered: the line, how many documents, or the status of a response.
 fn put_answer(output: &mut Vec<u8>, reply: &Reply, verdict: Verdict) -> Result<(), AllocError>
     ensures { OnOk result
         (output.new.items ≡ output.old.items ++ answer_field reply.now verdict) }
@@ -37,7 +38,8 @@ fn put_answer(output: &mut Vec<u8>, reply: &Reply, verdict: Verdict) -> Result<(
     }
 }
 
-/// Puts the status, and its keyword or the word that tells why.
+/// Appends the status-code of a response, and its keyword or the word that tells why it was
+/// refused.
 fn put_verdict(output: &mut Vec<u8>, verdict: Verdict) -> Result<(), AllocError>
     ensures { OnOk result (output.new.items ≡ output.old.items ++ verdict_field verdict) }
 {
@@ -56,18 +58,19 @@ fn put_verdict(output: &mut Vec<u8>, verdict: Verdict) -> Result<(), AllocError>
     }
 }
 
-/// Puts a text, with a question mark in the place of each byte that is not printable ASCII.
+/// Appends a text, with `?` in the place of each byte that is not printable ASCII.
 pub(crate) fn put_shown(output: &mut Vec<u8>, text: &[u8]) -> Result<(), AllocError>
     ensures { OnOk result (output.new.items ≡ output.old.items ++ shown text.now) }
 {
     for byte in text {
-        output.push(shown_byte(*byte))?;
+        output.push(printable_byte(*byte))?;
     }
     Ok(())
 }
 
-fn shown_byte(byte: u8) -> u8
-    ensures { result ≡ shown_byte byte }
+/// Gives the byte, or `?` where it is not printable ASCII.
+fn printable_byte(byte: u8) -> u8
+    ensures { result ≡ printable_byte byte }
 {
     if (32..=126).contains(&byte) {
         byte

@@ -1,13 +1,13 @@
-//! A line of the log that tells what a door refused.
+//! Writes the lines of the log that tell what a door refused.
 ghost use Rattle.std.specs.Prelude.{◌≡◌, ◌++◌, OnOk};
 ghost use Rattle.serve_log.specs.LogLines.{line_refusal_word, refused_line_text, refused_request_text, shown_path};
 
+use crate::digits::put_number;
 use crate::door::Door;
 use crate::outcome::put_shown;
-use crate::text::put_number;
 use std::alloc::AllocError;
 
-/// The most bytes of a path that are told.
+/// The most bytes of a path that a line shows.
 const LONGEST_PATH: usize = 256;
 
 /// Why a door refused a line.
@@ -20,7 +20,7 @@ pub enum LineRefusal {
 }
 
 impl LineRefusal {
-    /// Its word, which the line is told too.
+    /// Gives its word in the log, which is also what the line is answered.
     pub fn word(self) -> &'static [u8]
         ensures { result.now ≡ line_refusal_word self }
     {
@@ -31,8 +31,9 @@ impl LineRefusal {
     }
 }
 
-/// Puts the line, with its line feed, of a line that a door refused. Nothing of that is told: it may
-/// hold a password. Where memory is refused, a part may stand.
+/// Appends the line of the log, with its line feed, that tells that a door refused a line. Nothing
+/// of the refused line is told, since it may hold a password. Where memory is refused, a part may
+/// stand.
 pub(crate) fn put_refused_line(
     output: &mut Vec<u8>,
     moment: u64,
@@ -50,8 +51,8 @@ pub(crate) fn put_refused_line(
     output.extend_from_slice(b"\n")
 }
 
-/// Puts the line, with its line feed, of a request of HTTP that was refused with a status. Where
-/// memory is refused, a part may stand.
+/// Appends the line of the log, with its line feed, that tells that a request of HTTP was refused,
+/// with its status and its path. Where memory is refused, a part may stand.
 pub(crate) fn put_refused_request(
     output: &mut Vec<u8>,
     moment: u64,
@@ -69,6 +70,7 @@ pub(crate) fn put_refused_request(
     output.extend_from_slice(b"\n")
 }
 
+/// Appends the first `LONGEST_PATH` bytes of a path.
 fn put_path(output: &mut Vec<u8>, path: &[u8]) -> Result<(), AllocError>
     ensures { OnOk result (output.new.items ≡ output.old.items ++ shown_path path.now) }
 {

@@ -16,7 +16,7 @@ pub struct Waiting {
     pub(crate) lines: Vec<u8>,
     /// How many bytes of `lines` may go. Those behind them are of the round that is under way.
     pub(crate) settled: usize,
-    /// How many lines were left out, for want of memory or of room.
+    /// How many lines were left out, for want of memory or because too many waited.
     pub(crate) missed: u64,
     /// Each write: what waited, and how many bytes of it were taken. It takes no memory: only proofs
     /// read it.

@@ -8,7 +8,7 @@ use Rattle.serve_peers.specs.Journals.{Notes, asked_of, is_lost_of, shares_of, s
 use Rattle.serve_peers.specs.Keeping.{DoesSlice, IsKeptIn, KeepsBy, KeepsOn, OnlyKeeps, is_begun, is_wanted, stage_in}
 use Rattle.serve_peers.specs.ProofServices.{stays}
 use Rattle.serve_peers.specs.declared.background.Background.{Background}
-use Rattle.serve_peers.specs.declared.copies.Copied.{Copied}
+use Rattle.serve_peers.specs.declared.copies.CopyUnderWay.{CopyUnderWay}
 use Rattle.serve_peers.specs.declared.journal.Journal.{Journal}
 use Rattle.serve_peers.specs.declared.served.Served.{Served}
 
@@ -28,7 +28,7 @@ module _ {S : Type 0} (store : Ghosts S) where
       ∙ ap (λ (held : Held S). record old { rounds = held; journal = new.journal; background = new.background }) same_store
       ∙ ap (λ (journal : Journal). record old { journal = journal; background = new.background }) same_journal)
 
-  a_slice : {T : Type 0} (copy_store : Ghosts T) (old new : Served S) (was now : Option (Copied T)) → shares_of old ≡ false → DoesSlice store copy_store old.background new.background (store_of old) (store_of new) old.journal new.journal was now → IsKeptIn old new → OnlyKeeps store old new
+  a_slice : {T : Type 0} (copy_store : Ghosts T) (old new : Served S) (was now : Option (CopyUnderWay T)) → shares_of old ≡ false → DoesSlice store copy_store old.background new.background (store_of old) (store_of new) old.journal new.journal was now → IsKeptIn old new → OnlyKeeps store old new
   a_slice copy_store old new was now alone is same = (
     record {
       more = None ∷ [];
@@ -40,7 +40,7 @@ module _ {S : Type 0} (store : Ghosts S) where
     refl,
   )
 
-  module _ {T : Type 0} (copy_store : Ghosts T) (old new : Served S) (was now : Option (Copied T)) (alone : shares_of old ≡ false) (same : IsKeptIn old new) where
+  module _ {T : Type 0} (copy_store : Ghosts T) (old new : Served S) (was now : Option (CopyUnderWay T)) (alone : shares_of old ≡ false) (same : IsKeptIn old new) where
     by : (begun wanted : Bool) → KeepsBy store copy_store begun wanted old.background new.background (store_of old) (store_of new) old.journal new.journal was now → OnlyKeeps store old new
     by true wanted made = only_background old new same made.1 made.2
     by false true slice = a_slice copy_store old new was now alone slice same

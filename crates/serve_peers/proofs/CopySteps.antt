@@ -10,9 +10,9 @@ use Rattle.rows_tables.specs.Calls.{Changes, ChangesWhole, IfOurTables, IsUnchan
 use Rattle.rows_tables.specs.declared.fault.TableFault.{TableFault}
 use Rattle.serve_peers.specs.Applying.{OnlyLooks}
 use Rattle.serve_peers.specs.Copies.{Advances, CopiesPart, Restarts}
-use Rattle.serve_peers.specs.declared.copies.Copied.{Copied}
-use Rattle.serve_peers.specs.declared.copies.Done.{Done}
-use Rattle.serve_peers.specs.declared.copies.Done.TheVariants.{Failed, Whole}
+use Rattle.serve_peers.specs.declared.copies.CopyUnderWay.{CopyUnderWay}
+use Rattle.serve_peers.specs.declared.copies.SliceOutcome.{SliceOutcome}
+use Rattle.serve_peers.specs.declared.copies.SliceOutcome.TheVariants.{Failed, Whole}
 
 -- where no transaction was under way, nothing could be undone
 unchanged : (old new : State) → old.in_transaction ≡ false → (IsTrue old.is_open → old.now ≡ old.committed) → UnchangedOrUndone old new → IsTrue new.is_open → IsUnchanged old new
@@ -20,10 +20,10 @@ unchanged old new alone settled (inl is) shown = is
 unchanged old new alone settled (inr undone) shown = record { now = undone.now shown ∙ sym (settled (undone.was_open shown)); committed = undone.committed shown; mode = undone.mode ∙ sym alone }
 
 -- a copy of its parts
-abbrev pub of_parts : {T : Type 0} → Held T × Progress × ℕ → Copied T
+abbrev pub of_parts : {T : Type 0} → Held T × Progress × ℕ → CopyUnderWay T
 of_parts parts = record { rows = parts.0; progress = parts.1; anew = parts.2 }
 
-pub parted : {T : Type 0} (copy : Copied T) (parts : Held T × Progress × ℕ) → parts ≡ (copy.rows, copy.progress, copy.anew) → copy ≡ of_parts parts
+pub parted : {T : Type 0} (copy : CopyUnderWay T) (parts : Held T × Progress × ℕ) → parts ≡ (copy.rows, copy.progress, copy.anew) → copy ≡ of_parts parts
 parted {T} copy parts is = ap (λ (it : Held T × Progress × ℕ). of_parts it) (sym is)
 
 module _ {S : Type 0} (store : Ghosts S) where
@@ -72,6 +72,6 @@ module _ {S T : Type 0} (store : Ghosts S) (copy_store : Ghosts T) where
       }
 
   -- all is copied, and its file is closed, or it could not be
-  pub closed : (touched : Bool) (source looked : Held S) (done : Done) (was now : Option (Copied T)) → (done ≡ Whole) ⊎ (done ≡ Failed) → CopiesPart store copy_store touched source looked Whole was now → now ≡ None → CopiesPart store copy_store touched source looked done was now
-  closed touched source looked done was now (inl is) part none = subst (λ (it : Done). CopiesPart store copy_store touched source looked it was now) (sym is) part
-  closed touched source looked done was now (inr is) part none = subst (λ (it : Done). CopiesPart store copy_store touched source looked it was now) (sym is) none
+  pub closed : (touched : Bool) (source looked : Held S) (done : SliceOutcome) (was now : Option (CopyUnderWay T)) → (done ≡ Whole) ⊎ (done ≡ Failed) → CopiesPart store copy_store touched source looked Whole was now → now ≡ None → CopiesPart store copy_store touched source looked done was now
+  closed touched source looked done was now (inl is) part none = subst (λ (it : SliceOutcome). CopiesPart store copy_store touched source looked it was now) (sym is) part
+  closed touched source looked done was now (inr is) part none = subst (λ (it : SliceOutcome). CopiesPart store copy_store touched source looked it was now) (sym is) none

@@ -10,7 +10,7 @@ use Rattle.store_rounds.specs.declared.fault.StoreFault.{StoreFault}
 use Rattle.serve_peers.specs.Tolds.{Round, Told, round_in}
 use Rattle.serve_peers.specs.Watching.{Watches, seen_by, since_by, told_in, touched_in, touches}
 use Rattle.serve_peers.specs.declared.entry.Entry.{Entry}
-use Rattle.serve_peers.specs.declared.watch.Watch.{Watch}
+use Rattle.serve_peers.specs.declared.account_watch.Watch.{Watch}
 
 pub neither : (a b : Bool) → (a || b) ≡ false → (a ≡ false) × (b ≡ false)
 neither true b e = absurd (true≢false e)

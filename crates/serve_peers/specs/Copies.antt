@@ -11,13 +11,13 @@ use Rattle.rows_tables.specs.Keyed.{HasSchema}
 use Rattle.rows_tables.specs.Making.{IsNew}
 use Rattle.rows_tables.specs.declared.fault.TableFault.{TableFault}
 use Rattle.serve_peers.specs.Applying.{OnlyLooks}
-use Rattle.serve_peers.specs.declared.copies.Copied.{Copied}
+use Rattle.serve_peers.specs.declared.copies.CopyUnderWay.{CopyUnderWay}
 use Rattle.serve_peers.specs.declared.copies.Copies.{Copies}
-use Rattle.serve_peers.specs.declared.copies.Done.{Done}
-use Rattle.serve_peers.specs.declared.copies.Done.TheVariants.{Failed, Part, Whole}
+use Rattle.serve_peers.specs.declared.copies.SliceOutcome.{SliceOutcome}
+use Rattle.serve_peers.specs.declared.copies.SliceOutcome.TheVariants.{Failed, More, Whole}
 
 -- the copy that is under way
-abbrev pub copy_in : {T K : Type 0} → Copies T K → Option (Copied T)
+abbrev pub copy_in : {T K : Type 0} → Copies T K → Option (CopyUnderWay T)
 copy_in copies = copies.copy
 
 -- the account of which a part is copied
@@ -43,7 +43,7 @@ abbrev pub most_at : (anew : ℕ) → Option ℕ
 most_at anew = if nat_lt anew 3 then Some 32 else None
 
 -- a copy that is new: its tables have no row, where the disk was honest
-abbrev pub IsNewCopy : {T : Type 0} (copy_store : Ghosts T) → Option (Copied T) → Type 0
+abbrev pub IsNewCopy : {T : Type 0} (copy_store : Ghosts T) → Option (CopyUnderWay T) → Type 0
 IsNewCopy copy_store None = ⊥
 IsNewCopy copy_store (Some copy) = (copy.progress ≡ UpTo None)
     × (HasCleanDisk (state copy_store copy.rows) → IsNew (state copy_store copy.rows).now)
@@ -86,19 +86,19 @@ module _ {S T : Type 0} (store : Ghosts S) (copy_store : Ghosts T) where
 
   -- A part of the copy, or all of it, is done, or it failed, or there is none. Where all of it is done its
   -- file is closed, and has these rows.
-  abbrev pub CopiesPart : (touched : Bool) (source looked : Held S) (done : Done)
-      (was now : Option (Copied T)) → Type 0
-  CopiesPart touched source looked (Part account) was now = (copy : Copied T) × (further : Copied T)
+  abbrev pub CopiesPart : (touched : Bool) (source looked : Held S) (done : SliceOutcome)
+      (was now : Option (CopyUnderWay T)) → Type 0
+  CopiesPart touched source looked (More account) was now = (copy : CopyUnderWay T) × (further : CopyUnderWay T)
       × (was ≡ Some copy) × (now ≡ Some further) × (account ≡ under_way further.progress)
       × Advances touched (most_at (begun_anew touched copy.anew)) copy.progress
       (Some further.progress) source looked copy.rows further.rows
       × (further.anew ≡ anew_left further.progress (begun_anew touched copy.anew))
-  CopiesPart touched source looked Whole was now = (copy : Copied T) × (rows : Held T)
+  CopiesPart touched source looked Whole was now = (copy : CopyUnderWay T) × (rows : Held T)
       × (was ≡ Some copy) × (now ≡ None)
       × Slices touched copy.progress None source looked copy.rows rows
   CopiesPart touched source looked Failed was now = now ≡ None
 
-  pub record CopiesOn (touched : Bool) (source looked : Held S) (done : Done)
-      (was now : Option (Copied T)) : Type 0 where
+  pub record CopiesOn (touched : Bool) (source looked : Held S) (done : SliceOutcome)
+      (was now : Option (CopyUnderWay T)) : Type 0 where
     pub looks : OnlyLooks store source looked
     pub part : CopiesPart touched source looked done was now

@@ -14,12 +14,12 @@ use Rattle.serve_peers.specs.declared.backup.Backup.{Backup}
 use Rattle.serve_peers.specs.declared.backup.BackupTold.{BackupTold}
 use Rattle.serve_peers.specs.declared.backup.Stage.{Stage}
 use Rattle.serve_peers.specs.declared.backup.Stage.TheVariants.{Begun, Failed, Ready, Wanted, Whole}
-use Rattle.serve_peers.specs.declared.copies.Copied.{Copied}
-use Rattle.serve_peers.specs.declared.copies.Done.{Done}
-use Rattle.serve_peers.specs.declared.copies.Done.TheVariants as done
+use Rattle.serve_peers.specs.declared.copies.CopyUnderWay.{CopyUnderWay}
+use Rattle.serve_peers.specs.declared.copies.SliceOutcome.{SliceOutcome}
+use Rattle.serve_peers.specs.declared.copies.SliceOutcome.TheVariants as done
 use Rattle.serve_peers.specs.declared.journal.Journal.{Journal}
 use Rattle.serve_peers.specs.declared.served.Served.{Served}
-use Rattle.serve_peers.specs.declared.watch.Watch.{Watch}
+use Rattle.serve_peers.specs.declared.account_watch.Watch.{Watch}
 
 -- the backup that was asked for last
 abbrev pub backup_of : {S : Type 0} → Served S → Option Backup
@@ -54,20 +54,20 @@ pub record AsksNext {S : Type 0} (line : BackupLine) (told : BackupTold) (old ne
 
 -- the copy's file was made, or it could not be
 pub record MakesCopy {T : Type 0} (copy_store : Ghosts T) (old new : Background)
-    (now : Option (Copied T)) : Type 0 where
+    (now : Option (CopyUnderWay T)) : Type 0 where
   pub stage : Stage
   pub made : ((stage ≡ Ready) × IsNewCopy copy_store now) ⊎ ((stage ≡ Failed) × (now ≡ None))
   pub same : new ≡ record old { backup = at_stage old.backup stage }
 
 -- what a slice has come to is told when the next one is asked for
-abbrev pub stage_behind : Done → Stage
-stage_behind (done.Part account) = Ready
+abbrev pub stage_behind : SliceOutcome → Stage
+stage_behind (done.More account) = Ready
 stage_behind done.Whole = Whole
 stage_behind done.Failed = Failed
 
 -- the account that is watched from then on
-abbrev pub account_behind : Done → Option (List ℕ)
-account_behind (done.Part account) = account
+abbrev pub account_behind : SliceOutcome → Option (List ℕ)
+account_behind (done.More account) = account
 account_behind done.Whole = None
 account_behind done.Failed = None
 
@@ -82,8 +82,8 @@ IsKeptIn old new = new ≡ record old {
 module _ {S T : Type 0} (store : Ghosts S) (copy_store : Ghosts T) where
   -- a slice was done, or it failed; of the rooms it is an empty round, as a question is
   pub record DoesSlice (old new : Background) (source looked : Held S) (journal noted : Journal)
-      (was now : Option (Copied T)) : Type 0 where
-    pub done : Done
+      (was now : Option (CopyUnderWay T)) : Type 0 where
+    pub done : SliceOutcome
     pub copies : CopiesOn store copy_store journal.watch.touched source looked done was now
     pub over : rounds_in noted ≡ rounds_in journal ++ ([], false) ∷ []
     pub none_more : under_way_in noted ≡ under_way_in journal
@@ -93,7 +93,7 @@ module _ {S T : Type 0} (store : Ghosts S) (copy_store : Ghosts T) where
 
   -- where nothing is asked for, nothing is done
   abbrev pub KeepsBy : (begun wanted : Bool) (old new : Background) (source looked : Held S)
-      (journal noted : Journal) (was now : Option (Copied T)) → Type 0
+      (journal noted : Journal) (was now : Option (CopyUnderWay T)) → Type 0
   KeepsBy true wanted old new source looked journal noted was now =
       MakesCopy copy_store old new now × (looked ≡ source) × (noted ≡ journal)
   KeepsBy false true old new source looked journal noted was now =
@@ -102,18 +102,18 @@ module _ {S T : Type 0} (store : Ghosts S) (copy_store : Ghosts T) where
       (new ≡ old) × (looked ≡ source) × (noted ≡ journal) × (now ≡ was)
 
   abbrev pub KeepsOn : (old new : Background) (source looked : Held S) (journal noted : Journal)
-      (was now : Option (Copied T)) → Type 0
+      (was now : Option (CopyUnderWay T)) → Type 0
   KeepsOn old new source looked journal noted was now = KeepsBy (is_begun (stage_in old.backup))
       (is_wanted (stage_in old.backup)) old new source looked journal noted was now
 
   -- nor in a round; and nothing else becomes of what is served
-  abbrev pub KeepsOutside : (shares : Bool) (old new : Served S) (was now : Option (Copied T))
+  abbrev pub KeepsOutside : (shares : Bool) (old new : Served S) (was now : Option (CopyUnderWay T))
       → Type 0
   KeepsOutside true old new was now = (new ≡ old) × (now ≡ was)
   KeepsOutside false old new was now = KeepsOn old.background new.background
       (store_of old) (store_of new) old.journal new.journal was now × IsKeptIn old new
 
-  abbrev pub KeepsBackup : (old new : Served S) (was now : Option (Copied T)) → Type 0
+  abbrev pub KeepsBackup : (old new : Served S) (was now : Option (CopyUnderWay T)) → Type 0
   KeepsBackup old new was now = KeepsOutside (shares_of old) old new was now
 
 -- nothing was applied, and nothing became of the tables

@@ -1,5 +1,5 @@
--- What goes last on a connection whose round was lost, and that nothing is taken behind it (all this
--- project's own).
+-- What goes last on a connection whose round was lost, since its commit failed, and that nothing is
+-- taken behind it (all this project's own).
 use Rattle.std.specs.Prelude.{◌≡◌, ◌⊎◌, ℕ, List, [], ◌++◌, drop, take, Option, Result}
 use Rattle.std.specs.Io.KnownBytes.{Appends}
 use Rattle.sqlite_trees.specs.declared.store.Store.{Ghosts}
@@ -32,8 +32,8 @@ module _ {S : Type 0} (store : Ghosts S) where
 
 -- it was refused for this, and that is all that is still to go; or there was no memory for it, and
 -- nothing is
-abbrev pub IsToldOff : (why : Refusal) (peer : LastPeer) → Type 0
-IsToldOff why peer = (left_of peer ≡ refusal_text why) ⊎ (left_of peer ≡ [])
+abbrev pub IsToldRefusal : (why : Refusal) (peer : LastPeer) → Type 0
+IsToldRefusal why peer = (left_of peer ≡ refusal_text why) ⊎ (left_of peer ≡ [])
 
 -- so many bytes of what was still to go went
 abbrev pub Leaves : (given given2 : Option (List ℕ)) (before after : LastPeer) (n : ℕ) → Type 0

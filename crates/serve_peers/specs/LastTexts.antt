@@ -16,8 +16,8 @@ use Rattle.serve_peers.specs.LineTexts.{line_text}
 use Rattle.serve_peers.specs.declared.entry.Entry.{Entry}
 use Rattle.serve_peers.specs.declared.entry.Entry.TheVariants as entry_is
 
--- the answer, 404 where the account is not open, and internal-error for any fault of the store;
--- each ends the connection
+-- the answer, 404 where the account is not open, and internal-error for all else, as a fault of
+-- the store; each ends the connection
 abbrev pub response_text : (header : Header) (told : Result Reply StoreFault) → List ℕ
 response_text header (Ok (reply_is.Ipp answer)) = answer_text answer true
 response_text header (Ok reply_is.NoAccount) = refusal_text NotFound

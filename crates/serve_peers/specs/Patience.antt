@@ -1,7 +1,7 @@
 -- Rule: How long a connection may take, in ticks of a millisecond (all this project's own).
 use Rattle.std.specs.Prelude.{ℕ, ◌+◌, ◌-◌, Bool, nat_lt, if◌then◌else◌}
 use Rattle.serve_peers.specs.declared.patience.Doing.{Doing}
-use Rattle.serve_peers.specs.declared.patience.Doing.TheVariants.{Holds, Moves, Parts, Rests}
+use Rattle.serve_peers.specs.declared.patience.Doing.TheVariants.{Holds, Leaves, Moves, Rests}
 use Rattle.serve_peers.specs.declared.patience.Patience.{Patience}
 
 abbrev pub doing_of : Patience → Doing
@@ -16,7 +16,7 @@ abbrev pub most_of : Doing → ℕ
 most_of Rests = 60000
 most_of (Moves moved) = 10000
 most_of Holds = 60000
-most_of Parts = 10000
+most_of Leaves = 10000
 
 abbrev pub is_over : (patience : Patience) (ticks : ℕ) → Bool
 is_over patience ticks = nat_lt (most_of patience.doing) (ticks - patience.since)
@@ -35,7 +35,7 @@ abbrev pub moving_from : (doing : Doing) (since count ticks : ℕ) → Patience
 moving_from Rests since count ticks = moving ticks count ticks
 moving_from (Moves before) since count ticks = moving since (before + count) ticks
 moving_from Holds since count ticks = moving ticks count ticks
-moving_from Parts since count ticks = record { since = since; doing = Parts }
+moving_from Leaves since count ticks = record { since = since; doing = Leaves }
 
 -- so many bytes more came or went
 abbrev pub after_moving : (patience : Patience) (count ticks : ℕ) → Patience

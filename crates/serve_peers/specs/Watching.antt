@@ -1,11 +1,12 @@
--- What was asked of an account that is watched (all this project's own).
+-- Whether an account was touched since the last slice of the backup that has half copied it (all
+-- this project's own).
 use Rattle.std.specs.Prelude.{◌≡◌, ℕ, Bool, false, List, ◌++◌, map, Option, None, Some}
 use Rattle.std.specs.List.{flat_map, list_any}
 use Rattle.room_serve.specs.Own.{is_of}
 use Rattle.serve_peers.specs.Entries.{event_of_entry}
 use Rattle.serve_peers.specs.Tolds.{Round, Told, round_in}
 use Rattle.serve_peers.specs.declared.entry.Entry.{Entry}
-use Rattle.serve_peers.specs.declared.watch.Watch.{Watch}
+use Rattle.serve_peers.specs.declared.account_watch.Watch.{Watch}
 
 -- it is of the account, if one is watched
 abbrev pub touches : (account : Option (List ℕ)) → Entry → Bool

@@ -8,7 +8,7 @@ ghost use Rattle.serve_peers.specs.Keeping.{DoesSlice, KeepsOn, MakesCopy, is_be
 ghost use Rattle.serve_peers.specs.Overviews.{GathersBy, GathersOn};
 
 use crate::backup::{Backup, BackupTold, Stage, ask_slice, begin_backup};
-use crate::copies::{Copies, Done};
+use crate::copies::{Copies, SliceOutcome};
 use crate::gathering::{Gathered, Gathering};
 use crate::journal::Journal;
 use input_lines::BackupLine;
@@ -17,7 +17,7 @@ use std::alloc::{AllocError, Global};
 use store_copy::CopyMaker;
 use store_rounds::Rounds;
 
-/// A backup, the print room's page, and what serving itself was asked and told.
+/// A backup, the print room's page, and two settings of serving itself.
 pub struct Background {
     /// The backup that an operator asked for last.
     pub(crate) backup: Option<Backup>,
@@ -29,6 +29,7 @@ pub struct Background {
     pub(crate) needs_password: bool,
 }
 
+// By hand, in the place of `#[derive(Drop)]`: the head of lib.rt says why.
 impl Drop for Background {
     fn drop(self) {
         let Background {
@@ -131,9 +132,9 @@ impl Background {
             journal.old journal.new (copy_in copies.old) (copy_in copies.new) }
     {
         let (stage, account) = match copies.slice(alloc, rounds, journal.is_touched()) {
-            Done::Part(account) => (Stage::Ready, account),
-            Done::Whole => (Stage::Whole, None),
-            Done::Failed => (Stage::Failed, None),
+            SliceOutcome::More(account) => (Stage::Ready, account),
+            SliceOutcome::Whole => (Stage::Whole, None),
+            SliceOutcome::Failed => (Stage::Failed, None),
         };
         journal.add_slice(account);
         if let Some(backup) = &mut self.backup {

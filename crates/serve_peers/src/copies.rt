@@ -14,21 +14,23 @@ use store_rounds::Rounds;
 /// How many jobs of an account a slice copies at most.
 const MOST_JOBS: u32 = 32;
 
-/// How often an account begins anew, since it was changed while it was copied. Then it is copied at
-/// once, so that a backup ends whoever goes on to print.
+/// How many times the copy of an account begins anew because the account was changed meanwhile.
+/// After that the account is copied in one slice, so that a backup ends even if somebody goes on to
+/// print.
 const MOST_ANEW: u32 = 3;
 
 /// A copy that is under way, and how far it has come.
-pub struct Copied<T: Alter> {
+pub struct CopyUnderWay<T: Alter> {
     pub(crate) rows: Connection<T>,
     pub(crate) progress: Progress,
     /// How often the account that is under way has begun anew.
     pub(crate) anew: u32,
 }
 
-impl<T: Alter + Drop> Drop for Copied<T> {
+// By hand, in the place of `#[derive(Drop)]`: the head of lib.rt says why.
+impl<T: Alter + Drop> Drop for CopyUnderWay<T> {
     fn drop(self) {
-        let Copied {
+        let CopyUnderWay {
             rows: _,
             progress: _,
             anew: _,
@@ -36,12 +38,12 @@ impl<T: Alter + Drop> Drop for Copied<T> {
     }
 }
 
-impl<T: Alter> Copied<T> {
+impl<T: Alter> CopyUnderWay<T> {
     /// The connection to the copy alone.
     fn into_rows(self) -> Connection<T>
         ensures { result ≡ self.rows }
     {
-        let Copied {
+        let CopyUnderWay {
             rows,
             progress: _,
             anew: _,
@@ -53,7 +55,7 @@ impl<T: Alter> Copied<T> {
     fn into_parts(self) -> (Connection<T>, Progress, u32)
         ensures { result ≡ (self.rows, self.progress, self.anew) }
     {
-        let Copied {
+        let CopyUnderWay {
             rows,
             progress,
             anew,
@@ -65,9 +67,10 @@ impl<T: Alter> Copied<T> {
 /// Who makes the files of copies, and the copy that is under way.
 pub struct Copies<T: Alter, K> {
     pub(crate) maker: K,
-    pub(crate) copy: Option<Copied<T>>,
+    pub(crate) copy: Option<CopyUnderWay<T>>,
 }
 
+// By hand, in the place of `#[derive(Drop)]`: the head of lib.rt says why.
 impl<T: Alter + Drop, K: Drop> Drop for Copies<T, K> {
     fn drop(self) {
         let Copies { maker: _, copy: _ } = self;
@@ -75,9 +78,9 @@ impl<T: Alter + Drop, K: Drop> Drop for Copies<T, K> {
 }
 
 /// What a slice has come to.
-pub(crate) enum Done {
+pub(crate) enum SliceOutcome {
     /// More slices are to come. This account is half copied, if one is.
-    Part(Option<Name>),
+    More(Option<Name>),
     Whole,
     Failed,
 }
@@ -115,7 +118,7 @@ impl<T: Alter, K: CopyMaker<Rows = Connection<T>>> Copies<T, K> {
     {
         match Store::create(rows) {
             Ok(store) => {
-                self.put(Copied {
+                self.put(CopyUnderWay {
                     rows: store.close(),
                     progress: Progress::UpTo(None),
                     anew: 0,
@@ -130,7 +133,7 @@ impl<T: Alter, K: CopyMaker<Rows = Connection<T>>> Copies<T, K> {
     }
 
     /// Keeps this copy as the one that is under way. One that was there is given up.
-    fn put(&mut self, copied: Copied<T>)
+    fn put(&mut self, copied: CopyUnderWay<T>)
         ensures { copy_in self.new ≡ Some copied }
     {
         if let Some(older) = self.copy.replace(copied) {
@@ -145,12 +148,12 @@ impl<T: Alter, K: CopyMaker<Rows = Connection<T>>> Copies<T, K> {
         alloc: Global,
         source: &mut Rounds<S>,
         touched: bool,
-    ) -> Done
+    ) -> SliceOutcome
         ensures { CopiesOn S.Store T.Store touched source.old source.new
             result (copy_in self.old) (copy_in self.new) }
     {
         let Some(copied) = self.copy.take() else {
-            return Done::Failed;
+            return SliceOutcome::Failed;
         };
         let (mut rows, progress, anew) = copied.into_parts();
         let anew = begun_anew(touched, anew);
@@ -158,30 +161,30 @@ impl<T: Alter, K: CopyMaker<Rows = Connection<T>>> Copies<T, K> {
             Ok(Some(progress)) => {
                 let account = under_way(&progress);
                 let anew = anew_left(&progress, anew);
-                self.put(Copied {
+                self.put(CopyUnderWay {
                     rows,
                     progress,
                     anew,
                 });
-                Done::Part(account)
+                SliceOutcome::More(account)
             }
             Ok(None) => self.close(rows),
             Err(_) => {
                 self.maker.give_up(rows);
-                Done::Failed
+                SliceOutcome::Failed
             }
         }
     }
 
     /// Closes the file of a copy that is whole. It has failed where the file can't be closed.
-    fn close(&mut self, rows: Connection<T>) -> Done
-        ensures done { (result ≡ Done.Whole) ⊎ (result ≡ Done.Failed) }
+    fn close(&mut self, rows: Connection<T>) -> SliceOutcome
+        ensures done { (result ≡ SliceOutcome.Whole) ⊎ (result ≡ SliceOutcome.Failed) }
         ensures same { copy_in self.new ≡ copy_in self.old }
     {
         if self.maker.close(rows) {
-            Done::Whole
+            SliceOutcome::Whole
         } else {
-            Done::Failed
+            SliceOutcome::Failed
         }
     }
 }

@@ -26,6 +26,7 @@ pub enum Entry {
     Line(Line),
 }
 
+// By hand, in the place of `#[derive(Drop)]`: the head of lib.rt says why.
 impl Drop for Entry {
     fn drop(self) {
         match self {

@@ -1,4 +1,5 @@
-//! What is done where the disk is full: space is given up that is kept for that.
+//! How an event goes through on a full disk: kept space is given up, and the event is applied
+//! again.
 ghost use Rattle.std.specs.Prelude.{◌≡◌, ◌+◌, ◌≤◌, Err, IsTrue};
 ghost use Rattle.serve_peers.specs.Again.{IsOneMore, answer_at_last};
 ghost use Rattle.serve_peers.specs.Applying.{AppliesAlone};
@@ -6,10 +7,10 @@ ghost use Rattle.serve_peers.specs.Space.{entry_needs_space, length_of_entry};
 ghost use Rattle.serve_peers.specs.Writing.{rounds_in, under_way_in};
 ghost use Rattle.serve_space.specs.Spares.{held_of, kept_back, kept_beside};
 
-use crate::answers::is_done;
 use crate::applying::apply_in_own_transaction;
 use crate::entry::Entry;
 use crate::journal::Journal;
+use crate::outcome::is_done;
 use account_machine::Answered;
 use serve_space::Spare;
 use sqlite::Alter;
@@ -37,8 +38,8 @@ pub(crate) fn apply_or_free_space<S: Alter>(
     apply_again_from_space(alloc, rounds, spare, entry, answer, usize::MAX)
 }
 
-/// Applies what failed once more, if space could be given up for it. What it leaves of that is taken
-/// back at once, before somebody else's file takes it.
+/// Applies what failed once more, if space could be given up for it. What it leaves of that is
+/// taken back at once, before somebody else's file takes it.
 fn apply_again_from_space<S: Alter>(
     alloc: Global,
     rounds: &mut Rounds<S>,
@@ -57,8 +58,9 @@ fn apply_again_from_space<S: Alter>(
     answer
 }
 
-/// Gives up space that is kept where the storage failed: for what brings no job or document so many
-/// bytes at most, and else what is lent for it. Answers whether there was some.
+/// Gives up kept space where the storage failed, and answers whether there was some. For a small
+/// change it gives up `most` bytes at most. For a job or a document it gives up as many more as
+/// that is long, but as many have to stay kept.
 fn frees_space(
     spare: &mut Spare,
     entry: &Entry,
@@ -75,6 +77,7 @@ fn frees_space(
     }
 }
 
+/// Gives up kept space for this entry, and answers whether there was some.
 fn gives_up_for(spare: &mut Spare, entry: &Entry, most: usize) -> bool
     ensures { IsTrue result → IsTrue (entry_needs_space entry.now)
         → length_of_entry entry.now + (kept_back + kept_beside) ≤ held_of spare.new }
@@ -87,8 +90,8 @@ fn gives_up_for(spare: &mut Spare, entry: &Entry, most: usize) -> bool
     }
 }
 
-/// What is answered to an event that was applied once more: rows that were found damaged only then are
-/// a failure of the storage, as it was at first.
+/// What is answered to an event that was applied once more: rows that were found damaged only then
+/// are a failure of the storage, as it was at first.
 fn answer_at_last(answer: Result<Answered, StoreFault>) -> Result<Answered, StoreFault>
     ensures { result ≡ answer_at_last answer }
 {
@@ -98,7 +101,7 @@ fn answer_at_last(answer: Result<Answered, StoreFault>) -> Result<Answered, Stor
     }
 }
 
-/// Notes for the space that is kept whether a job ended, or a job or a document came.
+/// Tells the kept space what was done: that a job ended, or that a job or a document came.
 pub(crate) fn note_space(spare: &mut Spare, entry: &Entry, answer: &Result<Answered, StoreFault>) {
     if !is_done(answer) {
         return;
@@ -110,8 +113,8 @@ pub(crate) fn note_space(spare: &mut Spare, entry: &Entry, answer: &Result<Answe
     }
 }
 
-/// Where lines wait for the log's file it is given a piece of the space that is kept, and what that
-/// leaves is taken back.
+/// Lets the log write the lines that wait, on a full disk too: it gives up a piece of the kept
+/// space for them, and takes back what they leave of it.
 pub(crate) fn log_from_space(journal: &mut Journal, spare: &mut Spare)
     ensures rounds { rounds_in journal.new ≡ rounds_in journal.old }
     ensures under_way { under_way_in journal.new ≡ under_way_in journal.old }

@@ -9,13 +9,15 @@ ghost use Rattle.serve_peers.specs.Gathering.{asked_at, gathered_then, is_fresh,
 use account_rules::{Device, LAST_MONTH, Moment, Name, month_of};
 use ipp_coding::List;
 use page_overview::{Overview, Survey};
+use rows_statements::{list_devices, next_accounts};
+use rows_survey::survey;
 use rows_tables::TableFault;
 use sqlite::Alter;
 use std::alloc::Global;
-use store_rounds::{Rounds, list_devices, next_accounts, survey};
+use store_rounds::Rounds;
 
-/// Once what was gathered is older than so many seconds, who asks for the page has it gathered
-/// anew.
+/// For how many seconds what was gathered counts as fresh: who asks for the page after that has it
+/// gathered anew.
 const FRESH: u64 = 10;
 
 /// What the print room's page shows, and what is gathered for it.
@@ -25,6 +27,7 @@ pub struct Gathered {
     pub(crate) under_way: Option<Gathering>,
 }
 
+// By hand, in the place of `#[derive(Drop)]`: the head of lib.rt says why.
 impl Drop for Gathered {
     fn drop(self) {
         let Gathered {
@@ -42,6 +45,7 @@ pub enum Gathering {
     Adds(Adding),
 }
 
+// By hand, in the place of `#[derive(Drop)]`: the head of lib.rt says why.
 impl Drop for Gathering {
     fn drop(self) {
         match self {

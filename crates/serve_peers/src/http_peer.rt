@@ -1,4 +1,5 @@
-//! A connection of HTTP: where it stands, how long it may take, and how much it holds.
+//! A peer that speaks HTTP: its connection, what each of its turns does, how long it may take, and
+//! how much it holds.
 
 ghost use Rattle.std.specs.Prelude.{◌≡◌, ◌≢◌, ◌+◌, ◌<◌, ◌↔◌, length, nat_lt, IsFalse, IsTrue, Some};
 ghost use Rattle.input_http.specs.Limits.{longest_body, longest_head};
@@ -6,7 +7,7 @@ ghost use Rattle.http_server.specs.Connection.{config_of, history};
 ghost use Rattle.http_server.specs.History.{new_history};
 ghost use Rattle.serve_peers.specs.Turns.{Continues};
 
-use crate::load::{LARGE, Load};
+use crate::bytes_held::{LARGE, Load};
 use crate::patience::Patience;
 use crate::progress::Progress;
 use crate::room_service::RoomService;
@@ -21,13 +22,14 @@ use std::io::{Read, Write};
 /// What begins the text that asks a client for the body of its request.
 const INVITATION: &[u8] = b"HTTP/1.1 100 ";
 
-/// A peer that speaks HTTP.
+/// A peer that speaks HTTP, with the queues or with the pages.
 pub struct HttpPeer {
     connection: Connection,
     progress: Progress,
     load: Load,
 }
 
+// By hand, in the place of `#[derive(Drop)]`: the head of lib.rt says why.
 impl Drop for HttpPeer {
     fn drop(self) {
         let HttpPeer {
@@ -126,6 +128,7 @@ impl HttpPeer {
         self.receive(reader, turn)
     }
 
+    /// Writes once. With the last byte of an answer the peer's time begins anew.
     fn send<W: Write>(&mut self, writer: &mut W, ticks: u64) -> Option<Next>
         ensures calls { calls_of self.new ≡ calls_of self.old }
         ensures sends { WritesBytes (W.contents writer.old) (W.contents writer.new)
@@ -150,6 +153,7 @@ impl HttpPeer {
         }
     }
 
+    /// Reads once.
     fn receive<R: Read>(&mut self, reader: &mut R, turn: Turn) -> Option<Next>
         ensures calls { calls_of self.new ≡ calls_of self.old }
         ensures receives { ReadsBytes (R.remaining reader.old) (R.remaining reader.new)
@@ -168,7 +172,8 @@ impl HttpPeer {
         }
     }
 
-    /// Ends what is sent. Where the peer has ended too, or memory ran out, nothing is waited for.
+    /// Ends the connection, on which nothing more is answered: the peer has to end it too. Where it
+    /// has, or memory ran out, the connection closes at once.
     fn finish(&mut self, ticks: u64) -> Next
         ensures connection { connection_of self.new ≡ connection_of self.old }
         ensures ends { result ≢ Next.Wait }
@@ -180,15 +185,15 @@ impl HttpPeer {
         }
     }
 
-    /// How long it may take still.
+    /// What the peer is at, and since when: the hall asks whether that takes too long.
     pub fn patience(&self) -> Patience
         ensures { result ≡ patience_of self.now }
     {
         self.progress.patience
     }
 
-    /// The bytes for which it has room. The buffer of an answer grows to twice what it has to hold,
-    /// as that of a request.
+    /// How many bytes its buffers take: that of requests, and that of answers, which grows to twice
+    /// what waits.
     pub fn bytes_held(&self) -> usize {
         let waiting = self.connection.output().len();
         self.load

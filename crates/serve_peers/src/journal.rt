@@ -1,4 +1,5 @@
-//! The journal of all that was applied, and the log that tells it.
+//! The journal: a list of all that was applied, round after round, which only proofs read; and the
+//! calls that keep the log of events, and the watch of a backup's account, in step with it.
 ghost use Rattle.std.specs.Prelude.{◌≡◌, ◌∷◌, ◌++◌, [], false, true, map};
 ghost use Rattle.std.specs.Option.{ForSome};
 ghost use Rattle.serve_log.specs.Waits.{drafts_of, logged_of};
@@ -6,23 +7,23 @@ ghost use Rattle.serve_peers.specs.Logged.{TellsRounds, log_lags};
 ghost use Rattle.serve_peers.specs.Tolds.{round_in};
 ghost use Rattle.serve_peers.specs.Watching.{Watches};
 
+use crate::account_watch::Watch;
 use crate::entry::Entry;
 use crate::logging::{
     draft, look, note, push_out, refuse_line, refuse_request, settle, tell_beyond,
 };
-use crate::watch::Watch;
 use account_machine::{Answered, Name};
 use http_server::Log as History;
 use serve_log::{Door, EventLog, LineRefusal};
 use std::fs::{File, Files};
 use store_rounds::StoreFault;
 
-/// All that was applied, of whichever connection, and the log of it, where one is kept. The journal
-/// takes no memory: only proofs read it.
+/// All that was applied, of whichever connection, in two lists that only proofs read, and that take no
+/// memory. Beside them stand the log of it, where one is kept, and what a backup watches.
 pub struct Journal {
-    /// The rounds that are over, each with whether it was kept. What is applied by itself is a round
-    /// of one that was kept. A question, and a round that could not begin, is an empty one that was
-    /// not.
+    /// The rounds that are over, each with whether it was kept: whether its commit succeeded. What
+    /// is applied by itself is a round of one entry that was kept. For a question, and for a round
+    /// that could not begin, an empty round that was not kept stands here.
     pub(crate) over: History<History<Entry, Result<Answered, StoreFault>>, bool>,
     /// The round that is under way.
     pub(crate) under_way: History<Entry, Result<Answered, StoreFault>>,
@@ -37,6 +38,7 @@ pub struct Journal {
     pub ghost watched: { Watches watch (map round_in over.items) under_way.items },
 }
 
+// By hand, in the place of `#[derive(Drop)]`: the head of lib.rt says why.
 impl Drop for Journal {
     fn drop(self) {
         let Journal {
@@ -67,7 +69,7 @@ impl Journal {
         }
     }
 
-    /// From now on what is applied is logged there. Nothing was applied yet.
+    /// Has the log tell from now on what is applied. Nothing was applied yet.
     pub(crate) fn set_log(&mut self, log: EventLog)
         requires rounds { rounds_in self.old ≡ [] }
         requires under_way { under_way_in self.old ≡ [] }
@@ -79,8 +81,8 @@ impl Journal {
         self.log = Some(log);
     }
 
-    /// What came was applied by itself.
-    pub(crate) fn add_alone(&mut self, entry: &Entry, told: &Result<Answered, StoreFault>)
+    /// Notes an entry that was applied by itself, as a round of one that was kept.
+    pub(crate) fn add_unshared(&mut self, entry: &Entry, told: &Result<Answered, StoreFault>)
         ensures rounds { rounds_in self.new
             ≡ rounds_in self.old ++ ((entry.now, told.now) ∷ [], true) ∷ [] }
         ensures under_way { under_way_in self.new ≡ under_way_in self.old }
@@ -92,7 +94,7 @@ impl Journal {
         self.over = self.over.and(&round, &true);
     }
 
-    /// What came was applied in the round that is under way.
+    /// Notes an entry that was applied in the round that is under way.
     pub(crate) fn add_shared(&mut self, entry: &Entry, told: &Result<Answered, StoreFault>)
         ensures rounds { rounds_in self.new ≡ rounds_in self.old }
         ensures under_way { under_way_in self.new
@@ -104,7 +106,7 @@ impl Journal {
         self.under_way = self.under_way.and(entry, told);
     }
 
-    /// A question was answered, or a round could not begin.
+    /// Notes an empty round, for a question that was answered or a round that could not begin.
     pub(crate) fn add_nothing(&mut self)
         ensures rounds { rounds_in self.new ≡ rounds_in self.old ++ ([], false) ∷ [] }
         ensures under_way { under_way_in self.new ≡ under_way_in self.old }
@@ -114,7 +116,8 @@ impl Journal {
         self.over = self.over.and(&nothing, &false);
     }
 
-    /// A slice of a backup was done, and from now on the account is watched that it has under way.
+    /// Notes an empty round for a slice of a backup, and watches from now on the account that the
+    /// slice left half copied.
     pub(crate) fn add_slice(&mut self, account: Option<Name>)
         ensures rounds { rounds_in self.new ≡ rounds_in self.old ++ ([], false) ∷ [] }
         ensures under_way { under_way_in self.new ≡ under_way_in self.old }
@@ -135,7 +138,8 @@ impl Journal {
         self.watch.touched
     }
 
-    /// The round that is under way is over.
+    /// Ends the round that is under way. `kept`: its commit succeeded, and else nothing of it was
+    /// applied.
     pub(crate) fn settle(&mut self, kept: bool)
         ensures rounds { rounds_in self.new
             ≡ rounds_in self.old ++ (under_way_in self.old, kept) ∷ [] }
@@ -148,7 +152,7 @@ impl Journal {
         self.is_open = false;
     }
 
-    /// Gives the log's file once more what waits for it.
+    /// Tries once more to write the lines that the log's file has not taken.
     pub(crate) fn push_out(&mut self)
         ensures rounds { rounds_in self.new ≡ rounds_in self.old }
         ensures under_way { under_way_in self.new ≡ under_way_in self.old }
@@ -156,28 +160,28 @@ impl Journal {
         push_out(&mut self.log);
     }
 
-    /// Tells that what came was charged so many units beyond what it had reserved.
+    /// Has the log tell that a settlement charged so many units beyond what its job had reserved.
     pub(crate) fn tell_beyond(&mut self, entry: &Entry, units: u64)
         ensures { self.new ≡ self.old }
     {
         tell_beyond(&mut self.log, entry, units);
     }
 
-    /// Tells that a door refused a line.
+    /// Has the log tell that a door refused a line, and why.
     pub(crate) fn refuse_line(&mut self, moment: u64, door: Door, why: LineRefusal)
         ensures { self.new ≡ self.old }
     {
         refuse_line(&mut self.log, moment, door, why);
     }
 
-    /// Tells that a request was refused with a status.
+    /// Has the log tell that a request for a path was refused with a status of HTTP.
     pub(crate) fn refuse_request(&mut self, moment: u64, status: u16, path: &[u8])
         ensures { self.new ≡ self.old }
     {
         refuse_request(&mut self.log, moment, status, path);
     }
 
-    /// Has the log look, at a moment, whether its file was moved away.
+    /// Has the log open its file anew where that was moved away, as `EventLog::look` does.
     pub(crate) fn look<R: Files<File = File>>(&mut self, files: &R, moment: Option<u64>)
         ensures { self.new ≡ self.old }
     {

@@ -1,4 +1,5 @@
-//! A connection whose round was lost: what it is told last, and its end.
+//! A peer that is told one last thing, and then ends: its round's commit failed, or its request is
+//! too long for the space that is left.
 
 ghost use Rattle.std.specs.Prelude.{◌≡◌, ◌≢◌, [], length, false, IfOk, OnErr, Some};
 ghost use Rattle.std.specs.Io.KnownBytes.{Keeps};
@@ -17,13 +18,14 @@ use std::alloc::Global;
 use std::io;
 use std::io::{Read, Write};
 
-/// A peer whose round was lost, whatever it spoke. It only writes what waits, and ends: it is not
-/// given what is served.
+/// A peer that only writes what waits, and ends, whatever it spoke. It can ask nothing more: no
+/// turn of it is given what is served.
 pub struct LastPeer {
     output: Rope,
     progress: Progress,
 }
 
+// By hand, in the place of `#[derive(Drop)]`: the head of lib.rt says why.
 impl Drop for LastPeer {
     fn drop(self) {
         let LastPeer {
@@ -34,10 +36,10 @@ impl Drop for LastPeer {
 }
 
 impl LastPeer {
-    ghost use Rattle.serve_peers.specs.LastPeers.{IsToldAgain, IsToldOff, Leaves, SaysLast, Sends, left_of, patience_of};
+    ghost use Rattle.serve_peers.specs.LastPeers.{IsToldAgain, IsToldRefusal, Leaves, SaysLast, Sends, left_of, patience_of};
 
-    /// What becomes of a peer whose round was lost: what it asked is applied again, by itself, and
-    /// that is told it last. Where memory is refused it is told nothing.
+    /// Applies again, in a round of its own, what the peer asked in a round whose commit failed.
+    /// The peer is told last what that came to, or nothing where there is no memory for the text.
     pub fn told_again<S: Alter>(
         alloc: Global,
         asked: &Entry,
@@ -58,10 +60,10 @@ impl LastPeer {
         }
     }
 
-    /// What becomes of a peer whose request is refused before it is whole: it is told that last.
-    /// Where memory is refused it is told nothing.
-    pub fn turned_away(alloc: Global, refusal: Refusal, ticks: u64) -> LastPeer
-        ensures { IsToldOff refusal result }
+    /// Refuses a peer's request before it is whole. The peer is told the refusal last, or nothing
+    /// where there is no memory for the text.
+    pub fn refused(alloc: Global, refusal: Refusal, ticks: u64) -> LastPeer
+        ensures { IsToldRefusal refusal result }
     {
         let mut output = Rope::new(alloc);
         if output.put_slice(&refusal_text(refusal)).is_err() {
@@ -111,7 +113,7 @@ impl LastPeer {
         }
     }
 
-    /// Writes once.
+    /// Writes once, and drops from what waits what has gone.
     fn write_to<W: Write>(&mut self, writer: &mut W) -> io::Result<usize>
         ensures went { IfOk result
             (Leaves (W.contents writer.old) (W.contents writer.new) self.old self.new) }
@@ -123,7 +125,7 @@ impl LastPeer {
         Ok(count)
     }
 
-    /// How long it may take still.
+    /// What the peer is at, and since when: the hall asks whether that takes too long.
     pub fn patience(&self) -> Patience
         ensures { result ≡ patience_of self.now }
     {

@@ -1,11 +1,11 @@
-//! What is sent last on a connection whose round was lost.
+//! The last text on a connection whose round's commit failed: the answer to what it asked there.
 ghost use Rattle.std.specs.Prelude.{◌≡◌, ◌++◌, OnOk};
 ghost use Rattle.serve_peers.specs.LastTexts.{answer_to, last_text, response_text};
 
-use crate::answers::reply_of;
 use crate::entry::Entry;
+use crate::into_bytes::into_bytes;
 use crate::line_text::put_told;
-use crate::shared::shared;
+use crate::outcome::reply_of;
 use account_machine::{Answered, Reply, internal_error};
 use bytes::BufMut;
 use http_server::Rope;
@@ -14,7 +14,8 @@ use ipp_coding::{HEADER_LENGTH, Header, header_in};
 use std::alloc::{AllocError, Global};
 use store_rounds::StoreFault;
 
-/// Puts what an entry came to by itself, where its round was lost, and the end of the connection.
+/// Appends the answer to an entry that was applied again by itself, since the commit of its round
+/// failed: over HTTP a whole response that ends the connection, and else a line.
 pub(crate) fn put_last(
     alloc: Global,
     output: &mut Rope,
@@ -29,7 +30,7 @@ pub(crate) fn put_last(
     }
 }
 
-/// Puts the whole response to a request of HTTP.
+/// Appends the whole response to a request over HTTP.
 fn put_answer(
     output: &mut Rope,
     body: &[u8],
@@ -43,7 +44,8 @@ fn put_answer(
     put_response(output, header_in(body), told)
 }
 
-/// The same of a message that has a header.
+/// Appends the whole response to a message whose header is whole. An IPP answer repeats the
+/// request-id of that.
 fn put_response(
     output: &mut Rope,
     header: Header,
@@ -54,7 +56,7 @@ fn put_response(
     match told {
         Ok(Reply::Ipp(answer)) => {
             output.put_slice(last_answer_head(answer.items.len()).as_slice())?;
-            output.push(shared(answer.items)?)
+            output.push(into_bytes(answer.items)?)
         }
         Ok(Reply::NoAccount) => output.put_slice(refusal_text(Refusal::NotFound).as_slice()),
         _ => {

@@ -36,7 +36,7 @@ const ROOM: usize = 4_096;
 pub enum Side {
     /// `release`, `start` and `settle`, and a station's questions.
     Station,
-    /// The same, for the devices alone whose names these are, parted by commas.
+    /// The same, for some devices alone: their names, parted by commas.
     Bound(&'static [u8]),
     /// `open`, `device`, `rate`, `grant`, `cancel` and `hold`, an operator's questions, and the
     /// lines of a backup.
@@ -99,6 +99,7 @@ pub struct LineConnection {
     pub(crate) writes: History<Rope, usize>,
 }
 
+// By hand, in the place of `#[derive(Drop)]`: the head of lib.rt says why.
 impl Drop for LineConnection {
     fn drop(self) {
         let LineConnection {
@@ -145,11 +146,12 @@ impl LineConnection {
         Ok(count)
     }
 
-    /// Answers the first line of what came, at the moment of what is served: what it asks for is
-    /// applied, once, or it is a question, or it is refused, which change nothing. A question is
-    /// put off while a round is under way. By a bound door nothing is applied or asked but for its
-    /// devices. Where there is no memory, the connection has to be closed: then the line is left,
-    /// or it was taken and its answer is lost.
+    /// Answers the first line of what came, at the moment of what is served. An event is applied,
+    /// once; a line of a backup changes what is asked of that; a question, and a line that is
+    /// refused, change nothing. A question is put off while a round is under way. By a bound door
+    /// nothing is applied or asked but for its devices. After an error the connection has to be
+    /// closed: there was no memory, or the peer has asked in this round already. Then the line is
+    /// left, or it was taken and its answer is lost.
     pub fn answer<S: Alter>(&mut self, served: &mut Served<S>) -> Result<Front, AllocError>
         ensures taken { result ≡ Ok Front.Answered
             → AnswersLine S.Store self.old self.new served.old served.new }

@@ -23,6 +23,7 @@ pub struct LinePeer {
     has_ended: bool,
 }
 
+// By hand, in the place of `#[derive(Drop)]`: the head of lib.rt says why.
 impl Drop for LinePeer {
     fn drop(self) {
         let LinePeer {
@@ -50,7 +51,7 @@ impl LinePeer {
 
     /// Reads, answers and writes as far as it goes now, but a few steps at most: what came is taken
     /// line by line, each is applied, once, or is a question or a bad one, and what is told goes in
-    /// order. Only what waits to go may be lost with a connection that is over.
+    /// order. With a connection that is over, answers that had not gone yet are lost.
     pub fn drive<S: Alter, R: Read, W: Write>(
         &mut self,
         reader: &mut R,
@@ -154,7 +155,8 @@ impl LinePeer {
         }
     }
 
-    /// Ends the reading. What is left and is no line is answered as a bad one; then the peer parts.
+    /// Ends the reading: the input has ended, or a line is too long. A rest that is no line is
+    /// answered as a bad one first (`None`: that has to go). Else all was said, and the peer leaves.
     fn end<S: Alter>(&mut self, served: &mut Served<S>, ticks: u64) -> Option<Next>
         ensures ended { IsEnded result (lines_of self.old) (lines_of self.new) }
         ensures same { served.new ≡ served.old }

@@ -1,8 +1,8 @@
-//! What is sent for a line.
+//! The bytes that answer a line, for each thing that it can come to.
 ghost use Rattle.std.specs.Prelude.{◌≡◌, ◌++◌, codes, OnOk};
 ghost use Rattle.serve_peers.specs.LineTexts.{answer_text, bad_line_text, line_text, part_text, parts_text, question_text, refused_line, reply_text, verdict_text};
 
-use crate::shared::shared;
+use crate::into_bytes::into_bytes;
 use account_machine::{Answered, Part, Reply, Verdict, line};
 use bytes::BufMut;
 use http_server::Rope;
@@ -10,7 +10,7 @@ use serve_log::LineRefusal;
 use std::alloc::{AllocError, Global};
 use store_rounds::StoreFault;
 
-/// Puts what a line came to after what waits to go.
+/// Appends the answer to a line that asked for an event.
 pub(crate) fn put_told(
     alloc: Global,
     output: &mut Rope,
@@ -24,7 +24,8 @@ pub(crate) fn put_told(
     }
 }
 
-/// Puts the answer to a question, or where it warns that the log can't be written.
+/// Appends the answer to a question, or `log-fails` in its place where the answer `warns`, as that
+/// to `ping` does while lines wait for the log's file.
 pub(crate) fn put_answer(
     alloc: Global,
     output: &mut Rope,
@@ -40,6 +41,7 @@ pub(crate) fn put_answer(
     }
 }
 
+/// Appends the answer to a question, or `failed`.
 fn put_question_told(
     alloc: Global,
     output: &mut Rope,
@@ -53,7 +55,7 @@ fn put_question_told(
     }
 }
 
-/// Puts a reply, and in the place of a response what it came to.
+/// Appends a reply, and in the place of a response of IPP its verdict.
 fn put_reply(
     alloc: Global,
     output: &mut Rope,
@@ -71,7 +73,8 @@ fn put_reply(
     }
 }
 
-/// Puts `ok`, or the word that tells why it was refused. No question is answered by a response.
+/// Appends `ok`, or the word that tells why the act was refused. `None`, of a question, does not
+/// happen: no question is answered by a response.
 fn put_verdict(alloc: Global, output: &mut Rope, verdict: Option<Verdict>) -> Result<(), AllocError>
     ensures { OnOk result
         (output.new.items ≡ output.old.items ++ verdict_text verdict ++ codes "\n") }
@@ -86,6 +89,7 @@ fn put_verdict(alloc: Global, output: &mut Rope, verdict: Option<Verdict>) -> Re
     }
 }
 
+/// Appends a text and a line feed.
 fn put_line(output: &mut Rope, text: &[u8]) -> Result<(), AllocError>
     ensures { OnOk result (output.new.items ≡ output.old.items ++ text.now ++ codes "\n") }
 {
@@ -93,6 +97,7 @@ fn put_line(output: &mut Rope, text: &[u8]) -> Result<(), AllocError>
     output.put_slice(b"\n")
 }
 
+/// Appends the documents of a start: a line with their count, and then each.
 fn put_parts(alloc: Global, output: &mut Rope, parts: Vec<Part>) -> Result<(), AllocError>
     ensures { OnOk result (output.new.items ≡ output.old.items ++ parts_text parts.items) }
 {
@@ -105,16 +110,17 @@ fn put_parts(alloc: Global, output: &mut Rope, parts: Vec<Part>) -> Result<(), A
     Ok(())
 }
 
-/// A document is moved, not copied.
+/// Appends one document: the line that describes it, its bytes, which are moved and not copied, and
+/// a line feed.
 fn put_part(output: &mut Rope, part: Part) -> Result<(), AllocError>
     ensures { OnOk result (output.new.items ≡ output.old.items ++ part_text part) }
 {
     put_line(output, part.line.items.as_slice())?;
-    output.push(shared(part.bytes.items)?)?;
+    output.push(into_bytes(part.bytes.items)?)?;
     output.put_slice(b"\n")
 }
 
-/// Puts the answer to a line that is refused after what waits to go.
+/// Appends the answer to a line that a door refuses.
 pub(crate) fn put_refused(output: &mut Rope, why: LineRefusal) -> Result<(), AllocError>
     ensures { OnOk result (output.new.items ≡ output.old.items ++ refused_line why) }
 {
@@ -124,7 +130,7 @@ pub(crate) fn put_refused(output: &mut Rope, why: LineRefusal) -> Result<(), All
     }
 }
 
-/// Puts the answer to a bad line after what waits to go.
+/// Appends the answer to a line that is none of its grammar.
 pub(crate) fn put_bad(output: &mut Rope) -> Result<(), AllocError>
     ensures { OnOk result (output.new.items ≡ output.old.items ++ bad_line_text) }
 {

@@ -72,8 +72,7 @@ pub(crate) fn refuse_request(log: &mut Option<EventLog>, moment: u64, status: u1
     }
 }
 
-/// Has the log open its file anew where that was moved away. `moment`: it looks once a moment at
-/// most.
+/// Has the log open its file anew where that was moved away, as `EventLog::look` does.
 pub(crate) fn look<R: Files<File = File>>(
     log: &mut Option<EventLog>,
     files: &R,

@@ -1,7 +1,7 @@
 //! How long a connection may take for what it is at, in milliseconds, before it is closed.
 ghost use Rattle.std.specs.Prelude.{◌≡◌, ◌↔◌, IsTrue};
 ghost use Rattle.serve_peers.specs.Patience.{after_holding, after_letting_on, after_moving, doing_of, is_over, is_slow, moving, since_of};
-ghost use Rattle.serve_peers.specs.declared.patience.Doing.TheVariants.{Holds, Parts, Rests};
+ghost use Rattle.serve_peers.specs.declared.patience.Doing.TheVariants.{Holds, Leaves, Rests};
 
 /// How many milliseconds a connection may rest, with no request under way.
 const MOST_REST: u64 = 60_000;
@@ -12,11 +12,11 @@ const MOST_MOVE: u64 = 10_000;
 /// Each time that so many bytes have moved, 16 KiB a second, that time begins anew.
 const PIECE: u64 = 163_840;
 
-/// How many milliseconds a request that was begun waits for room.
+/// How many milliseconds a request that was begun waits for memory.
 const MOST_HOLD: u64 = 60_000;
 
 /// How many milliseconds a peer has, from the last that it was sent, to end the connection too.
-const MOST_PARTING: u64 = 10_000;
+const MOST_LEAVING: u64 = 10_000;
 
 /// After how many milliseconds without a piece a connection is a slow one.
 const MOST_PAUSE: u64 = 250;
@@ -28,10 +28,10 @@ pub enum Doing {
     Rests,
     /// A request comes, or its answer goes; so many bytes of the piece did.
     Moves(u64),
-    /// A large request waits for room.
+    /// A large request waits for memory.
     Holds,
     /// All was said.
-    Parts,
+    Leaves,
 }
 
 /// How long a connection may take still. Ticks are milliseconds since any start that all of them
@@ -65,7 +65,7 @@ impl Patience {
             Doing::Moves(before) => {
                 *self = moving(self.since, before.saturating_add(count as u64), ticks);
             }
-            Doing::Parts => {}
+            Doing::Leaves => {}
         }
     }
 
@@ -77,7 +77,7 @@ impl Patience {
         *self = Patience::new(ticks);
     }
 
-    /// Begins the wait of a large request for room. One that waits already goes on waiting.
+    /// Begins the wait of a large request for memory. One that waits already goes on waiting.
     pub fn held_back(&mut self, ticks: u64)
         ensures { self.new ≡ after_holding self.old ticks }
     {
@@ -98,14 +98,14 @@ impl Patience {
         }
     }
 
-    /// Begins the parting: the peer has `MOST_PARTING` to end the connection too.
+    /// Begins the parting: the peer has `MOST_LEAVING` to end the connection too.
     pub fn parted(&mut self, ticks: u64)
-        ensures doing { doing_of self.new ≡ Parts }
+        ensures doing { doing_of self.new ≡ Leaves }
         ensures since { since_of self.new ≡ ticks }
     {
         *self = Patience {
             since: ticks,
-            doing: Doing::Parts,
+            doing: Doing::Leaves,
         };
     }
 
@@ -116,7 +116,7 @@ impl Patience {
         matches!(self.doing, Doing::Rests)
     }
 
-    /// Whether what was begun waits for room.
+    /// Whether what was begun waits for memory.
     pub fn is_held_back(&self) -> bool
         ensures { IsTrue result ↔ (doing_of self.now ≡ Holds) }
     {
@@ -131,7 +131,7 @@ impl Patience {
             Doing::Rests => MOST_REST,
             Doing::Moves(_) => MOST_MOVE,
             Doing::Holds => MOST_HOLD,
-            Doing::Parts => MOST_PARTING,
+            Doing::Leaves => MOST_LEAVING,
         };
         ticks.saturating_sub(self.since) > most
     }

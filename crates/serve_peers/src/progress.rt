@@ -48,7 +48,7 @@ impl Progress {
         }
     }
 
-    /// Holds back the request that was begun, until there is room for it.
+    /// Holds back the request that was begun, until there is memory for it.
     pub(crate) fn hold_back(&mut self, ticks: u64) -> Next
         ensures { result ≡ Next.HeldBack }
     {
@@ -58,10 +58,10 @@ impl Progress {
 
     /// Begins the parting: nothing more is sent, and what still comes is dropped.
     pub(crate) fn part(&mut self, ticks: u64) -> Next
-        ensures { result ≡ Next.Part }
+        ensures { result ≡ Next.Leave }
     {
         self.parts = true;
         self.patience.parted(ticks);
-        Next::Part
+        Next::Leave
     }
 }

@@ -1,6 +1,6 @@
 //! The rooms as one process serves them to everybody: the tables, the journal of what is applied to
-//! them, in rounds or by itself, and the space that is kept for a full disk. What goes on beside that
-//! is `Background`.
+//! them, in rounds or by itself, and the space that is kept for a full disk. What goes on beside
+//! that is `Background`.
 ghost use Rattle.std.specs.Prelude.{◌≡◌, ◌≢◌, ◌⊎◌, ◌≤◌, ◌++◌, ℕ, List, [], false, IsTrue, None, IfOk, OnErr, OnOk};
 ghost use Rattle.serve_log.specs.Waits.{drafts_of, logged_of};
 ghost use Rattle.serve_peers.specs.Journals.{asked_of, ends_of, is_full_of, is_lost_of, log_lags_of, moment_of, needs_password_of, open_of, rounds_of, shares_of, store_of};
@@ -14,7 +14,6 @@ ghost use Rattle.serve_peers.specs.Keeping.{AsksNext, KeepsBackup, OnlyKeeps, ba
 ghost use Rattle.serve_peers.specs.Turns.{AnswersNext, AppliesNext};
 ghost use Rattle.serve_peers.specs.Rounds.{IsBegun, IsNotBegun, IsSettled};
 
-use crate::answers::{is_done, size_of};
 use crate::applying::apply_unless_lost;
 use crate::background::Background;
 use crate::backup::BackupTold;
@@ -22,6 +21,7 @@ use crate::copies::Copies;
 use crate::entry::Entry;
 use crate::full_disk::{apply_or_free_space, log_from_space, note_space};
 use crate::journal::Journal;
+use crate::outcome::{is_done, size_of};
 use crate::request::needs_space;
 use account_machine::{Answered, Name, Reply};
 use account_questions::Question;
@@ -38,7 +38,7 @@ use std::fs::{File, Files};
 use store_copy::CopyMaker;
 use store_rounds::{Rounds, StoreFault};
 
-/// A round is full once more bytes than this were told in it.
+/// A round is full once its answers have more bytes than this.
 const MOST_TOLD: usize = 8_388_608;
 
 /// The shared tables, the clock's moment, and a journal of all that was applied to them.
@@ -46,15 +46,16 @@ pub struct Served<S: Alter> {
     pub(crate) alloc: Global,
     pub(crate) rounds: Rounds<S>,
     pub(crate) moment: u64,
-    /// All that was applied to them, of whichever connection, and the log of it.
+    /// All that was applied to them, of whichever connection, and the log of it. What the log tells
+    /// beside that, as refusals, is no part of its value in a clause.
     pub(crate) journal: Journal,
     /// Whether what is applied shares a commit.
     pub(crate) shares: bool,
-    /// Whether the round that was settled last was lost.
+    /// Whether the commit of the last settled round failed, so that nothing of it was applied.
     pub(crate) is_lost: bool,
     /// What the peer whose turn it is has asked in the round.
     pub(crate) asked: Option<Entry>,
-    /// How many bytes were told in the round.
+    /// How many bytes the answers have that wait for the round's commit.
     pub(crate) bytes_told: usize,
     /// The space that is kept for a full disk.
     pub(crate) spare: Spare,
@@ -62,6 +63,7 @@ pub struct Served<S: Alter> {
     pub(crate) background: Background,
 }
 
+// By hand, in the place of `#[derive(Drop)]`: the head of lib.rt says why.
 impl<S: Alter + Drop> Drop for Served<S> {
     fn drop(self) {
         let Served {
@@ -109,14 +111,14 @@ impl<S: Alter> Served<S> {
         }
     }
 
-    /// From now on this space is kept for a full disk.
+    /// Keeps this space for a full disk, from now on.
     pub fn set_spare(&mut self, spare: Spare)
         ensures { self.new ≡ record self.old { spare = spare } }
     {
         self.spare = spare;
     }
 
-    /// From now on what is applied is logged there. Nothing was asked yet.
+    /// Has this log tell from now on what is applied. Nothing was asked yet.
     pub fn set_log(&mut self, log: EventLog)
         requires rounds { rounds_of self.old ≡ [] }
         requires none_open { open_of self.old ≡ [] }
@@ -129,7 +131,8 @@ impl<S: Alter> Served<S> {
         self.journal.set_log(log);
     }
 
-    /// Has the log open its file anew where that was moved away, at most once a moment.
+    /// Has the log open its file anew where that was moved away. It looks once a moment at most, and
+    /// with `None`, where the clock tells no moment, at each call.
     pub fn look_at_log<R: Files<File = File>>(&mut self, files: &R, moment: Option<u64>)
         ensures { self.new ≡ self.old }
     {
@@ -164,7 +167,7 @@ impl<S: Alter> Served<S> {
         self.journal.log_lags()
     }
 
-    /// Takes a piece of the space that is kept where it is not whole.
+    /// Takes a piece of the disk for the kept space, where that is not whole.
     pub fn mend_space(&mut self)
         ensures same { self.new ≡ record self.old { spare = spare_of self.new } }
         ensures grows { held_of (spare_of self.old) ≤ held_of (spare_of self.new) }
@@ -218,8 +221,8 @@ impl<S: Alter> Served<S> {
         }
     }
 
-    /// Ends the round, if one is under way: what was applied in it is on the disk, or it is lost,
-    /// which `is_lost` tells, and nothing of it was applied.
+    /// Ends the round, if one is under way, by its commit: all that was applied in it is on the
+    /// disk; or the commit fails, which `is_lost` tells, and nothing of it was applied.
     pub fn settle(&mut self)
         ensures alone { shares_of self.old ≡ false → self.new ≡ self.old }
         ensures settles { IsTrue (shares_of self.old) → IsSettled S.Store self.old self.new }
@@ -231,6 +234,7 @@ impl<S: Alter> Served<S> {
         log_from_space(&mut self.journal, &mut self.spare);
     }
 
+    /// Commits the round that is under way, and keeps whether that failed.
     fn settle_round(&mut self)
         requires { IsTrue (shares_of self.old) }
         ensures { IsSettled S.Store self.old self.new }
@@ -249,29 +253,31 @@ impl<S: Alter> Served<S> {
         self.shares
     }
 
-    /// Whether so much was told in the round that nothing more is to be asked in it: all of it waits
-    /// for the commit.
+    /// Whether so much was told in the round that nothing more is to be asked in it: all of it
+    /// waits for the commit.
     pub fn is_full(&self) -> bool
         ensures { result ≡ is_full_of self.now }
     {
         self.bytes_told > MOST_TOLD
     }
 
-    /// Whether the round that was settled last was lost.
+    /// Whether the commit of the last settled round failed. Then nothing of it was applied, and
+    /// each peer that asked in it has that applied again.
     pub fn is_lost(&self) -> bool
         ensures { result ≡ is_lost_of self.now }
     {
         self.is_lost
     }
 
-    /// A peer's turn begins that has asked this in the round.
+    /// Begins the turn of a peer that has asked this in the round.
     pub fn set_asked(&mut self, asked: Option<Entry>)
         ensures { self.new ≡ record self.old { asked = asked } }
     {
         self.asked = asked;
     }
 
-    /// What the peer whose turn it was has asked in the round.
+    /// Takes out what was asked in the round by the peer whose turn it was. The hall keeps it with
+    /// that peer, until the round is settled.
     pub fn take_asked(&mut self) -> Option<Entry>
         ensures asked { result ≡ self.old.asked }
         ensures same { self.new ≡ record self.old { asked = None } }
@@ -279,7 +285,7 @@ impl<S: Alter> Served<S> {
         self.asked.take()
     }
 
-    /// Applies what came, once, and answers what that came to. In a round a peer can ask one thing
+    /// Applies an entry, once, and answers what that came to. In a round a peer can ask one thing
     /// before that is settled; another is not applied, as if there were no memory for it.
     pub fn apply(&mut self, entry: Entry) -> Result<Result<Answered, StoreFault>, AllocError>
         ensures applies { IfOk result (λ answer. AppliesNext S.Store entry answer self.old self.new) }
@@ -293,7 +299,8 @@ impl<S: Alter> Served<S> {
         Ok(self.apply_in_own_round(&entry))
     }
 
-    /// Applies what came by itself, and notes it as a round of one.
+    /// Applies an entry by itself, from kept space where the disk is full, and notes it as a round
+    /// of one.
     pub(crate) fn apply_in_own_round(&mut self, entry: &Entry) -> Result<Answered, StoreFault>
         requires { shares_of self.old ≡ false }
         ensures { AppliesNext S.Store entry.now result self.old self.new }
@@ -301,12 +308,13 @@ impl<S: Alter> Served<S> {
         let answer = apply_or_free_space(self.alloc, &mut self.rounds, &mut self.spare, entry);
         note_space(&mut self.spare, entry, &answer);
         self.log_beyond(entry, &answer);
-        self.journal.add_alone(entry, &answer);
+        self.journal.add_unshared(entry, &answer);
         log_from_space(&mut self.journal, &mut self.spare);
         answer
     }
 
-    /// Applies what came in the round that is under way, and notes it in that, for its peer too.
+    /// Applies an entry in the round that is under way. The journal notes it, and so does `asked`,
+    /// for its peer.
     fn apply_in_shared_round(
         &mut self,
         entry: Entry,
@@ -339,8 +347,8 @@ impl<S: Alter> Served<S> {
         }
     }
 
-    /// Answers a question by the tables as they are. No round is under way: what one has changed may
-    /// still be lost.
+    /// Answers a question by the tables as they are. No round is under way: what one has changed
+    /// may still be lost.
     pub fn answer_question(&mut self, question: Question) -> Result<Reply, StoreFault>
         requires { shares_of self.old ≡ false }
         ensures { AnswersNext S.Store question result self.old self.new }
@@ -361,7 +369,7 @@ impl<S: Alter> Served<S> {
         self.background.ends
     }
 
-    /// From now on the pages take no file without a password, or take one.
+    /// Sets whether the pages refuse a file without a password.
     pub fn set_needs_password(&mut self, needs_password: bool)
         ensures { self.new ≡ record self.old {
           background = record self.old.background { needs_password = needs_password };
@@ -402,8 +410,8 @@ impl<S: Alter> Served<S> {
             .keep_backup(self.alloc, &mut self.rounds, &mut self.journal, copies);
     }
 
-    /// Somebody asks for the print room's page: all accounts are gathered for it, if what it shows is
-    /// not of the last seconds.
+    /// Begins to gather all accounts for the print room's page, which somebody asks for, if what it
+    /// shows is not of the last seconds.
     pub fn ask_overview(&mut self)
         ensures { self.new ≡ with_gathered self.old
             (asked_at (moment_of self.old) (gathered_of self.old)) }
@@ -418,8 +426,8 @@ impl<S: Alter> Served<S> {
         self.background.gathered.under_way.is_some()
     }
 
-    /// Appends the print room's page, by what was gathered last. Of the accounts it lists those whose
-    /// names begin so and come behind a name.
+    /// Appends the print room's page, by what was gathered last. It lists the accounts whose names
+    /// begin with `front` and come behind the name `behind`.
     pub fn put_overview_page(
         &self,
         out: &mut Vec<u8>,
@@ -436,8 +444,8 @@ impl<S: Alter> Served<S> {
             .put_page(out, self.gathers(), front, behind)
     }
 
-    /// Goes on with what is gathered for the print room's page: one account is read at most, where no
-    /// round is under way.
+    /// Goes on with what is gathered for the print room's page: one account is read at most, where
+    /// no round is under way.
     pub fn gather(&mut self)
         ensures gathers { Gathers S.Store self.old self.new }
         ensures nothing { OnlyKeeps S.Store self.old self.new }
@@ -449,8 +457,8 @@ impl<S: Alter> Served<S> {
             .gather(self.alloc, &mut self.rounds, &mut self.journal);
     }
 
-    /// The connection to the tables as they are. What a round that is under way has changed is on the
-    /// disk only once it is settled. It takes no memory.
+    /// Ends what is served, and hands back the connection to its tables. What a round that is under
+    /// way has changed is on the disk only once it is settled. It takes no memory.
     pub fn close(self) -> Connection<S>
         ensures { result ≡ store_of self }
     {

@@ -41,9 +41,9 @@ pub enum Next {
     HeldBack,
     /// All was said: the peer is to be told so, and what it still sends is dropped until it ends
     /// too.
-    Part,
+    Leave,
     /// All was said before. The system tells when more comes, or the end.
-    Parted,
+    Left,
     /// It is over.
     Close,
 }
@@ -78,7 +78,7 @@ pub(crate) fn drain<R: Read>(reader: &mut R) -> Next
             Ok(0) => return Next::Close,
             Ok(_) => {}
             Err(error) => match error.kind() {
-                ErrorKind::WouldBlock => return Next::Parted,
+                ErrorKind::WouldBlock => return Next::Left,
                 ErrorKind::Interrupted => {}
                 _ => return Next::Close,
             },

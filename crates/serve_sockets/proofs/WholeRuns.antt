@@ -37,7 +37,7 @@ use Rattle.serve_sockets.specs.Requests.{AnswersCalls}
 use Rattle.serve_sockets.specs.Pages.{AnswersPageCalls}
 use Rattle.serve_sockets.specs.Last.{TellsLast}
 use Rattle.serve_sockets.specs.EndToEnd.{FromEndToEnd, IsAnswered, IsFoundAgain, IsFresh}
-use Rattle.serve_sockets.specs.Guests.{AsksAgain, CameBy, IsNew, IsTurnedAway, StaysOrTurnsAway, Turns, asked_in, in_round, is_waiting, of_socket, peer_of}
+use Rattle.serve_sockets.specs.Guests.{AsksAgain, CameBy, IsNew, IsRefusedForSpace, StaysOrIsRefused, Turns, asked_in, in_round, is_waiting, of_socket, peer_of}
 use Rattle.serve_sockets.specs.Halls.{AreOthersKept, Ask, Begin, BeginsRound, Does, DoesAll, Drop, Enter, IsAtMoment, Keep, Leave, MayGo, Serve, Serves, Settle, SettlesRound, Step}
 use Rattle.serve_sockets.specs.declared.doors.Speech.{Speech}
 use Rattle.serve_sockets.specs.declared.doors.Speech.TheVariants as speech_is
@@ -292,17 +292,17 @@ module _ {S : Type 0} (store : Ghosts S) (before : Served S) (fresh : IsFresh be
   as_before : (before begun : Peer) (places : List ℕ) (end : ℕ) (old mid : Served S) → (begun ≡ before) × (mid ≡ old) → HasAnswer before places (journal_of old) → AnsweredAt places end begun (journal_of mid)
   as_before before begun places end old mid same is = (places, (λ place there. inl there), subst (λ (peer : Peer). HasAnswer peer places (journal_of mid)) (sym same.0) (subst (λ (served : Served S). HasAnswer before places (journal_of served)) (sym same.1) is))
 
-  -- a client that was turned away has no place
-  turned_away : (begun : Peer) (was : List ℕ) (end : ℕ) (journal : List Told) → IsTurnedAway begun → AnsweredAt was end begun journal
-  turned_away (Last peer) was end journal (inl left) = ([], (λ place there. absurd (none_there place there)), inr (record { nowhere = refl; went = []; text = sym left }))
-  turned_away (Last peer) was end journal (inr none) = ([], (λ place there. absurd (none_there place there)), inr (record { nowhere = refl; went = refusal_text NoSpace; text = sym (ap (λ x. refusal_text NoSpace ++ x) none ∙ append-nil (refusal_text NoSpace)) }))
-  turned_away (Http peer) was end journal is = absurd is
-  turned_away (Pages peer) was end journal is = absurd is
-  turned_away (Lines peer) was end journal is = absurd is
+  -- a client that was refused for want of space has no place
+  refused_for_space : (begun : Peer) (was : List ℕ) (end : ℕ) (journal : List Told) → IsRefusedForSpace begun → AnsweredAt was end begun journal
+  refused_for_space (Last peer) was end journal (inl left) = ([], (λ place there. absurd (none_there place there)), inr (record { nowhere = refl; went = []; text = sym left }))
+  refused_for_space (Last peer) was end journal (inr none) = ([], (λ place there. absurd (none_there place there)), inr (record { nowhere = refl; went = refusal_text NoSpace; text = sym (ap (λ x. refusal_text NoSpace ++ x) none ∙ append-nil (refusal_text NoSpace)) }))
+  refused_for_space (Http peer) was end journal is = absurd is
+  refused_for_space (Pages peer) was end journal is = absurd is
+  refused_for_space (Lines peer) was end journal is = absurd is
 
-  stays_or_not : (most : ℕ) (before begun : Peer) (places : List ℕ) (end : ℕ) (old mid : Served S) → StaysOrTurnsAway most before begun × (mid ≡ old) → HasAnswer before places (journal_of old) → AnsweredAt places end begun (journal_of mid)
+  stays_or_not : (most : ℕ) (before begun : Peer) (places : List ℕ) (end : ℕ) (old mid : Served S) → StaysOrIsRefused most before begun × (mid ≡ old) → HasAnswer before places (journal_of old) → AnsweredAt places end begun (journal_of mid)
   stays_or_not most before begun places end old mid (inl same, mid_is) is = as_before before begun places end old mid (same, mid_is) is
-  stays_or_not most before begun places end old mid (inr turned, mid_is) is = turned_away begun places end (journal_of mid) turned.1
+  stays_or_not most before begun places end old mid (inr turned, mid_is) is = refused_for_space begun places end (journal_of mid) turned.1
 
   again_goes : (lost : Bool) (asked : List Entry) (before begun : Peer) (places : List ℕ) (old mid : Served S) → AsksAgain store lost asked before begun old mid → shares_of old ≡ false → Goes asked false lost before places old → AnsweredAt places (length (journal_of old)) begun (journal_of mid)
   again_goes true (entry ∷ more) before (Last begun) places old mid is alone going = told_again (entry, is.told) begun places old mid is.next alone is.left

@@ -24,7 +24,7 @@ use Rattle.serve_sockets.specs.Places.{AreApart}
 use Rattle.serve_sockets.specs.Requests.{HasAnsweredRequests}
 use Rattle.serve_sockets.specs.Lines.{HasAnsweredLines}
 use Rattle.serve_sockets.specs.Pages.{HasAnsweredPages}
-use Rattle.serve_sockets.specs.Last.{TellsLast, TellsOff}
+use Rattle.serve_sockets.specs.Last.{TellsLast, TellsNoSpace}
 
 module _ {S : Type 0} (store : Ghosts S) (first last : Held S) where
   abbrev pub IsAnswered : Peer → (places : List ℕ) (journal : List Told) → Type 0
@@ -33,7 +33,7 @@ module _ {S : Type 0} (store : Ghosts S) (first last : Held S) where
       HasAnsweredPages store first last peer places journal
   IsAnswered (Lines peer) places journal =
       HasAnsweredLines store first last (lines_of peer) places journal
-  IsAnswered (Last peer) places journal = TellsLast peer places journal ⊎ TellsOff peer places
+  IsAnswered (Last peer) places journal = TellsLast peer places journal ⊎ TellsNoSpace peer places
 
 -- nothing was asked yet, and no round is under way
 pub record IsFresh {S : Type 0} (served : Served S) : Type 0 where

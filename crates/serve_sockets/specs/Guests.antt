@@ -81,13 +81,13 @@ HasSentMore most (Pages peer) = most + longest_head < http.came_of peer
 HasSentMore most _ = ⊥
 
 -- it is told that there is no space, and nothing more
-abbrev pub IsTurnedAway : Peer → Type 0
-IsTurnedAway (Last peer) = last.IsToldOff NoSpace peer
-IsTurnedAway _ = ⊥
+abbrev pub IsRefusedForSpace : Peer → Type 0
+IsRefusedForSpace (Last peer) = last.IsToldRefusal NoSpace peer
+IsRefusedForSpace _ = ⊥
 
-abbrev pub StaysOrTurnsAway : (most : ℕ) (before after : Peer) → Type 0
-StaysOrTurnsAway most before after =
-    (after ≡ before) ⊎ (HasSentMore most before × IsTurnedAway after)
+abbrev pub StaysOrIsRefused : (most : ℕ) (before after : Peer) → Type 0
+StaysOrIsRefused most before after =
+    (after ≡ before) ⊎ (HasSentMore most before × IsRefusedForSpace after)
 
 module _ {S : Type 0} (store : Ghosts S) where
   -- What came on this connection is taken, by what is spoken on it, and nothing else becomes of the
@@ -108,7 +108,7 @@ module _ {S : Type 0} (store : Ghosts S) where
 
   -- What was asked in a round that was lost is asked again, by itself, and what that comes to goes
   -- last on the connection, in the place of what was to go. Otherwise all is as it was, or a client is
-  -- turned away for want of space.
+  -- refused for want of space.
   abbrev pub AsksAgain : (lost : Bool) (asked : List Entry) (before begun : Peer)
       (old mid : Served S) → Type 0
   AsksAgain true (entry ∷ more) before (Last begun) old mid =
@@ -117,7 +117,7 @@ module _ {S : Type 0} (store : Ghosts S) where
   AsksAgain true (entry ∷ more) before (Pages begun) old mid = ⊥
   AsksAgain true (entry ∷ more) before (Lines begun) old mid = ⊥
   AsksAgain _ _ before begun old mid =
-      StaysOrTurnsAway (takes_of (spare_of old)) before begun × (mid ≡ old)
+      StaysOrIsRefused (takes_of (spare_of old)) before begun × (mid ≡ old)
 
   -- A guest had this turn where nothing is shared, and this came of it. What it asked in the round
   -- that was settled last it has heard then.

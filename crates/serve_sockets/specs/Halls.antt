@@ -13,7 +13,7 @@ use Rattle.serve_peers.specs.Rounds.{IsBegun, IsNotBegun, IsSettled}
 use Rattle.serve_peers.specs.Space.{spare_of}
 use Rattle.serve_peers.specs.declared.served.Served.{Served}
 use Rattle.serve_peers.specs.declared.step.Next.{Next}
-use Rattle.serve_peers.specs.declared.step.Next.TheVariants.{Again, Close, Part}
+use Rattle.serve_peers.specs.declared.step.Next.TheVariants as next_is
 use Rattle.serve_peers.specs.declared.step.Turn.{Turn}
 use Rattle.serve_sockets.specs.Guests.{IsNew, NobodyWaits, Turns, is_waiting}
 use Rattle.serve_sockets.specs.declared.guest.Guest.{Guest}
@@ -63,14 +63,14 @@ OnlyEnter old new = (key : ℕ) → (get new key ≡ get old key)
 
 -- a turn of which this came ends the connection, or the system may refuse to tell of it again
 abbrev pub MayLeave : Next → Type 0
-MayLeave Again = ⊤
-MayLeave Part = ⊤
-MayLeave Close = ⊤
+MayLeave next_is.Again = ⊤
+MayLeave next_is.Leave = ⊤
+MayLeave next_is.Close = ⊤
 MayLeave _ = ⊥
 
 -- who had a turn stays as it left them, or is let go
 abbrev pub StaysAfter : (next : Next) (left now : Option Guest) → Type 0
-StaysAfter next left now = ((next ≢ Close) × (now ≡ left)) ⊎ (MayLeave next × (now ≡ None))
+StaysAfter next left now = ((next ≢ next_is.Close) × (now ≡ left)) ⊎ (MayLeave next × (now ≡ None))
 
 -- only the moment may be another, and how much space is kept for a full disk
 abbrev pub IsAtMoment : {S : Type 0} → (old new : Served S) → Type 0

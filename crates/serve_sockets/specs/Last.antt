@@ -15,9 +15,9 @@ pub record TellsLast (peer : LastPeer) (places : List ℕ) (journal : List Told)
   pub went : List ℕ
   pub text : last_text told.0 told.1 ≡ went ++ left_of peer
 
--- a client was turned away for want of space, and nothing stands in the journal of its request; what
+-- a client was refused for want of space, and nothing stands in the journal of its request; what
 -- is still to go is the end of what tells it
-pub record TellsOff (peer : LastPeer) (places : List ℕ) : Type 0 where
+pub record TellsNoSpace (peer : LastPeer) (places : List ℕ) : Type 0 where
   pub nowhere : places ≡ []
   pub went : List ℕ
   pub text : refusal_text NoSpace ≡ went ++ left_of peer

@@ -8,7 +8,7 @@ use crate::hall::Peers;
 pub(crate) const TICK: u64 = 250;
 
 impl Peers {
-    /// Once a tick, drops who took too long. Where others wait for room, it also drops who rests on
+    /// Once a tick, drops who took too long. Where others wait for memory, it also drops who rests on
     /// some, and where too much is held, who hardly reads what it asked for.
     pub(crate) fn drop_late(&mut self, ticks: u64)
         ensures { OnlyLeave self.old.guests self.new.guests }

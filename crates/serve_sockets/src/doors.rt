@@ -47,8 +47,8 @@ impl Speech {
 #[derive(Clone, Copy, PartialEq, Eq)]
 pub struct Kind {
     pub speech: Speech,
-    /// The most peers who came in by the door and are there. So those of one door never keep out
-    /// those of another.
+    /// The most peers who may be there by the door at once. Each door has its own share, so that
+    /// those of one never keep out those of another.
     pub most: usize,
 }
 

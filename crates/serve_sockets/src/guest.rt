@@ -6,7 +6,7 @@ ghost use Rattle.serve_peers.specs.Journals.{is_lost_of, shares_of};
 ghost use Rattle.serve_peers.specs.Space.{spare_of};
 ghost use Rattle.serve_peers.specs.Turns.{Continues};
 ghost use Rattle.serve_space.specs.Spares.{takes_of};
-ghost use Rattle.serve_sockets.specs.Guests.{AsksAgain, AsksTurn, HasSentMore, HasTurn, IsAtRest, StaysOrTurnsAway, TakesTurn, Turns, asked_in, peer_of, turns_of};
+ghost use Rattle.serve_sockets.specs.Guests.{AsksAgain, AsksTurn, HasSentMore, HasTurn, IsAtRest, StaysOrIsRefused, TakesTurn, Turns, asked_in, peer_of, turns_of};
 
 use crate::stream::{Stream, Unsent};
 use http_server::Log;
@@ -146,8 +146,8 @@ impl Guest {
         next
     }
 
-    /// Gives the peer a turn outside a round. One that is now answered what it asked in a round
-    /// reads nothing more in this turn.
+    /// Gives the peer a turn outside a round. A peer that asked in the round before only hears its
+    /// answer in this turn, and reads nothing more.
     fn go_on<S: Alter>(&mut self, alloc: Global, served: &mut Served<S>, turn: Turn) -> Next
         requires { shares_of served.old ≡ false }
         ensures { HasTurn S.Store turn result self.old self.new served.old served.new }
@@ -166,7 +166,7 @@ impl Guest {
 
     /// Asks again, by itself, what the peer asked in a round, where the commit of that failed. From
     /// then on the peer only hears what that came to, whatever it spoke. A peer that asked nothing
-    /// in a round, and has sent more of a request than there is space for, is turned away.
+    /// in a round, and has sent more of a request than there is space for, is refused.
     fn ask_again<S: Alter>(&mut self, alloc: Global, served: &mut Served<S>, ticks: u64)
         requires { shares_of served.old ≡ false }
         ensures again { AsksAgain S.Store (is_lost_of served.old) (asked_in self.old)
@@ -176,7 +176,7 @@ impl Guest {
         ensures alone { shares_of served.new ≡ false }
     {
         let Some(asked) = self.asked.take() else {
-            return self.turn_away(alloc, served, ticks);
+            return self.refuse_for_space(alloc, served, ticks);
         };
         if served.is_lost() {
             let peer = LastPeer::told_again(alloc, &asked, served, ticks);
@@ -184,10 +184,10 @@ impl Guest {
         }
     }
 
-    /// Turns the peer away where it is a client that has sent more of a request than there is space
-    /// for, and has the log tell it. The path may not have come yet.
-    fn turn_away<S: Alter>(&mut self, alloc: Global, served: &mut Served<S>, ticks: u64)
-        ensures turned { StaysOrTurnsAway (takes_of (spare_of served.old))
+    /// Refuses the request of a client that has sent more of it than there is space for, and has the
+    /// log tell it. The path may not have come yet.
+    fn refuse_for_space<S: Alter>(&mut self, alloc: Global, served: &mut Served<S>, ticks: u64)
+        ensures refused { StaysOrIsRefused (takes_of (spare_of served.old))
             (peer_of self.old) (peer_of self.new) }
         ensures same { served.new ≡ served.old }
         ensures asked { asked_in self.new ≡ asked_in self.old }
@@ -195,7 +195,7 @@ impl Guest {
     {
         if self.outgrows(served.takes()) {
             served.log_refusal(Refusal::NoSpace, b"-");
-            self.peer = Peer::Last(LastPeer::turned_away(alloc, Refusal::NoSpace, ticks));
+            self.peer = Peer::Last(LastPeer::refused(alloc, Refusal::NoSpace, ticks));
         }
     }
 
@@ -211,7 +211,7 @@ impl Guest {
     }
 
     /// Whether it has no turn in a round: pages are shown as the tables are between rounds.
-    pub(crate) fn asks_alone(&self) -> bool {
+    pub(crate) fn never_shares(&self) -> bool {
         matches!(self.peer, Peer::Pages(_))
     }
 
@@ -234,7 +234,7 @@ impl Guest {
         registry.reregister(&mut self.stream, token, both())
     }
 
-    /// Whether a large request of it waits for room.
+    /// Whether a large request of it waits for memory.
     pub(crate) fn is_held_back(&self) -> bool {
         self.patience().is_held_back()
     }

@@ -212,7 +212,7 @@ impl Hall {
     /// for, at most a slice of it. Where it gathers accounts for the print room's page, it waits
     /// for nothing, and reads one of them. Then it serves each of whom the system told; where the
     /// system told of several, what they ask shares a commit, and nobody is answered before that.
-    /// It lets in who waits at a door, has those go on who were held back where there is room, and
+    /// It lets in who waits at a door, has those go on who were held back where there is memory, and
     /// drops who took too long. Where the log's file was moved away, the log goes on in a new one.
     /// That the log can't be written is told once, on standard error. It fails where the system
     /// can't wait, or has no clock.
@@ -323,7 +323,7 @@ impl Peers {
                 continue;
             };
             let pass = self.chosen_at.get(key).copied().unwrap_or(0);
-            if self.asks_alone(key) && pass < since {
+            if self.never_shares(key) && pass < since {
                 longest = Some(key);
                 since = pass;
             }
@@ -399,7 +399,7 @@ impl Peers {
 
     /// Whether the guest has to wait in this pass: it is a browser, and another one was chosen.
     fn has_to_rest(&self, key: usize) -> bool {
-        self.chosen != Some(key) && self.asks_alone(key)
+        self.chosen != Some(key) && self.never_shares(key)
     }
 
     /// Whether what a peer sends is read in its turn.
@@ -424,16 +424,16 @@ impl Peers {
         }
     }
 
-    /// Whether the peer stays after a turn. A turn in a round is followed by another, so the system
-    /// need not tell again. Where a browser rested in its turn the system has to, since what the
-    /// browser asks is still to be read.
+    /// Whether the peer stays after a turn. Behind a turn in a round the peer has another one, and
+    /// the system need not tell of its socket again. Where a browser had to wait (`rests`) the
+    /// system has to, since what the browser asks is still to be read.
     fn goes_on_after(&mut self, key: usize, next: Next, shares: bool, rests: bool) -> bool
         ensures same { SameValues self.old.guests self.new.guests }
         ensures goes { IsFalse result → MayLeave next }
         ensures stays { IsTrue result → next ≢ Next.Close }
     {
         match next {
-            Next::Wait | Next::Parted => {
+            Next::Wait | Next::Left => {
                 if rests {
                     self.rearm(key);
                 }
@@ -444,7 +444,7 @@ impl Peers {
                 self.stock.hold_back();
                 true
             }
-            Next::Part => self.end(key) && self.rearm(key),
+            Next::Leave => self.end(key) && self.rearm(key),
             Next::Close => false,
         }
     }

@@ -35,7 +35,7 @@ impl Peers {
         self.drop_slow(clock, key);
     }
 
-    /// Where room has come, those who are held back go on: all of them, or the one that holds
+    /// Where memory has come free, those who are held back go on: all of them, or the one that holds
     /// least.
     pub(crate) fn resume_held_back(&mut self)
         ensures { OnlyLeave self.old.guests self.new.guests }

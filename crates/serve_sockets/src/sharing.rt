@@ -61,13 +61,13 @@ impl Peers {
     /// Whether the guest may ask in a round: there is memory for its request, and it does not ask
     /// alone.
     fn may_share(&self, key: usize) -> bool {
-        self.stock.has_memory(key) && !self.asks_alone(key)
+        self.stock.has_memory(key) && !self.never_shares(key)
     }
 
     /// Whether the guest of the key never asks in a round: a browser.
-    pub(crate) fn asks_alone(&self, key: usize) -> bool {
+    pub(crate) fn never_shares(&self, key: usize) -> bool {
         match self.guests.get(key) {
-            Some(guest) => guest.asks_alone(),
+            Some(guest) => guest.never_shares(),
             None => false,
         }
     }

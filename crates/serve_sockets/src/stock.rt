@@ -14,7 +14,7 @@ const MOST_HELD: usize = 268_435_456;
 pub(crate) struct Stock {
     held: usize,
     favoured: Option<usize>,
-    /// Whether somebody was held back since room was given out.
+    /// Whether somebody was held back since memory came free.
     holds_back: bool,
 }
 

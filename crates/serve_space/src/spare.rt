@@ -14,11 +14,12 @@ const WHOLE: usize = 37_748_736;
 /// What is kept back for the small changes behind a document, in bytes.
 const KEPT_BACK: usize = 1_310_720;
 
-/// What is kept back beside that while no document has gone for another, in bytes.
+/// What is kept back beside that, in bytes, as long as each job that has ended was followed by
+/// another.
 const KEPT_BESIDE: usize = 1_310_720;
 
-/// What the log takes beside a document's own bytes, at most.
-const LOG: usize = 524_288;
+/// What the write-ahead log takes beside a document's own bytes, at most.
+const WAL_BESIDE: usize = 524_288;
 
 /// The most bytes that are taken at once.
 const PIECE: usize = 65_536;
@@ -37,7 +38,7 @@ pub struct Spare {
 struct Kept {
     file: File,
     held: usize,
-    /// The jobs that have ended and that no other has come for, since space was given up.
+    /// How many more jobs have ended than have come, since space was given up.
     gone: usize,
 }
 
@@ -95,7 +96,8 @@ impl Spare {
 
     /// The longest request, in bytes, for which there is space. While a job has ended for which no
     /// other came, that is what is held without 1.25 MiB, for the small changes behind it; else
-    /// half of what is held without 3 MiB, since the log takes a document before the tables do.
+    /// half of what is held without 3 MiB, since the write-ahead log takes a document before the
+    /// tables do.
     pub fn takes(&self) -> usize
         ensures { result ≡ takes_of self.now }
     {
@@ -179,7 +181,9 @@ impl Kept {
         ensures { result ≡ taken_where self.now.gone self.now.held }
     {
         if self.gone == 0 {
-            self.held.saturating_sub(KEPT_BACK + KEPT_BESIDE + LOG) / 2
+            self.held
+                .saturating_sub(KEPT_BACK + KEPT_BESIDE + WAL_BESIDE)
+                / 2
         } else {
             self.held.saturating_sub(KEPT_BACK)
         }

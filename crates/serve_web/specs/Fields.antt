@@ -1,12 +1,10 @@
 -- Rule: The header fields of the answers to browsers, in the order in which they are sent.
-use Rattle.std.specs.Prelude.{ℕ, Bool, List, [], ◌∷◌, codes, if◌then◌else◌}
+use Rattle.std.specs.Prelude.{ℕ, Bool, List, [], ◌∷◌, codes}
 use Rattle.http1.specs.Fields.{Header as Field}
+use Rattle.serve_peers.specs.Answers.{close_fields}
 use Rattle.page_pages.specs.declared.style.TheConstants.{PAGE_POLICY}
 use Rattle.page_pages.specs.declared.refusal.Refusal.{Refusal}
 use Rattle.page_pages.specs.declared.refusal.Refusal.TheVariants.{OnlyRead, OnlyPost, NoSpace, Busy}
-
-abbrev pub close_fields : (closes : Bool) → List Field
-close_fields closes = if closes then (codes "connection", codes "close") ∷ [] else []
 
 -- what a browser may load for the page, and who may frame it (Content Security Policy Level 3)
 abbrev pub policy_fields : List Field

@@ -1,7 +1,7 @@
 pub mod Parts
 pub mod Numbers
 pub mod Words
-pub mod Came
+pub mod OutcomeQueries
 pub mod Places
 pub mod Refusals
 pub mod Queries

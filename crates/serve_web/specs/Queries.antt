@@ -9,7 +9,7 @@ use Rattle.input_http.specs.Words.{before}
 use Rattle.account_rules.specs.Limits.{most_copies}
 use Rattle.account_rules.specs.Names.{is_name}
 use Rattle.account_rules.specs.QueuePaths.{behind}
-use Rattle.serve_web.specs.Came.{came_in}
+use Rattle.serve_web.specs.OutcomeQueries.{came_in}
 use Rattle.serve_web.specs.Numbers.{number_said}
 use Rattle.serve_web.specs.declared.asked.Asked.{Asked}
 use Rattle.serve_web.specs.declared.asked.Asked.TheVariants.{Room, Owner, Statement, Act, Print}
@@ -66,7 +66,7 @@ act_asked account job form = option_map (λ act. Act account act job) (act_in fo
 
 -- ---- a file that is to be printed: name, copies, and pages, whose value may be empty
 
--- a job may have so many
+-- so many copies, if a job may have them
 abbrev pub copies_of : (number : ℕ) → Option ℕ
 copies_of number = if number == 0 || nat_lt most_copies number then None else Some number
 

@@ -1,6 +1,6 @@
 -- Rule: What a request of a browser asks for, or the first refusal that applies (all this project's
--- own). They come in this order: a query or a form that is none of its path (400), a form of
--- another site (403), a path of nothing (404), another method (405), a file that is too long (413),
+-- own). They come in this order: where the path takes the method, a query or a form that is none of
+-- its path (400); a form of another site (403), a path of nothing (404), another method (405), a file that is too long (413),
 -- a body of another type (415).
 use Rattle.std.specs.Prelude.{ℕ, Bool, false, ◌||◌, List, [], ◌∷◌, Option, Some, None, Result, Ok, Err, codes, bytes_eq, if◌then◌else◌, length, nat_lt, unwrap_or}
 use Rattle.http.specs.Request.{body_of, head_of}

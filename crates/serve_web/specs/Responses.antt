@@ -9,7 +9,7 @@ use Rattle.page_pages.specs.declared.outcome.Act.{Act}
 use Rattle.page_pages.specs.Refusals.{refusal_page}
 use Rattle.page_pages.specs.declared.outcome.Outcome.{Outcome}
 use Rattle.store_rounds.specs.declared.fault.StoreFault.{StoreFault}
-use Rattle.serve_web.specs.Came.{outcome_text}
+use Rattle.serve_web.specs.OutcomeQueries.{outcome_text}
 use Rattle.serve_web.specs.Fields.{common_fields, more_fields, page_fields}
 use Rattle.serve_web.specs.Refusals.{status_of}
 use Rattle.serve_web.specs.Outcomes.{outcome_told}
@@ -33,7 +33,7 @@ abbrev pub IsPageIf : (is_none : Bool) (closes : Bool) (text : List ℕ) → Res
 IsPageIf true closes text = IsRefusal NotFound closes
 IsPageIf false closes text = IsResponse 200 (page_fields closes) text
 
--- the page, or 404
+-- the page, or 404 where the account is not open
 abbrev pub IsPage : (closes : Bool) (text : List ℕ) → Response → Type 0
 IsPage closes text = IsPageIf (is_no_account text) closes text
 

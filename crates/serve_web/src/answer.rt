@@ -1,13 +1,13 @@
-//! The answers to browsers.
+//! Writes the answers to browsers: pages, refusals, the style sheet, and redirects after an act.
 ghost use Rattle.std.specs.Prelude.{◌≡◌, ◌⊎◌, IfOk, IsTrue, OnOk};
 ghost use Rattle.http_header.specs.FieldValue.{is_visible_text};
 ghost use Rattle.http_server.specs.Response.{IsBlank, IsResponse};
 ghost use Rattle.serve_web.specs.Responses.{IsDone, IsLost, IsPage, IsRedirect, IsRefusal, IsShown, is_no_account, is_not_open, location, tells_no_account};
 ghost use Rattle.serve_web.specs.Fields.{sheet_fields};
 
-use crate::came::put_outcome;
 use crate::fields::{put_common_fields, put_more_fields, put_page_fields, put_sheet_fields};
 use crate::outcome::outcome_told;
+use crate::outcome_query::put_outcome;
 use crate::refusal::status_of;
 use account_machine::{Answered, Reply};
 use account_rules::Name;
@@ -18,7 +18,8 @@ use page_pages::{Act, Outcome, Refusal, put_refusal_page};
 use std::alloc::{AllocError, Global};
 use store_rounds::StoreFault;
 
-/// A refusal, with the page of it.
+/// Answers with a refusal: its status, and the page that explains it. `closes`: the connection ends
+/// with the answer.
 pub(crate) fn refuse(
     response: &mut Response,
     refusal: Refusal,
@@ -36,7 +37,8 @@ pub(crate) fn refuse(
     Ok(())
 }
 
-/// The style sheet or the script, which is not copied.
+/// Answers with the style sheet or the script, whose text is not copied. `kind` is its
+/// Content-Type.
 pub(crate) fn put_sheet(
     response: &mut Response,
     kind: &'static str,
@@ -52,7 +54,7 @@ pub(crate) fn put_sheet(
     response.body.push(Bytes::from_static(text.as_bytes()))
 }
 
-/// The page that a question was answered with, or `500 Internal Server Error` where there is no
+/// Answers with the page that the store gave, or `500 Internal Server Error` where there is no
 /// memory for it.
 pub(crate) fn show(response: &mut Response, told: Result<Reply, StoreFault>, closes: bool)
     requires { IsBlank response.old }
@@ -63,6 +65,7 @@ pub(crate) fn show(response: &mut Response, told: Result<Reply, StoreFault>, clo
     }
 }
 
+/// Answers with the page, or with the refusal `Failed` where the store gave something else.
 fn put_shown(
     response: &mut Response,
     told: Result<Reply, StoreFault>,
@@ -81,7 +84,8 @@ fn put_shown(
     }
 }
 
-/// The page, which is moved and not copied. Of an account that is not open there is none.
+/// Answers with a page, whose bytes are moved and not copied. Of an account that is not open there
+/// is none, which is refused.
 fn put_page(response: &mut Response, text: Vec<u8>, closes: bool) -> Result<(), AllocError>
     requires { IsBlank response.old }
     ensures { OnOk result (IsPage closes text.items response.new) }
@@ -95,14 +99,14 @@ fn put_page(response: &mut Response, text: Vec<u8>, closes: bool) -> Result<(), 
     Ok(())
 }
 
-/// Whether it is the word that tells of an account that is not open.
+/// Whether the text is the word `no-account`: the account is not open.
 fn is_no_account(text: &[u8]) -> bool
     ensures { result ≡ is_no_account text.now }
 {
     text == b"no-account".as_slice()
 }
 
-/// The bytes, which are not copied.
+/// Makes bytes that the answer shares, without a copy.
 pub(crate) fn shared(bytes: Vec<u8>) -> Result<Bytes, AllocError>
     ensures { IfOk result (λ shared. shared ≡ bytes.items) }
 {
@@ -112,8 +116,8 @@ pub(crate) fn shared(bytes: Vec<u8>) -> Result<Bytes, AllocError>
     }
 }
 
-/// Sends the browser to the owner's page with what came of an act, or tells `500 Internal Server
-/// Error` where there is no memory for it.
+/// Sends the browser to the owner's page with what came of an act, or answers `500 Internal Server
+/// Error` where there is no memory for that.
 pub(crate) fn tell(
     response: &mut Response,
     account: Name,
@@ -130,6 +134,8 @@ pub(crate) fn tell(
     }
 }
 
+/// Sends the browser to the owner's page with what came of an act. An account that is not open is
+/// refused.
 fn put_told(
     response: &mut Response,
     account: Name,
@@ -148,6 +154,7 @@ fn put_told(
     redirect(response, account, &outcome, closes)
 }
 
+/// Whether the act found that the account is not open.
 fn is_not_open(told: &Result<Answered, StoreFault>) -> bool
     ensures { result ≡ is_not_open told.now }
 {
@@ -157,13 +164,15 @@ fn is_not_open(told: &Result<Answered, StoreFault>) -> bool
     }
 }
 
+/// Whether a reply tells that the account is not open.
 fn tells_no_account(reply: &Reply) -> bool
     ensures { result ≡ tells_no_account reply.now }
 {
     matches!(reply, Reply::NoAccount)
 }
 
-/// `303 See Other`: the owner's page (RFC 9110 section 15.4.4).
+/// Answers `303 See Other` with the owner's page, whose query tells what came of an act (RFC 9110
+/// section 15.4.4).
 fn redirect(
     response: &mut Response,
     account: Name,
@@ -180,7 +189,7 @@ fn redirect(
     put_common_fields(response, closes)
 }
 
-/// The owner's page, with what came of an act in its query.
+/// Makes the path of the owner's page, with what came of an act as its query.
 #[tactic(auto, using(std::proofs::Common::append_assoc), unfolding(crate::specs::Responses::location))]
 fn location(alloc: Global, account: Name, outcome: &Outcome) -> Result<Vec<u8>, AllocError>
     ensures { IfOk result (λ place. place.items ≡ location account outcome.now) }
@@ -193,7 +202,7 @@ fn location(alloc: Global, account: Name, outcome: &Outcome) -> Result<Vec<u8>, 
     Ok(place)
 }
 
-/// The value of a field. All its bytes may stand in one.
+/// Makes the value of a field. Each byte of a `location` may stand in one.
 fn value_of(text: Vec<u8>) -> Result<HeaderValue, AllocError>
     ensures { IfOk result (λ value. value.bytes ≡ text.items) }
 {
@@ -203,7 +212,7 @@ fn value_of(text: Vec<u8>) -> Result<HeaderValue, AllocError>
     }
 }
 
-/// There was no memory for what there was to tell.
+/// Answers `500 Internal Server Error` and nothing else, where memory ran out.
 fn lose(response: &mut Response)
     ensures { IsLost response.new }
 {

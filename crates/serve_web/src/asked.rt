@@ -51,8 +51,9 @@ pub(crate) enum Asked {
     },
 }
 
-/// Reads what the request asks for, or gives the first refusal that applies: `BadRequest`,
-/// `Forbidden`, `NotFound`, `OnlyRead` or `OnlyPost`, `TooLarge`, `WrongType`.
+/// Reads what the request asks for, or gives the first refusal that applies: `BadRequest` (where the
+/// path takes the method), `Forbidden`, `NotFound`, `OnlyRead` or `OnlyPost`, `TooLarge`,
+/// `WrongType`.
 pub(crate) fn asked_by(request: &Request<Bytes>) -> Result<Asked, Refusal>
     ensures { result ≡ asked request.now }
 {

@@ -2,11 +2,12 @@
 ghost use Rattle.std.specs.Prelude.{◌≡◌, ◌++◌, ◌∷◌, [], IsTrue, OnOk};
 ghost use Rattle.http_header.specs.FieldValue.{is_visible_text};
 ghost use Rattle.http_server.specs.Response.{fields_of};
-ghost use Rattle.serve_web.specs.Fields.{close_fields, common_fields, more_fields, page_fields, policy_fields, safe_fields, sheet_fields};
+ghost use Rattle.serve_web.specs.Fields.{common_fields, more_fields, page_fields, policy_fields, safe_fields, sheet_fields};
 
 use http::{HeaderValue, header};
 use http_server::Response;
 use page_pages::{PAGE_POLICY, Refusal};
+use serve_peers::put_close;
 use std::alloc::AllocError;
 
 /// Adds the fields of a page, which a browser is not to keep. `closes`: the connection ends with
@@ -85,20 +86,6 @@ fn put_policy(response: &mut Response) -> Result<(), AllocError>
 {
     let policy = HeaderValue::from_static(PAGE_POLICY);
     response.add_header(header::CONTENT_SECURITY_POLICY, policy)
-}
-
-/// Adds `Connection: close`, if the connection ends with the answer.
-fn put_close(response: &mut Response, closes: bool) -> Result<(), AllocError>
-    ensures status { response.new.status ≡ response.old.status }
-    ensures body { response.new.body ≡ response.old.body }
-    ensures fields { OnOk result
-        (fields_of response.new ≡ fields_of response.old ++ close_fields closes) }
-{
-    if closes {
-        let close = HeaderValue::from_static("close");
-        response.add_header(header::CONNECTION, close)?;
-    }
-    Ok(())
 }
 
 /// Adds what a refusal tells beside its status: which methods there are, or after how many seconds

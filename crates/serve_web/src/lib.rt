@@ -1,16 +1,16 @@
-//! What a browser asks over HTTP: the pages of accounts and of the print room, acts on jobs and files
-//! that are to be printed, each of which is one message of IPP. A form that another site may have
-//! sent does nothing.
+//! What a browser asks over HTTP: the pages of accounts and of the print room, acts on jobs and
+//! files that are to be printed, each of which is one message of IPP. A form that another site may
+//! have sent does nothing.
 #![tactic(auto)]
 
 mod answer;
 mod asked;
-mod came;
 mod digits;
 mod fields;
 mod laws;
 mod message;
 mod outcome;
+mod outcome_query;
 mod pages;
 mod place;
 mod query;

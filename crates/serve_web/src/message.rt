@@ -1,4 +1,4 @@
-//! The messages of IPP that a browser's acts are.
+//! Makes the IPP messages by which a browser's acts are done: on a job, or to print a file.
 ghost use Rattle.std.specs.Prelude.{◌≡◌, IfOk, option_copied, option_map};
 ghost use Rattle.ipp_coding.specs.Spelling.{message_spelling};
 ghost use Rattle.percent_encoding.specs.Percent.{percent_decode};
@@ -17,7 +17,7 @@ use input_lines::queue_uri;
 use percent_encoding::percent_decode;
 use std::alloc::{AllocError, Global};
 
-/// The message that does something with a job.
+/// Makes the IPP message that does an act on a job.
 pub(crate) fn act_message(
     alloc: Global,
     account: Name,
@@ -31,7 +31,7 @@ pub(crate) fn act_message(
     text_of(alloc, uri.as_slice(), &Asked::Act { act, job })
 }
 
-/// The message that prints the file of a request.
+/// Makes the IPP message that prints the file of a request.
 pub(crate) fn file_message(
     alloc: Global,
     account: Name,
@@ -57,7 +57,7 @@ pub(crate) fn file_message(
     Ok(text)
 }
 
-/// A job of one document, in the format that its first bytes tell.
+/// Makes a job of one document, in the format that its first bytes tell.
 fn new_job<'a>(
     name: &'a [u8],
     copies: u32,
@@ -77,7 +77,8 @@ fn new_job<'a>(
     }
 }
 
-/// No value here is too long for a message: each came in a head.
+/// Makes the bytes of a message. None of its values is too long, since each came in the head of a
+/// request: only memory can be missing.
 fn text_of(alloc: Global, uri: &[u8], asked: &Asked<'_>) -> Result<Vec<u8>, AllocError>
     ensures { IfOk result
         (λ text. text.items ≡ message_spelling (message_asked uri.now asked.now)) }
@@ -88,15 +89,17 @@ fn text_of(alloc: Global, uri: &[u8], asked: &Asked<'_>) -> Result<Vec<u8>, Allo
     }
 }
 
-/// The name of the file, which the query has as a form writes it.
+/// Reads the name of the file from the query, where it is as a form writes it: `+` for a space, and
+/// percent-encoded.
 fn file_name(alloc: Global, query: &[u8]) -> Result<Vec<u8>, AllocError>
     ensures { IfOk result (λ name. name.items ≡ file_name query.now) }
 {
     let mut spaced = Vec::new(alloc);
     put_replaced(&mut spaced, name_part(query), b'+', b' ')?;
-    decoded(alloc, spaced.as_slice())
+    percent_decoded(alloc, spaced.as_slice())
 }
 
+/// Gives what stands in the query behind `name=`, up to the next `&`.
 fn name_part(query: &[u8]) -> &[u8]
     ensures { result.now ≡ name_part query.now }
 {
@@ -106,7 +109,8 @@ fn name_part(query: &[u8]) -> &[u8]
     }
 }
 
-fn decoded(alloc: Global, text: &[u8]) -> Result<Vec<u8>, AllocError>
+/// Decodes the percent-encoded bytes of a text (`%41` is `A`), of a file's name or a password.
+fn percent_decoded(alloc: Global, text: &[u8]) -> Result<Vec<u8>, AllocError>
     ensures { IfOk result (λ bytes. bytes.items ≡ percent_decode text.now) }
 {
     let mut bytes = Vec::new(alloc);
@@ -128,7 +132,7 @@ pub(crate) fn lacks_password(
     Ok(password_of(alloc, request)?.is_none())
 }
 
-/// The password of the file, if it has one.
+/// Reads the password of the file from the field Job-Password, if it has one.
 fn password_of(alloc: Global, request: &Request<Bytes>) -> Result<Option<Vec<u8>>, AllocError>
     ensures { IfOk result
         (λ password. option_map (λ word. word.items) password ≡ password_sent request.now) }
@@ -136,6 +140,7 @@ fn password_of(alloc: Global, request: &Request<Bytes>) -> Result<Option<Vec<u8>
     password_in(alloc, request.headers().get("job-password"))
 }
 
+/// Decodes the value of the field Job-Password. An empty one is no password.
 fn password_in(alloc: Global, value: Option<&HeaderValue>) -> Result<Option<Vec<u8>>, AllocError>
     ensures { IfOk result (λ password. option_map (λ word. word.items) password
         ≡ password_in (option_copied value.entry)) }
@@ -143,13 +148,14 @@ fn password_in(alloc: Global, value: Option<&HeaderValue>) -> Result<Option<Vec<
     let Some(value) = value else {
         return Ok(None);
     };
-    let word = decoded(alloc, value.as_bytes())?;
+    let word = percent_decoded(alloc, value.as_bytes())?;
     if word.is_empty() {
         return Ok(None);
     }
     Ok(Some(word))
 }
 
+/// Gives the bytes of a password, if there is one.
 fn slice_of(word: &Option<Vec<u8>>) -> Option<&[u8]>
     ensures { option_map word_of result ≡ option_map (λ items. items.items) word.now }
 {

@@ -1,16 +1,17 @@
-//! What the query of a page or the form of an act says.
+//! Reads the query of a page, and the form of an act.
 ghost use Rattle.std.specs.Prelude.{◌≡◌};
 ghost use Rattle.serve_web.specs.Queries.{act_asked, act_in, behind_in, copies_in, counts_asked, owner_asked, pages_in, print_asked, room_asked, room_behind, statement_asked};
 
 use crate::asked::Asked;
-use crate::came::came_in;
 use crate::digits::number;
+use crate::outcome_query::came_in;
 use account_rules::{MOST_COPIES, Name};
 use client_owner::JobAct;
 use input_fields::month;
 use input_http::before;
 
-/// The print room's page, with the accounts whose names begin so, behind a name.
+/// Reads the query of the print room's page: `front=TEXT`, with which the names of the listed
+/// accounts begin, and `&behind=NAME`, behind which they come.
 pub(crate) fn room_asked(query: &[u8]) -> Asked
     ensures { result ≡ room_asked query.now }
 {
@@ -23,6 +24,7 @@ pub(crate) fn room_asked(query: &[u8]) -> Asked
     }
 }
 
+/// Reads what stands behind `front=`.
 fn room_behind(rest: &[u8]) -> Asked
     ensures { result ≡ room_behind rest.now }
 {
@@ -33,13 +35,15 @@ fn room_behind(rest: &[u8]) -> Asked
     }
 }
 
+/// Reads the name behind `&behind=`, if there is one.
 fn behind_in(part: &[u8]) -> Option<Name>
     ensures { result ≡ behind_in part.now }
 {
     Name::read(part.strip_prefix(b"&behind=".as_slice())?)
 }
 
-/// The page of an account's owner.
+/// Reads the query of an owner's page: what came of the last act, or `still`, by which the page is
+/// not to load itself anew.
 pub(crate) fn owner_asked(account: Name, query: &[u8]) -> Asked
     ensures { result ≡ owner_asked account query.now }
 {
@@ -50,7 +54,7 @@ pub(crate) fn owner_asked(account: Name, query: &[u8]) -> Asked
     }
 }
 
-/// A statement: of the month that the query tells, or of the one that it is.
+/// Reads the query of a statement: `month=YYYY-MM`, or nothing for the month that it is.
 pub(crate) fn statement_asked(account: Name, query: &[u8]) -> Option<Asked>
     ensures { result ≡ statement_asked account query.now }
 {
@@ -67,7 +71,7 @@ pub(crate) fn statement_asked(account: Name, query: &[u8]) -> Option<Asked>
     })
 }
 
-/// What is to be done with a job, by a form.
+/// Reads the form of an act on a job.
 pub(crate) fn act_asked(account: Name, job: u32, form: &[u8]) -> Option<Asked>
     ensures { result ≡ act_asked account job form.now }
 {
@@ -75,6 +79,7 @@ pub(crate) fn act_asked(account: Name, job: u32, form: &[u8]) -> Option<Asked>
     Some(Asked::Act { account, act, job })
 }
 
+/// Reads `act=release`, `act=hold` or `act=cancel`.
 fn act_in(form: &[u8]) -> Option<JobAct>
     ensures { result ≡ act_in form.now }
 {
@@ -89,8 +94,8 @@ fn act_in(form: &[u8]) -> Option<JobAct>
     }
 }
 
-/// A file that is to be printed: its name, how many copies, and how many pages one has, if that is
-/// known.
+/// Reads the query that prints a file: `name=TEXT&copies=NUMBER&pages=NUMBER`, where that of the
+/// pages may be empty. (`file_name` reads the name.)
 pub(crate) fn print_asked(account: Name, query: &[u8]) -> Option<Asked>
     ensures { result ≡ print_asked account query.now }
 {
@@ -102,6 +107,7 @@ pub(crate) fn print_asked(account: Name, query: &[u8]) -> Option<Asked>
     )
 }
 
+/// Reads what stands behind `&copies=`: how many copies, and how many pages one has.
 fn counts_asked(account: Name, rest: &[u8]) -> Option<Asked>
     ensures { result ≡ counts_asked account rest.now }
 {
@@ -115,7 +121,7 @@ fn counts_asked(account: Name, rest: &[u8]) -> Option<Asked>
     })
 }
 
-/// How many copies, of which a job may have so many.
+/// Reads how many copies: 1 to `MOST_COPIES`.
 fn copies_in(digits: &[u8]) -> Option<u32>
     ensures { result ≡ copies_in digits.now }
 {
@@ -126,7 +132,7 @@ fn copies_in(digits: &[u8]) -> Option<u32>
     Some(copies)
 }
 
-/// A number, or nothing at all.
+/// Reads how many pages a copy has: a number, or nothing where that is not known.
 fn pages_in(text: &[u8]) -> Option<Option<u32>>
     ensures { result ≡ pages_in text.now }
 {

@@ -9,10 +9,10 @@ ghost use Rattle.rows_tables.specs.Calls.{Changes, IfOurTables, ReadsStore, Writ
 ghost use Rattle.rows_tables.specs.declared.fault.TableFault.TheVariants.{Damaged};
 
 use account_rules::Device;
-use rows_statements::{TableFault, set_device, set_rate};
+use rows_statements::{TableFault, list_devices, set_device, set_rate};
 use sqlite::{Alter, Error, Savepoint};
 use std::alloc::Global;
-use store_rounds::{Rounds, list_devices};
+use store_rounds::Rounds;
 
 /// Copies all devices with their rates, as they are in the source now.
 pub(crate) fn copy_devices<S: Alter, T: Alter>(

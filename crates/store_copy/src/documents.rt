@@ -12,10 +12,10 @@ ghost use Rattle.rows_tables.specs.Tables.{document as document_table};
 ghost use Rattle.rows_tables.specs.declared.fault.TableFault.TheVariants.{Damaged};
 
 use account_rules::{Document, Name};
-use rows_statements::{TableFault, add_document};
+use rows_statements::{TableFault, add_document, find_documents};
 use sqlite::{Alter, Savepoint};
 use std::alloc::Global;
-use store_rounds::{Rounds, find_documents};
+use store_rounds::Rounds;
 
 /// Copies the documents of a job, and answers whether it has any.
 pub(crate) fn copy_documents<S: Alter, T: Alter>(

@@ -9,10 +9,10 @@ ghost use Rattle.rows_tables.specs.Calls.{Changes, IfOurTables, ReadsStore};
 ghost use Rattle.rows_tables.specs.declared.fault.TableFault.TheVariants.{Damaged};
 
 use account_rules::{Grant, Name};
-use rows_statements::{TableFault, set_grant};
+use rows_statements::{TableFault, list_grants, set_grant};
 use sqlite::{Alter, Error, Savepoint};
 use std::alloc::Global;
-use store_rounds::{Rounds, list_grants};
+use store_rounds::Rounds;
 
 /// Copies all grants of the account.
 pub(crate) fn copy_grants<S: Alter, T: Alter>(

@@ -16,10 +16,10 @@ ghost use Rattle.rows_tables.specs.declared.fault.TableFault.TheVariants.{Damage
 
 use crate::documents::copy_documents;
 use account_rules::{Job, Name};
-use rows_statements::{TableFault, add_job};
+use rows_statements::{TableFault, add_job, find_job};
 use sqlite::{Alter, Savepoint};
 use std::alloc::Global;
-use store_rounds::{Rounds, find_job};
+use store_rounds::Rounds;
 
 /// Copies jobs of the account from the number `first` up to below `next`, `most` of them at most,
 /// and ends behind the first that has documents. It answers the number that is to be copied next.

@@ -13,10 +13,10 @@ ghost use Rattle.rows_tables.specs.declared.fault.TableFault.TheVariants.{Damage
 use crate::accounts::{begin_account, go_on};
 use crate::devices::copy_devices;
 use account_rules::Name;
-use rows_statements::TableFault;
+use rows_statements::{TableFault, next_accounts};
 use sqlite::{Alter, Connection, Savepoint};
 use std::alloc::Global;
-use store_rounds::{Rounds, next_accounts};
+use store_rounds::Rounds;
 
 /// How far a copy has come. Accounts are copied in the order of their names' bytes, and the devices
 /// last.

@@ -1,7 +1,7 @@
 //! The two ways in: `apply` for an event that may be in a round, and `apply_in_own_transaction` for
 //! one that may not.
 
-ghost use Rattle.std.specs.Prelude.{◌≡◌, not, IsTrue, OnErr};
+ghost use Rattle.std.specs.Prelude.{◌≡◌, IsTrue, OnErr};
 ghost use Rattle.store_events.specs.Prelude.{IfOurTables};
 ghost use Rattle.sqlite.specs.Held.{state};
 ghost use Rattle.sqlite.specs.State.{HasCleanDisk};
@@ -11,9 +11,8 @@ ghost use Rattle.store_events.specs.Applied.{AppliesFully};
 ghost use Rattle.store_events.specs.Rounds.{IsLost, StaysInRound};
 ghost use Rattle.store_rounds.specs.Shut.{LeavesIfShut};
 ghost use Rattle.rows_tables.specs.Calls.{KeepsConnection};
-ghost use Rattle.rows_tables.specs.Crashes.{IsOnDisk};
 
-use crate::events::{answer_on_disk, is_short};
+use crate::events::{answer_and_note_committed, is_short};
 use account_machine::{Answered, Event, Moment};
 use sqlite::Alter;
 use std::alloc::Global;
@@ -42,12 +41,12 @@ pub fn apply<S: Alter>(
     ensures connection { KeepsConnection (state S.Store connection.old)
         (state S.Store connection.new) }
 {
-    // Asked for what it says where no round is under way: what is seen is what was committed.
+    // For the proof alone: its clause says that outside a round what is seen is what was committed.
     let _shares = connection.is_under_way();
     let Some(now) = Moment::new(now) else {
         return Err(StoreFault::Moment);
     };
-    Ok(answer_on_disk(alloc, connection, now, e)?)
+    Ok(answer_and_note_committed(alloc, connection, now, e)?)
 }
 
 /// Answers the event at the moment `now`, in seconds from 1970, and commits it by itself. `Moment`
@@ -63,23 +62,12 @@ pub fn apply_in_own_transaction<S: Alter>(
     ensures { AppliesFully now (plain_event e.entry.now)
         (state S.Store connection.old) (state S.Store connection.new) result }
 {
-    let is_alone = is_alone(connection);
+    let shares = connection.is_under_way();
     let Some(now) = Moment::new(now) else {
         return Err(StoreFault::Moment);
     };
-    if !is_alone && !is_short(e) {
+    if shares && !is_short(e) {
         return Err(StoreFault::Storage);
     }
-    Ok(answer_on_disk(alloc, connection, now, e)?)
-}
-
-/// Whether no transaction is under way. Then, while the connection is open, what is seen is what
-/// was committed, and what a crash leaves.
-fn is_alone<S: Alter>(connection: &Rounds<S>) -> bool
-    ensures mode { result ≡ not (state S.Store connection.now).in_transaction }
-    ensures settled { IsTrue result → IsTrue (state S.Store connection.now).is_open
-        → (state S.Store connection.now).now ≡ (state S.Store connection.now).committed }
-    ensures on_disk { IsTrue result → IsOnDisk (state S.Store connection.now) }
-{
-    connection.is_autocommit()
+    Ok(answer_and_note_committed(alloc, connection, now, e)?)
 }

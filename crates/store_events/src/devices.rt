@@ -1,19 +1,20 @@
 //! The events of devices: turning one on or off, and setting its rate.
 
 ghost use Rattle.store_events.specs.Prelude.{WasOpen};
-ghost use Rattle.account_machine.specs.DeviceEvents.{rated_answer, turned_answer};
+ghost use Rattle.account_machine.specs.DeviceEvents.{rated_answer, switched_answer};
 ghost use Rattle.account_rules.specs.Limits.{IsRate};
 ghost use Rattle.store_events.specs.Reading.{DeviceIsReadable};
 ghost use Rattle.store_events.specs.Serving.{DoesAsDevices};
 
 use crate::lines::{done_by, refused_by};
 use account_machine::{Answered, Name, Success, known_device};
+use rows_statements::find_device;
 use rows_tables::TableFault;
 use sqlite::Alter;
 use std::alloc::Global;
-use store_rounds::{Rounds, find_device, rate_device, turn_device};
+use store_rounds::{Rounds, rate_device, switch_device};
 
-/// Turns the device on or off, and answers `ok`. A device that is new is added, with rate 1.
+/// Switches the device on or off, and answers `ok`. A device that is new is added, with rate 1.
 pub fn switch<S: Alter>(
     alloc: Global,
     connection: &mut Rounds<S>,
@@ -21,12 +22,12 @@ pub fn switch<S: Alter>(
     on: bool,
 ) -> Result<Answered, TableFault>
     ensures served { DoesAsDevices S.Store connection.old connection.new (DeviceIsReadable name)
-        (λ devices. turned_answer devices name on) result }
+        (λ devices. switched_answer devices name on) result }
     ensures asks { WasOpen S.Store connection.old connection.new result }
 {
     let is_new = find_device(connection, name)?.is_none();
     let answered = done_by(alloc, Success::Ok)?;
-    turn_device(connection, name, on, is_new)?;
+    switch_device(connection, name, on, is_new)?;
     Ok(answered)
 }
 

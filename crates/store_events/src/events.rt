@@ -45,18 +45,22 @@ pub(crate) fn answer_event<S: Alter>(
     match *e {
         Event::Open { account } => open(alloc, connection, account, now),
         Event::Ipp { account, body } => answer_request(alloc, connection, account, now, body),
-        Event::Release { account, .. } => answer_line(alloc, connection, account, now, e),
-        Event::Start { account, .. } => answer_line(alloc, connection, account, now, e),
-        Event::Settle { account, .. } => answer_line(alloc, connection, account, now, e),
-        Event::Grant { account, .. } => answer_line(alloc, connection, account, now, e),
+        Event::Release { account, .. } => find_account_and_answer(
+            alloc, connection, account, now, e,
+        ),
+        Event::Start { account, .. } => find_account_and_answer(alloc, connection, account, now, e),
+        Event::Settle { account, .. } => find_account_and_answer(
+            alloc, connection, account, now, e,
+        ),
+        Event::Grant { account, .. } => find_account_and_answer(alloc, connection, account, now, e),
         Event::Device { name, on } => switch(alloc, connection, name, on),
         Event::Rate { name, units } => rate(alloc, connection, name, units),
     }
 }
 
-/// Answers the event as `answer_if_open` does. For the proof it asks whether a transaction is under
-/// way, whose clause says of no transaction: what is seen is what was committed.
-pub(crate) fn answer_on_disk<S: Alter>(
+/// Answers the event as `answer_if_usable` does. For the proof it asks whether a transaction is under
+/// way: the clauses of that say that where none is, what is seen is what a crash leaves.
+pub(crate) fn answer_and_note_committed<S: Alter>(
     alloc: Global,
     connection: &mut Rounds<S>,
     now: Moment,
@@ -72,14 +76,14 @@ pub(crate) fn answer_on_disk<S: Alter>(
     ensures on_disk { (state S.Store connection.new).in_transaction ≡ false
         → IsOnDisk (state S.Store connection.new) }
 {
-    let told = answer_if_open(alloc, connection, now, e);
-    let _autocommit = connection.is_autocommit();
+    let told = answer_if_usable(alloc, connection, now, e);
+    let _shares = connection.is_under_way();
     told
 }
 
 /// Answers the event as `answer_event` does, once the connection is found usable. A connection that
 /// is shut is asked nothing more, so that what a crash would find there stays.
-fn answer_if_open<S: Alter>(
+fn answer_if_usable<S: Alter>(
     alloc: Global,
     connection: &mut Rounds<S>,
     now: Moment,
@@ -112,7 +116,7 @@ pub(crate) fn is_short(e: &Event<'_>) -> bool
 }
 
 /// Answers an event of a station, or a grant; the account may not be open.
-fn answer_line<S: Alter>(
+fn find_account_and_answer<S: Alter>(
     alloc: Global,
     connection: &mut Rounds<S>,
     account: Name,
@@ -127,13 +131,13 @@ fn answer_line<S: Alter>(
     ensures asks { WasOpen S.Store connection.old connection.new result }
 {
     match find_account(connection, account)? {
-        Some(_) => answer_open(alloc, connection, account, now, e),
+        Some(_) => answer_account_line(alloc, connection, account, now, e),
         None => refused_by(alloc, Word::NoAccount),
     }
 }
 
 /// Answers an event of a station, or a grant, of an account that is open.
-fn answer_open<S: Alter>(
+fn answer_account_line<S: Alter>(
     alloc: Global,
     connection: &mut Rounds<S>,
     account: Name,

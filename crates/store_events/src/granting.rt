@@ -7,10 +7,11 @@ ghost use Rattle.store_events.specs.Reading.{GrantIsReadable};
 
 use crate::lines::{done_by, refused_by};
 use account_machine::{Answered, Name, Success, check_grant};
+use rows_statements::find_grant;
 use rows_tables::TableFault;
 use sqlite::Alter;
 use std::alloc::Global;
-use store_rounds::{Rounds, add_grant, find_grant};
+use store_rounds::{Rounds, add_grant};
 
 /// Grants the account, which is open, pages to be used in the month or later, and answers `ok`.
 /// Where the month has a grant already, it answers `same` (of the same pages) or `conflict`, and

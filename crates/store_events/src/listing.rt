@@ -13,10 +13,11 @@ use crate::request::Request;
 use crate::responses::jobs_shown;
 use account_machine::{Answered, Ask, Job, Name, Which};
 use ipp_coding::List;
+use rows_statements::{ended_jobs, unfinished_jobs};
 use rows_tables::TableFault;
 use sqlite::Alter;
 use std::alloc::Global;
-use store_rounds::{Rounds, ended_jobs, unfinished_jobs};
+use store_rounds::Rounds;
 
 /// Get-Jobs: answers with the jobs that the request asks for.
 pub fn list<S: Alter>(

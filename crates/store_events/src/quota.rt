@@ -15,9 +15,10 @@ ghost use Rattle.rows_tables.specs.Calls.{ReadsStore};
 
 use account_machine::{JobState, Moment, Name, Refusal, Standing, month_of, within_quota};
 use account_rules::left;
+use rows_statements::granted_to;
 use rows_tables::TableFault;
 use sqlite::Alter;
-use store_rounds::{Rounds, Sums, granted_to, sum_up};
+use store_rounds::{Rounds, Sums, sum_up};
 
 /// How many units the account has left at the moment `now`: what was granted, less what its jobs
 /// reserve and were charged. It may be below 0.

@@ -1,4 +1,5 @@
-//! `Request`: an IPP request with what was read for every operation before it is carried out.
+//! `Request`: an IPP request that passed its checks, with the row of its account, which every
+//! operation reads first.
 
 ghost use Rattle.std.proofs.Props.{props};
 ghost use Rattle.std.specs.Prelude.{◌≡◌};

@@ -1,4 +1,4 @@
-//! IPP requests to the queue of an account.
+//! IPP requests: reads the message, and hands it to the function for its operation.
 
 ghost use Rattle.std.specs.Prelude.{◌≡◌, ◌≤◌, ◌<◌, length, Ok};
 ghost use Rattle.store_events.specs.Answers.{short_answered};
@@ -13,7 +13,7 @@ use crate::job_requests::{cancel, describe, hold, release};
 use crate::lines::line_refused;
 use crate::listing::list;
 use crate::making::make;
-use crate::queue::{show, validate};
+use crate::printer::{show, validate};
 use crate::request::Request;
 use crate::responses::short_answered;
 use crate::sending::send;
@@ -26,7 +26,7 @@ use sqlite::Alter;
 use std::alloc::Global;
 use store_rounds::{Rounds, find_account};
 
-/// Answers a request to the account, which may not be open. Of a body under 8 bytes nothing is
+/// Answers an IPP request; the account may not be open. Of a body of less than 8 bytes nothing is
 /// looked up.
 pub fn answer_request<S: Alter>(
     alloc: Global,
@@ -55,7 +55,8 @@ pub fn answer_request<S: Alter>(
     answer_body(alloc, connection, account, row, now, header, body)
 }
 
-/// The response to a body that begins with the header, of an account that is open.
+/// Reads the request from its body, and answers it or refuses it. The account is open; `row` is its
+/// own row.
 fn answer_body<S: Alter>(
     alloc: Global,
     connection: &mut Rounds<S>,
@@ -101,7 +102,7 @@ fn answer_body<S: Alter>(
     }
 }
 
-/// The response to what a request asks, of an account that is open.
+/// Answers a request that was read, by the function for its operation.
 fn respond<S: Alter>(
     alloc: Global,
     connection: &mut Rounds<S>,

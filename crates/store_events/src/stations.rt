@@ -22,10 +22,11 @@ use account_machine::{
     check_on, handed, known_device, left_after, released_at, within_quota,
 };
 use ipp_coding::List;
+use rows_statements::{find_device, find_documents, find_rate};
 use rows_tables::TableFault;
 use sqlite::Alter;
 use std::alloc::Global;
-use store_rounds::{Rounds, find_device, find_documents, find_rate, look_up};
+use store_rounds::{Rounds, look_up};
 
 /// Where and when something happens: the device at a station, and the moment.
 #[derive(Clone, Copy)]
@@ -121,7 +122,7 @@ pub fn settle<S: Alter>(
 }
 
 /// The units that an impression counts on the device, or the word of a refusal where the device is
-/// unknown or turned off. `Damaged` where the device is on but has no rate.
+/// unknown or switched off. `Damaged` where the device is on but has no rate.
 fn ready_rate<S: Alter>(
     connection: &mut Rounds<S>,
     device: Name,
@@ -184,8 +185,8 @@ fn reserve<S: Alter>(
     tell(alloc, connection, account, job, &released, told)
 }
 
-/// The job as released, unless it reserves more than is `left`. For a job that was released before,
-/// enough is reserved.
+/// The job as released, unless it reserves more than is `left`. A job that was released before has
+/// its units reserved already, and is not refused.
 fn kept_to(left: i64, before: Standing, released: Standing) -> Result<Standing, Refusal>
     ensures { result ≡ kept_to_quota before.state left (Ok released) }
 {

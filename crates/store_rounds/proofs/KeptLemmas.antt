@@ -31,6 +31,12 @@ use Rattle.store_rounds.specs.declared.kept.Sums.{Sums}
 use Rattle.store_rounds.specs.declared.cache.Known.{Known}
 use Rattle.store_rounds.specs.declared.cache.Key.{Key}
 use Rattle.rows_tables.specs.Accounts.{AgreeOnRows, HoldsRoom, account_at, job_at}
+use Rattle.rows_statements.specs.Asked.{IsQuery, IsTableQuery}
+use Rattle.rows_statements.specs.Walks.{Walks, WalksShown}
+use Rattle.rows_tables.specs.Queries.{Finds, FindsRow, IsShownBy, Means, TakesParams, of_table}
+use Rattle.rows_tables.proofs.Savepoints.{undone_by}
+use Rattle.sqlite.specs.declared.error.Error.{Error}
+use Rattle.sqlite_value.specs.Order.{Row}
 use Rattle.rows_tables.specs.Calls.{ChangesWhole, IsUnchanged, IsUndone, KeepsConnection, ReadsStore, UnchangedOrUndone}
 use Rattle.rows_tables.specs.Cells.{account_cells, job_cells}
 use Rattle.rows_tables.specs.Keyed.{HasSchema}
@@ -134,6 +140,41 @@ module _ (old new : State) (before after : Kept) (keeps : KeepsConnection old ne
       let kept = kept_then clean opened in
       subst (IsKept new) (sym out) (unchanged_kept old new before (same clean kept.schema) kept)
   told_kept (Err e) same undone none clean opened = failed_kept undone none clean opened
+
+  -- a query of the store's tables was asked
+  pub found_kept : (text : List ℕ) (params : Row) → IsTableQuery text params → (r : Result (Option Row) Error) → (HasCleanDisk new → Finds old new text params r) → ForgetsAfterFault r before after → WhereOpen new (IsKept new after)
+  found_kept text params asked r finds out = told_kept r (λ clean has. same_then r (found clean has)) (λ clean has. undone_then r (found clean has)) out
+    where
+      found : HasCleanDisk new → HasSchema old.now → FindsRow old new asked.tree asked.tests asked.shows params r
+      found clean has =
+          let query = of_table asked.tree asked.tests asked.shows [] in
+          finds clean asked.tree asked.tests asked.shows asked.names asked.parameters
+          (subst (λ s. Means s text query asked.names asked.parameters) (sym has.schema_is) asked.means)
+          (subst (λ s. TakesParams s query params asked.parameters) (sym has.schema_is) asked.takes)
+
+      same_then : (r : Result (Option Row) Error) → FindsRow old new asked.tree asked.tests asked.shows params r → OnOk r (IsUnchanged old new)
+      same_then (Ok it) found = record { now = found.same.0.now_is; committed = found.same.0.committed_is; mode = found.same.0.mode }
+      same_then (Err e) found = tt
+
+      undone_then : (r : Result (Option Row) Error) → FindsRow old new asked.tree asked.tests asked.shows params r → OnErr r (UnchangedOrUndone old new)
+      undone_then (Ok it) found = tt
+      undone_then (Err e) found = elim found.failed [
+        | inl fails ↦ inr (undone_by old new fails.3)
+        | inr stopped ↦ inl (record { now = stopped.2.0.now_is; committed = stopped.2.0.committed_is; mode = stopped.2.0.mode })
+      ]
+
+  pub walked_kept : {G : Type 0} (step : G → Row → G → Type 0) (refuses : G → Row → Type 0) (first last : G) (text : List ℕ) (params : Row) → IsQuery text params → (r : Result (Unit {0}) TableFault) → (HasCleanDisk new → Walks step refuses old new text params first last r)
+      → ForgetsAfterFault r before after → WhereOpen new (IsKept new after)
+  walked_kept step refuses first last text params asked r walks out = told_kept r (λ clean has. (walked clean has).same) (λ clean has. undone_then r (walked clean has).stays) out
+    where
+      walked : HasCleanDisk new → HasSchema old.now → WalksShown step refuses old new (IsShownBy asked.query old.now.trees params) first last r
+      walked clean has = walks clean asked.query asked.names asked.parameters asked.no_sums
+          (subst (λ s. Means s text asked.query asked.names asked.parameters) (sym has.schema_is) asked.means)
+          (subst (λ s. TakesParams s asked.query params asked.parameters) (sym has.schema_is) asked.takes)
+
+      undone_then : (r : Result (Unit {0}) TableFault) → UnchangedOrUndone old new → OnErr r (UnchangedOrUndone old new)
+      undone_then (Ok it) stays = tt
+      undone_then (Err e) stays = stays
 
   pub account_kept : (name : List ℕ) (r : Result (Option Account) TableFault) → (HasCleanDisk new → HasSchema old.now → OnOk r (IsUnchanged old new)) → (HasCleanDisk new → HasSchema old.now → UnchangedOrUndone old new)
       → (HasCleanDisk new → IsKept old before → IfOk r (λ found. account_at old.now name ≡ option_map (account_cells name) found)) → KeepsAccount name r before after → WhereOpen new (IsKept new after)

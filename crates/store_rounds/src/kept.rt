@@ -1,4 +1,6 @@
-//! What is kept of the tables, so that it is not read again.
+//! What is kept of the tables in memory: the cache of accounts, and the job that was found last.
+//! Every change of a job moves the sums that are kept by what the job added before and adds now.
+//! Where that is not known, or a call failed, everything is forgotten and read anew.
 
 ghost use Rattle.std.specs.Prelude.{◌≡◌, ◌≤◌, ◌<◌, ◌+◌, ℕ, [], IfSome, None, Some, bytes_eq};
 ghost use Rattle.account_rules.specs.Limits.{last_next_job, most_unfinished, most_units};
@@ -12,15 +14,15 @@ use account_rules::{
 use rows_tables::TableFault;
 use std::alloc::Global;
 
-/// What an account's jobs reserve and were charged, in units of the quota.
+/// What all jobs of an account reserve and were charged, in units of the quota.
 #[derive(Clone, Copy)]
 pub struct Sums {
     pub reserved: u64,
     pub charged: u64,
 }
 
-/// What a job adds to what is kept of its account: what it reserves and was charged, and 1 until it
-/// ends.
+/// What one job adds to the sums and the count of its account: the units that it reserves and was
+/// charged, and 1 until it ends.
 #[derive(Clone, Copy)]
 pub(crate) struct Added {
     pub reserved: u64,
@@ -28,7 +30,7 @@ pub(crate) struct Added {
     pub unfinished: u64,
 }
 
-/// A job as it was found last.
+/// The job that was found last, and what it added to its account's sums then.
 #[derive(Clone, Copy)]
 pub(crate) struct Seen {
     pub account: Name,
@@ -36,8 +38,8 @@ pub(crate) struct Seen {
     pub added: Added,
 }
 
-/// What was read of the tables and is so yet: rows of accounts, what their jobs reserve and were
-/// charged and how many of these have not ended, and the job that was found last.
+/// What was read of the tables and still holds. Of accounts: their rows, their sums and how many of
+/// their jobs are unfinished. And the job that was found last.
 #[derive(Drop)]
 pub(crate) struct Kept {
     pub accounts: Option<Accounts>,
@@ -45,7 +47,7 @@ pub(crate) struct Kept {
 }
 
 impl Kept {
-    /// Nothing is kept.
+    /// Starts with nothing kept.
     pub(crate) fn new() -> Kept
         ensures { IsNothing result }
     {
@@ -55,7 +57,7 @@ impl Kept {
         }
     }
 
-    /// From now on accounts are kept, as far as there is memory for them.
+    /// Makes the cache of accounts, unless there is one, or no memory for one.
     pub(crate) fn open(&mut self, alloc: Global)
         ensures accounts { kept_in self.new.accounts ≡ kept_in self.old.accounts }
         ensures job { self.new.job ≡ self.old.job }
@@ -65,7 +67,7 @@ impl Kept {
         }
     }
 
-    /// Nothing is kept any more.
+    /// Forgets everything.
     pub(crate) fn forget_all(&mut self)
         ensures { IsNothing self.new }
     {
@@ -73,6 +75,7 @@ impl Kept {
         self.job = None;
     }
 
+    /// What the cache has of the account, if it has it.
     fn find(&self, account: Name) -> Option<Known>
         ensures { result ≡ kept_of (kept_in self.now.accounts) account }
     {
@@ -92,7 +95,7 @@ impl Kept {
         }
     }
 
-    /// The account's own row, where it is kept.
+    /// The account's own row, where it is known.
     pub(crate) fn row(&self, account: Name) -> Option<Account>
         ensures kept { IfSome result (HasRow self.now account) }
         ensures in_range { IfSome result IsAccount }
@@ -100,7 +103,7 @@ impl Kept {
         sound(self.known(account).row)
     }
 
-    /// What the jobs of the account reserve and were charged, where it is kept.
+    /// What the jobs of the account reserve and were charged, where both are known.
     pub(crate) fn sums(&self, account: Name) -> Option<Sums>
         ensures kept { IfSome result (HasSums self.now account) }
         ensures bounds { IfSome result
@@ -113,7 +116,7 @@ impl Kept {
         })
     }
 
-    /// How many jobs of the account have not ended, where it is kept.
+    /// How many jobs of the account have not ended, where it is known.
     pub(crate) fn unfinished(&self, account: Name) -> Option<u32>
         ensures kept { IfSome result (HasCount self.now account) }
         ensures few { IfSome result (λ count. count ≤ most_unfinished) }
@@ -121,7 +124,7 @@ impl Kept {
         few(self.known(account).unfinished)
     }
 
-    /// What the job adds, if it is the one that was found last.
+    /// What the job added to its account's sums, if it is the job that was found last.
     pub(crate) fn added_before(&self, account: Name, number: u32) -> Option<Added>
         ensures { IfSome result (λ added. self.now.job
             ≡ Some (record { account = account; number = number; added = added })) }
@@ -138,7 +141,7 @@ impl Kept {
         }
     }
 
-    /// After a fault nothing is kept: what was changed may be undone.
+    /// Forgets everything after a call that failed, which may have undone changes.
     pub(crate) fn forget_after_fault<T, E>(&mut self, told: &Result<T, E>)
         ensures { ForgetsAfterFault told.now self.old self.new }
     {
@@ -148,7 +151,8 @@ impl Kept {
         }
     }
 
-    /// Keeps the account that was found.
+    /// Keeps the row that a read of the account has found; forgets everything where the read
+    /// failed.
     pub(crate) fn keep_account(&mut self, account: Name, told: &Result<Option<Account>, TableFault>)
         ensures { KeepsAccount account told.now self.old self.new }
     {
@@ -159,6 +163,7 @@ impl Kept {
         }
     }
 
+    /// Keeps the account's row, beside what else is known of the account.
     fn set_row(&mut self, account: Name, row: Account)
         ensures { KeepsKnown account
             (record (known_of (kept_in self.old.accounts) account) { row = Some row })
@@ -174,7 +179,7 @@ impl Kept {
         );
     }
 
-    /// Keeps the job that was found.
+    /// Keeps the job that a read has found as the last; forgets everything where the read failed.
     pub(crate) fn keep_job(
         &mut self,
         account: Name,
@@ -196,7 +201,7 @@ impl Kept {
         }
     }
 
-    /// Keeps what was added up.
+    /// Keeps the sums that were added up; forgets everything where that failed.
     pub(crate) fn keep_sums(&mut self, account: Name, told: &Result<Sums, TableFault>)
         ensures { KeepsSums account told.now self.old self.new }
     {
@@ -206,6 +211,7 @@ impl Kept {
         }
     }
 
+    /// Keeps the account's sums, beside what else is known of the account.
     fn set_sums(&mut self, account: Name, sums: Sums)
         ensures { KeepsKnown account
             (record (known_of (kept_in self.old.accounts) account) {
@@ -225,7 +231,7 @@ impl Kept {
         );
     }
 
-    /// Keeps what was counted.
+    /// Keeps the number of unfinished jobs that were counted; forgets everything where that failed.
     pub(crate) fn keep_count(&mut self, account: Name, told: &Result<u32, TableFault>)
         ensures { KeepsCount account told.now self.old self.new }
     {
@@ -235,6 +241,7 @@ impl Kept {
         }
     }
 
+    /// Keeps the number of unfinished jobs, beside what else is known of the account.
     fn set_count(&mut self, account: Name, count: u64)
         ensures { KeepsKnown account
             (record (known_of (kept_in self.old.accounts) account) { unfinished = Some count })
@@ -251,7 +258,8 @@ impl Kept {
         );
     }
 
-    /// Where the account was opened nothing is kept of it.
+    /// After the account was opened: forgets what is kept of it, and the last job. After a failure:
+    /// forgets everything.
     pub(crate) fn follow_opening<E>(&mut self, account: Name, made: &Result<(), E>)
         ensures { FollowsOpening account made.now self.old self.new }
     {
@@ -264,8 +272,8 @@ impl Kept {
         }
     }
 
-    /// After a new job of the account, which had this row: what is kept of the account is moved, if
-    /// its row is known. Else nothing is kept.
+    /// After a job was made in the account, whose row was `was`: keeps its new row and sums. Where
+    /// the row was not known, or the call failed: forgets everything.
     pub(crate) fn follow_making<E>(
         &mut self,
         account: Name,
@@ -278,14 +286,16 @@ impl Kept {
     {
         match made {
             Ok(()) => match was {
-                Some(row) => self.count_on(account, row, job),
+                Some(row) => self.add_new_job(account, row, job),
                 None => self.forget_all(),
             },
             Err(_) => self.forget_all(),
         }
     }
 
-    fn count_on(&mut self, account: Name, row: Account, job: &Job)
+    /// Adds a job that was just made to what is kept of its account, and moves the account's next
+    /// number behind it.
+    fn add_new_job(&mut self, account: Name, row: Account, job: &Job)
         requires { job.now.job < last_next_job }
         ensures { MakesKept account row job.now self.old self.new }
     {
@@ -304,8 +314,8 @@ impl Kept {
         self.job = None;
     }
 
-    /// After a change of a job of the account, which now has this standing: what is kept of the
-    /// account is moved, if it is known what the job added before. Else nothing is kept.
+    /// After a job's standing became `is`: moves the account's sums by what the job added before
+    /// (`was`) and adds now. Where `was` is not known, or the call failed: forgets everything.
     pub(crate) fn follow_move<E>(
         &mut self,
         account: Name,
@@ -324,6 +334,7 @@ impl Kept {
         }
     }
 
+    /// Takes what a job added from what is kept of its account, and adds what it adds now.
     fn shift(&mut self, account: Name, was: Added, is: Added)
         ensures { MovesKept account was is self.old self.new }
     {
@@ -332,6 +343,7 @@ impl Kept {
         self.job = None;
     }
 
+    /// Puts what is known of the account in the cache, if there is one.
     fn keep(&mut self, account: Name, known: Known)
         ensures { KeepsKnown account known self.old self.new }
     {
@@ -342,7 +354,7 @@ impl Kept {
     }
 }
 
-/// That nothing is known of an account.
+/// Nothing known of an account.
 fn unknown() -> Known
     ensures { result ≡ unknown }
 {
@@ -354,6 +366,7 @@ fn unknown() -> Known
     }
 }
 
+/// Empties the cache, if there is one.
 fn clear(accounts: &mut Option<Accounts>)
     ensures { kept_in accounts.new ≡ [] }
 {
@@ -363,14 +376,14 @@ fn clear(accounts: &mut Option<Accounts>)
     }
 }
 
-/// Whether both are one name.
+/// Whether the two are the same name.
 fn is_same(one: Name, other: Name) -> bool
     ensures { result ≡ bytes_eq one other }
 {
     one.bytes() == other.bytes()
 }
 
-/// What a job of this standing adds.
+/// What a job of this standing adds to the sums and the count of its account.
 fn added_by(standing: &Standing) -> Added
     ensures { result ≡ added_by standing.now }
 {
@@ -381,7 +394,8 @@ fn added_by(standing: &Standing) -> Added
     }
 }
 
-/// What is known less what a job added, and with what it adds now.
+/// The sums and the count of an account, less what a job added (`was`), with what it adds now
+/// (`is`).
 fn moved_by(known: Known, was: Added, is: Added) -> Known
     ensures { MovesTo was is known result }
 {
@@ -393,14 +407,15 @@ fn moved_by(known: Known, was: Added, is: Added) -> Known
     }
 }
 
-/// A sum less what a job added, and with what it adds now. `None` where that is no sum.
+/// A sum, less what a job added (`was`), with what it adds now (`is`). `None` where it is not
+/// known, or the result is no `u64`.
 fn moved(sum: Option<u64>, was: u64, is: u64) -> Option<u64>
     ensures { IsMoved was is sum result }
 {
     sum?.checked_sub(was)?.checked_add(is)
 }
 
-/// A row that an account can have.
+/// The row, if an account can have it. `None` where not, so that it is read anew.
 fn sound(row: Option<Account>) -> Option<Account>
     ensures { IfSome result (λ it. (row ≡ Some it) × IsAccount it) }
 {
@@ -416,7 +431,7 @@ fn sound(row: Option<Account>) -> Option<Account>
     }
 }
 
-/// A sum that an account's jobs can come to.
+/// The sum, if an account's jobs can come to it. `None` where not, so that it is added up anew.
 fn at_most(sum: Option<u64>) -> Option<u64>
     ensures { IfSome result (λ units. (sum ≡ Some units) × (units ≤ most_units)) }
 {
@@ -432,7 +447,8 @@ fn at_most(sum: Option<u64>) -> Option<u64>
     }
 }
 
-/// A count that an account's queue can come to.
+/// The count, if an account may have so many unfinished jobs. `None` where not, so that they are
+/// counted anew.
 fn few(count: Option<u64>) -> Option<u32>
     ensures { IfSome result (λ few. (count ≡ Some few) × (few ≤ most_unfinished)) }
 {

@@ -1,7 +1,8 @@
 //! `Rounds`: the connection to the database, as all crates above use it. It wraps the connection of
 //! the SQLite library, lets many events share one commit (a round), and keeps sums and counts in
 //! memory, so that they are not read again. Its functions have the names of those of
-//! `rows_statements` that they call.
+//! `rows_statements` that they call. What reads and is not here is called with `Rounds` itself, as
+//! `Reads` of `rows_statements`.
 #![tactic(auto)]
 
 mod cache;
@@ -15,12 +16,6 @@ pub use fault::StoreFault;
 pub use kept::Sums;
 pub use rounds::Rounds;
 pub use rounds::changes::{
-    add_grant, end_job, make_job, open_account, rate_device, restand_job, turn_device,
+    add_grant, end_job, make_job, open_account, rate_device, restand_job, switch_device,
 };
-pub use rounds::lists::{
-    check_account, find_job, list_devices, list_grants, next_accounts, summarize, survey,
-};
-pub use rounds::reads::{
-    count_unfinished, ended_jobs, find_account, find_device, find_documents, find_grant, find_rate,
-    granted_to, is_device_on, knock, look_up, ready, sum_up, tally_unfinished, unfinished_jobs,
-};
+pub use rounds::reads::{count_unfinished, find_account, knock, look_up, ready, sum_up};

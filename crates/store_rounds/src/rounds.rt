@@ -1,6 +1,6 @@
 //! `Rounds`: the connection, with begin and commit of a round.
 
-ghost use Rattle.std.specs.Prelude.{◌≡◌, false, not, IsFalse, IsTrue, OnErr, OnOk};
+ghost use Rattle.std.specs.Prelude.{◌≡◌, false, IsFalse, IsTrue, OnErr, OnOk};
 ghost use Rattle.sqlite.specs.Held.{state};
 ghost use Rattle.sqlite.specs.State.{HasCleanDisk, Survives};
 ghost use Rattle.rows_statements.specs.Rounds.{BeginsRound, EndsRound};
@@ -10,7 +10,6 @@ ghost use Rattle.rows_tables.specs.Crashes.{IsOnDisk};
 ghost use Rattle.rows_tables.specs.Keyed.{HasSchema};
 
 pub(crate) mod changes;
-pub(crate) mod lists;
 pub(crate) mod reads;
 
 use crate::fault::StoreFault;
@@ -101,15 +100,6 @@ impl<S: Alter> Rounds<S> {
         }
     }
 
-    /// Whether no transaction, and so no round, is under way.
-    pub fn is_autocommit(&self) -> bool
-        ensures value { result ≡ not (state S.Store self.now).in_transaction }
-        ensures settled { IsTrue result → IsTrue (state S.Store self.now).is_open
-            → (state S.Store self.now).now ≡ (state S.Store self.now).committed }
-    {
-        self.connection.is_autocommit()
-    }
-
     /// Whether a round is under way: it was begun, and neither committed nor undone.
     pub fn is_under_way(&self) -> bool
         ensures mode { result ≡ (state S.Store self.now).in_transaction }
@@ -189,7 +179,7 @@ impl<S: Alter> Rounds<S> {
 /// way, what an open connection shows is what was committed, and only the library's clause of
 /// `is_autocommit` says so. What a failure leaves of a round, and so what may be kept, follows from
 /// that.
-fn note_settled<S: Alter>(connection: &Connection<S>)
+fn note_committed<S: Alter>(connection: &Connection<S>)
     ensures { IsTrue (state S.Store connection.now).is_open
         → (state S.Store connection.now).in_transaction ≡ false
         → (state S.Store connection.now).now ≡ (state S.Store connection.now).committed }

@@ -16,7 +16,7 @@ ghost use Rattle.rows_tables.specs.Accounts.{job_at};
 ghost use Rattle.rows_tables.specs.Calls.{IsUnchanged, IsUndone, KeepsConnection, UnchangedOrUndone};
 
 use crate::kept::Added;
-use crate::rounds::{Rounds, note_settled};
+use crate::rounds::{Rounds, note_committed};
 use account_rules::{Job, Moment, Name, Standing};
 use rows_statements::NewDocument;
 use rows_tables::TableFault;
@@ -31,7 +31,7 @@ pub fn open_account<S: Alter>(
     ensures opens { ChangesWhole S.Store connection.old connection.new result
         (OpensAccount account now) }
 {
-    note_settled(&connection.connection);
+    note_committed(&connection.connection);
     let made = rows_statements::open_account(&mut connection.connection, account, now);
     connection.kept.follow_opening(account, &made);
     made
@@ -47,7 +47,7 @@ pub fn add_grant<S: Alter>(
     ensures grants { ChangesWhole S.Store connection.old connection.new result
         (GrantsPages account month pages) }
 {
-    note_settled(&connection.connection);
+    note_committed(&connection.connection);
     let made = rows_statements::add_grant(&mut connection.connection, account, month, pages);
     connection.kept.forget_after_fault(&made);
     made
@@ -70,7 +70,7 @@ pub fn make_job<S: Alter>(
         (λ db. result ≡ Err TableFault.Damaged → job_at db account (pos job.now.job) ≡ None →
         IsFree account (first_of job.now.job document.entry) db → ⊥) }
 {
-    note_settled(&connection.connection);
+    note_committed(&connection.connection);
     let was = connection.kept.row(account);
     let made = rows_statements::make_job(&mut connection.connection, account, job, document);
     connection.kept.follow_making(account, was, job, &made);
@@ -93,7 +93,7 @@ pub fn restand_job<S: Alter>(
         (λ db. result ≡ Err TableFault.Damaged →
         IsFree account (first_of number document.entry) db → ⊥) }
 {
-    note_settled(&connection.connection);
+    note_committed(&connection.connection);
     let was = connection.kept.added_before(account, number);
     let made = rows_statements::restand_job(
         &mut connection.connection,
@@ -117,7 +117,7 @@ pub fn end_job<S: Alter>(
     ensures ends { ChangesWhole S.Store connection.old connection.new result
         (FinishesJob account number standing.now) }
 {
-    note_settled(&connection.connection);
+    note_committed(&connection.connection);
     let was = connection.kept.added_before(account, number);
     let made = rows_statements::end_job(&mut connection.connection, account, number, standing);
     connection.kept.follow_move(account, was, standing, &made);
@@ -134,7 +134,7 @@ fn beyond(was: Option<Added>, is: &Standing) -> u64 {
 }
 
 /// Turns the device on or off. Where it is new (`is_new`) it is added, and gets rate 1.
-pub fn turn_device<S: Alter>(
+pub fn switch_device<S: Alter>(
     connection: &mut Rounds<S>,
     name: Name,
     on: bool,
@@ -143,8 +143,8 @@ pub fn turn_device<S: Alter>(
     ensures turns { ChangesWhole S.Store connection.old connection.new result
         (SwitchesDevice name on is_new) }
 {
-    note_settled(&connection.connection);
-    let made = rows_statements::turn_device(&mut connection.connection, name, on, is_new);
+    note_committed(&connection.connection);
+    let made = rows_statements::switch_device(&mut connection.connection, name, on, is_new);
     connection.kept.forget_after_fault(&made);
     made
 }
@@ -159,7 +159,7 @@ pub fn rate_device<S: Alter>(
     ensures rates { ChangesWhole S.Store connection.old connection.new result
         (RatesDevice name units) }
 {
-    note_settled(&connection.connection);
+    note_committed(&connection.connection);
     let made = rows_statements::rate_device(&mut connection.connection, name, units);
     connection.kept.forget_after_fault(&made);
     made
@@ -178,7 +178,7 @@ pub(crate) fn begin_round<S: Alter>(connection: &mut Rounds<S>) -> Result<(), Er
     ensures survives { Survives (state S.Store connection.old) (state S.Store connection.new)
         (λ _. ⊥) }
 {
-    note_settled(&connection.connection);
+    note_committed(&connection.connection);
     let made = rows_statements::begin_round(&mut connection.connection);
     connection.kept.forget_after_fault(&made);
     made
@@ -199,7 +199,7 @@ pub(crate) fn commit_round<S: Alter>(connection: &mut Rounds<S>) -> Result<(), E
     ensures survives { Survives (state S.Store connection.old) (state S.Store connection.new)
         (λ found. found ≡ (state S.Store connection.old).now.trees) }
 {
-    note_settled(&connection.connection);
+    note_committed(&connection.connection);
     let made = rows_statements::commit_round(&mut connection.connection);
     connection.kept.forget_after_fault(&made);
     made

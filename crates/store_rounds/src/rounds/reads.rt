@@ -1,42 +1,61 @@
-//! The reads of events and questions, over `Rounds` (the parameter `connection`). Each calls the
-//! function of its name in `rows_statements`, or answers from memory what is kept there. After a
-//! fault nothing is kept, since what was changed before may be undone.
+//! What is read over `Rounds` (the parameter `connection`). As it is a `Reads`, the functions of
+//! `rows_statements`, `rows_checks` and `rows_survey` read by it. Those here answer from memory
+//! what is kept there, and else call the function of their name in `rows_statements`. After a fault
+//! of a read nothing is kept, since what was changed before may be undone.
 
-ghost use Rattle.std.specs.Prelude.{◌≡◌, ◌≤◌, ◌<◌, ◌↔◌, ⊤, ℕ, Bool, List, Option, length, option_map, pos, true, Some, Err, IfOk, IfSome, IsTrue, OnErr, OnOk};
-ghost use Rattle.std.specs.FinMap.{get, values};
-ghost use Rattle.std.specs.List.{AllByRecursion};
+ghost use Rattle.std.specs.Prelude.{◌≡◌, ◌≤◌, ◌<◌, Option, length, option_map, Some, Err, IfOk, IfSome, IsTrue, OnErr, OnOk};
+ghost use Rattle.std.specs.FinMap.{get};
 ghost use Rattle.sqlite.specs.Held.{state};
 ghost use Rattle.sqlite.specs.State.{HasCleanDisk, Survives};
-ghost use Rattle.account_rules.specs.Devices.{Devices, is_some_on};
-ghost use Rattle.account_rules.specs.Limits.{most_pages, most_unfinished, most_units, IsRate};
-ghost use Rattle.account_state.specs.Documents.{documents_of};
-ghost use Rattle.account_state.specs.Queues.{at_most, completed, not_completed};
+ghost use Rattle.account_rules.specs.Limits.{most_unfinished, most_units};
 ghost use Rattle.account_state.specs.RoomRules.{unfinished_count};
-ghost use Rattle.account_state.specs.Sums.{charged_in, granted_to, has_processing, reserved_in};
-ghost use Rattle.account_state.specs.Tallies.{tally_of};
+ghost use Rattle.account_state.specs.Sums.{charged_in, reserved_in};
 ghost use Rattle.rows_statements.specs.JobSums.{IsCounted};
-ghost use Rattle.rows_statements.specs.Documents.{IsDocumentOf};
 ghost use Rattle.rows_statements.specs.Prelude.{HoldsRoom, IfOurTables, IsRowOf, ReadsStore, RoomValue};
-ghost use Rattle.rows_statements.specs.Queues.{by_falling_end, by_rising_number, IsNumbered};
-ghost use Rattle.rows_statements.specs.SoundRows.{AreRowsOf, CanBeAdded, CanBeCounted, FirstAreRowsOf, device_rows, document_rows, ended_rows, grant_rows, job_rows, unfinished_rows};
+ghost use Rattle.rows_statements.specs.Queues.{IsNumbered};
+ghost use Rattle.rows_statements.specs.SoundRows.{CanBeCounted, job_rows, unfinished_rows};
 ghost use Rattle.store_rounds.specs.Kept.{HasCount, HasRow, HasSums, HaveSums};
 ghost use Rattle.store_rounds.specs.ProofKnown.{HasAccountRow, HasJobRow};
 ghost use Rattle.store_rounds.specs.Reading.{JobIsReadable};
-ghost use Rattle.store_rounds.specs.Looks.{LooksUp, WasOpen};
-ghost use Rattle.rows_tables.specs.Accounts.{IsAccount, account_at, grant_at, job_at};
+ghost use Rattle.store_rounds.specs.Looks.{LooksUp};
+ghost use Rattle.rows_tables.specs.Accounts.{IsAccount, account_at};
 ghost use Rattle.rows_tables.specs.Calls.{IsUnchanged, IsUndone};
-ghost use Rattle.rows_tables.specs.Cells.{account_cells, document_cells, grant_cells, job_cells, on_cells, units_cells};
-ghost use Rattle.rows_tables.specs.Devices.{HoldsDevices, device_at, rate_at};
+ghost use Rattle.rows_tables.specs.Cells.{account_cells};
 
 use crate::kept::{Kept, Sums};
-use crate::rounds::{Rounds, note_settled};
+use crate::rounds::{Rounds, note_committed};
 use crate::{knocking, lookup};
-use account_rules::{Account, Document, Job, Name};
-use account_state::Tally;
-use ipp_coding::List;
+use account_rules::{Account, Job, Name};
+use rows_statements::{Gather, Reads};
 use rows_tables::TableFault;
-use sqlite::{Alter, Connection};
+use sqlite::{Alter, Connection, Error, Row};
+use sqlite_value::value::ValueRef;
 use std::alloc::Global;
+
+impl<S: Alter> Reads for Rounds<S> {
+    type S = S;
+
+    ghost held = { λ rounds. rounds };
+
+    fn find_row(&mut self, text: &str, params: &[ValueRef<'_>]) -> Result<Option<Row>, Error> {
+        note_committed(&self.connection);
+        let found = self.connection.find_row(text, params);
+        self.kept.forget_after_fault(&found);
+        found
+    }
+
+    fn walk<G: Gather>(
+        &mut self,
+        text: &str,
+        params: &[ValueRef<'_>],
+        gathered: &mut G,
+    ) -> Result<(), TableFault> {
+        note_committed(&self.connection);
+        let walked = self.connection.walk(text, params, gathered);
+        self.kept.forget_after_fault(&walked);
+        walked
+    }
+}
 
 /// The account's own row, from memory or from its table. `None` where the account is not open;
 /// `Damaged` where its row is broken.
@@ -53,7 +72,7 @@ pub fn find_account<S: Alter>(
         → IsRowOf (account_cells account) IsAccount (account_at db account) → ⊥) }
     ensures reads { ReadsStore S.Store connection.old connection.new result }
 {
-    note_settled(&connection.connection);
+    note_committed(&connection.connection);
     let known = row(connection.is_ours, &connection.kept, account);
     let found = find_knowing(&mut connection.connection, account, known);
     connection.kept.keep_account(account, &found);
@@ -104,159 +123,9 @@ pub fn look_up<S: Alter>(
         (λ db. result ≡ Err TableFault.Damaged → JobIsReadable account number db → ⊥) }
     ensures looks { LooksUp S.Store connection.old connection.new result }
 {
-    note_settled(&connection.connection);
+    note_committed(&connection.connection);
     let found = lookup::look_up(&mut connection.connection, account, number);
     connection.kept.keep_job(account, number, &found);
-    found
-}
-
-/// Reads whether the device takes jobs now. `None` where no device has the name; `Damaged` where
-/// its row is broken.
-pub fn find_device<S: Alter>(
-    connection: &mut Rounds<S>,
-    name: Name,
-) -> Result<Option<bool>, TableFault>
-    ensures found { IfOurTables S.Store connection.old connection.new
-        (λ db. IfOk result (λ found. device_at db name ≡ option_map (on_cells name) found)) }
-    ensures damaged { IfOurTables S.Store connection.old connection.new (λ db.
-        result ≡ Err TableFault.Damaged
-        → IsRowOf (on_cells name) (λ _. ⊤) (device_at db name) → ⊥) }
-    ensures reads { ReadsStore S.Store connection.old connection.new result }
-{
-    note_settled(&connection.connection);
-    let found = rows_statements::find_device(&mut connection.connection, name);
-    connection.kept.forget_after_fault(&found);
-    found
-}
-
-/// Whether any device takes jobs now. `Damaged` where a row is broken.
-pub fn is_device_on<S: Alter>(connection: &mut Rounds<S>) -> Result<bool, TableFault>
-    ensures found { IfOurTables S.Store connection.old connection.new (λ db. IfOk result
-        (λ on. IsTrue on ↔ ((name : List ℕ) × (device_at db name ≡ Some (on_cells name true))))) }
-    ensures of_map { IfOurTables S.Store connection.old connection.new (λ db. IfOk result
-        (λ on. (devices : Devices) → HoldsDevices db devices → on ≡ is_some_on devices)) }
-    ensures damaged { IfOurTables S.Store connection.old connection.new (λ db.
-        result ≡ Err TableFault.Damaged
-        → AreRowsOf (λ (it : List ℕ × Bool). on_cells it.0 it.1) (λ _. ⊤) (device_rows db) → ⊥) }
-    ensures reads { ReadsStore S.Store connection.old connection.new result }
-{
-    note_settled(&connection.connection);
-    let found = rows_statements::is_device_on(&mut connection.connection);
-    connection.kept.forget_after_fault(&found);
-    found
-}
-
-/// Reads the units, 1 to 100, that an impression counts on the device. `None` where it has no rate;
-/// `Damaged` where the row is broken.
-pub fn find_rate<S: Alter>(
-    connection: &mut Rounds<S>,
-    name: Name,
-) -> Result<Option<u32>, TableFault>
-    ensures found { IfOurTables S.Store connection.old connection.new
-        (λ db. IfOk result (λ found. rate_at db name ≡ option_map (units_cells name) found)) }
-    ensures in_range { IfOk result
-        (λ found. IfSome found IsRate) }
-    ensures damaged { IfOurTables S.Store connection.old connection.new (λ db.
-        result ≡ Err TableFault.Damaged
-        → IsRowOf (units_cells name) IsRate (rate_at db name)
-        → ⊥) }
-    ensures reads { ReadsStore S.Store connection.old connection.new result }
-{
-    note_settled(&connection.connection);
-    let found = rows_statements::find_rate(&mut connection.connection, name);
-    connection.kept.forget_after_fault(&found);
-    found
-}
-
-/// Reads the documents of a job, by rising number. `Damaged` where a row is broken.
-pub fn find_documents<S: Alter>(
-    alloc: Global,
-    connection: &mut Rounds<S>,
-    account: Name,
-    job: u32,
-) -> Result<List<Document>, TableFault>
-    ensures listed { IfOurTables S.Store connection.old connection.new (λ db. (room : RoomValue)
-        → HoldsRoom db account room
-        → IfOk result (λ documents. documents ≡ documents_of room job)) }
-    ensures damaged { IfOurTables S.Store connection.old connection.new (λ db.
-        result ≡ Err TableFault.Damaged
-        → AreRowsOf (document_cells account) (IsDocumentOf job)
-        (document_rows db account job) → ⊥) }
-    ensures reads { ReadsStore S.Store connection.old connection.new result }
-{
-    note_settled(&connection.connection);
-    let found = rows_statements::find_documents(alloc, &mut connection.connection, account, job);
-    connection.kept.forget_after_fault(&found);
-    found
-}
-
-/// Reads the pages that the account was granted in the month. `None` where that has no grant;
-/// `Damaged` where the row is broken.
-pub fn find_grant<S: Alter>(
-    connection: &mut Rounds<S>,
-    account: Name,
-    month: u32,
-) -> Result<Option<u32>, TableFault>
-    ensures found { IfOurTables S.Store connection.old connection.new (λ db. IfOk result
-        (λ found. grant_at db account (pos month) ≡ option_map (grant_cells account month) found)) }
-    ensures in_range { IfOk result (λ found. IfSome found (λ pages. pages ≤ most_pages)) }
-    ensures damaged { IfOurTables S.Store connection.old connection.new (λ db.
-        result ≡ Err TableFault.Damaged
-        → IsRowOf (grant_cells account month) (λ pages. pages ≤ most_pages)
-        (grant_at db account (pos month)) → ⊥) }
-    ensures reads { ReadsStore S.Store connection.old connection.new result }
-{
-    note_settled(&connection.connection);
-    let found = rows_statements::find_grant(&mut connection.connection, account, month);
-    connection.kept.forget_after_fault(&found);
-    found
-}
-
-/// Adds up the pages that the account was granted for all months up to and with the given one.
-/// `Damaged` where a row is broken, or the sum is more than an account can have.
-pub fn granted_to<S: Alter>(
-    connection: &mut Rounds<S>,
-    account: Name,
-    month: u32,
-) -> Result<u64, TableFault>
-    ensures granted { IfOurTables S.Store connection.old connection.new (λ db. (room : RoomValue)
-        → HoldsRoom db account room → IfOk result (λ pages. pages ≡ granted_to room month)) }
-    ensures in_range { IfOk result (λ pages. pages ≤ most_units) }
-    ensures damaged { IfOurTables S.Store connection.old connection.new
-        (λ db. result ≡ Err TableFault.Damaged
-        → CanBeAdded account month (grant_rows db account) → ⊥) }
-    ensures reads { ReadsStore S.Store connection.old connection.new result }
-{
-    note_settled(&connection.connection);
-    let found = rows_statements::granted_to(&mut connection.connection, account, month);
-    connection.kept.forget_after_fault(&found);
-    found
-}
-
-/// Tallies the unfinished jobs of the account, for Get-Printer-Attributes: how many there are, and
-/// whether one is processing. `Damaged` where a row is broken, or there are more than an account
-/// may have.
-pub fn tally_unfinished<S: Alter>(
-    connection: &mut Rounds<S>,
-    account: Name,
-) -> Result<Tally, TableFault>
-    ensures counted { IfOurTables S.Store connection.old connection.new (λ db.
-        (room : RoomValue) → HoldsRoom db account room
-        → IfOk result (λ tally. tally ≡ tally_of (not_completed (values room.jobs)))) }
-    ensures queue { IfOurTables S.Store connection.old connection.new (λ db.
-        (room : RoomValue) → HoldsRoom db account room → IfOk result (λ tally.
-        (tally.unfinished ≡ unfinished_count room) × (tally.is_processing ≡ has_processing room))) }
-    ensures few { IfOk result (λ tally. tally.unfinished ≤ most_unfinished) }
-    ensures bounds { IfOk result
-        (λ tally. (tally.reserved ≤ most_units) × (tally.charged ≤ most_units)) }
-    ensures damaged { IfOurTables S.Store connection.old connection.new
-        (λ db. result ≡ Err TableFault.Damaged
-        → CanBeCounted account (unfinished_rows db account) → ⊥) }
-    ensures reads { ReadsStore S.Store connection.old connection.new result }
-{
-    note_settled(&connection.connection);
-    let found = rows_statements::tally_unfinished(&mut connection.connection, account);
-    connection.kept.forget_after_fault(&found);
     found
 }
 
@@ -276,7 +145,7 @@ pub fn count_unfinished<S: Alter>(
         → most_unfinished < length (unfinished_rows db account)) }
     ensures reads { ReadsStore S.Store connection.old connection.new result }
 {
-    note_settled(&connection.connection);
+    note_committed(&connection.connection);
     let known = unfinished(connection.is_ours, &connection.kept, account);
     let found = count_knowing(&mut connection.connection, account, known);
     connection.kept.keep_count(account, &found);
@@ -308,55 +177,6 @@ fn count_knowing<S: Alter>(
     }
 }
 
-/// Reads the jobs of the account that have not ended, by rising number: the first `limit` of them,
-/// or all. `Damaged` where one of their rows is broken.
-pub fn unfinished_jobs<S: Alter>(
-    alloc: Global,
-    connection: &mut Rounds<S>,
-    account: Name,
-    limit: Option<u32>,
-) -> Result<List<Job>, TableFault>
-    ensures listed { IfOurTables S.Store connection.old connection.new (λ db.
-        (room : RoomValue) → HoldsRoom db account room
-        → IfOk result (λ jobs. jobs ≡ at_most limit (not_completed (values room.jobs)))) }
-    ensures numbered { IfOk result (AllByRecursion IsNumbered) }
-    ensures damaged { IfOurTables S.Store connection.old connection.new (λ db.
-        result ≡ Err TableFault.Damaged
-        → FirstAreRowsOf (job_cells account) IsNumbered by_rising_number limit
-        (unfinished_rows db account) → ⊥) }
-    ensures reads { ReadsStore S.Store connection.old connection.new result }
-{
-    note_settled(&connection.connection);
-    let found = rows_statements::unfinished_jobs(alloc, &mut connection.connection, account, limit);
-    connection.kept.forget_after_fault(&found);
-    found
-}
-
-/// Reads the jobs of the account that have ended, the last to end first; of those that ended at one
-/// moment the highest number is first. It reads the first `limit` of them, or all. `Damaged` where
-/// one of their rows is broken.
-pub fn ended_jobs<S: Alter>(
-    alloc: Global,
-    connection: &mut Rounds<S>,
-    account: Name,
-    limit: Option<u32>,
-) -> Result<List<Job>, TableFault>
-    ensures listed { IfOurTables S.Store connection.old connection.new (λ db.
-        (room : RoomValue) → HoldsRoom db account room
-        → IfOk result (λ jobs. jobs ≡ at_most limit (completed (values room.jobs)))) }
-    ensures numbered { IfOk result (AllByRecursion IsNumbered) }
-    ensures damaged { IfOurTables S.Store connection.old connection.new (λ db.
-        result ≡ Err TableFault.Damaged
-        → FirstAreRowsOf (job_cells account) IsNumbered by_falling_end limit
-        (ended_rows db account) → ⊥) }
-    ensures reads { ReadsStore S.Store connection.old connection.new result }
-{
-    note_settled(&connection.connection);
-    let found = rows_statements::ended_jobs(alloc, &mut connection.connection, account, limit);
-    connection.kept.forget_after_fault(&found);
-    found
-}
-
 /// What all jobs of the account reserve and were charged, from memory or added up. `Damaged` where
 /// a row is broken, or a sum is more than an account can have.
 pub fn sum_up<S: Alter>(connection: &mut Rounds<S>, account: Name) -> Result<Sums, TableFault>
@@ -370,7 +190,7 @@ pub fn sum_up<S: Alter>(connection: &mut Rounds<S>, account: Name) -> Result<Sum
         (λ db. result ≡ Err TableFault.Damaged → CanBeCounted account (job_rows db account) → ⊥) }
     ensures reads { ReadsStore S.Store connection.old connection.new result }
 {
-    note_settled(&connection.connection);
+    note_committed(&connection.connection);
     let known = sums(connection.is_ours, &connection.kept, account);
     let found = sums_knowing(&mut connection.connection, account, known);
     connection.kept.keep_sums(account, &found);
@@ -468,7 +288,7 @@ pub fn knock<S: Alter>(connection: &mut Rounds<S>) -> Result<(), TableFault>
         (λ _. ⊥) }
     ensures damaged { result ≡ Err TableFault.Damaged → ⊥ }
 {
-    note_settled(&connection.connection);
+    note_committed(&connection.connection);
     let found = knocking::knock(&mut connection.connection);
     connection.kept.forget_after_fault(&found);
     found
@@ -488,7 +308,7 @@ pub fn ready<S: Alter>(alloc: Global, connection: &mut Rounds<S>) -> Result<(), 
         (λ _. ⊥) }
     ensures damaged { result ≡ Err TableFault.Damaged → ⊥ }
 {
-    note_settled(&connection.connection);
+    note_committed(&connection.connection);
     let found = knocking::knock(&mut connection.connection);
     connection.kept.forget_after_fault(&found);
     connection.kept.open(alloc);

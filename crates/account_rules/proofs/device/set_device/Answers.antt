@@ -3,13 +3,13 @@ use Rattle.account_rules.specs.Devices.{is_of_name, device_map}
 use Rattle.account_rules.proofs.DeviceLemmas.{device_known, device_new, is_known, is_unknown}
 use Rattle.account_rules.proofs.device.set_device.Goals as goal
 
-pub returns-in-Some-clause-turned : goal.returns-in-Some-clause-turned
-returns-in-Some-clause-turned c =
+pub returns-in-Some-clause-switched : goal.returns-in-Some-clause-switched
+returns-in-Some-clause-switched c =
     device_known c.args.name c.args.devices.now.items c.in-Some.place c.index_mut.result.now c.args.on
     (sym (c.in-Some.ensures ∙ ap (position (is_of_name c.args.name)) c.as_slice.ensures.value)) c.index_mut.ensures.value
 
-pub returns-in_ok-push-in-None-clause-turned : goal.returns-in_ok-push-in-None-clause-turned
-returns-in_ok-push-in-None-clause-turned c =
+pub returns-in_ok-push-in-None-clause-switched : goal.returns-in_ok-push-in-None-clause-switched
+returns-in_ok-push-in-None-clause-switched c =
     ap device_map c.in_ok-push-in-None.ensures.items
     ∙ device_new c.args.name c.args.devices.now.items c.args.on (sym (c.in-None.ensures ∙ ap (position (is_of_name c.args.name)) c.as_slice.ensures.value))
 

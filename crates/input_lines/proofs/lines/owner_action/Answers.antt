@@ -1,5 +1,5 @@
 use Rattle.std.proofs.Common.{◌∷◌, [], refl, subst, sym}
-use Rattle.input_lines.specs.Saying.{SaysNumber}
+use Rattle.input_fields.specs.Fields.{SaysNumber}
 use Rattle.input_lines.proofs.lines.owner_action.Goals as goal
 
 pub returns-in-Ok-clause-said : goal.returns-in-Ok-clause-said

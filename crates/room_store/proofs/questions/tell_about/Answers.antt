@@ -33,9 +33,9 @@ returns-in-Statement g c = record {
 
 pub returns-in-Jobs : goal.returns-in-Jobs
 returns-in-Jobs g c = record {
-  told = told_as g.S.Store c.args.connection.now c.tell_jobs.new.connection c.args.account c.tell_jobs.result c.in-Jobs.is c.tell_jobs.ensures.told;
-  damaged = damaged_as g.S.Store c.args.connection.now c.tell_jobs.new.connection c.args.account c.tell_jobs.result c.in-Jobs.is c.tell_jobs.ensures.damaged;
-  looks = c.tell_jobs.ensures.looks;
+  told = told_as g.S.Store c.args.connection.now c.tell_unfinished.new.connection c.args.account c.tell_unfinished.result c.in-Jobs.is c.tell_unfinished.ensures.told;
+  damaged = damaged_as g.S.Store c.args.connection.now c.tell_unfinished.new.connection c.args.account c.tell_unfinished.result c.in-Jobs.is c.tell_unfinished.ensures.damaged;
+  looks = c.tell_unfinished.ensures.looks;
 }
 
 pub returns-in-Ended : goal.returns-in-Ended

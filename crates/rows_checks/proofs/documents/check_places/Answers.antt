@@ -17,18 +17,18 @@ use Rattle.rows_checks.proofs.documents.check_places.Goals as goal
 
 pub returns-in_err-walk_places-clause-damaged : goal.returns-in_err-walk_places-clause-damaged
 returns-in_err-walk_places-clause-damaged g c clean has is_damaged sound =
-    let db = (state g.S.Store c.args.connection.now).now in
+    let db = (state g.R.S.Store (g.R.Reads.held c.args.connection.now)).now in
     let told = err_from_is_err_and c.from_residual.result c.from_residual.ensures.1 in
     let fault : c.in_err-walk_places.field-0.0 ≡ Damaged = sym told.2 ∙ same_fault (sym told.1 ∙ is_damaged) in
     places_told db has c.args.account sound _ ((c.in_err-walk_places.ensures.walks clean has).damaged (ap Err fault))
 
 pub loop-job-preserved : goal.loop-job-preserved
 loop-job-preserved g c =
-    let db = (state g.S.Store c.args.connection.now).now in
-    let before : HasCleanDisk (state g.S.Store c.check_place.new.connection) → HasCleanDisk (state g.S.Store c.loop-job.connection) = λ clean. omega (arith, c.in_ok-check_place.ensures.reads.keeps.clean, clean) in
+    let db = (state g.R.S.Store (g.R.Reads.held c.args.connection.now)).now in
+    let before : HasCleanDisk (state g.R.S.Store (g.R.Reads.held c.check_place.new.connection)) → HasCleanDisk (state g.R.S.Store (g.R.Reads.held c.loop-job.connection)) = λ clean. omega (arith, c.in_ok-check_place.ensures.reads.keeps.clean, clean) in
     let all = c.as_slice-job-items.result.now in
     let item = get_or all c.loop-job.job-index (0, 0) in (
-      reads_again g.S.Store c.args.connection.now c.loop-job.connection c.check_place.new.connection tt (Ok tt) c.loop-job.invariant.0 c.in_ok-check_place.ensures.reads,
+      reads_again g.R.S.Store (g.R.Reads.held c.args.connection.now) (g.R.Reads.held c.loop-job.connection) (g.R.Reads.held c.check_place.new.connection) tt (Ok tt) c.loop-job.invariant.0 c.in_ok-check_place.ensures.reads,
       λ clean has.
           let same = (c.loop-job.invariant.0.same (before clean) has).now in
           subst (AllByRecursion (λ (place : ℕ × ℕ). DocumentIsInOrder db c.args.account place.0 place.1)) (sym (take_more all c.loop-job.job-index (0, 0) c.loop-job-test.true))
@@ -39,7 +39,7 @@ loop-job-preserved g c =
 
 pub returns-clause-in_order : goal.returns-clause-in_order
 returns-clause-in_order g c clean has =
-    let db = (state g.S.Store c.args.connection.now).now in
+    let db = (state g.R.S.Store (g.R.Reads.held c.args.connection.now)).now in
     let all = c.as_slice-job-items.result.now in
     let told = take_all c.loop-job.job-index all c.loop-job-test.false ∙ c.as_slice-job-items.ensures in
     documents_in_order db has c.args.account _ c.walk_places.new.gathered ((c.in_ok-walk_places.ensures.walks (c.loop-job.invariant.2 clean) has).all)

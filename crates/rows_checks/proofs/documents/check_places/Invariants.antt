@@ -10,7 +10,7 @@ use Rattle.rows_checks.proofs.documents.check_places.Given as goal
 
 abbrev pub invariant-loop-job : goal.invariant-loop-job
 invariant-loop-job g l =
-    let old = state g.S.Store l.fn.connection in
-    ReadsStore g.S.Store l.fn.connection l.connection {T = Unit {0}} {E = TableFault} (Ok tt)
-    × (HasCleanDisk (state g.S.Store l.connection) → HasSchema old.now → AllByRecursion (λ (place : ℕ × ℕ). DocumentIsInOrder old.now l.account place.0 place.1) (take l.job-index l.job-items))
-    × (HasCleanDisk (state g.S.Store l.connection) → HasCleanDisk (state g.S.Store l.initial.connection))
+    let old = state g.R.S.Store (g.R.Reads.held l.fn.connection) in
+    ReadsStore g.R.S.Store (g.R.Reads.held l.fn.connection) (g.R.Reads.held l.connection) {T = Unit {0}} {E = TableFault} (Ok tt)
+    × (HasCleanDisk (state g.R.S.Store (g.R.Reads.held l.connection)) → HasSchema old.now → AllByRecursion (λ (place : ℕ × ℕ). DocumentIsInOrder old.now l.account place.0 place.1) (take l.job-index l.job-items))
+    × (HasCleanDisk (state g.R.S.Store (g.R.Reads.held l.connection)) → HasCleanDisk (state g.R.S.Store (g.R.Reads.held l.initial.connection)))

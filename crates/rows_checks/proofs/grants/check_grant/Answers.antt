@@ -10,4 +10,4 @@ pub returns-in_err-find_grant-clause-damaged : goal.returns-in_err-find_grant-cl
 returns-in_err-find_grant-clause-damaged g c clean has is_damaged sound =
     let told = err_from_is_err_and c.from_residual.result c.from_residual.ensures.1 in
     let fault : c.in_err-find_grant.field-0.0 ≡ Damaged = sym told.2 ∙ same_fault (sym told.1 ∙ is_damaged) in
-    c.in_err-find_grant.ensures.damaged clean has (ap Err fault) (grant_read (state g.S.Store c.args.connection.now).now c.args.account c.args.month sound)
+    c.in_err-find_grant.ensures.damaged clean has (ap Err fault) (grant_read (state g.R.S.Store (g.R.Reads.held c.args.connection.now)).now c.args.account c.args.month sound)

@@ -9,7 +9,7 @@ use Rattle.rows_checks.proofs.jobs.check_job.Given as goal
 
 abbrev pub invariant-loop-before : goal.invariant-loop-before
 invariant-loop-before g l =
-    let old = state g.S.Store l.fn.connection in
-    ReadsStore g.S.Store l.fn.connection l.connection {T = Unit {0}} {E = TableFault} (Ok tt)
-    × (HasCleanDisk (state g.S.Store l.connection) → HasSchema old.now → AreDocumentsThere old.now l.account l.number l.before)
-    × (HasCleanDisk (state g.S.Store l.connection) → HasCleanDisk (state g.S.Store l.initial.connection))
+    let old = state g.R.S.Store (g.R.Reads.held l.fn.connection) in
+    ReadsStore g.R.S.Store (g.R.Reads.held l.fn.connection) (g.R.Reads.held l.connection) {T = Unit {0}} {E = TableFault} (Ok tt)
+    × (HasCleanDisk (state g.R.S.Store (g.R.Reads.held l.connection)) → HasSchema old.now → AreDocumentsThere old.now l.account l.number l.before)
+    × (HasCleanDisk (state g.R.S.Store (g.R.Reads.held l.connection)) → HasCleanDisk (state g.R.S.Store (g.R.Reads.held l.initial.connection)))

@@ -17,18 +17,18 @@ use Rattle.rows_checks.proofs.jobs.check_jobs.Goals as goal
 
 pub returns-in_err-walk_jobs-clause-damaged : goal.returns-in_err-walk_jobs-clause-damaged
 returns-in_err-walk_jobs-clause-damaged g c clean has is_damaged room held next =
-    let db = (state g.S.Store c.args.connection.now).now in
+    let db = (state g.R.S.Store (g.R.Reads.held c.args.connection.now)).now in
     let told = err_from_is_err_and c.from_residual.result c.from_residual.ensures.1 in
     let fault : c.in_err-walk_jobs.field-0.0 ≡ Damaged = sym told.2 ∙ same_fault (sym told.1 ∙ is_damaged) in
     jobs_told db has c.args.account room held _ ((c.in_err-walk_jobs.ensures.walks clean has).damaged (ap Err fault))
 
 pub loop-number-preserved : goal.loop-number-preserved
 loop-number-preserved g c =
-    let db = (state g.S.Store c.args.connection.now).now in
-    let before : HasCleanDisk (state g.S.Store c.check_job.new.connection) → HasCleanDisk (state g.S.Store c.loop-number.connection) = λ clean. omega (arith, c.in_ok-check_job.ensures.reads.keeps.clean, clean) in
+    let db = (state g.R.S.Store (g.R.Reads.held c.args.connection.now)).now in
+    let before : HasCleanDisk (state g.R.S.Store (g.R.Reads.held c.check_job.new.connection)) → HasCleanDisk (state g.R.S.Store (g.R.Reads.held c.loop-number.connection)) = λ clean. omega (arith, c.in_ok-check_job.ensures.reads.keeps.clean, clean) in
     let all = c.as_slice-number-items.result.now in
     let item = get_or all c.loop-number.number-index 0 in (
-      reads_again g.S.Store c.args.connection.now c.loop-number.connection c.check_job.new.connection tt (Ok tt) c.loop-number.invariant.0 c.in_ok-check_job.ensures.reads,
+      reads_again g.R.S.Store (g.R.Reads.held c.args.connection.now) (g.R.Reads.held c.loop-number.connection) (g.R.Reads.held c.check_job.new.connection) tt (Ok tt) c.loop-number.invariant.0 c.in_ok-check_job.ensures.reads,
       λ clean has.
           let same = (c.loop-number.invariant.0.same (before clean) has).now in
           subst (AllByRecursion (JobIsInOrder db c.args.account c.args.next_job)) (sym (take_more all c.loop-number.number-index 0 c.loop-number-test.true))
@@ -39,7 +39,7 @@ loop-number-preserved g c =
 
 pub returns-clause-in_order : goal.returns-clause-in_order
 returns-clause-in_order g c clean has =
-    let db = (state g.S.Store c.args.connection.now).now in
+    let db = (state g.R.S.Store (g.R.Reads.held c.args.connection.now)).now in
     let all = c.as_slice-number-items.result.now in
     let told = take_all c.loop-number.number-index all c.loop-number-test.false ∙ c.as_slice-number-items.ensures in
     jobs_in_order db has c.args.account c.args.next_job _ c.walk_jobs.new.gathered ((c.in_ok-walk_jobs.ensures.walks (c.loop-number.invariant.2 clean) has).all)

@@ -10,7 +10,7 @@ use Rattle.rows_checks.proofs.jobs.check_jobs.Given as goal
 
 abbrev pub invariant-loop-number : goal.invariant-loop-number
 invariant-loop-number g l =
-    let old = state g.S.Store l.fn.connection in
-    ReadsStore g.S.Store l.fn.connection l.connection {T = Unit {0}} {E = TableFault} (Ok tt)
-    × (HasCleanDisk (state g.S.Store l.connection) → HasSchema old.now → AllByRecursion (JobIsInOrder old.now l.account l.next_job) (take l.number-index l.number-items))
-    × (HasCleanDisk (state g.S.Store l.connection) → HasCleanDisk (state g.S.Store l.initial.connection))
+    let old = state g.R.S.Store (g.R.Reads.held l.fn.connection) in
+    ReadsStore g.R.S.Store (g.R.Reads.held l.fn.connection) (g.R.Reads.held l.connection) {T = Unit {0}} {E = TableFault} (Ok tt)
+    × (HasCleanDisk (state g.R.S.Store (g.R.Reads.held l.connection)) → HasSchema old.now → AllByRecursion (JobIsInOrder old.now l.account l.next_job) (take l.number-index l.number-items))
+    × (HasCleanDisk (state g.R.S.Store (g.R.Reads.held l.connection)) → HasCleanDisk (state g.R.S.Store (g.R.Reads.held l.initial.connection)))

@@ -9,7 +9,11 @@ use Rattle.rows_checks.proofs.keys.walk_jobs.Goals as goal
 
 pub returns-clause-walks : goal.returns-clause-walks
 returns-clause-walks g c clean has =
-    let old = state g.S.Store c.args.connection.now in
+    let old = state g.R.S.Store (g.R.Reads.held c.args.connection.now) in
     let means = subst (λ s. Means s jobs_text (of_table job_tree key_tests number_shows []) jobs_names 1) (sym has.schema_is) jobs_is in
     let takes = subst (λ s. TakesParams s (of_table job_tree key_tests number_shows []) (Text c.args.account ∷ []) 1) (sym has.schema_is) (jobs_takes c.args.account) in
     rw (jobs_shown c.args.account old.now) at (in_some_order _ _ old _ _ _ job_tree key_tests number_shows (Text c.args.account ∷ []) c.walk.result ((rw c.bytes.ensures.value at (c.walk.ensures.walks clean)) (of_table job_tree key_tests number_shows []) jobs_names 1 (record { ungrouped = refl; unfolded = refl }) means takes))
+
+pub walk-requires : goal.walk-requires
+walk-requires g c =
+    rw c.bytes.ensures.value (record { query = (of_table job_tree key_tests number_shows []); no_sums = record { ungrouped = refl; unfolded = refl }; names = jobs_names; parameters = 1; means = jobs_is; takes = (jobs_takes c.args.account) })

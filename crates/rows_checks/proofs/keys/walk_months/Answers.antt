@@ -9,7 +9,11 @@ use Rattle.rows_checks.proofs.keys.walk_months.Goals as goal
 
 pub returns-clause-walks : goal.returns-clause-walks
 returns-clause-walks g c clean has =
-    let old = state g.S.Store c.args.connection.now in
+    let old = state g.R.S.Store (g.R.Reads.held c.args.connection.now) in
     let means = subst (λ s. Means s months_text (of_table grants_tree key_tests number_shows []) months_names 1) (sym has.schema_is) months_is in
     let takes = subst (λ s. TakesParams s (of_table grants_tree key_tests number_shows []) (Text c.args.account ∷ []) 1) (sym has.schema_is) (months_takes c.args.account) in
     rw (months_shown c.args.account old.now) at (in_some_order _ _ old _ _ _ grants_tree key_tests number_shows (Text c.args.account ∷ []) c.walk.result ((rw c.bytes.ensures.value at (c.walk.ensures.walks clean)) (of_table grants_tree key_tests number_shows []) months_names 1 (record { ungrouped = refl; unfolded = refl }) means takes))
+
+pub walk-requires : goal.walk-requires
+walk-requires g c =
+    rw c.bytes.ensures.value (record { query = (of_table grants_tree key_tests number_shows []); no_sums = record { ungrouped = refl; unfolded = refl }; names = months_names; parameters = 1; means = months_is; takes = (months_takes c.args.account) })

@@ -20,7 +20,7 @@ pub returns-in_err-walk_switches-clause-damaged : goal.returns-in_err-walk_switc
 returns-in_err-walk_switches-clause-damaged g c clean has is_damaged =
     let told = err_from_is_err_and c.from_residual.result c.from_residual.ensures.1 in
     let fault : c.in_err-walk_switches.field-0.0 ≡ Damaged = sym told.2 ∙ same_fault (sym told.1 ∙ is_damaged) in
-    switches_unsound (state g.S.Store c.args.connection.now).now has _ ((c.in_err-walk_switches.ensures.walks clean has).damaged (ap Err fault))
+    switches_unsound (state g.R.S.Store (g.R.Reads.held c.args.connection.now)).now has _ ((c.in_err-walk_switches.ensures.walks clean has).damaged (ap Err fault))
 
 pub loop-name-init : goal.loop-name-init
 loop-name-init g c = (
@@ -32,16 +32,16 @@ loop-name-init g c = (
     crash = λ clean has. (c.in_ok-walk_switches.ensures.walks clean has).crash;
   },
   ap (map switch_of) c.new-items.ensures.items,
-  λ clean has. subst (AllByRecursion (HasRate (state g.S.Store c.args.connection.now).now)) (sym c.new-items.ensures.items) tt,
+  λ clean has. subst (AllByRecursion (HasRate (state g.R.S.Store (g.R.Reads.held c.args.connection.now)).now)) (sym c.new-items.ensures.items) tt,
   λ clean. clean,
 )
 
 pub returns-in_err-with_rate-clause-damaged : goal.returns-in_err-with_rate-clause-damaged
 returns-in_err-with_rate-clause-damaged g c clean has is_damaged listed =
-    let db = (state g.S.Store c.args.connection.now).now in
+    let db = (state g.R.S.Store (g.R.Reads.held c.args.connection.now)).now in
     let told = err_from_is_err_and c.from_residual-in_err-with_rate.result c.from_residual-in_err-with_rate.ensures.1 in
     let fault : c.in_err-with_rate.field-0.0 ≡ Damaged = sym told.2 ∙ same_fault (sym told.1 ∙ is_damaged) in
-    let before : HasCleanDisk (state g.S.Store c.loop-name.connection) = omega (arith, c.in_err-with_rate.ensures.reads.keeps.clean, clean) in
+    let before : HasCleanDisk (state g.R.S.Store (g.R.Reads.held c.loop-name.connection)) = omega (arith, c.in_err-with_rate.ensures.reads.keeps.clean, clean) in
     let same = (c.loop-name.invariant.0.same before has).now in
     let item = c.loop-name-item.result in
     let there = switches_there db has _ c.walk_switches.new.switches c.new.ensures.items (c.in_ok-walk_switches.ensures.walks (c.loop-name.invariant.3 before) has).all in
@@ -54,24 +54,24 @@ returns-in_err-with_rate-clause-damaged g c clean has is_damaged listed =
 pub returns-in_err-with_rate-clause-reads : goal.returns-in_err-with_rate-clause-reads
 returns-in_err-with_rate-clause-reads g c =
     let told = err_from_is_err_and c.from_residual-in_err-with_rate.result c.from_residual-in_err-with_rate.ensures.1 in
-    failed_as g.S.Store c.args.connection.now c.with_rate.new.connection c.in_err-with_rate.field-0.0 c.from_residual-in_err-with_rate.result told.0 told.1
-    (reads_again g.S.Store c.args.connection.now c.loop-name.connection c.with_rate.new.connection tt (Err c.in_err-with_rate.field-0.0) c.loop-name.invariant.0 c.in_err-with_rate.ensures.reads)
+    failed_as g.R.S.Store (g.R.Reads.held c.args.connection.now) (g.R.Reads.held c.with_rate.new.connection) c.in_err-with_rate.field-0.0 c.from_residual-in_err-with_rate.result told.0 told.1
+    (reads_again g.R.S.Store (g.R.Reads.held c.args.connection.now) (g.R.Reads.held c.loop-name.connection) (g.R.Reads.held c.with_rate.new.connection) tt (Err c.in_err-with_rate.field-0.0) c.loop-name.invariant.0 c.in_err-with_rate.ensures.reads)
 
 pub returns-in_err-push-clause-reads : goal.returns-in_err-push-clause-reads
 returns-in_err-push-clause-reads g c =
     let told = err_from_is_err_and c.from_residual-in_err-push.result c.from_residual-in_err-push.ensures.1 in
-    failed_after g.S.Store c.args.connection.now c.with_rate.new.connection c.in_ok-with_rate.field-0
-    (reads_again g.S.Store c.args.connection.now c.loop-name.connection c.with_rate.new.connection tt (Ok c.in_ok-with_rate.field-0) c.loop-name.invariant.0 c.in_ok-with_rate.ensures.reads) c.from_residual-in_err-push.result told.0 told.1
+    failed_after g.R.S.Store (g.R.Reads.held c.args.connection.now) (g.R.Reads.held c.with_rate.new.connection) c.in_ok-with_rate.field-0
+    (reads_again g.R.S.Store (g.R.Reads.held c.args.connection.now) (g.R.Reads.held c.loop-name.connection) (g.R.Reads.held c.with_rate.new.connection) tt (Ok c.in_ok-with_rate.field-0) c.loop-name.invariant.0 c.in_ok-with_rate.ensures.reads) c.from_residual-in_err-push.result told.0 told.1
 
 pub loop-name-preserved : goal.loop-name-preserved
 loop-name-preserved g c =
-    let db = (state g.S.Store c.args.connection.now).now in
-    let before : HasCleanDisk (state g.S.Store c.with_rate.new.connection) → HasCleanDisk (state g.S.Store c.loop-name.connection) = λ clean. omega (arith, c.in_ok-with_rate.ensures.reads.keeps.clean, clean) in
+    let db = (state g.R.S.Store (g.R.Reads.held c.args.connection.now)).now in
+    let before : HasCleanDisk (state g.R.S.Store (g.R.Reads.held c.with_rate.new.connection)) → HasCleanDisk (state g.R.S.Store (g.R.Reads.held c.loop-name.connection)) = λ clean. omega (arith, c.in_ok-with_rate.ensures.reads.keeps.clean, clean) in
     let device = c.in_ok-with_rate.field-0 in
     let item = c.loop-name-item.result in
     let all = c.as_slice-name-items.result.now in (
-      answered_as g.S.Store c.args.connection.now c.with_rate.new.connection device
-          (reads_again g.S.Store c.args.connection.now c.loop-name.connection c.with_rate.new.connection tt (Ok device) c.loop-name.invariant.0 c.in_ok-with_rate.ensures.reads) tt,
+      answered_as g.R.S.Store (g.R.Reads.held c.args.connection.now) (g.R.Reads.held c.with_rate.new.connection) device
+          (reads_again g.R.S.Store (g.R.Reads.held c.args.connection.now) (g.R.Reads.held c.loop-name.connection) (g.R.Reads.held c.with_rate.new.connection) tt (Ok device) c.loop-name.invariant.0 c.in_ok-with_rate.ensures.reads) tt,
       ap (map switch_of) c.in_ok-push.ensures.items
           ∙ map-append switch_of c.loop-name.items.items (device ∷ [])
           ∙ ap (λ (l : List (List ℕ × Bool)). l ++ switch_of device ∷ []) c.loop-name.invariant.1
@@ -86,11 +86,11 @@ loop-name-preserved g c =
 
 pub returns-clause-listed : goal.returns-clause-listed
 returns-clause-listed g c clean has devices held =
-    let db = (state g.S.Store c.args.connection.now).now in
+    let db = (state g.R.S.Store (g.R.Reads.held c.args.connection.now)).now in
     let all = c.as_slice-name-items.result.now in
     let walked = (c.in_ok-walk_switches.ensures.walks (c.loop-name.invariant.3 clean) has).all in
     let told = c.loop-name.invariant.1 ∙ take_all c.loop-name.name-index all c.loop-name-test.false ∙ c.as_slice-name-items.ensures ∙ switches_listed db has _ c.walk_switches.new.switches c.new.ensures.items walked devices held in
     rated_are db (values devices) c.loop-name.items.items told (values_rated db devices held) (c.loop-name.invariant.2 clean has)
 
 pub returns-clause-reads : goal.returns-clause-reads
-returns-clause-reads g c = answered_as g.S.Store c.args.connection.now c.loop-name.connection tt c.loop-name.invariant.0 c.loop-name.items.items
+returns-clause-reads g c = answered_as g.R.S.Store (g.R.Reads.held c.args.connection.now) (g.R.Reads.held c.loop-name.connection) tt c.loop-name.invariant.0 c.loop-name.items.items

@@ -10,8 +10,8 @@ use Rattle.rows_statements.proofs.device_list.list_devices.Given as goal
 
 abbrev pub invariant-loop-name : goal.invariant-loop-name
 invariant-loop-name g l =
-    let old = state g.S.Store l.fn.connection in
-    ReadsStore g.S.Store l.fn.connection l.connection {T = Unit {0}} {E = TableFault} (Ok tt)
+    let old = state g.R.S.Store (g.R.Reads.held l.fn.connection) in
+    ReadsStore g.R.S.Store (g.R.Reads.held l.fn.connection) (g.R.Reads.held l.connection) {T = Unit {0}} {E = TableFault} (Ok tt)
     × (map switch_of l.items.items ≡ take l.name-index l.name-items)
-    × (HasCleanDisk (state g.S.Store l.connection) → HasSchema old.now → AllByRecursion (HasRate old.now) l.items.items)
-    × (HasCleanDisk (state g.S.Store l.connection) → HasCleanDisk (state g.S.Store l.initial.connection))
+    × (HasCleanDisk (state g.R.S.Store (g.R.Reads.held l.connection)) → HasSchema old.now → AllByRecursion (HasRate old.now) l.items.items)
+    × (HasCleanDisk (state g.R.S.Store (g.R.Reads.held l.connection)) → HasCleanDisk (state g.R.S.Store (g.R.Reads.held l.initial.connection)))

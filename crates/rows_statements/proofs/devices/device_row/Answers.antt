@@ -12,5 +12,9 @@ pub returns-clause-gets : goal.returns-clause-gets
 returns-clause-gets g c clean has =
     let means = subst (λ s. Means s find_text (of_table device_tree tests shows []) names 1) (sym has.schema_is) find_is in
     let takes = subst (λ s. TakesParams s (of_table device_tree tests shows []) (Text c.args.name ∷ []) 1) (sym has.schema_is) (find_takes c.args.name) in
-    gets_row device_in (state g.S.Store c.args.connection.now) (state g.S.Store c.find_row.new.connection) c.args.name has c.find_row.result
+    gets_row device_in (state g.R.S.Store (g.R.Reads.held c.args.connection.now)) (state g.R.S.Store (g.R.Reads.held c.find_row.new.self)) c.args.name has c.find_row.result
     ((rw c.bytes.ensures.value at (c.find_row.ensures.finds clean)) device_tree tests shows names 1 means takes)
+
+pub find_row-requires : goal.find_row-requires
+find_row-requires g c =
+    rw c.bytes.ensures.value (record { tree = device_tree; tests = tests; shows = shows; names = names; parameters = 1; means = find_is; takes = (find_takes c.args.name) })

@@ -12,13 +12,13 @@ pub returns-in_err-walk_devices-clause-damaged : goal.returns-in_err-walk_device
 returns-in_err-walk_devices-clause-damaged g c clean has is_damaged =
     let told = err_from_is_err_and c.from_residual.result c.from_residual.ensures.1 in
     let fault : c.in_err-walk_devices.field-0.0 ≡ Damaged = sym told.2 ∙ same_fault (sym told.1 ∙ is_damaged) in
-    flags_unsound (state g.S.Store c.args.connection.now).now has _ _ ((c.in_err-walk_devices.ensures.walks clean has).damaged (ap Err fault))
+    flags_unsound (state g.R.S.Store (g.R.Reads.held c.args.connection.now)).now has _ _ ((c.in_err-walk_devices.ensures.walks clean has).damaged (ap Err fault))
 
 pub returns-clause-found : goal.returns-clause-found
 returns-clause-found g c clean has =
-    on_exactly (state g.S.Store c.args.connection.now).now has (λ (found : AnyOn). found.is_on) (record { is_on = false }) c.walk_devices.new.found refl (c.in_ok-walk_devices.ensures.walks clean has).all
+    on_exactly (state g.R.S.Store (g.R.Reads.held c.args.connection.now)).now has (λ (found : AnyOn). found.is_on) (record { is_on = false }) c.walk_devices.new.found refl (c.in_ok-walk_devices.ensures.walks clean has).all
 
 pub returns-clause-of_map : goal.returns-clause-of_map
 returns-clause-of_map g c clean has devices =
-    let db = (state g.S.Store c.args.connection.now).now in
+    let db = (state g.R.S.Store (g.R.Reads.held c.args.connection.now)).now in
     tells_some_on db devices c.walk_devices.new.found.is_on (on_exactly db has (λ (found : AnyOn). found.is_on) (record { is_on = false }) c.walk_devices.new.found refl (c.in_ok-walk_devices.ensures.walks clean has).all)

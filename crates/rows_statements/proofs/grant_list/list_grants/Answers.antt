@@ -12,11 +12,11 @@ pub returns-in_err-walk_by_month-clause-damaged : goal.returns-in_err-walk_by_mo
 returns-in_err-walk_by_month-clause-damaged g c clean has is_damaged =
     let told = err_from_is_err_and c.from_residual.result c.from_residual.ensures.1 in
     let fault : c.in_err-walk_by_month.field-0.0 ≡ Damaged = sym told.2 ∙ same_fault (sym told.1 ∙ is_damaged) in
-    list_unsound (state g.S.Store c.args.connection.now).now c.args.account _ ((c.in_err-walk_by_month.ensures.walks clean has).damaged (ap Err fault))
+    list_unsound (state g.R.S.Store (g.R.Reads.held c.args.connection.now)).now c.args.account _ ((c.in_err-walk_by_month.ensures.walks clean has).damaged (ap Err fault))
 
 pub returns-clause-listed : goal.returns-clause-listed
 returns-clause-listed g c clean has room held =
-    grants_listed (state g.S.Store c.args.connection.now).now c.args.account _ room held c.walk_by_month.new.grants c.new.ensures.items (c.in_ok-walk_by_month.ensures.walks clean has).all
+    grants_listed (state g.R.S.Store (g.R.Reads.held c.args.connection.now)).now c.args.account _ room held c.walk_by_month.new.grants c.new.ensures.items (c.in_ok-walk_by_month.ensures.walks clean has).all
 
 pub returns-clause-in_range : goal.returns-clause-in_range
 returns-clause-in_range g c =

@@ -9,7 +9,11 @@ use Rattle.rows_statements.proofs.grants.walk_grants.Goals as goal
 
 pub returns-clause-walks : goal.returns-clause-walks
 returns-clause-walks g c clean has =
-    let old = state g.S.Store c.args.connection.now in
+    let old = state g.R.S.Store (g.R.Reads.held c.args.connection.now) in
     let means = subst (λ s. Means s granted_text (of_table grants_tree granted_tests granted_shows []) granted_names 1) (sym has.schema_is) granted_is in
     let takes = subst (λ s. TakesParams s (of_table grants_tree granted_tests granted_shows []) (Text c.args.account ∷ []) 1) (sym has.schema_is) (granted_takes c.args.account) in
     rw (grants_shown c.args.account old.now) at (in_some_order _ _ old _ _ _ grants_tree granted_tests granted_shows (Text c.args.account ∷ []) c.walk.result ((rw c.bytes.ensures.value at (c.walk.ensures.walks clean)) (of_table grants_tree granted_tests granted_shows []) granted_names 1 (record { ungrouped = refl; unfolded = refl }) means takes))
+
+pub walk-requires : goal.walk-requires
+walk-requires g c =
+    rw c.bytes.ensures.value (record { query = (of_table grants_tree granted_tests granted_shows []); no_sums = record { ungrouped = refl; unfolded = refl }; names = granted_names; parameters = 1; means = granted_is; takes = (granted_takes c.args.account) })

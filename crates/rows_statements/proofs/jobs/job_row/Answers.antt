@@ -11,5 +11,9 @@ pub returns-clause-gets : goal.returns-clause-gets
 returns-clause-gets g c clean has =
     let means = subst (λ s. Means s find_text (of_table job_tree tests shows []) names 2) (sym has.schema_is) find_is in
     let takes = subst (λ s. TakesParams s (of_table job_tree tests shows []) (Text c.args.account ∷ number c.args.job ∷ []) 2) (sym has.schema_is) (find_takes c.args.account c.args.job) in
-    gets_job (state g.S.Store c.args.connection.now) (state g.S.Store c.find_row.new.connection) c.args.account c.args.job has c.find_row.result
+    gets_job (state g.R.S.Store (g.R.Reads.held c.args.connection.now)) (state g.R.S.Store (g.R.Reads.held c.find_row.new.self)) c.args.account c.args.job has c.find_row.result
     ((rw (c.bytes.ensures.value, c.number.ensures) at (c.find_row.ensures.finds clean)) job_tree tests shows names 2 means takes)
+
+pub find_row-requires : goal.find_row-requires
+find_row-requires g c =
+    rw (c.bytes.ensures.value, c.number.ensures) (record { tree = job_tree; tests = tests; shows = shows; names = names; parameters = 2; means = find_is; takes = (find_takes c.args.account c.args.job) })

@@ -2,8 +2,8 @@ use Rattle.std.proofs.Common.{◌≡◌, ◌∙◌, sym, ap, subst, Err}
 use Rattle.std.specs.List.{AllByRecursion}
 use Rattle.std.proofs.lemmas.Result.{err_from_is_err_and}
 use Rattle.sqlite.specs.Held.{state}
-use Rattle.account_state.specs.Queues.{not_completed, at_most}
-use Rattle.account_state.proofs.QueueOrders.{all_not_completed, all_at_most}
+use Rattle.account_state.specs.Queues.{not_completed, first_jobs}
+use Rattle.account_state.proofs.QueueOrders.{all_not_completed, all_first_jobs}
 use Rattle.rows_tables.specs.declared.fault.TableFault.TheVariants.{Damaged}
 use Rattle.rows_tables.proofs.KeyedRows.{same_fault}
 use Rattle.rows_statements.specs.Queues.{by_rising_number, IsNumbered}
@@ -15,12 +15,12 @@ pub returns-in_err-walk_unfinished-clause-damaged : goal.returns-in_err-walk_unf
 returns-in_err-walk_unfinished-clause-damaged g c clean has is_damaged =
     let told = err_from_is_err_and c.from_residual.result c.from_residual.ensures.1 in
     let fault : c.in_err-walk_unfinished.field-0.0 ≡ Damaged = sym told.2 ∙ same_fault (sym told.1 ∙ is_damaged) in
-    jobs_unsound (λ all. at_most c.args.limit (not_completed all)) (λ P all h. all_at_most P c.args.limit (not_completed all) (all_not_completed P all h)) by_rising_number c.args.limit (unfinished_rows (state g.S.Store c.args.connection.now).now c.args.account) (state g.S.Store c.args.connection.now).now c.args.account _
+    jobs_unsound (λ all. first_jobs c.args.limit (not_completed all)) (λ P all h. all_first_jobs P c.args.limit (not_completed all) (all_not_completed P all h)) by_rising_number c.args.limit (unfinished_rows (state g.R.S.Store (g.R.Reads.held c.args.connection.now)).now c.args.account) (state g.R.S.Store (g.R.Reads.held c.args.connection.now)).now c.args.account _
     ((c.in_err-walk_unfinished.ensures.walks clean has).damaged (ap Err fault))
 
 pub returns-clause-listed : goal.returns-clause-listed
 returns-clause-listed g c clean has room held =
-    jobs_listed (λ all. at_most c.args.limit (not_completed all)) (λ P all h. all_at_most P c.args.limit (not_completed all) (all_not_completed P all h)) by_rising_number c.args.limit (unfinished_rows (state g.S.Store c.args.connection.now).now c.args.account) (state g.S.Store c.args.connection.now).now c.args.account
+    jobs_listed (λ all. first_jobs c.args.limit (not_completed all)) (λ P all h. all_first_jobs P c.args.limit (not_completed all) (all_not_completed P all h)) by_rising_number c.args.limit (unfinished_rows (state g.R.S.Store (g.R.Reads.held c.args.connection.now)).now c.args.account) (state g.R.S.Store (g.R.Reads.held c.args.connection.now)).now c.args.account
     room held _ c.walk_unfinished.new.jobs c.new.ensures.items (c.in_ok-walk_unfinished.ensures.walks clean has).all
 
 pub returns-clause-numbered : goal.returns-clause-numbered

@@ -3,7 +3,7 @@ use Rattle.sqlite.specs.Held.{state}
 use Rattle.rows_tables.specs.Queries.{Means, TakesParams}
 use Rattle.rows_statements.specs.Queues.{by_falling_end, AreListed}
 use Rattle.rows_statements.specs.SoundRows.{ended_rows}
-use Rattle.account_state.specs.Queues.{completed, at_most}
+use Rattle.account_state.specs.Queues.{completed, first_jobs}
 use Rattle.rows_statements.proofs.WalkLemmas.{told_as}
 use Rattle.rows_statements.proofs.QueueTexts.{names, params, ended_text, ended_query, ended_is, ended_takes}
 use Rattle.rows_statements.proofs.QueueRows.{ended_listed}
@@ -11,8 +11,12 @@ use Rattle.rows_statements.proofs.queues.walk_ended.Goals as goal
 
 pub returns-clause-walks : goal.returns-clause-walks
 returns-clause-walks g c clean has =
-    let old = state g.S.Store c.args.connection.now in
+    let old = state g.R.S.Store (g.R.Reads.held c.args.connection.now) in
     let means = subst (λ s. Means s ended_text ended_query names 2) (sym has.schema_is) ended_is in
     let takes = subst (λ s. TakesParams s ended_query (params c.args.account c.args.limit) 2) (sym has.schema_is) (ended_takes c.args.account c.args.limit) in
-    told_as _ _ old _ _ _ _ (AreListed (λ all. at_most c.args.limit (completed all)) by_falling_end c.args.limit (ended_rows old.now c.args.account) old.now c.args.account) (ended_listed c.args.account c.args.limit old.now has) c.walk.result
+    told_as _ _ old _ _ _ _ (AreListed (λ all. first_jobs c.args.limit (completed all)) by_falling_end c.args.limit (ended_rows old.now c.args.account) old.now c.args.account) (ended_listed c.args.account c.args.limit old.now has) c.walk.result
     ((rw (c.bytes.ensures.value, c.limit_of.ensures) at (c.walk.ensures.walks clean)) ended_query names 2 (record { ungrouped = refl; unfolded = refl }) means takes)
+
+pub walk-requires : goal.walk-requires
+walk-requires g c =
+    rw (c.bytes.ensures.value, c.limit_of.ensures) (record { query = ended_query; no_sums = record { ungrouped = refl; unfolded = refl }; names = names; parameters = 2; means = ended_is; takes = (ended_takes c.args.account c.args.limit) })

@@ -12,11 +12,11 @@ use Rattle.rows_statements.proofs.rates.find_rate.Goals as goal
 pub returns-in_ok-units_from-in-Some-clause-found : goal.returns-in_ok-units_from-in-Some-clause-found
 returns-in_ok-units_from-in-Some-clause-found g c clean has =
     let shown = rw c.in-Some.is at (c.in_ok-row.ensures.gets clean has).found in
-    value_found rates_in (state g.S.Store c.args.connection.now).now has c.args.name c.in-Some.row shown (number c.in_ok-units_from-in-Some.field-0) c.in_ok-units_from-in-Some.ensures.read
+    value_found rates_in (state g.R.S.Store (g.R.Reads.held c.args.connection.now)).now has c.args.name c.in-Some.row shown (number c.in_ok-units_from-in-Some.field-0) c.in_ok-units_from-in-Some.ensures.read
 
 pub returns-in_err-units_from-in-Some-clause-damaged : goal.returns-in_err-units_from-in-Some-clause-damaged
 returns-in_err-units_from-in-Some-clause-damaged g c clean has is_damaged =
     let shown = rw c.in-Some.is at (c.in_ok-row.ensures.gets clean has).found in
     let told = err_from_is_err_and c.from_residual-in_err-units_from-in-Some.result c.from_residual-in_err-units_from-in-Some.ensures.1 in
     let fault : c.in_err-units_from-in-Some.field-0.0 ≡ Damaged = sym told.2 ∙ same_fault (sym told.1 ∙ is_damaged) in
-    unsound (state g.S.Store c.args.connection.now).now c.args.name c.in-Some.row shown (c.in_err-units_from-in-Some.ensures.damaged (ap Err fault))
+    unsound (state g.R.S.Store (g.R.Reads.held c.args.connection.now)).now c.args.name c.in-Some.row shown (c.in_err-units_from-in-Some.ensures.damaged (ap Err fault))

@@ -11,7 +11,7 @@ use Rattle.rows_statements.proofs.summaries.summarize.Goals as goal
 
 pub returns-clause-told : goal.returns-clause-told
 returns-clause-told g c clean has room held =
-    let db = (state g.S.Store c.args.connection.now).now in
+    let db = (state g.R.S.Store (g.R.Reads.held c.args.connection.now)).now in
     jobs_summed c.args.account c.args.month (job_rows db c.args.account) (values room.jobs) (rows_of_jobs db has c.args.account room held) c.walk_jobs.new.summed (c.in_ok-walk_jobs.ensures.walks clean has).all
 
 pub returns-clause-bounds : goal.returns-clause-bounds
@@ -21,4 +21,4 @@ pub returns-in_err-walk_jobs-clause-damaged : goal.returns-in_err-walk_jobs-clau
 returns-in_err-walk_jobs-clause-damaged g c clean has is_damaged =
     let told = err_from_is_err_and c.from_residual.result c.from_residual.ensures.1 in
     let fault : c.in_err-walk_jobs.field-0.0 ≡ Damaged = sym told.2 ∙ same_fault (sym told.1 ∙ is_damaged) in
-    jobs_unsound c.args.account c.args.month (job_rows (state g.S.Store c.args.connection.now).now c.args.account) ((c.in_err-walk_jobs.ensures.walks clean has).damaged (ap Err fault))
+    jobs_unsound c.args.account c.args.month (job_rows (state g.R.S.Store (g.R.Reads.held c.args.connection.now)).now c.args.account) ((c.in_err-walk_jobs.ensures.walks clean has).damaged (ap Err fault))

@@ -10,7 +10,11 @@ use Rattle.rows_statements.proofs.unfinished.walk_index.Goals as goal
 
 pub returns-clause-walks : goal.returns-clause-walks
 returns-clause-walks g c clean has =
-    let old = state g.S.Store c.args.connection.now in
+    let old = state g.R.S.Store (g.R.Reads.held c.args.connection.now) in
     let means = subst (λ s. Means s count_text (of_table job_tree queued_tests count_shows []) count_names 1) (sym has.schema_is) count_is in
     let takes = subst (λ s. TakesParams s (of_table job_tree queued_tests count_shows []) (Text c.args.account ∷ []) 1) (sym has.schema_is) (count_takes c.args.account) in
     rw (count_shown c.args.account old.now) at (in_some_order _ _ old _ _ _ job_tree queued_tests count_shows (Text c.args.account ∷ []) c.walk.result ((rw c.bytes.ensures.value at (c.walk.ensures.walks clean)) (of_table job_tree queued_tests count_shows []) count_names 1 (record { ungrouped = refl; unfolded = refl }) means takes))
+
+pub walk-requires : goal.walk-requires
+walk-requires g c =
+    rw c.bytes.ensures.value (record { query = (of_table job_tree queued_tests count_shows []); no_sums = record { ungrouped = refl; unfolded = refl }; names = count_names; parameters = 1; means = count_is; takes = (count_takes c.args.account) })

@@ -12,11 +12,11 @@ use Rattle.rows_survey.proofs.charges.charges_of.Goals as goal
 
 pub returns-clause-told : goal.returns-clause-told
 returns-clause-told g c clean has room held place within =
-    let db = (state g.S.Store c.args.connection.now).now in
+    let db = (state g.R.S.Store (g.R.Reads.held c.args.connection.now)).now in
     jobs_charged c.args.account (job_rows db c.args.account) _ (values room.jobs) (rows_of_jobs db has c.args.account room held) c.walk_jobs.new.charges (c.in_ok-walk_jobs.ensures.walks clean has).all place within (get_or-replicate 31 place 0 0 within)
 
 pub returns-in_err-walk_jobs-clause-damaged : goal.returns-in_err-walk_jobs-clause-damaged
 returns-in_err-walk_jobs-clause-damaged g c clean has is_damaged =
     let told = err_from_is_err_and c.from_residual.result c.from_residual.ensures.1 in
     let fault : c.in_err-walk_jobs.field-0.0 ≡ Damaged = sym told.2 ∙ same_fault (sym told.1 ∙ is_damaged) in
-    jobs_unsound c.args.account (job_rows (state g.S.Store c.args.connection.now).now c.args.account) _ ((c.in_err-walk_jobs.ensures.walks clean has).damaged (ap Err fault))
+    jobs_unsound c.args.account (job_rows (state g.R.S.Store (g.R.Reads.held c.args.connection.now)).now c.args.account) _ ((c.in_err-walk_jobs.ensures.walks clean has).damaged (ap Err fault))

@@ -15,20 +15,20 @@ use Rattle.rows_survey.proofs.reading.survey.Goals as goal
 
 pub returns-clause-reads : goal.returns-clause-reads
 returns-clause-reads g c =
-    let old = c.args.connection.now in
-    let one = reads_again g.S.Store old c.summarize.new.connection c.granted_to.new.connection _ (Ok c.in_ok-granted.granted) c.in_ok-summary.ensures.reads c.in_ok-granted.ensures.reads in
-    let two = reads_again g.S.Store old c.granted_to.new.connection c.charges_of.new.connection _ (Ok c.in_ok-days.days) one c.in_ok-days.ensures.reads in
-    let all = reads_again g.S.Store old c.charges_of.new.connection c.unfinished_jobs.new.connection _ (Ok c.in_ok-unfinished.unfinished) two c.in_ok-unfinished.ensures.reads in
-    answered_as g.S.Store old c.unfinished_jobs.new.connection _ all _
+    let old = (g.R.Reads.held c.args.connection.now) in
+    let one = reads_again g.R.S.Store old (g.R.Reads.held c.summarize.new.connection) (g.R.Reads.held c.granted_to.new.connection) _ (Ok c.in_ok-granted.granted) c.in_ok-summary.ensures.reads c.in_ok-granted.ensures.reads in
+    let two = reads_again g.R.S.Store old (g.R.Reads.held c.granted_to.new.connection) (g.R.Reads.held c.charges_of.new.connection) _ (Ok c.in_ok-days.days) one c.in_ok-days.ensures.reads in
+    let all = reads_again g.R.S.Store old (g.R.Reads.held c.charges_of.new.connection) (g.R.Reads.held c.unfinished_jobs.new.connection) _ (Ok c.in_ok-unfinished.unfinished) two c.in_ok-unfinished.ensures.reads in
+    answered_as g.R.S.Store old (g.R.Reads.held c.unfinished_jobs.new.connection) _ all _
 
 pub returns-clause-told : goal.returns-clause-told
 returns-clause-told g c clean has room holds =
-    let old = c.args.connection.now in
-    let one = reads_again g.S.Store old c.summarize.new.connection c.granted_to.new.connection _ (Ok c.in_ok-granted.granted) c.in_ok-summary.ensures.reads c.in_ok-granted.ensures.reads in
-    let two = reads_again g.S.Store old c.granted_to.new.connection c.charges_of.new.connection _ (Ok c.in_ok-days.days) one c.in_ok-days.ensures.reads in
-    let clean3 : HasCleanDisk (state g.S.Store c.charges_of.new.connection) = omega (arith, c.in_ok-unfinished.ensures.reads.keeps.clean, clean) in
-    let clean2 : HasCleanDisk (state g.S.Store c.granted_to.new.connection) = omega (arith, c.in_ok-days.ensures.reads.keeps.clean, clean3) in
-    let clean1 : HasCleanDisk (state g.S.Store c.summarize.new.connection) = omega (arith, c.in_ok-granted.ensures.reads.keeps.clean, clean2) in
+    let old = (g.R.Reads.held c.args.connection.now) in
+    let one = reads_again g.R.S.Store old (g.R.Reads.held c.summarize.new.connection) (g.R.Reads.held c.granted_to.new.connection) _ (Ok c.in_ok-granted.granted) c.in_ok-summary.ensures.reads c.in_ok-granted.ensures.reads in
+    let two = reads_again g.R.S.Store old (g.R.Reads.held c.granted_to.new.connection) (g.R.Reads.held c.charges_of.new.connection) _ (Ok c.in_ok-days.days) one c.in_ok-days.ensures.reads in
+    let clean3 : HasCleanDisk (state g.R.S.Store (g.R.Reads.held c.charges_of.new.connection)) = omega (arith, c.in_ok-unfinished.ensures.reads.keeps.clean, clean) in
+    let clean2 : HasCleanDisk (state g.R.S.Store (g.R.Reads.held c.granted_to.new.connection)) = omega (arith, c.in_ok-days.ensures.reads.keeps.clean, clean3) in
+    let clean1 : HasCleanDisk (state g.R.S.Store (g.R.Reads.held c.summarize.new.connection)) = omega (arith, c.in_ok-granted.ensures.reads.keeps.clean, clean2) in
     let same1 = (c.in_ok-summary.ensures.reads.same clean1 has).now in
     let same2 = (one.same clean2 has).now in
     let same3 = (two.same clean3 has).now in
@@ -44,25 +44,25 @@ returns-clause-told g c clean has room holds =
 pub returns-in_err-granted-clause-reads : goal.returns-in_err-granted-clause-reads
 returns-in_err-granted-clause-reads g c =
     let told = err_from_is_err_and c.from_residual-in_err-granted.result c.from_residual-in_err-granted.ensures.1 in
-    failed_as g.S.Store c.args.connection.now c.granted_to.new.connection c.in_err-granted.field-0.0 _ told.0 told.1
-    (reads_again g.S.Store c.args.connection.now c.summarize.new.connection c.granted_to.new.connection _ (Err c.in_err-granted.field-0.0) c.in_ok-summary.ensures.reads c.in_err-granted.ensures.reads)
+    failed_as g.R.S.Store (g.R.Reads.held c.args.connection.now) (g.R.Reads.held c.granted_to.new.connection) c.in_err-granted.field-0.0 _ told.0 told.1
+    (reads_again g.R.S.Store (g.R.Reads.held c.args.connection.now) (g.R.Reads.held c.summarize.new.connection) (g.R.Reads.held c.granted_to.new.connection) _ (Err c.in_err-granted.field-0.0) c.in_ok-summary.ensures.reads c.in_err-granted.ensures.reads)
 
 pub returns-in_err-days-clause-reads : goal.returns-in_err-days-clause-reads
 returns-in_err-days-clause-reads g c =
-    let old = c.args.connection.now in
-    let one = reads_again g.S.Store old c.summarize.new.connection c.granted_to.new.connection _ (Ok c.in_ok-granted.granted) c.in_ok-summary.ensures.reads c.in_ok-granted.ensures.reads in
+    let old = (g.R.Reads.held c.args.connection.now) in
+    let one = reads_again g.R.S.Store old (g.R.Reads.held c.summarize.new.connection) (g.R.Reads.held c.granted_to.new.connection) _ (Ok c.in_ok-granted.granted) c.in_ok-summary.ensures.reads c.in_ok-granted.ensures.reads in
     let told = err_from_is_err_and c.from_residual-in_err-days.result c.from_residual-in_err-days.ensures.1 in
-    failed_as g.S.Store old c.charges_of.new.connection c.in_err-days.field-0.0 _ told.0 told.1
-    (reads_again g.S.Store old c.granted_to.new.connection c.charges_of.new.connection _ (Err c.in_err-days.field-0.0) one c.in_err-days.ensures.reads)
+    failed_as g.R.S.Store old (g.R.Reads.held c.charges_of.new.connection) c.in_err-days.field-0.0 _ told.0 told.1
+    (reads_again g.R.S.Store old (g.R.Reads.held c.granted_to.new.connection) (g.R.Reads.held c.charges_of.new.connection) _ (Err c.in_err-days.field-0.0) one c.in_err-days.ensures.reads)
 
 pub returns-in_err-unfinished-clause-reads : goal.returns-in_err-unfinished-clause-reads
 returns-in_err-unfinished-clause-reads g c =
-    let old = c.args.connection.now in
-    let one = reads_again g.S.Store old c.summarize.new.connection c.granted_to.new.connection _ (Ok c.in_ok-granted.granted) c.in_ok-summary.ensures.reads c.in_ok-granted.ensures.reads in
-    let two = reads_again g.S.Store old c.granted_to.new.connection c.charges_of.new.connection _ (Ok c.in_ok-days.days) one c.in_ok-days.ensures.reads in
+    let old = (g.R.Reads.held c.args.connection.now) in
+    let one = reads_again g.R.S.Store old (g.R.Reads.held c.summarize.new.connection) (g.R.Reads.held c.granted_to.new.connection) _ (Ok c.in_ok-granted.granted) c.in_ok-summary.ensures.reads c.in_ok-granted.ensures.reads in
+    let two = reads_again g.R.S.Store old (g.R.Reads.held c.granted_to.new.connection) (g.R.Reads.held c.charges_of.new.connection) _ (Ok c.in_ok-days.days) one c.in_ok-days.ensures.reads in
     let told = err_from_is_err_and c.from_residual-in_err-unfinished.result c.from_residual-in_err-unfinished.ensures.1 in
-    failed_as g.S.Store old c.unfinished_jobs.new.connection c.in_err-unfinished.field-0.0 _ told.0 told.1
-    (reads_again g.S.Store old c.charges_of.new.connection c.unfinished_jobs.new.connection _ (Err c.in_err-unfinished.field-0.0) two c.in_err-unfinished.ensures.reads)
+    failed_as g.R.S.Store old (g.R.Reads.held c.unfinished_jobs.new.connection) c.in_err-unfinished.field-0.0 _ told.0 told.1
+    (reads_again g.R.S.Store old (g.R.Reads.held c.charges_of.new.connection) (g.R.Reads.held c.unfinished_jobs.new.connection) _ (Err c.in_err-unfinished.field-0.0) two c.in_err-unfinished.ensures.reads)
 
 -- ---- where it is damaged
 
@@ -76,30 +76,30 @@ pub returns-in_err-granted-clause-damaged : goal.returns-in_err-granted-clause-d
 returns-in_err-granted-clause-damaged g c clean has is_damaged readable =
     let told = err_from_is_err_and c.from_residual-in_err-granted.result c.from_residual-in_err-granted.ensures.1 in
     let fault : c.in_err-granted.field-0.0 ≡ Damaged = sym told.2 ∙ same_fault (sym told.1 ∙ is_damaged) in
-    let before : HasCleanDisk (state g.S.Store c.summarize.new.connection) = omega (arith, c.in_err-granted.ensures.reads.keeps.clean, clean) in
+    let before : HasCleanDisk (state g.R.S.Store (g.R.Reads.held c.summarize.new.connection)) = omega (arith, c.in_err-granted.ensures.reads.keeps.clean, clean) in
     let same = (c.in_ok-summary.ensures.reads.same before has).now in
     let there = subst (λ (db : Database). SurveyIsReadable c.args.account c.args.month db) (sym same) readable in
     c.in_err-granted.ensures.damaged clean (subst HasSchema (sym same) has) (ap Err fault) there.grants
 
 pub returns-in_err-days-clause-damaged : goal.returns-in_err-days-clause-damaged
 returns-in_err-days-clause-damaged g c clean has is_damaged readable =
-    let old = c.args.connection.now in
-    let one = reads_again g.S.Store old c.summarize.new.connection c.granted_to.new.connection _ (Ok c.in_ok-granted.granted) c.in_ok-summary.ensures.reads c.in_ok-granted.ensures.reads in
+    let old = (g.R.Reads.held c.args.connection.now) in
+    let one = reads_again g.R.S.Store old (g.R.Reads.held c.summarize.new.connection) (g.R.Reads.held c.granted_to.new.connection) _ (Ok c.in_ok-granted.granted) c.in_ok-summary.ensures.reads c.in_ok-granted.ensures.reads in
     let told = err_from_is_err_and c.from_residual-in_err-days.result c.from_residual-in_err-days.ensures.1 in
     let fault : c.in_err-days.field-0.0 ≡ Damaged = sym told.2 ∙ same_fault (sym told.1 ∙ is_damaged) in
-    let before : HasCleanDisk (state g.S.Store c.granted_to.new.connection) = omega (arith, c.in_err-days.ensures.reads.keeps.clean, clean) in
+    let before : HasCleanDisk (state g.R.S.Store (g.R.Reads.held c.granted_to.new.connection)) = omega (arith, c.in_err-days.ensures.reads.keeps.clean, clean) in
     let same = (one.same before has).now in
     let there = subst (λ (db : Database). SurveyIsReadable c.args.account c.args.month db) (sym same) readable in
     c.in_err-days.ensures.damaged clean (subst HasSchema (sym same) has) (ap Err fault) there.jobs
 
 pub returns-in_err-unfinished-clause-damaged : goal.returns-in_err-unfinished-clause-damaged
 returns-in_err-unfinished-clause-damaged g c clean has is_damaged readable =
-    let old = c.args.connection.now in
-    let one = reads_again g.S.Store old c.summarize.new.connection c.granted_to.new.connection _ (Ok c.in_ok-granted.granted) c.in_ok-summary.ensures.reads c.in_ok-granted.ensures.reads in
-    let two = reads_again g.S.Store old c.granted_to.new.connection c.charges_of.new.connection _ (Ok c.in_ok-days.days) one c.in_ok-days.ensures.reads in
+    let old = (g.R.Reads.held c.args.connection.now) in
+    let one = reads_again g.R.S.Store old (g.R.Reads.held c.summarize.new.connection) (g.R.Reads.held c.granted_to.new.connection) _ (Ok c.in_ok-granted.granted) c.in_ok-summary.ensures.reads c.in_ok-granted.ensures.reads in
+    let two = reads_again g.R.S.Store old (g.R.Reads.held c.granted_to.new.connection) (g.R.Reads.held c.charges_of.new.connection) _ (Ok c.in_ok-days.days) one c.in_ok-days.ensures.reads in
     let told = err_from_is_err_and c.from_residual-in_err-unfinished.result c.from_residual-in_err-unfinished.ensures.1 in
     let fault : c.in_err-unfinished.field-0.0 ≡ Damaged = sym told.2 ∙ same_fault (sym told.1 ∙ is_damaged) in
-    let before : HasCleanDisk (state g.S.Store c.charges_of.new.connection) = omega (arith, c.in_err-unfinished.ensures.reads.keeps.clean, clean) in
+    let before : HasCleanDisk (state g.R.S.Store (g.R.Reads.held c.charges_of.new.connection)) = omega (arith, c.in_err-unfinished.ensures.reads.keeps.clean, clean) in
     let same = (two.same before has).now in
     let there = subst (λ (db : Database). SurveyIsReadable c.args.account c.args.month db) (sym same) readable in
     c.in_err-unfinished.ensures.damaged clean (subst HasSchema (sym same) has) (ap Err fault) there.unfinished

@@ -1,4 +1,5 @@
 use Rattle.std.proofs.Common.{◌≡◌, ◌≤◌, false, Result, Ok, Err, sym, subst, ◌∙◌, rules}
+use Rattle.std.proofs.lemmas.Bool.{not-true}
 use Rattle.std.proofs.lemmas.Result.{err_from_is_err_and}
 use Rattle.sqlite.specs.Held.{state}
 use Rattle.sqlite.specs.State.{HasCleanDisk}
@@ -12,37 +13,37 @@ use Rattle.store_rounds.specs.declared.fault.StoreFault.{StoreFault}
 use Rattle.store_events.proofs.Applied.{applied_answer, applied_fault, going}
 use Rattle.store_events.proofs.Moments.{in_time, same_moment}
 use Rattle.store_events.proofs.applying.apply_in_own_transaction.Goals as goal
-use Rattle.store_events.proofs.applying.apply_in_own_transaction.Goals.{else-not-is_alone-via-then-not-is_alone+else-not-is_short, else-not-is_alone-via-else-not-is_alone}
+use Rattle.store_events.proofs.applying.apply_in_own_transaction.Goals.{else-shares-via-then-shares+else-not-is_short, else-shares-via-else-shares}
 
-pub returns-in_err-answer_on_disk : goal.returns-in_err-answer_on_disk
-returns-in_err-answer_on_disk g c =
+pub returns-in_err-answer_and_note_committed : goal.returns-in_err-answer_and_note_committed
+returns-in_err-answer_and_note_committed g c =
     let old = c.args.connection.now in
-    let new = c.answer_on_disk.new.connection in
+    let new = c.answer_and_note_committed.new.connection in
     let e = plain_event c.args.e.now in
-    let fault = c.in_err-answer_on_disk.field-0.0 in
+    let fault = c.in_err-answer_and_note_committed.field-0.0 in
     let moment = c.in-Some.now in
     let same = same_moment c.new.result c.args.now moment c.in-Some.is c.new.ensures.value in
     let early : moment ≤ last_moment = subst (λ n. n ≤ last_moment) (sym same) (in_time c.new.result c.args.now moment c.in-Some.is c.new.ensures.none) in
     let told = err_from_is_err_and c.from_residual.result c.from_residual.ensures.1 in
-    let serves = c.in_err-answer_on_disk.ensures.served in
-    let outside : (state g.S.Store old).in_transaction ≡ false = elim c.else-not-is_alone.branch [
-      | else-not-is_alone-via-then-not-is_alone+else-not-is_short w ↦ absurd (let no : ◌≡◌ {A = Result Answered TableFault} (Err fault) (Ok short_answered) = c.in_err-answer_on_disk.ensures.short (search rules) in cc)
-      | else-not-is_alone-via-else-not-is_alone w ↦ search rules
+    let serves = c.in_err-answer_and_note_committed.ensures.served in
+    let outside : (state g.S.Store old).in_transaction ≡ false = elim c.else-shares.branch [
+      | else-shares-via-then-shares+else-not-is_short w ↦ absurd (let no : ◌≡◌ {A = Result Answered TableFault} (Err fault) (Ok short_answered) = c.in_err-answer_and_note_committed.ensures.short (search rules) in cc)
+      | else-shares-via-else-shares w ↦ search rules
     ] in
     let kept : HasCleanDisk (state g.S.Store new) → (state g.S.Store new).in_transaction ≡ (state g.S.Store old).in_transaction = λ clean. (going g.S.Store moment old new e _ serves).keeps.mode clean outside ∙ sym outside in
     subst (λ n. AppliesFully n e (state g.S.Store old) (state g.S.Store new) c.from_residual.result) same
     (subst (λ (r : Result Answered StoreFault). AppliesFully moment e (state g.S.Store old) (state g.S.Store new) r) (sym told.1)
     (subst (λ f. AppliesFully moment e (state g.S.Store old) (state g.S.Store new) (Err f)) (sym told.2)
-    (applied_fault g.S.Store moment early old new e fault (λ alone. c.is_alone-is_alone.ensures.settled (c.is_alone-is_alone.ensures.mode ∙ alone)) kept serves c.in_err-answer_on_disk.ensures.short c.in_err-answer_on_disk.ensures.on_disk c.in_err-answer_on_disk.ensures.shut)))
+    (applied_fault g.S.Store moment early old new e fault (λ alone. c.is_under_way-shares.ensures.settled (c.is_under_way-shares.ensures.mode ∙ not-true _ alone)) kept serves c.in_err-answer_and_note_committed.ensures.short c.in_err-answer_and_note_committed.ensures.on_disk c.in_err-answer_and_note_committed.ensures.shut)))
 
 pub returns : goal.returns
 returns g c =
     let old = c.args.connection.now in
-    let new = c.answer_on_disk.new.connection in
+    let new = c.answer_and_note_committed.new.connection in
     let e = plain_event c.args.e.now in
     let moment = c.in-Some.now in
     let same = same_moment c.new.result c.args.now moment c.in-Some.is c.new.ensures.value in
     let early : moment ≤ last_moment = subst (λ n. n ≤ last_moment) (sym same) (in_time c.new.result c.args.now moment c.in-Some.is c.new.ensures.none) in
-    let told = c.in_ok-answer_on_disk in
+    let told = c.in_ok-answer_and_note_committed in
     subst (λ n. AppliesFully n e (state g.S.Store old) (state g.S.Store new) (Ok told.field-0)) same
     (applied_answer g.S.Store moment early old new e told.field-0 told.ensures.served told.ensures.short told.ensures.asks told.ensures.on_disk told.ensures.shut)

@@ -41,16 +41,16 @@ returns-in-Rate-clause-served g c =
 
 pub returns-in-Release-clause-served : goal.returns-in-Release-clause-served
 returns-in-Release-clause-served g c =
-    of_account g.S.Store c.args.connection.now c.answer_line.new.connection c.args.now c.answer_line.result (ap plain_event c.in-Release.is) (λ short. short) c.answer_line.ensures.served
+    of_account g.S.Store c.args.connection.now c.find_account_and_answer.new.connection c.args.now c.find_account_and_answer.result (ap plain_event c.in-Release.is) (λ short. short) c.find_account_and_answer.ensures.served
 
 pub returns-in-Start-clause-served : goal.returns-in-Start-clause-served
 returns-in-Start-clause-served g c =
-    of_account g.S.Store c.args.connection.now c.answer_line-in-Start.new.connection c.args.now c.answer_line-in-Start.result (ap plain_event c.in-Start.is) (λ short. short) c.answer_line-in-Start.ensures.served
+    of_account g.S.Store c.args.connection.now c.find_account_and_answer-in-Start.new.connection c.args.now c.find_account_and_answer-in-Start.result (ap plain_event c.in-Start.is) (λ short. short) c.find_account_and_answer-in-Start.ensures.served
 
 pub returns-in-Settle-clause-served : goal.returns-in-Settle-clause-served
 returns-in-Settle-clause-served g c =
-    of_account g.S.Store c.args.connection.now c.answer_line-in-Settle.new.connection c.args.now c.answer_line-in-Settle.result (ap plain_event c.in-Settle.is) (λ short. short) c.answer_line-in-Settle.ensures.served
+    of_account g.S.Store c.args.connection.now c.find_account_and_answer-in-Settle.new.connection c.args.now c.find_account_and_answer-in-Settle.result (ap plain_event c.in-Settle.is) (λ short. short) c.find_account_and_answer-in-Settle.ensures.served
 
 pub returns-in-Grant-clause-served : goal.returns-in-Grant-clause-served
 returns-in-Grant-clause-served g c =
-    of_account g.S.Store c.args.connection.now c.answer_line-in-Grant.new.connection c.args.now c.answer_line-in-Grant.result (ap plain_event c.in-Grant.is) (λ short. short) c.answer_line-in-Grant.ensures.served
+    of_account g.S.Store c.args.connection.now c.find_account_and_answer-in-Grant.new.connection c.args.now c.find_account_and_answer-in-Grant.result (ap plain_event c.in-Grant.is) (λ short. short) c.find_account_and_answer-in-Grant.ensures.served

@@ -2,7 +2,7 @@ use Rattle.std.proofs.Common.{◌≡◌, true, false, [], ◌∷◌, ◌++◌, L
 use Rattle.std.proofs.lemmas.Bool.{true≢false}
 use Rattle.serve_peers.specs.Tolds.{Told, round_in}
 use Rattle.serve_peers.specs.Watching.{since_by, told_in, touched_in}
-use Rattle.serve_peers.specs.declared.watch.Watch.{Watch}
+use Rattle.serve_peers.specs.declared.account_watch.Watch.{Watch}
 use Rattle.serve_peers.proofs.Telling.{told_shared}
 use Rattle.serve_peers.proofs.Watched.{grown, in_round, noted}
 use Rattle.serve_peers.proofs.journal.Journal.add_shared.Goals as goal

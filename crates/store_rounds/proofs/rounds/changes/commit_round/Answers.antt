@@ -6,5 +6,5 @@ pub invariant_of-connection : goal.invariant_of-connection
 invariant_of-connection g c ours =
     let told = c.commit_round-made.ensures in
     ended_kept (state g.S.Store c.connection.inside.connection) (state g.S.Store c.commit_round-made.new.connection) _ _ told.connection
-    c.note_settled.ensures
+    c.note_committed.ensures
     (c.connection.invariant ours) c.commit_round-made.result told.ends told.refused c.forget_after_fault.ensures

@@ -12,7 +12,7 @@ invariant_of-connection g c ours =
     let old = state g.S.Store c.connection.inside.connection in
     let new = state g.S.Store c.restand_job-made.new.connection in
     job_changed g.S.Store c.connection.inside.connection c.restand_job-made.new.connection _ _ _
-    c.note_settled.ensures
+    c.note_committed.ensures
     (c.connection.invariant ours) c.args.account c.added_before-was.result c.args.standing.now c.restand_job-made.result
     (λ added is kept made.
     let seen = found_seen old.now c.args.account c.args.number c.connection.inside.kept.job c.added_before-was.result added is c.added_before-was.ensures kept.job in

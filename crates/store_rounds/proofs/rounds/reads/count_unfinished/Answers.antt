@@ -7,7 +7,7 @@ pub invariant_of-connection : goal.invariant_of-connection
 invariant_of-connection g c ours =
     let told = c.count_knowing-found.ensures in
     count_kept (state g.S.Store c.connection.inside.connection) (state g.S.Store c.count_knowing-found.new.connection) _ _ told.reads.keeps
-    c.note_settled.ensures
+    c.note_committed.ensures
     (c.connection.invariant ours) c.args.account c.count_knowing-found.result told.reads.same told.reads.stays
     (λ clean kept. told.rows clean kept.schema (count_known (state g.S.Store c.connection.inside.connection) c.connection.inside.kept (IsTrue c.connection.inside.is_ours) c.args.account c.unfinished-known.result c.unfinished-known.ensures.kept kept)) c.keep_count.ensures
 

@@ -6,5 +6,5 @@ pub invariant_of-connection : goal.invariant_of-connection
 invariant_of-connection g c ours =
     let looks = c.knock-found.ensures.looks in
     told_kept (state g.S.Store c.connection.inside.connection) (state g.S.Store c.knock-found.new.connection) _ _ looks.connection.keeps
-    c.note_settled.ensures
+    c.note_committed.ensures
     (c.connection.invariant ours) c.knock-found.result looks.same looks.undone c.forget_after_fault.ensures

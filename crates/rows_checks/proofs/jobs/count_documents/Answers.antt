@@ -1,0 +1,13 @@
+use Rattle.std.proofs.Common.{◌≡◌, ◌∙◌, Some, sym, ap, Err}
+use Rattle.std.proofs.lemmas.Result.{err_from_is_err_and}
+use Rattle.sqlite.specs.Held.{state}
+use Rattle.rows_tables.specs.declared.fault.TableFault.TheVariants.{Damaged}
+use Rattle.rows_tables.proofs.KeyedRows.{same_fault}
+use Rattle.rows_statements.proofs.JobRows.{job_read}
+use Rattle.rows_checks.proofs.jobs.count_documents.Goals as goal
+
+pub returns-in_err-find_job-clause-damaged : goal.returns-in_err-find_job-clause-damaged
+returns-in_err-find_job-clause-damaged g c clean has is_damaged room held next =
+    let told = err_from_is_err_and c.from_residual.result c.from_residual.ensures.1 in
+    let fault : c.in_err-find_job.field-0.0 ≡ Damaged = sym told.2 ∙ same_fault (sym told.1 ∙ is_damaged) in
+    c.in_err-find_job.ensures.damaged clean has (ap Err fault) (job_read (state g.R.S.Store (g.R.Reads.held c.args.connection.now)).now c.args.account c.args.number (Some room, held))

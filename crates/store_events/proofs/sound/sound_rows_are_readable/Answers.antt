@@ -1,5 +1,0 @@
-use Rattle.store_events.proofs.Readable as lemma
-use Rattle.store_events.proofs.sound.sound_rows_are_readable.Goals as goal
-
-pub returns : goal.returns
-returns c = lemma.sound_rows_are_readable
